@@ -1,0 +1,207 @@
+-- A new span.
+use Rattle.std.proofs.Common.{◌≡◌, ◌≢◌, ℕ, zero, suc, ◌+◌, ◌-◌, ◌<◌, ◌≤◌, Bool, true, false, cond, not, eqb, ltb, List, [], ◌∷◌, length, map, Option, Some, None, IsSome, refl, sym, ap, subst, ◌∙◌, ◌⊎◌, inl, inr, arith, rules}
+use Rattle.std.specs.Option.{option_map, option_copied, IfNone, IfSome}
+use Rattle.std.specs.Borrow.{Bor}
+use Rattle.std.proofs.lemmas.Bool.Decides.{nat_tests, eqb_tells}
+use Rattle.std.proofs.lemmas.Bool.{eqb-true, eq-eqb, ne_eqb, cases_Bool, cases_lt}
+use Rattle.span_id.specs.Id.{slot_of}
+use Rattle.span_slots.specs.Table.{Table, value_at, with_value, with_entry}
+use Rattle.span_forest.specs.declared.Span.{Span}
+use Rattle.span_forest.specs.Spans.{Node, Spans, find, IsOpen, parent_in, parent_of, is_some_id, children, AreApart, holders, holders_in, written_count, with_node}
+use Rattle.span_forest.specs.Nodes.{node_of, nodes_of, AreCounted, IsSound, IsSettled, IsForest, counts_more}
+use Rattle.span_forest.proofs.Finds.{no_child, child_exists, is_some_id_same, is_some_id_true, find_apart}
+use Rattle.span_forest.proofs.Nodes.{find-nodes}
+use Rattle.span_forest.proofs.Counts.{value_at-with_value_same, value_at-with_value_other, nodes_kept, node_found, some_same}
+
+-- one where the parent is this id
+abbrev as_one : Bool → ℕ
+as_one b = cond b 1 0
+
+pub nodes-with : (es : List (ℕ × Span)) (id : ℕ) (span : Span) → nodes_of (with_entry es id span) ≡ with_node (nodes_of es) id (node_of span)
+nodes-with [] id span = refl
+nodes-with (e ∷ es) id span =
+    let r = nodes-with es id span in
+    elim (cases_Bool (ltb (slot_of id) (slot_of e.0))) [ inl t ↦ rw t refl | inr t ↦ rw (t, r) refl ]
+
+pub find-with_same : (spans : Spans) (id : ℕ) (node : Node) → find spans id ≡ None → find (with_node spans id node) id ≡ Some node
+find-with_same [] id node h = rw (eq-eqb id id refl) refl
+find-with_same (e ∷ es) id node h =
+    elim (cases_Bool (ltb (slot_of id) (slot_of e.0))) [
+      inl t ↦ rw (t, eq-eqb id id refl) refl
+    | inr t ↦ elim (eqb_tells e.0 id) [
+        inl u ↦ (let h2 = rw u.0 at h in cc)
+      | inr u ↦ (let r = find-with_same es id node (rw u.0 at h) in rw (t, u.0) r) ] ]
+
+pub find-with_other : (spans : Spans) (id j : ℕ) (node : Node) → j ≢ id → find (with_node spans id node) j ≡ find spans j
+find-with_other [] id j node ne = rw (ne_eqb id j (λ q. ne (sym q))) refl
+find-with_other (e ∷ es) id j node ne =
+    let r = find-with_other es id j node ne in
+    let other = ne_eqb id j (λ q. ne (sym q)) in
+    elim (cases_Bool (ltb (slot_of id) (slot_of e.0))) [
+      inl t ↦ rw (t, other) refl
+    | inr t ↦ elim (eqb_tells e.0 j) [ inl u ↦ rw (t, u.0) refl | inr u ↦ rw (t, u.0) r ] ]
+
+pub value_at-with_same : (es : List (ℕ × Span)) (id : ℕ) (span : Span) → value_at es id ≡ None → value_at (with_entry es id span) id ≡ Some span
+value_at-with_same [] id span h = rw (eq-eqb id id refl) refl
+value_at-with_same (e ∷ es) id span h =
+    elim (cases_Bool (ltb (slot_of id) (slot_of e.0))) [
+      inl t ↦ rw (t, eq-eqb id id refl) refl
+    | inr t ↦ elim (eqb_tells e.0 id) [
+        inl u ↦ (let h2 = rw u.0 at h in cc)
+      | inr u ↦ (let r = value_at-with_same es id span (rw u.0 at h) in rw (t, u.0) r) ] ]
+
+pub value_at-with_other : (es : List (ℕ × Span)) (id j : ℕ) (span : Span) → j ≢ id → value_at (with_entry es id span) j ≡ value_at es j
+value_at-with_other [] id j span ne = rw (ne_eqb id j (λ q. ne (sym q))) refl
+value_at-with_other (e ∷ es) id j span ne =
+    let r = value_at-with_other es id j span ne in
+    let other = ne_eqb id j (λ q. ne (sym q)) in
+    elim (cases_Bool (ltb (slot_of id) (slot_of e.0))) [
+      inl t ↦ rw (t, other) refl
+    | inr t ↦ elim (eqb_tells e.0 j) [ inl u ↦ rw (t, u.0) refl | inr u ↦ rw (t, u.0) r ] ]
+
+pub children-with : (spans : Spans) (id j : ℕ) (node : Node) → children (with_node spans id node) j ≡ children spans j + cond (is_some_id node.parent j) 1 0
+children-with [] id j node = omega arith
+children-with (e ∷ es) id j node =
+    let r = children-with es id j node in
+    elim (cases_Bool (ltb (slot_of id) (slot_of e.0))) [ inl t ↦ rw t (omega arith) | inr t ↦ rw t (omega arith) ]
+
+some_none : {A : Type 0} (x : A) → Some x ≡ None → ⊥
+some_none x h = cc
+
+pub AreApart-with : (spans : Spans) (id : ℕ) (node : Node) → find spans id ≡ None → AreApart spans → AreApart (with_node spans id node)
+AreApart-with [] id node h a = (refl, tt)
+AreApart-with (e ∷ es) id node h a =
+    elim (cases_Bool (ltb (slot_of id) (slot_of e.0))) [
+      inl t ↦ rw t (h, a)
+    | inr t ↦ elim (eqb_tells e.0 id) [
+        inl u ↦ absurd (let h2 = rw u.0 at h in some_none e.1 h2)
+      | inr u ↦ rw t (find-with_other es id e.0 node u.1 ∙ a.0, AreApart-with es id node (rw u.0 at h) a.1) ] ]
+
+some_none_id : (p : ℕ) → Some p ≡ None → ⊥
+some_none_id p h = cc
+
+not_open : (o : Option Node) → o ≡ None → IsSome o → ⊥
+not_open None e h = cc
+not_open (Some n) e h = cc
+
+open_absent : (spans : Spans) (id j : ℕ) → find spans id ≡ None → IsOpen spans j → j ≢ id
+open_absent spans id j h o e = not_open (find spans j) (ap (find spans) e ∙ h) o
+
+-- no open span has an absent parent
+pub no_children : (spans : Spans) (id : ℕ) → IsSound spans → find spans id ≡ None → children spans id ≡ 0
+no_children spans id w h =
+    elim (cases_lt 0 (children spans id)) [
+      inl t ↦ (let c = child_exists spans id w.apart t in absurd (open_absent spans id id h (w.parents_open c.0 id c.1) refl))
+    | inr t ↦ omega arith ]
+
+rank_with : (ℕ → ℕ) → ℕ → ℕ → ℕ → ℕ
+rank_with rank top id j = cond (eqb j id) top (rank j)
+
+open_with : (spans : Spans) (id j : ℕ) (node : Node) → find spans id ≡ None → IsOpen spans j → IsOpen (with_node spans id node) j
+open_with spans id j node h o = subst IsSome (sym (find-with_other spans id j node (open_absent spans id j h o))) o
+
+pub IsSound-with : (spans : Spans) (id : ℕ) (node : Node) → IsSound spans → find spans id ≡ None → ((p : ℕ) → node.parent ≡ Some p → IsOpen spans p) → IsSound (with_node spans id node)
+unfolding rank_with
+IsSound-with spans id node w h par =
+    let new : (p : ℕ) → parent_of (with_node spans id node) id ≡ Some p → IsOpen spans p = λ p e. par p (sym (ap parent_in (find-with_same spans id node h)) ∙ e) in
+    let old : (c p : ℕ) → c ≢ id → parent_of (with_node spans id node) c ≡ Some p → parent_of spans c ≡ Some p = λ c p ne e. sym (ap parent_in (find-with_other spans id c node ne)) ∙ e in
+    record {
+      apart = AreApart-with spans id node h w.apart;
+      parents_open = λ c p e. elim (eqb_tells c id) [
+        inl t ↦ open_with spans id p node h (new p (rw t.1 at e))
+      | inr t ↦ open_with spans id p node h (w.parents_open c p (old c p t.1 e)) ];
+      rank = rank_with w.rank w.top id;
+      top = w.top + 1;
+      falls = λ c p e. elim (eqb_tells c id) [
+        inl t ↦ (let o = new p (rw t.1 at e) in let b = w.bounded p o in rw (t.0, ne_eqb p id (open_absent spans id p h o)) b)
+      | inr t ↦ (let k = old c p t.1 e in let f = w.falls c p k in rw (t.0, ne_eqb p id (open_absent spans id p h (w.parents_open c p k))) f) ];
+      bounded = λ c o. elim (eqb_tells c id) [
+        inl t ↦ rw t.0 (omega arith)
+      | inr t ↦ (let b = w.bounded c (subst IsSome (find-with_other spans id c node t.1) o) in rw t.0 (omega arith)) ];
+    }
+
+pub found_none : (es : List (ℕ × Span)) (id : ℕ) (r : Option (Bor Span)) → option_copied r ≡ value_at es id → IfNone r (find (nodes_of es) id ≡ None)
+found_none es id None h = find-nodes es id ∙ ap (option_map node_of) (sym h)
+found_none es id (Some s) h = tt
+
+pub found_some : (es : List (ℕ × Span)) (id : ℕ) (r : Option (Bor Span)) → option_copied r ≡ value_at es id → IfSome r (λ span. find (nodes_of es) id ≡ Some (node_of span.now))
+found_some es id None h = tt
+found_some es id (Some s) h = find-nodes es id ∙ ap (option_map node_of) (sym h)
+
+pub IsForest-empty : (max : ℕ) → 1 ≤ max → max ≤ 4294967295 → IsForest [] max
+IsForest-empty max low high = record {
+  settled = record {
+    sound = record {
+      apart = tt;
+      parents_open = λ c p e. cc;
+      rank = λ j. 0;
+      top = 0;
+      falls = λ c p e. absurd (some_none_id p (sym e));
+      bounded = λ c o. absurd (not_open None refl o);
+    };
+    counted = λ j s f. absurd (some_none s (sym f));
+    positive = λ j o. absurd (not_open None refl o);
+  };
+  bounded = λ j. omega arith;
+  max_low = low;
+  max_high = high;
+}
+
+-- a new span is counted: its own handle, and one more child at its parent
+module _ (es : List (ℕ × Span)) (id : ℕ) (span : Span) (w : IsSettled es) (absent : value_at es id ≡ None) (one : span.count ≡ holders (node_of span)) where
+  absent_node : find (nodes_of es) id ≡ None
+  absent_node = find-nodes es id ∙ ap (option_map node_of) absent
+
+  written_new : (is_some_id span.parent id ≡ false) → written_count (with_node (nodes_of es) id (node_of span)) id ≡ span.count
+  written_new own =
+      let a = ap holders_in (find-with_same (nodes_of es) id (node_of span) absent_node) in
+      let b = rw own at (children-with (nodes_of es) id id (node_of span)) in
+      let z = no_children (nodes_of es) id w.sound absent_node in
+      omega arith
+
+  pub written_old : (j : ℕ) → j ≢ id → written_count (with_node (nodes_of es) id (node_of span)) j ≡ written_count (nodes_of es) j + cond (is_some_id span.parent j) 1 0
+  written_old j ne =
+      let a = ap holders_in (find-with_other (nodes_of es) id j (node_of span) ne) in
+      let b = children-with (nodes_of es) id j (node_of span) in
+      omega arith
+
+  -- with no parent
+  pub counted_new_root : span.parent ≡ None → AreCounted (with_entry es id span)
+  counted_new_root e j s f =
+      rw nodes-with (elim (eqb_tells j id) [
+        inl t ↦ (let k = some_same s span (value_at (with_entry es id span) j) f (rw t.1 (value_at-with_same es id span absent)) in
+                 let q : s.count ≡ span.count = ap (λ x. x.count) k in
+                 let n = written_new (rw e refl) in
+                 rw t.1 (omega arith))
+      | inr t ↦ (let g = sym (value_at-with_other es id j span t.1) ∙ f in
+                 let b = w.counted j s g in
+                 let n = written_old j t.1 in
+                 let z : as_one (is_some_id span.parent j) ≡ 0 = rw e refl in
+                 omega arith) ])
+
+  -- with a parent, which counts it
+  pub counted_new_child : (p : ℕ) (up : Span) → AreApart (nodes_of (with_entry es id span)) → span.parent ≡ Some p → value_at es p ≡ Some up → AreCounted (with_value (with_entry es id span) p (counts_more up))
+  counted_new_child p up a e u j s f =
+      let np : p ≢ id = λ q. some_none up (sym u ∙ (ap (value_at es) q ∙ absent)) in
+      let at : value_at (with_entry es id span) p ≡ Some up = value_at-with_other es id p span np ∙ u in
+      let nodes : nodes_of (with_value (with_entry es id span) p (counts_more up)) ≡ with_node (nodes_of es) id (node_of span) = nodes_kept (with_entry es id span) p up (counts_more up) a at refl ∙ nodes-with es id span in
+      rw nodes (elim (eqb_tells j p) [
+        inl t ↦ (let k = some_same s (counts_more up) (value_at (with_value (with_entry es id span) p (counts_more up)) j) f (rw t.1 (value_at-with_value_same (with_entry es id span) p up (counts_more up) at)) in
+                 let q : s.count ≡ up.count + 1 = ap (λ x. x.count) k in
+                 let b = w.counted p up u in
+                 let n = written_old p np in
+                 let z : as_one (is_some_id span.parent p) ≡ 1 = ap as_one (is_some_id_same span.parent p e) in
+                 rw t.1 (omega arith))
+      | inr t ↦ (let g = sym (value_at-with_value_other (with_entry es id span) p j (counts_more up) t.1) ∙ f in
+                 elim (eqb_tells j id) [
+                   inl r ↦ (let k = some_same s span (value_at (with_entry es id span) j) g (rw r.1 (value_at-with_same es id span absent)) in
+                            let q : s.count ≡ span.count = ap (λ x. x.count) k in
+                            let own : is_some_id span.parent id ≡ false = rw e (ne_eqb p id np) in
+                            let n = written_new own in
+                            rw r.1 (omega arith))
+                 | inr r ↦ (let g2 = sym (value_at-with_other es id j span r.1) ∙ g in
+                            let b = w.counted j s g2 in
+                            let n = written_old j r.1 in
+                            let none : is_some_id span.parent j ≡ false = rw e (ne_eqb p j (λ q. t.1 (sym q))) in
+                            let z : as_one (is_some_id span.parent j) ≡ 0 = ap as_one none in
+                            omega arith) ]) ])

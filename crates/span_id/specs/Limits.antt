@@ -1,0 +1,15 @@
+-- The range of each limit.
+use Rattle.std.specs.Prelude.{ℕ, ◌<◌, ◌≤◌, ◌^◌}
+use Rattle.span_id.specs.declared.Limits.{Limits}
+
+-- each limit is in its range
+pub record AreInRange (limits : Limits) : Type 0 where
+  pub slots_low : 1 ≤ limits.slots
+  pub slots_high : limits.slots ≤ 16777216
+  pub last_generation : limits.last_generation ≤ 4294967295
+  pub max_count : 1 ≤ limits.max_count
+  pub max_count_high : limits.max_count ≤ 4294967295
+  pub workers_low : 1 ≤ limits.workers
+  pub workers_high : limits.workers ≤ 256
+  pub ring_low : 1 ≤ limits.ring
+  pub ring_high : limits.ring ≤ 65536

@@ -1,0 +1,2 @@
+//! Layers: filters, notes and their texts.
+#![tactic(auto)]

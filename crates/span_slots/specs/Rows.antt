@@ -1,0 +1,48 @@
+-- How the cells of a slot table stand for what contracts see.
+use Rattle.std.specs.Prelude.{ℕ, zero, suc, ◌+◌, ◌-◌, ◌<◌, ◌≤◌, ◌≡◌, Bool, true, false, cond, ◌&&◌, ◌==◌, nat_le, List, [], ◌∷◌, length, map, Option, Some, None, is_none, slice_index_or, count_by}
+use Rattle.span_id.specs.Id.{id_of}
+
+module _ {T : Type 0} where
+  -- the values of the rows under their ids, where the first row is this slot
+  abbrev pub entries_from : ℕ → List (ℕ × Option T) → List (ℕ × T)
+  entries_from slot [] = []
+  entries_from slot ((given, None) ∷ rest) = entries_from (slot + 1) rest
+  entries_from slot ((given, Some value) ∷ rest) = (id_of slot (given - 1), value) ∷ entries_from (slot + 1) rest
+
+  -- a row that holds a value has given its id
+  abbrev pub IsGoodRow : ℕ → ℕ × Option T → Type 0
+  IsGoodRow last (given, None) = given ≤ last + 1
+  IsGoodRow last (given, Some value) = (0 < given) × (given ≤ last + 1)
+
+  abbrev pub AreGoodRows : ℕ → List (ℕ × Option T) → Type 0
+  AreGoodRows last [] = Unit {0}
+  AreGoodRows last (row ∷ rest) = IsGoodRow last row × AreGoodRows last rest
+
+  -- the row may be given again
+  abbrev pub is_free : ℕ → ℕ × Option T → Bool
+  is_free last row = is_none row.1 && nat_le row.0 last
+
+  abbrev pub free_rows : ℕ → List (ℕ × Option T) → ℕ
+  free_rows last [] = 0
+  free_rows last (row ∷ rest) = cond (is_free last row) 1 0 + free_rows last rest
+
+  abbrev pub free_at : ℕ → List (ℕ × Option T) → ℕ → ℕ
+  free_at last [] k = 0
+  free_at last (row ∷ rest) zero = cond (is_free last row) 1 0
+  free_at last (row ∷ rest) (suc k) = free_at last rest k
+
+abbrev pub times_in : ℕ → List ℕ → ℕ
+times_in k [] = 0
+times_in k (x ∷ xs) = cond (x == k) 1 0 + times_in k xs
+
+-- what is always true of the parts of a table
+pub record IsSound {T : Type 0} (slots last len room_cells room_freed : ℕ) (rows : List (ℕ × Option T)) (freed : List ℕ) : Type 0 where
+  pub used : length rows ≤ slots
+  pub slots_high : slots ≤ 16777216
+  pub last_high : last ≤ 4294967295
+  pub good : AreGoodRows last rows
+  pub freed_are_free : (k : ℕ) → times_in k freed ≡ free_at last rows k
+  pub freed_count : length freed ≡ free_rows last rows
+  pub len_is : len ≡ length (entries_from 0 rows)
+  pub cells_room : slots ≤ room_cells
+  pub freed_room : slots ≤ room_freed

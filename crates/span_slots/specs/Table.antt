@@ -1,0 +1,88 @@
+-- What contracts see of a slot table.
+use Rattle.std.specs.Prelude.{ℕ, ◌+◌, ◌-◌, ◌<◌, ◌≤◌, ◌≡◌, Bool, true, false, cond, not, ◌==◌, nat_lt, nat_le, List, [], ◌∷◌, ◌++◌, length, map, filter, Option, Some, None, is_some, IsSome, slice_index, slice_set, drop, refl}
+use Rattle.std.specs.Option.{option_map}
+
+use Rattle.std.specs.Coded.{Coded, code_by, coded×, coded_ℕ, coded_list}
+use Rattle.span_id.specs.Id.{id_of, slot_of, generation_of}
+
+-- how many slots there are, their last generation, the values under their ids by ascending slot, how
+-- many ids each slot has given so far, and the slots that are free again, the one freed last first
+pub record Table (T : Type 0) : Type 0 where
+  pub slots : ℕ
+  pub last_generation : ℕ
+  pub entries : List (ℕ × T)
+  pub given : List ℕ
+  pub freed : List ℕ
+
+-- a table is stored as the tuple of its fields
+abbrev pub table_code : {T : Type 0} → Coded T → Coded (Table T)
+table_code {T} code =
+    code_by
+    (ℕ × (ℕ × (List (ℕ × T) × (List ℕ × List ℕ))))
+    (coded× coded_ℕ (coded× coded_ℕ (coded× (coded_list (coded× coded_ℕ code)) (coded× (coded_list coded_ℕ) (coded_list coded_ℕ)))))
+    (λ t. (t.slots, (t.last_generation, (t.entries, (t.given, t.freed)))))
+    (λ p. record { slots = p.0; last_generation = p.1.0; entries = p.1.1.0; given = p.1.1.1.0; freed = p.1.1.1.1 })
+    (λ _. refl)
+
+-- the slot of the next value: the one freed last, else the lowest that was never used
+abbrev pub next_slot_of : ℕ → ℕ → List ℕ → Option ℕ
+next_slot_of slots used [] = cond (nat_lt used slots) (Some used) None
+next_slot_of slots used (slot ∷ rest) = Some slot
+
+-- one more id of a slot is given
+abbrev pub issue : List ℕ → ℕ → List ℕ
+issue given slot = cond (nat_lt slot (length given)) (slice_set given slot (slice_index given slot + 1)) (given ++ 1 ∷ [])
+
+module _ {T : Type 0} where
+  -- the value under an id
+  abbrev pub value_at : List (ℕ × T) → ℕ → Option T
+  value_at [] id = None
+  value_at (e ∷ es) id = cond (e.0 == id) (Some e.1) (value_at es id)
+
+  -- the entries with one more, at its slot's place
+  abbrev pub with_entry : List (ℕ × T) → ℕ → T → List (ℕ × T)
+  with_entry [] id value = (id, value) ∷ []
+  with_entry (e ∷ es) id value =
+      cond (nat_lt (slot_of id) (slot_of e.0)) ((id, value) ∷ e ∷ es) (e ∷ with_entry es id value)
+
+  -- the entries but that of an id
+  abbrev pub without_entry : List (ℕ × T) → ℕ → List (ℕ × T)
+  without_entry es id = filter (λ e. not (e.0 == id)) es
+
+  -- the entries with another value under an id
+  abbrev pub with_value : List (ℕ × T) → ℕ → T → List (ℕ × T)
+  with_value es id value = map (λ e. (e.0, cond (e.0 == id) value e.1)) es
+
+  -- the id was given at some time
+  abbrev pub IsIssued : Table T → ℕ → Type 0
+  IsIssued t id = generation_of id < slice_index t.given (slot_of id)
+
+  abbrev pub next_slot : Table T → Option ℕ
+  next_slot t = next_slot_of t.slots (length t.given) t.freed
+
+  -- the id that a slot gives next
+  abbrev pub id_at : Table T → ℕ → ℕ
+  id_at t slot = id_of slot (slice_index t.given slot)
+
+  -- the id of the next value
+  abbrev pub next_id : Table T → Option ℕ
+  next_id t = option_map (id_at t) (next_slot t)
+
+  -- the table with one more value, in this slot
+  abbrev pub inserted : Table T → ℕ → T → Table T
+  inserted t slot value = record t {
+    entries = with_entry t.entries (id_at t slot) value;
+    given = issue t.given slot;
+    freed = drop 1 t.freed
+  }
+
+  -- the freed slots with that of an id, unless it gave its last
+  abbrev pub freed_with : Table T → ℕ → List ℕ
+  freed_with t slot = cond (nat_le (slice_index t.given slot) t.last_generation) (slot ∷ t.freed) t.freed
+
+  -- the table without the value of an id
+  abbrev pub removed : Table T → ℕ → Table T
+  removed t id =
+      cond (is_some (value_at t.entries id))
+      (record t { entries = without_entry t.entries id; freed = freed_with t (slot_of id) })
+      t

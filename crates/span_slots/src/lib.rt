@@ -1,0 +1,277 @@
+//! A table of slots, each of which gives ids of rising generations to the values that it holds.
+#![tactic(auto)]
+
+ghost use Rattle.std.specs.Prelude.{◌≡◌, ℕ, ◌+◌, ◌-◌, ◌<◌, ◌≤◌, ◌↔◌, [], length, map, Some, None, Ok, Err, is_some, IsOk, IsSome, IfOk, IfErr, OnErr, option_copied, slice_index};
+ghost use Rattle.std.specs.Option.{option_copied_mut};
+ghost use Rattle.std.specs.Borrow.{sem};
+ghost use Rattle.span_id.specs.Id.{IsId, slot_of};
+ghost use Rattle.span_slots.specs.Table.{Table, value_at, next_id, id_at, inserted, removed};
+
+use span_id::{Checked, Fault, Id};
+use std::alloc::{AllocError, Global};
+use std::marker::Model;
+
+/// Values under ids. A removed id finds nothing again.
+#[derive(Drop)]
+pub struct Slots<T> {
+    cells: Vec<Cell<T>>,
+    // The slots that may be given again, the one freed last at the end.
+    freed: Vec<u32>,
+    len: u32,
+    slots: u32,
+    last_generation: u32,
+}
+
+#[derive(Drop)]
+struct Cell<T> {
+    // How many ids the slot has given.
+    given: u64,
+    value: Option<T>,
+}
+
+impl<T> Model for Slots<T> {
+    ghost use Rattle.std.specs.Prelude.{map, reverse, vec_capacity};
+    ghost use Rattle.span_slots.specs.Table.{Table, table_code};
+
+    ghost Value = { Table T };
+
+    ghost coded = { table_code T.code };
+
+    ghost use Rattle.span_slots.specs.Cells.{row_of};
+    ghost use Rattle.span_slots.specs.Rows.{entries_from, IsSound};
+
+    ghost view = { λ s. record {
+      slots = s.slots;
+      last_generation = s.last_generation;
+      entries = entries_from 0 (map row_of s.cells.items);
+      given = map (λ c. c.given) s.cells.items;
+      freed = reverse s.freed.items;
+    } };
+
+    ghost invariant = { λ s. IsSound s.slots s.last_generation s.len (vec_capacity s.cells) (vec_capacity s.freed) (map row_of s.cells.items) s.freed.items };
+}
+
+impl<T> Cell<T> {
+    ghost use Rattle.span_slots.specs.Lends.{lends_cell};
+
+    fn value_mut(&mut self) -> &mut T
+        requires { IsSome self.old.value }
+        ensures* lends { sem 𝓛 (lends_cell T.row self.entry result) }
+        ensures value { self.old.value ≡ Some result.now }
+    {
+        match &mut self.value {
+            Some(value) => value,
+            None => unreachable!(),
+        }
+    }
+}
+
+impl<T: Drop> Slots<T> {
+    ghost use Rattle.span_slots.specs.Lends.{lends_get, lends_value};
+
+    /// An empty table of as many slots as the limits say, which reserves all that it needs.
+    pub fn new(alloc: Global, checked: &Checked) -> Result<Self, AllocError>
+        ensures slots { IfOk result (λ t. t.slots ≡ checked.now.slots) }
+        ensures last_generation { IfOk result (λ t. t.last_generation ≡ checked.now.last_generation) }
+        ensures entries { IfOk result (λ t. t.entries ≡ []) }
+        ensures given { IfOk result (λ t. t.given ≡ []) }
+        ensures freed { IfOk result (λ t. t.freed ≡ []) }
+    {
+        let limits = checked.limits();
+        let slots = limits.slots;
+        let last_generation = limits.last_generation;
+        let cells = Vec::with_capacity(alloc, slots as usize)?;
+        let freed = Vec::with_capacity(alloc, slots as usize)?;
+        Ok(Slots {
+            cells,
+            freed,
+            len: 0,
+            slots,
+            last_generation,
+        })
+    }
+
+    /// How many values there are.
+    pub fn len(&self) -> u32
+        ensures { result ≡ length self.now.entries }
+    {
+        self.len
+    }
+
+    /// How many slots are neither occupied nor retired.
+    pub fn free(&self) -> u32
+        ensures { result ≡ self.now.slots - length self.now.given + length self.now.freed }
+    {
+        self.slots - self.cells.len() as u32 + self.freed.len() as u32
+    }
+
+    /// The value under an id.
+    pub fn get(&self, id: Id) -> Option<&T>
+        ensures { option_copied result ≡ value_at self.now.entries id }
+    {
+        let place = id.slot() as usize;
+        let given = u64::from(id.generation()) + 1;
+        let _layout = id.get();
+        if place >= self.cells.len() {
+            return None;
+        }
+        let cell = &self.cells[place];
+        if cell.given != given {
+            return None;
+        }
+        cell.value.as_ref()
+    }
+
+    /// The id that the next value gets.
+    pub fn next_id(&self) -> Option<Id>
+        ensures { result ≡ next_id self.now }
+    {
+        let freed = self.freed.len();
+        if freed > 0 {
+            let slot = self.freed[freed - 1];
+            let given = self.cells[slot as usize].given;
+            return Some(Id::pack(slot, given as u32));
+        }
+        let used = self.cells.len() as u32;
+        if used < self.slots {
+            return Some(Id::pack(used, 0));
+        }
+        None
+    }
+
+    /// The value under an id, for writing.
+    pub fn get_mut(&mut self, id: Id) -> Option<&mut T>
+        ensures* writes_back { sem 𝓛 (lends_get T.row self.entry id result) }
+        ensures value { option_copied_mut result ≡ value_at self.old.entries id }
+    {
+        if self.get(id).is_some() {
+            Some(self.value_mut(id))
+        } else {
+            None
+        }
+    }
+
+    fn value_mut(&mut self, id: Id) -> &mut T
+        requires { IsSome (value_at self.old.entries id) }
+        ensures* writes_back { sem 𝓛 (lends_value T.row self.entry id result) }
+        ensures value { value_at self.old.entries id ≡ Some result.now }
+    {
+        let slot = id.slot();
+        let _generation = id.generation();
+        let _layout = id.get();
+        self.cells[slot as usize].value_mut()
+    }
+
+    /// Stores a value under an id that was never given, or hands it back where no slot is free.
+    pub fn insert(&mut self, value: T) -> Result<Id, (T, Fault)>
+        ensures full { IsOk result ↔ IsSome (next_id self.old) }
+        ensures id { IfOk result (λ id. next_id self.old ≡ Some id) }
+        ensures vacant { IfOk result (λ id. value_at self.old.entries id ≡ None) }
+        ensures table { IfOk result (λ id. self.new ≡ inserted self.old (slot_of id) value) }
+        ensures unchanged { OnErr result (self.new ≡ self.old) }
+        ensures value_returned { IfErr result (λ e. e.0 ≡ value) }
+        ensures fault { IfErr result (λ e. e.1 ≡ Fault.Full) }
+    {
+        if !self.freed.is_empty() {
+            return Ok(self.reuse(value));
+        }
+        if self.cells.len() < self.slots as usize {
+            return Ok(self.fresh(value));
+        }
+        Err((value, Fault::Full))
+    }
+
+    // Stores a value in the slot that was freed last.
+    fn reuse(&mut self, value: T) -> Id
+        requires { 0 < length self.old.freed }
+        ensures id { next_id self.old ≡ Some result }
+        ensures vacant { value_at self.old.entries result ≡ None }
+        ensures table { self.new ≡ inserted self.old (slot_of result) value }
+    {
+        let Some(slot) = self.freed.pop() else {
+            unreachable!()
+        };
+        let cell = &mut self.cells[slot as usize];
+        let given = cell.given;
+        cell.given = given + 1;
+        cell.value = Some(value);
+        self.len += 1;
+        Id::pack(slot, given as u32)
+    }
+
+    // Stores a value in a slot that was never used.
+    fn fresh(&mut self, value: T) -> Id
+        requires none_freed { self.old.freed ≡ [] }
+        requires room { length self.old.given < self.old.slots }
+        ensures id { next_id self.old ≡ Some result }
+        ensures vacant { value_at self.old.entries result ≡ None }
+        ensures table { self.new ≡ inserted self.old (slot_of result) value }
+    {
+        let slot = self.cells.len() as u32;
+        self.cells.push_reserved(Cell {
+            given: 1,
+            value: Some(value),
+        });
+        self.len += 1;
+        Id::pack(slot, 0)
+    }
+
+    /// Takes out the value under an id.
+    pub fn remove(&mut self, id: Id) -> Option<T>
+        ensures value { result ≡ value_at self.old.entries id }
+        ensures table { self.new ≡ removed self.old id }
+    {
+        if self.get(id).is_none() {
+            return None;
+        }
+        Some(self.take_out(id))
+    }
+
+    // Takes out a value that is there.
+    fn take_out(&mut self, id: Id) -> T
+        requires { IsSome (value_at self.old.entries id) }
+        ensures value { value_at self.old.entries id ≡ Some result }
+        ensures table { self.new ≡ removed self.old id }
+    {
+        let slot = id.slot();
+        let _generation = id.generation();
+        let _layout = id.get();
+        let cell = &mut self.cells[slot as usize];
+        let given = cell.given;
+        let Some(value) = cell.value.take() else {
+            unreachable!()
+        };
+        self.len -= 1;
+        if given <= u64::from(self.last_generation) {
+            self.freed.push_reserved(slot);
+        }
+        value
+    }
+}
+
+#[cfg(test)]
+mod tests {
+    use super::*;
+    use span_id::Limits;
+    use std::test::Fail;
+
+    #[test]
+    fn retires(rt: HostRuntime) -> Result<(), Fail> {
+        let limits = Limits { slots: 2, last_generation: 0, max_count: 1, workers: 1, ring: 1 };
+        let checked = limits.check()?;
+        let mut slots: Slots<u32> = Slots::new(rt.alloc(), &checked)?;
+        let first = slots.insert(7).ok().expect(&rt, "first");
+        assert_eq!(rt; first.get(), 1);
+        let second = slots.insert(8).ok().expect(&rt, "second");
+        assert_eq!(rt; second.get(), 2);
+        assert!(rt; slots.insert(9).is_err());
+        assert_eq!(rt; slots.remove(first), Some(7));
+        assert!(rt; slots.get(first).is_none());
+        assert_eq!(rt; slots.remove(first), None);
+        assert!(rt; slots.insert(9).is_err());
+        assert_eq!(rt; slots.len(), 1);
+        assert_eq!(rt; slots.free(), 0);
+        assert!(rt; slots.next_id().is_none());
+        Ok(())
+    }
+}

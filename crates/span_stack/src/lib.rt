@@ -1,0 +1,2 @@
+//! The stack of spans that a worker has entered.
+#![tactic(auto)]
