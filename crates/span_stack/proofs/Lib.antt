@@ -1,0 +1,4 @@
+pub mod Stacks
+pub mod Entries
+pub mod Searches
+pub mod Removals
