@@ -5,8 +5,11 @@
 #![tactic(auto)]
 
 mod entry;
+pub mod laws;
 mod stack;
+#[cfg(test)]
+mod tests;
 mod walk;
 
-pub use stack::SpanStack;
+pub use stack::{IN_PLACE, SpanStack};
 pub use walk::Walk;
