@@ -1,5 +1,5 @@
 -- Worked cases of the definitions, computed from them alone.
-use Rattle.std.proofs.Common.{◌≡◌, refl, true, false, List, [], ◌∷◌, Some, None}
+use Rattle.std.proofs.Common.{◌≡◌, refl, true, false, [], ◌∷◌, Some, None}
 use Rattle.span_stack.specs.Stack.{has, first_places, walk, current, top, without_last}
 
 -- after entering 1, 2 and 1 again the current span is 2, and the topmost entry is 1

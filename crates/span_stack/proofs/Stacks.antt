@@ -1,10 +1,10 @@
 -- Facts on stacks as lists of ids.
-use Rattle.std.proofs.Common.{◌≡◌, ◌≢◌, ℕ, Bool, true, false, not, cond, ◌||◌, ◌&&◌, List, [], ◌∷◌, ◌++◌, length, suc, reverse, Option, Some, None, eqb, refl, sym, ap, ◌∙◌, rules, inl, inr, ⊎_elim}
-use Rattle.std.specs.List.{filter, list_any, slice_get}
+use Rattle.std.proofs.Common.{◌≡◌, ◌≤◌, ℕ, arith, Bool, true, false, not, cond, ◌||◌, ◌&&◌, List, [], ◌∷◌, ◌++◌, length, suc, reverse, Some, eqb, refl, sym, ap, ◌∙◌, ⊎_elim}
+use Rattle.std.specs.List.{filter, slice_get}
 use Rattle.std.proofs.lemmas.List.Sorted.{list_any-IsPermutation, IsPermutation-reverse}
 use Rattle.std.proofs.Math.Bool.{and_comm}
 use Rattle.std.proofs.lemmas.Bool.{eqb-true, eqb-false, eq-eqb, ne_eqb, false≢true, cases_Bool}
-use Rattle.std.proofs.lemmas.List.{append-nil}
+use Rattle.std.proofs.lemmas.List.{append-nil, length-reverse}
 use Rattle.std.proofs.lemmas.List.Elements.{filter-append, filter_agree}
 use Rattle.std.proofs.lemmas.List.Folds.{list_any-append}
 use Rattle.std.proofs.lemmas.Map.Views.{any-filter_same}
@@ -217,3 +217,20 @@ has-current ids id is =
 
 pub has-top : (ids : List ℕ) (id : ℕ) → top ids ≡ Some id → has ids id ≡ true
 has-top ids id is = sym (has-reverse ids id) ∙ has-first (reverse ids) id is
+
+length-filter_le : (p : ℕ → Bool) (xs : List ℕ) → length (filter p xs) ≤ length xs
+length-filter_le p [] = omega arith
+length-filter_le p (x ∷ xs) =
+    let step = length-filter_le p xs in
+    by_cases (p x) (λ it_is. rw it_is (omega arith)) (λ it_isnt. rw it_isnt (omega arith))
+
+-- no stack has more entries that are no duplicates than entries
+pub length-first_places : (ids : List ℕ) → length (first_places ids) ≤ length ids
+length-first_places [] = omega arith
+length-first_places (lowest ∷ above) =
+    let step = length-first_places above in
+    let fewer = length-filter_le (is_other lowest) (first_places above) in
+    omega arith
+
+pub length-walk : (ids : List ℕ) → length (walk ids) ≤ length ids
+length-walk ids = let step = length-first_places ids in rw length-reverse step

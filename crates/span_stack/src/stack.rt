@@ -1,4 +1,4 @@
-ghost use Rattle.std.specs.Prelude.{◌≡◌, ℕ, ◌+◌, ◌<◌, ◌≤◌, ◌==◌, true, false, not, [], ◌∷◌, ◌++◌, length, IsOk, IfErr, OnOk, OnErr, IfSome, IfNone, OnSome, MatchOption, is_some};
+ghost use Rattle.std.specs.Prelude.{◌≡◌, ℕ, ◌+◌, ◌^◌, ◌<◌, ◌≤◌, ◌==◌, true, false, not, [], ◌∷◌, ◌++◌, length, IsOk, IfErr, OnOk, OnErr, IfSome, IfNone, OnSome, MatchOption, is_some};
 ghost use Rattle.std.specs.Iterator.{YieldsFirst};
 ghost use Rattle.std.specs.Iterator.Runs.{YieldsInOrder};
 ghost use Rattle.span_stack.specs.Entry.{ids_of, IsLastPlace};
@@ -94,6 +94,7 @@ impl SpanStack {
     /// A walk to its end looks once at each entry.
     pub fn walk(&self) -> Walk<'_>
         ensures ids { result ≡ words.walk self.now.ids }
+        ensures fits { length result < 2 ^ 64 }
         ensures runs { YieldsInOrder (YieldsFirst {A = ℕ} (λ rest. rest)) (λ rest. rest) }
     {
         Walk {
@@ -143,3 +144,6 @@ fn last_place(entries: &[Entry], id: Id) -> Option<usize>
 {
     entries.iter().rposition(|entry| entry.id == id)
 }
+
+#[cfg(test)]
+mod tests;
