@@ -122,7 +122,8 @@ impl<T: Drop> Slots<T> {
             return Err(Fault::Memory);
         };
         for (slot, cell) in self.cells.iter().enumerate() {
-            if cell.value.is_some() {
+            let occupied = cell.value.is_some();
+            if occupied {
                 ids.push_reserved(Id::pack(slot as u32, (cell.given - 1) as u32));
             }
         }

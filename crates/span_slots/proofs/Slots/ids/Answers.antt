@@ -5,7 +5,7 @@ use Rattle.span_slots.specs.Cells.{row_of}
 use Rattle.span_slots.specs.Rows.{entries_from, AreGoodRows}
 use Rattle.span_slots.proofs.IdLists.{ids_of, good_cell, ids-more_none, ids-more_some, length-ids_of}
 use Rattle.span_slots.proofs.Slots.ids.Goals as goal
-use Rattle.span_slots.proofs.Slots.ids.Goals.{then-is_some, else-is_some}
+use Rattle.span_slots.proofs.Slots.ids.Goals.{then-occupied, else-occupied}
 
 pub loop-slot-init : goal.loop-slot-init
 loop-slot-init g c =
@@ -32,23 +32,23 @@ overflow_cast-cell g c =
 
 pub push_reserved-requires : goal.push_reserved-requires
 push_reserved-requires g c =
-    let some = sym c.is_some.ensures ∙ c.if-is_some.true in
+    let some : is_some c.cell-item.result.value ≡ true = cc in
     let less = length-ids_of c.deref-cell-items.result.now c.loop-slot.slot c.cell-item.result c.loop-slot-test.true c.cell-item.is some in
     let len = ap length c.loop-slot.invariant.so_far in
     omega (arith, c.loop-slot.invariant.room, c.loop-slot.ids.ok.0)
 
 pub loop-slot-preserved : goal.loop-slot-preserved
 loop-slot-preserved g c =
-    elim c.if-is_some.branch [
-      | then-is_some w ↦ (
-          let some : is_some c.cell-item.result.value ≡ true = sym c.is_some.ensures ∙ w.if-is_some.true in
+    elim c.if-occupied.branch [
+      | then-occupied w ↦ (
+          let some : is_some c.cell-item.result.value ≡ true = cc in
           let more = ids-more_some c.deref-cell-items.result.now c.loop-slot.slot c.cell-item.result c.loop-slot-test.true c.cell-item.is some in
           record {
             so_far = rw (w.ids-is, w.push_reserved.ensures.items, c.loop-slot.invariant.so_far, w.pack.ensures.id, more) refl;
             room = rw (w.ids-is, w.push_reserved.ensures.capacity) c.loop-slot.invariant.room;
           })
-      | else-is_some w ↦ (
-          let none : is_some c.cell-item.result.value ≡ false = sym c.is_some.ensures ∙ w.if-is_some.false in
+      | else-occupied w ↦ (
+          let none : is_some c.cell-item.result.value ≡ false = cc in
           let more = ids-more_none c.deref-cell-items.result.now c.loop-slot.slot c.cell-item.result c.loop-slot-test.true c.cell-item.is none in
           record {
             so_far = rw (w.ids-is, more) c.loop-slot.invariant.so_far;
