@@ -212,6 +212,41 @@ module _ {T : Type 0} where
       go (Some v) e = rw e (value_at-without_entry_none t.entries j id none)
   stays_absent t (Write j v) id k i none = value_at-with_value_none t.entries j id v none
 
+  -- the limits never change
+  slots-after : (t : Table T) (change : Change T) → (after t change).slots ≡ t.slots
+  slots-after t (Insert v) = go (next_slot t) refl
+    where
+      go : (o : Option ℕ) → next_slot t ≡ o → (after t (Insert v)).slots ≡ t.slots
+      go None e = rw e refl
+      go (Some s) e = rw e refl
+  slots-after t (Remove id) = go (value_at t.entries id) refl
+    where
+      go : (o : Option T) → value_at t.entries id ≡ o → (removed t id).slots ≡ t.slots
+      go None e = rw e refl
+      go (Some v) e = rw e refl
+  slots-after t (Write id v) = refl
+
+  last-after : (t : Table T) (change : Change T) → (after t change).last_generation ≡ t.last_generation
+  last-after t (Insert v) = go (next_slot t) refl
+    where
+      go : (o : Option ℕ) → next_slot t ≡ o → (after t (Insert v)).last_generation ≡ t.last_generation
+      go None e = rw e refl
+      go (Some s) e = rw e refl
+  last-after t (Remove id) = go (value_at t.entries id) refl
+    where
+      go : (o : Option T) → value_at t.entries id ≡ o → (removed t id).last_generation ≡ t.last_generation
+      go None e = rw e refl
+      go (Some v) e = rw e refl
+  last-after t (Write id v) = refl
+
+  pub slots-after_all : (t : Table T) (changes : List (Change T)) → (after_all t changes).slots ≡ t.slots
+  slots-after_all t [] = refl
+  slots-after_all t (change ∷ changes) = slots-after_all (after t change) changes ∙ slots-after t change
+
+  pub last-after_all : (t : Table T) (changes : List (Change T)) → (after_all t changes).last_generation ≡ t.last_generation
+  last-after_all t [] = refl
+  last-after_all t (change ∷ changes) = last-after_all (after t change) changes ∙ last-after t change
+
   pub issued_for_good : (t : Table T) (changes : List (Change T)) (id : ℕ) → IsKept t → IsIssued t id → IsIssued (after_all t changes) id
   issued_for_good t [] id k i = i
   issued_for_good t (change ∷ changes) id k i =

@@ -3,7 +3,7 @@ use Rattle.std.proofs.Common.{◌≡◌, ◌≢◌, ℕ, zero, suc, ◌+◌, ◌
 use Rattle.std.specs.Prelude.{IfSome, All, AllPairs, Contains}
 use Rattle.std.specs.List.Sorted.{IsStrictlyIncreasing}
 use Rattle.std.proofs.lemmas.List.{get_or_past}
-use Rattle.std.proofs.lemmas.Bool.{eq-eqb, ne_eqb, cases_Bool, cases_lt, lt-ltb, le-ltb, le-leb, lt-leb, not-false, true≢false}
+use Rattle.std.proofs.lemmas.Bool.{eq-eqb, ne_eqb, cases_Bool, cases_lt, lt-ltb, le-ltb, le-leb, lt-leb, ltb-true, ltb-false, not-false, true≢false}
 use Rattle.std.proofs.lemmas.Bool.Decides.{eqb_tells}
 use Rattle.span_id.specs.Id.{id_of, slot_of, generation_of, IsId}
 use Rattle.span_slots.specs.Table.{Table, value_at, with_entry, without_entry, IsIssued, IsUsed, IsFull, is_free, is_occupied, is_retired, next_slot, next_slot_of, next_id, id_at, inserted, removed, freed_with}
@@ -11,7 +11,7 @@ use Rattle.span_slots.specs.Change.{Change, Insert, Remove, Write, after, after_
 use Rattle.span_slots.specs.Rows.{times_in}
 use Rattle.span_slots.proofs.Ids.{slot_of_id, generation_of_id, id_again}
 use Rattle.span_slots.proofs.Entries.{value_at-with_entry_same, value_at-with_entry_other, value_at-without_entry_other}
-use Rattle.span_slots.proofs.Issued.{IsKept, AreIssued, issued_since, used_since, next_slot_low, not_issued, then_issued, issued-inserted, absent-removed}
+use Rattle.span_slots.proofs.Issued.{IsKept, AreIssued, issued_since, used_since, next_slot_low, not_issued, then_issued, issued-inserted, absent-removed, issued_for_good, last-after_all}
 use Rattle.span_slots.proofs.Described.{IsTable, AreNewest, AreAscending}
 
 none_some : {A : Type 0} (x : A) → ◌≡◌ {A = Option A} None (Some x) → ⊥
@@ -45,6 +45,11 @@ apart_once (x ∷ xs) h zero (suc j) d l m = λ e. (
     omega arith)
 apart_once (x ∷ xs) h (suc i) (suc j) d l m =
     apart_once xs (λ y. (let q = h y in omega arith)) i j d (omega arith) (omega arith)
+
+free_is_unretired : (o : Bool) (r : Bool) → not (o || r) ≡ true → r ≡ false
+free_is_unretired true r q = absurd (true≢false (sym q))
+free_is_unretired false true q = absurd (true≢false (sym q))
+free_is_unretired false false q = refl
 
 module _ {T : Type 0} where
   low_slot : (t : Table T) (s : ℕ) → IsKept t → next_slot t ≡ Some s → s < 16777216
@@ -109,27 +114,23 @@ module _ {T : Type 0} where
           free_is_neither true q = absurd (true≢false (sym q))
           free_is_neither false q = refl
 
+  next_is_unretired : (t : Table T) (s : ℕ) → IsTable t → next_slot t ≡ Some s → is_retired t s ≡ false
+  next_is_unretired t s h e = free_is_unretired (is_occupied t s) (is_retired t s) (next_is_free t s h e)
+
+  retired_is : (t : Table T) (s : ℕ) → s < 16777216 → is_retired t s ≡ ltb t.last_generation (get_or t.given s 0)
+  retired_is t s l = rw (slot_of_id s t.last_generation l, generation_of_id s t.last_generation l) refl
+
   -- the ids
   pub next_in_layout : (t : Table T) → IsTable t → t.last_generation ≤ 4294967295 → IfSome (next_id t) IsId
   next_in_layout t h m = if_next t IsId (λ s e. (
       let low = low_slot t s h.kept e in
-      let g : get_or t.given s 0 ≤ t.last_generation = next_generation t s h e in
+      let g : get_or t.given s 0 ≤ t.last_generation = next_generation s e in
       (omega arith, omega arith)))
     where
-      free_is_unretired : (o : Bool) (r : Bool) → not (o || r) ≡ true → r ≡ false
-      free_is_unretired true r q = absurd (true≢false (sym q))
-      free_is_unretired false true q = absurd (true≢false (sym q))
-      free_is_unretired false false q = refl
-
-      next_generation : (t : Table T) (s : ℕ) → IsTable t → next_slot t ≡ Some s → get_or t.given s 0 ≤ t.last_generation
-      next_generation t s h e =
+      next_generation : (s : ℕ) → next_slot t ≡ Some s → get_or t.given s 0 ≤ t.last_generation
+      next_generation s e =
           let low = low_slot t s h.kept e in
-          let r : is_retired t s ≡ false = free_is_unretired (is_occupied t s) (is_retired t s) (next_is_free t s h e) in
-          let q : ltb t.last_generation (get_or t.given s 0) ≡ false = rw (slot_of_id s t.last_generation low, generation_of_id s t.last_generation low) at r in
-          elim (cases_lt t.last_generation (get_or t.given s 0)) [
-            | inl u ↦ absurd (true≢false (sym (lt-ltb t.last_generation (get_or t.given s 0) u) ∙ q))
-            | inr u ↦ u
-          ]
+          ltb-false t.last_generation (get_or t.given s 0) (sym (retired_is t s low) ∙ next_is_unretired t s h e)
 
   pub never_issued : (t : Table T) → IsKept t → IfSome (next_id t) (λ id. IsIssued t id → ⊥)
   never_issued t k = if_next t (λ id. IsIssued t id → ⊥) (λ s e. not_issued t s (low_slot t s k e))
@@ -259,6 +260,30 @@ module _ {T : Type 0} where
           let n = newest t id h there in
           let test : leb (get_or t.given (slot_of id) 0) t.last_generation ≡ true = le-leb (get_or t.given (slot_of id) 0) t.last_generation (omega (arith, n.1)) in
           next-removed t id v e ∙ rw (test, n.1) refl
+
+  pub retired_at_last : (t : Table T) (id : ℕ) → IsKept t → IsIssued t id → generation_of id ≡ t.last_generation → is_retired t (slot_of id) ≡ true
+  retired_at_last t id k i e =
+      let u = used_since t.given (slot_of id) (generation_of id) i in
+      let h = k.used in
+      let m = k.slots_high in
+      retired_is t (slot_of id) (omega arith) ∙ lt-ltb t.last_generation (get_or t.given (slot_of id) 0) (omega arith)
+
+  pub retired_for_good : (t : Table T) (slot : ℕ) (changes : List (Change T)) → IsKept t → slot < t.slots → is_retired t slot ≡ true → is_retired (after_all t changes) slot ≡ true
+  retired_for_good t slot changes k l r =
+      let m = k.slots_high in
+      let low : slot < 16777216 = omega arith in
+      let gave = ltb-true t.last_generation (get_or t.given slot 0) (sym (retired_is t slot low) ∙ r) in
+      let issued : IsIssued t (id_of slot t.last_generation) = rw (slot_of_id slot t.last_generation low, generation_of_id slot t.last_generation low) gave in
+      let still = issued_for_good t changes (id_of slot t.last_generation) k issued in
+      let same = last-after_all t changes in
+      let later = rw (slot_of_id slot t.last_generation low, generation_of_id slot t.last_generation low) at still in
+      retired_is (after_all t changes) slot low ∙ lt-ltb (after_all t changes).last_generation (get_or (after_all t changes).given slot 0) (omega arith)
+
+  pub retired_never_next : (t : Table T) (slot : ℕ) → IsTable t → is_retired t slot ≡ true → IfSome (next_id t) (λ id. slot_of id ≢ slot)
+  retired_never_next t slot h r = if_next t (λ id. slot_of id ≢ slot) (λ s e q. (
+      let low = low_slot t s h.kept e in
+      let same : s ≡ slot = sym (slot_of_id s (get_or t.given s 0) low) ∙ q in
+      absurd (true≢false (sym r ∙ (ap (is_retired t) (sym same) ∙ next_is_unretired t s h e)))))
 
   pub retired : (t : Table T) (id : ℕ) → IsTable t → IsSome (value_at t.entries id) → generation_of id ≡ t.last_generation → next_id (removed t id) ≡ next_id t
   retired t id h there l = go (value_at t.entries id) refl

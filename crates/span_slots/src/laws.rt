@@ -5,7 +5,7 @@
 ghost use Rattle.std.specs.Prelude.{◌≡◌, ◌≢◌, ℕ, ◌+◌, ◌<◌, ◌≤◌, ◌↔◌, ◌⊎◌, List, [], length, map, All, AllPairs, Contains, Some, None, IsSome, IfSome, IsTrue};
 ghost use Rattle.std.specs.List.Sorted.{IsStrictlyIncreasing};
 ghost use Rattle.span_id.specs.Id.{id_of, slot_of, generation_of, IsId};
-ghost use Rattle.span_slots.specs.Table.{value_at, next_id, IsIssued, IsUsed, IsFull, is_free};
+ghost use Rattle.span_slots.specs.Table.{value_at, next_id, IsIssued, IsUsed, IsFull, is_free, is_retired};
 ghost use Rattle.span_slots.specs.Change.{Change, Insert, Remove, Write, after, after_all};
 
 use super::Slots;
@@ -77,11 +77,27 @@ pub fn next_slot_is_the_one_freed_last<T>(slots: &Slots<T>)
     let _opened = &slots.cells;
 }
 
-/// A slot that gave its last id is not given again when its value is removed.
-pub fn last_id_retires_its_slot<T>(slots: &Slots<T>)
-    ensures { (id : ℕ) → IsSome (value_at slots.now.entries id) →
+/// A slot whose id of the last generation was issued is retired: it stays so however many calls
+/// later, it is never the next slot, and removing its value frees no slot.
+pub fn retired_slots_are_never_given_again<T>(slots: &Slots<T>)
+    ensures retired { (id : ℕ) → IsIssued slots.now id → generation_of id ≡ slots.now.last_generation →
+        IsTrue (is_retired slots.now (slot_of id)) }
+    ensures for_good { (slot : ℕ) (changes : List (Change T)) → slot < slots.now.slots →
+        IsTrue (is_retired slots.now slot) → IsTrue (is_retired (after_all slots.now changes) slot) }
+    ensures never_next { (slot : ℕ) → IsTrue (is_retired slots.now slot) →
+        IfSome (next_id slots.now) (λ id. slot_of id ≢ slot) }
+    ensures frees_none { (id : ℕ) → IsSome (value_at slots.now.entries id) →
         generation_of id ≡ slots.now.last_generation →
         next_id (after slots.now (Remove id)) ≡ next_id slots.now }
+{
+    let _opened = &slots.cells;
+}
+
+/// The number of slots and the last generation never change.
+pub fn limits_never_change<T>(slots: &Slots<T>)
+    ensures slots { (changes : List (Change T)) → (after_all slots.now changes).slots ≡ slots.now.slots }
+    ensures last_generation { (changes : List (Change T)) →
+        (after_all slots.now changes).last_generation ≡ slots.now.last_generation }
 {
     let _opened = &slots.cells;
 }

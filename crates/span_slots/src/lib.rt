@@ -72,6 +72,7 @@ impl<T: Drop> Slots<T> {
         ensures entries { IfOk result (λ t. t.entries ≡ []) }
         ensures given { IfOk result (λ t. t.given ≡ []) }
         ensures freed { IfOk result (λ t. t.freed ≡ []) }
+        ensures none_issued { IfOk result (λ t. (id : ℕ) → IsIssued t id → ⊥) }
         ensures fault { IfErr result (λ fault. fault ≡ Fault.Memory) }
     {
         let limits = checked.limits();
