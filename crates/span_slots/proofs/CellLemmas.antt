@@ -6,9 +6,9 @@ use Rattle.std.proofs.lemmas.Bool.Decides.{eqb_tells, nat_tests}
 use Rattle.std.proofs.Math.Seq.{map-set_same}
 use Rattle.span_slots.proofs.Ids.{id_again, slot_of_id}
 use Rattle.span_id.specs.Id.{id_of, slot_of, generation_of, IsId}
-use Rattle.span_slots.specs.declared.Cell.{Cell}
+use Rattle.span_slots.specs.declared.cells.Cell.{Cell}
 use Rattle.span_slots.specs.Cells.{row_of}
-use Rattle.span_slots.specs.Table.{Table, with_value, value_at, with_entry, without_entry, removed, inserted, next_id}
+use Rattle.span_slots.specs.Table.{Table, with_value, value_at, with_entry, without_entry, removed, inserted, next_id, next_slot}
 use Rattle.span_slots.specs.Rows.{entries_from, IsGoodRow, AreGoodRows, is_free, free_rows, free_at, times_in}
 use Rattle.span_slots.proofs.Rows.{row_value, row_none, value_at_rows, without_rows, with_rows, push_rows, written_rows}
 
@@ -109,6 +109,10 @@ module _ {T : Type 0} where
   next_id_reused slots last k cells freed rest cell l e p =
       rw (next_freed slots last k cells freed rest p, given_at cells k cell l e) refl
 
+  pub next_slot_reused : (slots last k g : ℕ) (cells : List (Cell T)) (freed rest : List ℕ) → k < 16777216 → freed ≡ rest ++ k ∷ [] → next_slot (table_of slots last cells freed) ≡ Some (slot_of (id_of k g))
+  next_slot_reused slots last k g cells freed rest l p =
+      rw (next_freed slots last k cells freed rest p, slot_of_id k g l) refl
+
   pub reused : (slots last k : ℕ) (cells : List (Cell T)) (freed rest : List ℕ) (cell new : Cell T) (v : T) → length cells ≤ 16777216 → k < length cells → cell ≡ get_or cells k cell → cell.value ≡ None → new.given ≡ cell.given + 1 → new.value ≡ Some v → freed ≡ rest ++ k ∷ [] → table_of slots last (set cells k new) rest ≡ inserted (table_of slots last cells freed) (slot_of (id_of k cell.given)) v
   reused slots last k cells freed rest cell new v n l e none up put p =
       let r : get_or (map row_of cells) k (0, None) ≡ (cell.given, None) = row_at cells k cell l e ∙ ap (λ x. (cell.given, x)) none in
@@ -127,6 +131,12 @@ module _ {T : Type 0} where
       let len : length (map (λ c. c.given) cells) ≡ k = simp length-map (sym e) in
       let past = get_or_past (map (λ c. c.given) cells) k 0 (omega arith) in
       rw (none, len, test, past) refl
+
+  pub next_slot_fresh : (slots last k : ℕ) (cells : List (Cell T)) (freed : List ℕ) → k < 16777216 → k ≡ length cells → k < slots → reverse freed ≡ [] → next_slot (table_of slots last cells freed) ≡ Some (slot_of (id_of k 0))
+  next_slot_fresh slots last k cells freed low e l none =
+      let test : ltb k slots ≡ true = lt-ltb k slots l in
+      let len : length (map (λ c. c.given) cells) ≡ k = simp length-map (sym e) in
+      rw (none, len, test, slot_of_id k 0 low) refl
 
   pub freshened : (slots last k : ℕ) (cells : List (Cell T)) (freed : List ℕ) (new : Cell T) (v : T) → length cells < 16777216 → k ≡ length cells → new.given ≡ 1 → new.value ≡ Some v → reverse freed ≡ [] → table_of slots last (cells ++ new ∷ []) freed ≡ inserted (table_of slots last cells freed) (slot_of (id_of k 0)) v
   freshened slots last k cells freed new v n e one put none =
