@@ -1,0 +1,3 @@
+pub mod FmtSpan
+pub mod Level
+pub mod Rule

@@ -1,2 +1,10 @@
-//! Layers: filters, notes and their texts.
+//! Layers: which spans and events they admit, which kinds of notes they want, and what they write of a note.
 #![tactic(auto)]
+
+mod note;
+mod rule;
+mod style;
+
+pub use note::{Form, Kind, Note};
+pub use rule::{Rule, admits};
+pub use style::{FmtSpan, Style};
