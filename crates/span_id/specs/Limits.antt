@@ -1,6 +1,6 @@
--- The range of each limit.
-use Rattle.std.specs.Prelude.{ℕ, ◌<◌, ◌≤◌, ◌^◌}
-use Rattle.span_id.specs.declared.Limits.{Limits}
+-- The range of each limit, and the limits that stand where none is given.
+use Rattle.std.specs.Prelude.{◌≡◌, ◌≤◌}
+use Rattle.span_id.specs.declared.limits.Limits.{Limits}
 
 -- each limit is in its range
 pub record AreInRange (limits : Limits) : Type 0 where
@@ -13,3 +13,8 @@ pub record AreInRange (limits : Limits) : Type 0 where
   pub workers_high : limits.workers ≤ 256
   pub ring_low : 1 ≤ limits.ring
   pub ring_high : limits.ring ≤ 65536
+
+-- the limits that stand where none is given
+abbrev pub AreDefault : Limits → Type 0
+AreDefault limits =
+    limits ≡ record { slots = 1024; last_generation = 4294967295; max_count = 4294967295; workers = 4; ring = 1024 }
