@@ -8,7 +8,7 @@ use Rattle.std.specs.declared.alloc.Global.{Global}
 use Rattle.std.proofs.lemmas.List.{drop_more, drop_all}
 use Rattle.span_id.specs.declared.Level.{Level}
 use Rattle.span_layers.specs.Rule.{Pair, pair_of, matching, longest, longest_of, deciding, is_admitted}
-use Rattle.span_layers.specs.Level.{verbosity}
+use Rattle.span_id.specs.Level.{verbosity}
 
 -- the level that one pass ends with, from the length and the level so far
 abbrev pub picked : List ℕ → ℕ → Option Level → List Pair → Option Level

@@ -1,3 +1,4 @@
 pub mod FmtSpan
-pub mod Level
+pub mod Note
 pub mod Rule
+pub mod Text

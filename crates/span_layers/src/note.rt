@@ -1,13 +1,7 @@
-use span_id::{Field, Level};
+ghost use Rattle.std.specs.Prelude.{◌≡◌};
+ghost use Rattle.span_layers.specs.Note.{kind_name};
 
-/// How a note is written.
-#[derive(Clone, Copy, Debug, PartialEq, Eq, Hash)]
-pub enum Form {
-    /// Words with blanks between them, as `event 2 w0 a:b INFO hello k=v`.
-    Compact,
-    /// A JSON object on one line.
-    Json,
-}
+use span_id::{Field, Level};
 
 /// What happened.
 #[derive(Clone, Copy, Debug, PartialEq, Eq, Hash)]
@@ -26,8 +20,24 @@ pub enum Kind {
     OnClose,
 }
 
+impl Kind {
+    /// The word that a note's text has for it, as `new`.
+    pub fn name(self) -> &'static str
+        ensures { result.now ≡ kind_name self }
+    {
+        match self {
+            Kind::OnNew => "new",
+            Kind::OnRecord => "record",
+            Kind::OnEvent => "event",
+            Kind::OnEnter => "enter",
+            Kind::OnExit => "exit",
+            Kind::OnClose => "close",
+        }
+    }
+}
+
 /// What a layer is told of one happening.
-#[derive(Debug, Drop)]
+#[derive(Debug, PartialEq, Eq, Hash, Drop)]
 pub struct Note {
     /// The number of the layer, from 0, in the order of adding.
     pub layer: u32,

@@ -1,5 +1,4 @@
 ghost use Rattle.std.specs.Prelude.{◌≡◌, string_bytes};
-ghost use Rattle.span_layers.specs.Level.{verbosity};
 ghost use Rattle.span_layers.specs.Rule.{pairs_of, is_admitted};
 
 use span_id::{Level, Meta};
@@ -9,21 +8,9 @@ use span_id::{Level, Meta};
 /// Of the pairs whose prefix begins the target, byte by byte, the one with the longest prefix decides; of equal
 /// prefixes the later one. A level is let in if it is at most the level of that pair. Where no prefix begins the
 /// target, nothing is let in.
-#[derive(Debug, Drop)]
+#[derive(Debug, PartialEq, Eq, Hash, Drop)]
 pub struct Rule {
     pub pairs: Vec<(String, Level)>,
-}
-
-fn verbosity_of(level: Level) -> u8
-    ensures { result ≡ verbosity level }
-{
-    match level {
-        Level::Error => 0,
-        Level::Warn => 1,
-        Level::Info => 2,
-        Level::Debug => 3,
-        Level::Trace => 4,
-    }
 }
 
 /// Whether a rule admits the span or the event that the meta describes.
@@ -42,7 +29,7 @@ pub fn admits(rule: &Rule, meta: &Meta) -> bool
         }
     }
     match greatest {
-        Some(level) => verbosity_of(meta.level) <= verbosity_of(level),
+        Some(level) => meta.level.verbosity() <= level.verbosity(),
         None => false,
     }
 }

@@ -1,7 +1,8 @@
 ghost use Rattle.std.specs.Prelude.{⊤, ◌≡◌, [], ◌∷◌, codes};
 ghost use Rattle.span_layers.specs.FmtSpan.{bits_of, is_wanted};
 
-use crate::note::{Form, Kind};
+use crate::form::Form;
+use crate::note::Kind;
 use bitflags::{Flag, Flags, bitflag_items};
 
 /// The kinds of notes on spans that a layer wants.

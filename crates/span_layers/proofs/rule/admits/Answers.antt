@@ -4,7 +4,7 @@ use Rattle.std.specs.Option.{option_map_or}
 use Rattle.std.proofs.lemmas.Bool.{le-leb, lt-leb}
 use Rattle.std.proofs.lemmas.Str.Pattern.{starts_text}
 use Rattle.span_id.specs.declared.Level.{Level}
-use Rattle.span_layers.specs.Level.{verbosity}
+use Rattle.span_id.specs.Level.{verbosity}
 use Rattle.span_layers.specs.Rule.{pair_of, pairs_of, deciding, is_admitted}
 use Rattle.span_layers.proofs.Deciding.{picked, picked-longer, picked-other, picked-shorter, picked-end, is_admitted-picked}
 use Rattle.span_layers.proofs.rule.admits.Goals as goal
@@ -37,7 +37,7 @@ returns-in-Some c =
     let ended = picked-end target c.loop-prefix.longest c.loop-prefix.greatest c.args.rule.now.pairs.items c.loop-prefix.prefix-index past in
     let is = is_admitted-picked (pairs_of c.args.rule.now) target c.args.meta.now.level c.loop-prefix.greatest (sym ended ∙ c.loop-prefix.invariant) in
     let told = rw (c.as_str-target.ensures.value, c.in-Some.is) at is in
-    rw (c.verbosity_of.ensures, c.verbosity_of-in-Some.ensures) (sym told)
+    rw (c.verbosity.ensures, c.verbosity-in-Some.ensures) (sym told)
 
 pub returns-in-None : goal.returns-in-None
 returns-in-None c =
