@@ -1,3 +1,4 @@
+pub mod Admission
 pub mod Deciding
 pub mod NoFloats
 pub mod Texts
