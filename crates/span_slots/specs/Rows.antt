@@ -1,7 +1,7 @@
 -- How the cells of a slot table stand for what contracts see. A row is a cell as a pair: how many ids
 -- the slot has given, and the value that stands in it under the last of them.
 use Rattle.std.specs.Prelude.{ℕ, zero, suc, ◌+◌, ◌-◌, ◌<◌, ◌≤◌, ◌≡◌, Bool, cond, ◌&&◌, ◌==◌, nat_le, List, [], ◌∷◌, length, map, Option, Some, None, is_none}
-use Rattle.span_id.specs.Id.{id_of}
+use Rattle.span_id.specs.Id.{id_of, slots_in_layout}
 
 module _ {T : Type 0} where
   -- the values of the rows under their ids, where the first row is this slot
@@ -43,7 +43,7 @@ times_in k (x ∷ xs) = cond (x == k) 1 0 + times_in k xs
 -- each once; and both lists have room for every slot, so that no call grows them.
 pub record IsSound {T : Type 0} (slots last len room_cells room_freed : ℕ) (rows : List (ℕ × Option T)) (freed : List ℕ) : Type 0 where
   pub used : length rows ≤ slots
-  pub slots_high : slots ≤ 16777216
+  pub slots_high : slots ≤ slots_in_layout
   pub last_high : last ≤ 4294967295
   pub good : AreGoodRows last rows
   pub freed_are_free : (k : ℕ) → times_in k freed ≡ free_at last rows k
