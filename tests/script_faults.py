@@ -1,6 +1,6 @@
 """Makes random lines that are meant as faults of a script, each reason in many forms."""
-from json_writing import Members, Plain
-from script_texts import BAD_NAMES, KEYS, LABELS, NO_JSON, NO_OBJECT, NO_OPS, WRONG
+from json_writing import Members, plain
+from script_texts import BAD_NAMES, EDGES, KEYS, LABELS, NO_JSON, NO_OBJECT, NO_OPS, WRONG
 
 
 class Faults:
@@ -21,7 +21,7 @@ class Faults:
             "no such label": self.unbound, "label taken": self.taken, "both keys of find": self.both_keys_of_find,
         }  # fmt: skip
         weights = dict.fromkeys(kinds, 10)
-        weights.update({"not JSON": 18, "bad key": 40, "label taken": 15})
+        weights.update({"not JSON": 30, "bad key": 40, "two bad keys": 25})
         return kinds[self.dice.weighted(weights)]()
 
     def some_line(self):
@@ -44,46 +44,52 @@ class Faults:
         if line[0][1] in lacking:
             return self.lines.written(line)
         wrong = [("op", self.dice.pick(NO_OPS))] if self.dice.chance(0.8) else []
-        return Plain().value(Members(line[1:] + wrong)).encode()
+        return plain(Members(line[1:] + wrong)).encode()
 
     def late(self):
-        return self.lines.written(self.lines.call(self.dice.pick([it for it in ("limits", "layer") if it in self.ops])))
+        """A line of limits or a layer, which may have a bad key too."""
+        line = self.lines.call(self.dice.pick([it for it in ("limits", "layer") if it in self.ops]))
+        return self.lines.written(self.spoiled(line) if self.dice.chance(0.2) else line)
 
     def spoiled(self, line):
-        """The line with a value of the wrong kind under one of its op's keys."""
+        """The line with a value of the wrong kind, or at the end of a range, under one of its op's keys."""
         key = self.dice.pick(KEYS[line[0][1]])
-        value = self.dice.pick(WRONG[key])
+        value = self.dice.pick(EDGES[key] if key in EDGES and self.dice.chance(0.4) else WRONG[key])
         if key == "w" and self.dice.chance(0.3):
             value = self.replay.registry.limits.workers
         return [it for it in line if it[0] != key] + [(key, value)]
 
     def line_with_keys(self):
-        """A good line, of an op that isn't late if need be."""
+        """A good line, of an op that isn't late if need be. An op with more keys comes more often."""
         ops = [op for op in KEYS if op in self.ops]
         body = [op for op in ops if op not in ("limits", "layer")]
-        return self.lines.call(self.dice.pick(body if self.replay.seen and self.dice.chance(0.9) else ops))
+        ops = body if self.replay.seen and self.dice.chance(0.9) else ops
+        return self.lines.call(self.dice.weighted({op: len(KEYS[op]) for op in ops}))
 
     def bad_key(self):
         return self.lines.written(self.spoiled(self.line_with_keys()))
 
     def bad_keys(self):
-        """Two wrong values, or one beside a label that isn't bound."""
-        line = self.spoiled(self.line_with_keys())
-        if self.dice.chance(0.5):
-            return self.lines.written(self.spoiled(line))
-        return self.lines.written([(key, "no label" if key in ("span", "parent") else value) for key, value in line])
+        """Some wrong values, or one beside a label that isn't bound."""
+        line = self.line_with_keys()
+        if self.dice.chance(0.3):
+            line = self.spoiled(line)
+            return self.lines.written([(key, "no label" if key in ("span", "parent") else value) for key, value in line])
+        bad = self.dice.shuffled(KEYS[line[0][1]])[: self.dice.between(2, 3)]
+        good = [it for it in line if it[0] not in bad]
+        return self.lines.written([*good, *[(key, self.dice.pick(WRONG[key])) for key in bad]])
 
     def key_left_out(self):
         line = self.line_with_keys()
         return self.lines.written([line[0], *[it for it in line[1:] if it[0] not in ("span", "name", "message", "old")]])
 
     def unbound(self):
-        line = dict(self.line_with_keys())
+        line = dict(self.lines.new() if self.dice.chance(0.4) else self.line_with_keys())
         key = "parent" if line["op"] == "new" else "span"
         line.pop("old", None)
         line[key] = self.dice.pick(["no label", "L", "a\0", *LABELS])
         if line["op"] == "new" and self.dice.chance(0.4):
-            line["label"] = self.dice.pick([*self.replay.labels, "b"])
+            line["label"] = self.lines.label_of_open() or "b"
         return self.lines.written(list(line.items()))
 
     def taken(self):
@@ -92,9 +98,11 @@ class Faults:
         line["label"] = self.lines.label_of_open() or "a"
         if self.dice.chance(0.3):
             line["name"] = self.dice.pick(BAD_NAMES)
+        if self.dice.chance(0.2):
+            line["parent"] = "no label"
         return self.lines.written(list(line.items()))
 
     def both_keys_of_find(self):
-        values = [self.lines.span(), "no label", *WRONG["span"]]
-        line = [("op", "find"), ("span", self.dice.pick(values)), ("old", self.dice.pick([1, *WRONG["old"]]))]
-        return self.lines.written(line)
+        span = self.lines.span() if self.dice.chance(0.5) else self.dice.pick(["no label", *WRONG["span"]])
+        old = self.dice.pick([1, None]) if self.dice.chance(0.5) else self.dice.pick(WRONG["old"])
+        return self.lines.written([("op", "find"), ("span", span), ("old", old)])

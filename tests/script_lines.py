@@ -13,14 +13,13 @@ WEIGHTS = {"new": 30, "clone": 10, "close": 20, "enter": 14, "exit": 12, "find":
 
 
 class Lines:
-    def __init__(self, dice, ops):
+    def __init__(self, dice, ops, length):
         self.dice = dice
         self.ops = ops
         self.replay = model.Replay(ops=ops)
         self.over = False  # a fault came
         self.lines = []
-        least, greatest = dice.weighted({(0, 4): 8, (5, 40): 57, (41, 150): 33, (151, 600): 2})
-        self.length = dice.between(least, greatest)  # about so many lines
+        self.length = length  # about so many lines
         self.weights = {op: weight * dice.pick([0.4, 1, 1, 2]) for op, weight in WEIGHTS.items() if op in ops}
         self.parents = {it: dice.pick([1, 1, 3, 6]) for it in ("none", "null", "label", "id")}
         self.workers = dice.pick([1, 1, 2, 2, 3, 4])
@@ -213,7 +212,7 @@ class Lines:
             "workers": [self.workers, self.workers, dice.between(1, 5), 256],
         }
         bad = {"slots": [0, 16777217], "last_generation": [0], "max_count": [0], "workers": [0, 257, 4294967295]}
-        spoiled = dice.pick(list(bad)) if dice.chance(0.05) else None
+        spoiled = dice.pick(list(bad)) if dice.chance(0.12) else None
         given = [(key, dice.pick(bad[key] if key == spoiled else them)) for key, them in choices.items() if dice.chance(0.6)]
         return [("op", "limits"), *given]
 

@@ -1,30 +1,37 @@
 """Makes random scripts: `make` gives one for a seed, a number and the ops that the program has.
 
-Most run to their end; refusals are common. One in three gets a line that is meant as a fault, a few are cut off
-somewhere, and a very few are no more than bytes.
+One in four is short and has a line that is meant as a fault, so that many faults are tried at small cost. The
+others are longer, and few of them get such a line: most run to their end. Refusals are common. A few scripts are cut
+off somewhere, and a very few are no more than bytes.
 """
 from dice import Dice
 from script_faults import Faults
 from script_lines import Lines
 from script_texts import LABELS, NO_JSON
 
-FAULTY = 0.33  # so many scripts get a faulty line
+SHORT = 0.25  # so many scripts are short
+FAULTY = 0.12  # so many of the others get a faulty line
 CUT = 0.06  # so many are cut off
 NO_SCRIPT = 0.003  # so many are bytes of any kind
+LENGTHS = {(0, 4): 5, (5, 40): 58, (41, 150): 35, (151, 500): 2}
 
 
 class Maker:
     def __init__(self, dice, ops):
         self.dice = dice
-        self.lines = Lines(dice, ops)
+        self.short = dice.chance(SHORT)
+        self.lines = Lines(dice, ops, dice.below(5) if self.short else dice.between(*dice.weighted(LENGTHS)))
         self.faults = Faults(self.lines)
-        self.fault_at = dice.below(self.lines.length + 1) if dice.chance(FAULTY) else None
+        self.fault_at = dice.below(self.lines.length + 1) if self.short or dice.chance(FAULTY) else None
+
+    def put_fault(self):
+        self.fault_at = None
+        self.lines.put(self.faults.fault())
 
     def put(self, members):
         """Adds a line; before it, perhaps, a blank one or the faulty one."""
         if self.fault_at is not None and len(self.lines.lines) >= self.fault_at:
-            self.fault_at = None
-            self.lines.put(self.faults.fault())
+            self.put_fault()
         if self.dice.chance(0.03):
             self.lines.put(self.dice.pick([b"", b" ", b"\t", b"\r", b" \t\r "]))
         self.lines.put(self.lines.written(members))
@@ -40,6 +47,10 @@ class Maker:
                 self.dice.pick([self.chain, self.wear, self.fill, self.stacked, self.counted, self.entered_alone])()
             else:
                 self.put(self.lines.call(self.op()))
+        if self.fault_at is not None:
+            self.put_fault()
+        elif not self.short and self.dice.chance(0.004):
+            self.crowd()
         if self.lines.over:
             for _ in range(self.dice.below(3)):
                 self.put(self.lines.call(self.op()))
@@ -53,12 +64,12 @@ class Maker:
 
     def head(self):
         """The limits and the layers. Where there are layers, one of them mostly admits everything."""
-        if self.dice.chance(0.75):
+        if self.dice.chance(0.4 if self.short else 0.75):
             self.put(self.lines.limits())
         if "layer" not in self.lines.ops:
             return
         kinds = {0: 20, self.dice.between(1, 3): 65, self.dice.between(4, 8): 14, self.dice.between(63, 66): 1}
-        count = self.dice.weighted(kinds)
+        count = self.dice.below(3) if self.short else self.dice.weighted(kinds)
         whole = self.dice.below(count) if count and self.dice.chance(0.7) else None
         for place in range(count):
             layer = self.lines.layer()
@@ -109,6 +120,11 @@ class Maker:
         """New spans, mostly until no slot is free."""
         for _ in range(self.dice.between(3, 9)):
             self.put(self.lines.new())
+
+    def crowd(self):
+        """Very many spans, in some scripts more than there are slots where no limit is given."""
+        for place in range(self.dice.pick([70, 300, 1030])):
+            self.lines.put(b'{"op":"new","name":"crowd","parent":null,"label":"crowd %d"}' % place)
 
     def stacked(self):
         """One worker enters some spans, some of them again, and makes a span and an event between the exits."""

@@ -32,23 +32,28 @@ ODD_VALUES = [
 NO_TEXT = [None, True, False, 0, 1, Raw("1.5"), [], {}, ["a"], [["a", "b"]]]
 NO_NUMBER = [
     None, True, False, "", "1", [], {}, [1], Raw("-0"), Raw("-1"), Raw("1.0"), Raw("1e0"), Raw("1E2"), Raw("0.5"), Raw("0.0"),
-    4294967296, 2**53 + 1, 2**63, 2**64 - 1, 2**64, 10**30,
+    2**32, 2**53 + 1, 2**63, 2**64 - 1, 2**64, 10**30,
 ]  # fmt: skip
 NO_LEVEL = [*NO_TEXT, "info", "INFO ", "", "OFF", "TRACES", "Error", "WARNING", "3"]
 NO_FORM = [*NO_TEXT, "Compact", "JSON", "", "pretty", "compact "]
 NO_PAIRS = [
-    None, True, {}, "a", 1, "", {"a": "b"}, [["k"]], [[]], [["k", "v", "w"]], ["k", "v"], [["k", 1]], [[1, "v"]], [["k", None]],
-    [{"k": "v"}], [["k", "v"], ["k"]], [["k", "v"], None], [["k", "v"], "kv"], [["k", ["v"]]],
+    None, True, {}, "a", 1, "", {"a": "b"}, [["k"]], [[]], [["k", "v", "w"]], ["k", "v"], [["k", 1]], [[1, "v"]],
+    [["k", None]], [{"k": "v"}], [["k", "v"], ["k"]], [["k", "v"], None], [["k", "v"], "kv"], [["k", ["v"]]],
 ]  # fmt: skip
 NO_RULE = [*NO_PAIRS, [["app", "info"]], [["", "TRACE"], ["app", ""]], [["TRACE", ""]], [[None, "INFO"]], [["app", "INFO", 1]]]
-NO_SPAN = [*[it for it in NO_NUMBER if not isinstance(it, str) or isinstance(it, Raw)], 0, 2**56 + 1]
+NO_SPAN = [it for it in NO_NUMBER if not isinstance(it, str) or isinstance(it, Raw)]
 
 WRONG = {
     "slots": NO_NUMBER, "last_generation": NO_NUMBER, "max_count": NO_NUMBER, "workers": NO_NUMBER,
-    "form": NO_FORM, "spans": [*NO_NUMBER, 16, 255], "rule": NO_RULE,
+    "form": NO_FORM, "spans": NO_NUMBER, "rule": NO_RULE,
     "name": NO_TEXT, "target": NO_TEXT, "level": NO_LEVEL, "parent": NO_SPAN, "fields": NO_PAIRS, "label": NO_TEXT,
-    "message": NO_TEXT, "span": NO_SPAN, "old": [*NO_NUMBER, 0, 2**32 + 1],
-    "w": [*NO_NUMBER, 256, 255, 4, 3, 2, 1],
+    "message": NO_TEXT, "span": NO_SPAN, "old": NO_NUMBER, "w": NO_NUMBER,
+}  # fmt: skip
+
+# The numbers at the ends of a key's range, good and bad.
+EDGES = {
+    **dict.fromkeys(["slots", "last_generation", "max_count", "workers"], [0, 1, 2**32 - 1, 2**32]), "spans": [0, 15, 16],
+    **dict.fromkeys(["span", "parent"], [0, 1, 2**56, 2**56 + 1]), "old": [0, 1, 2**32, 2**32 + 1], "w": [1, 3, 4, 5, 255, 256],
 }  # fmt: skip
 
 KEYS = {
@@ -70,8 +75,9 @@ NO_JSON = [
     b'{"a":"\\ud800"}', b'{"a":"\\udc00"}', b'{"a":"\\ud800\\ud800"}', b'{"a":"\\ud83d\\n"}', b'{"\\udfff":1}',
     b'{"a":"\\ude00\\ud83d"}', b'{"a":"\\u12"}', b'{"a":"\\u12g4"}', b'{"a":"\\u+123"}', b'{"a":"\\x41"}', b'{"a":"\\U0041"}',
     b'{"a":"\t"}', b'{"a":"\x00"}', b'{"a":"\x1f"}', b'{"a":"\\\n"}', b'{"a":"', b'{"a":"\\', b'{"a":"\\"}', b"\xff", b"\x00",
-    b"\x0c", b"\x0b", b"\xc2\xa0", b"\xef\xbb\xbf", b"\xe2\x80\xa8", b'{"a":"\xff"}', b'{"a":"\xc0\x80"}', b'{"a":"\xed\xa0\x80"}',
-    b'{"a":"\xf4\x90\x80\x80"}', b'{"a":"\xe6\x97"}', b'{"a":"\xc3"}', b'{"\x80":1}', b"9" * 309, b"1e309",
+    b"\x0c", b"\x0b", b"\xc2\xa0", b"\xef\xbb\xbf", b"\xe2\x80\xa8", b'{"a":"\xff"}', b'{"a":"\xc0\x80"}',
+    b'{"a":"\xed\xa0\x80"}', b'{"a":"\xf4\x90\x80\x80"}', b'{"a":"\xe6\x97"}', b'{"a":"\xc3"}', b'{"\x80":1}', b"9" * 309,
+    b"1e309",
     b"[" * 128 + b"]" * 128, b"[" * 300, b'{"a":' * 127 + b"[]" + b"}" * 127, b'{"a":' + b"[" * 127 + b"]" * 127 + b"}",
     b"{line}x", b"{line}{line}", b"{line},", b"\xef\xbb\xbf{line}", b"{line}\x00", b"\x0c{line}", b"{line}\xc2\xa0", b"[{line}",
     b"{line}]", b"{line}//", b"{line} null",
