@@ -1,12 +1,12 @@
 -- The cell of an id that is there, and the cell of the slot that was freed last.
-use Rattle.std.proofs.Common.{◌≡◌, ℕ, ◌+◌, ◌<◌, ◌≤◌, List, [], ◌∷◌, ◌++◌, length, get_or, map, Option, Some, None, IsSome, refl, sym, ap, ◌∙◌, arith}
+use Rattle.std.proofs.Common.{◌≡◌, ℕ, ◌+◌, ◌<◌, ◌≤◌, List, [], ◌∷◌, ◌++◌, length, get_or, map, Some, None, IsSome, sym, ap, ◌∙◌, arith}
 use Rattle.std.proofs.lemmas.List.{length-map}
 use Rattle.span_id.specs.Id.{slot_of, generation_of, IsId}
 use Rattle.span_slots.specs.declared.cells.Cell.{Cell}
 use Rattle.span_slots.specs.Cells.{row_of}
 use Rattle.span_slots.specs.Table.{value_at}
 use Rattle.span_slots.specs.Rows.{entries_from, IsSound}
-use Rattle.span_slots.proofs.CellLemmas.{found_cell, Found, row_at}
+use Rattle.span_slots.proofs.CellLemmas.{found_cell, row_at}
 use Rattle.span_slots.proofs.Sound.{free_row}
 
 module _ {T : Type 0} where

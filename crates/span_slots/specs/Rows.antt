@@ -1,6 +1,6 @@
 -- How the cells of a slot table stand for what contracts see. A row is a cell as a pair: how many ids
 -- the slot has given, and the value that stands in it under the last of them.
-use Rattle.std.specs.Prelude.{ℕ, zero, suc, ◌+◌, ◌-◌, ◌<◌, ◌≤◌, ◌≡◌, Bool, cond, ◌&&◌, ◌==◌, nat_le, List, [], ◌∷◌, length, map, Option, Some, None, is_none}
+use Rattle.std.specs.Prelude.{ℕ, zero, suc, ◌+◌, ◌-◌, ◌<◌, ◌≤◌, ◌≡◌, Bool, cond, ◌&&◌, ◌==◌, nat_le, List, [], ◌∷◌, length, Option, Some, None, is_none}
 use Rattle.span_id.specs.Id.{id_of, slots_in_layout}
 
 module _ {T : Type 0} where

@@ -1,5 +1,6 @@
 use super::*;
 use span_id::Limits;
+use std::process::Abort;
 use std::test::Fail;
 
 // The limits of a table, whose other limits don't matter here.
@@ -15,7 +16,7 @@ fn checked(slots: u32, last_generation: u32) -> Result<Checked, Fault> {
 }
 
 // Stores a value where a slot is free.
-fn put(rt: &HostRuntime, slots: &mut Slots<u32>, value: u32) -> Id {
+fn put(rt: &impl Abort, slots: &mut Slots<u32>, value: u32) -> Id {
     slots.insert(value).ok().expect(rt, "no slot is free")
 }
 
