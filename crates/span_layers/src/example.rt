@@ -30,18 +30,20 @@ pub fn told_by_one_layer(
     ensures memory { IfErr result (λ fault. fault ≡ Fault.Memory) }
 {
     let mut layers = Layers::new(alloc);
-    let Ok(admit) = Box::new(alloc, |rule: &Rule, meta: &Meta| -> bool
-        ensures { result ≡ is_admitted (pairs_of rule.now) (string_bytes meta.now.target) meta.now.level }
-    {
-        admits(rule, meta)
-    }) else {
+    let Ok(admit) = Box::new(
+        alloc,
+        |rule: &Rule, meta: &Meta| -> bool
+            ensures { result ≡ is_admitted (pairs_of rule.now) (string_bytes meta.now.target) meta.now.level }
+        { admits(rule, meta) },
+    ) else {
         return Err(Fault::Memory);
     };
-    let Ok(say) = Box::new(alloc, |alloc: Global, form: Form, note: &Note| -> Result<Vec<u8>, AllocError>
-        ensures { ForOk result (λ text. text.items ≡ text_of form (plain_note note.now)) }
-    {
-        text(alloc, form, note)
-    }) else {
+    let Ok(say) = Box::new(
+        alloc,
+        |alloc: Global, form: Form, note: &Note| -> Result<Vec<u8>, AllocError>
+            ensures { ForOk result (λ text. text.items ≡ text_of form (plain_note note.now)) }
+        { text(alloc, form, note) },
+    ) else {
         return Err(Fault::Memory);
     };
     let hooks = Hooks::new(admit, say);

@@ -60,10 +60,10 @@ fn plain_value(
 ) -> Result<Value, AllocError>
     ensures { IfOk result (λ value. view value ≡
         object (member (codes "fields") (view fields.now)
-          (member (codes "id") (number (unsigned id))
-            (member (codes "kind") (string kind.now)
-              (member (codes "path") (string path.now)
-                (member (codes "worker") (number (unsigned worker)) no_members)))))) }
+        (member (codes "id") (number (unsigned id))
+        (member (codes "kind") (string kind.now)
+        (member (codes "path") (string path.now)
+        (member (codes "worker") (number (unsigned worker)) no_members)))))) }
 {
     json!(in alloc; {"fields": fields, "id": id, "kind": kind, "path": path, "worker": worker})
 }
@@ -79,12 +79,12 @@ fn event_value(
 ) -> Result<Value, AllocError>
     ensures { IfOk result (λ value. view value ≡
         object (member (codes "fields") (view fields.now)
-          (member (codes "id") (number (unsigned id))
-            (member (codes "kind") (string (codes "event"))
-              (member (codes "level") (string level.now)
-                (member (codes "message") (string message.now)
-                  (member (codes "path") (string path.now)
-                    (member (codes "worker") (number (unsigned worker)) no_members)))))))) }
+        (member (codes "id") (number (unsigned id))
+        (member (codes "kind") (string (codes "event"))
+        (member (codes "level") (string level.now)
+        (member (codes "message") (string message.now)
+        (member (codes "path") (string path.now)
+        (member (codes "worker") (number (unsigned worker)) no_members)))))))) }
 {
     json!(in alloc; {"fields": fields, "id": id, "kind": "event", "level": level, "message": message, "path": path, "worker": worker})
 }
