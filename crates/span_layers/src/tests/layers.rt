@@ -1,9 +1,3 @@
-ghost use Rattle.std.specs.Prelude.{◌≡◌, Bool, IfOk, string_bytes};
-ghost use Rattle.std.specs.Result.{ForOk};
-ghost use Rattle.span_layers.specs.Note.{plain_note};
-ghost use Rattle.span_layers.specs.Rule.{pairs_of, is_admitted};
-ghost use Rattle.span_layers.specs.Text.{text_of};
-
 use crate::example::told_by_one_layer;
 use crate::{
     Filters, FmtSpan, Form, Hooks, Kind, Layer, Layers, MAX_LAYERS, Note, Rule, Say, Style,
@@ -18,17 +12,10 @@ use std::test::Fail;
 /// Hooks that answer as `admits` and `text` do.
 fn hooks(alloc: Global) -> Result<Hooks, AllocError> {
     Ok(Hooks::new(
+        Box::new(alloc, |rule: &Rule, meta: &Meta| admits(rule, meta))?,
         Box::new(
             alloc,
-            |rule: &Rule, meta: &Meta| -> bool
-                ensures { result ≡ is_admitted (pairs_of rule.now) (string_bytes meta.now.target) meta.now.level }
-            { admits(rule, meta) },
-        )?,
-        Box::new(
-            alloc,
-            |alloc: Global, form: Form, note: &Note| -> Result<Vec<u8>, AllocError>
-                ensures { ForOk result (λ text. text.items ≡ text_of form (plain_note note.now)) }
-            { text(alloc, form, note) },
+            |alloc: Global, form: Form, note: &Note| text(alloc, form, note),
         )?,
     ))
 }
@@ -205,17 +192,10 @@ fn said<S: Say>(rt: &impl Abort, alloc: Global, formatters: &S) -> Result<(), Fa
 fn refused_text_is_memory(rt: HostRuntime) -> Result<(), Fail> {
     let alloc = rt.alloc();
     let refusing = Hooks::new(
+        Box::new(alloc, |rule: &Rule, meta: &Meta| admits(rule, meta))?,
         Box::new(
             alloc,
-            |rule: &Rule, meta: &Meta| -> bool
-                ensures { result ≡ is_admitted (pairs_of rule.now) (string_bytes meta.now.target) meta.now.level }
-            { admits(rule, meta) },
-        )?,
-        Box::new(
-            alloc,
-            |_alloc: Global, form: Form, note: &Note| -> Result<Vec<u8>, AllocError>
-                ensures { ForOk result (λ text. text.items ≡ text_of form (plain_note note.now)) }
-            { Err(AllocError) },
+            |_alloc: Global, _form: Form, _note: &Note| Err(AllocError),
         )?,
     );
     let mut layers = Layers::new(alloc);
