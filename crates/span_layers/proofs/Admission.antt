@@ -39,9 +39,9 @@ beyond (f ∷ fs) (suc layer) h = beyond fs layer (omega arith)
 -- the bit of a layer is set exactly if its rule admits
 pub has_bit-admission_set : (fs : List Filter) (target : List ℕ) (level : Level) (layer : ℕ) → length fs ≤ 64 → has_bit (admission_set fs target level) layer ≡ layer_admits fs layer target level
 has_bit-admission_set fs target level layer few = elim (cases_lt layer 64) [
-      inl lt ↦ rw (lt-ltb layer 64 lt) (admission_bit fs target level layer)
-    | inr ge ↦ rw (le-ltb layer 64 ge, beyond fs layer (omega arith)) refl
-    ]
+  | inl lt ↦ rw (lt-ltb layer 64 lt) (admission_bit fs target level layer)
+  | inr ge ↦ rw (le-ltb layer 64 ge, beyond fs layer (omega arith)) refl
+]
 
 -- p is 2 ^ k: what is left at k is the bit at k, and what is left at k + 1
 spread : (k r : ℕ) (b : Bool) → 2 ^ k * (bit b + 2 * r) ≡ 2 ^ k * bit b + 2 ^ (k + 1) * r
@@ -55,7 +55,7 @@ module _ {X : Type 0} (view : X → Filter) (xs : List X) (k : ℕ) (x : X) (tar
       let here : get_or (map view xs) k (view x) ≡ view x = get_or-map view xs k x (view x) lt ∙ ap view (sym is) in
       ap (λ fs. 2 ^ k * admission_set fs target level) (drop_more (map view xs) k (view x) in_range)
       ∙ (ap (λ (f : Filter). 2 ^ k * (bit (is_admitted f.pairs target level) + 2 * admission_set (drop (k + 1) (map view xs)) target level)) here
-        ∙ spread k (admission_set (drop (k + 1) (map view xs)) target level) (is_admitted (view x).pairs target level))
+      ∙ spread k (admission_set (drop (k + 1) (map view xs)) target level) (is_admitted (view x).pairs target level))
 
   pub small-skip : bits < 2 ^ (k + 1)
   small-skip = let more = pow_below k (k + 1) (omega arith) in omega arith

@@ -43,34 +43,37 @@ longest_from-above n (p ∷ ps) = let above = longest_from-above (max n (length 
 last_level-any : (n : ℕ) (ps : List Pair) (o q : Option Level) (f : ℕ) → f ≡ longest_from n ps → f ≢ n → last_level o (of_length f ps) ≡ last_level q (of_length f ps)
 last_level-any n [] o q f e h = absurd (h e)
 last_level-any n (p ∷ ps) o q f e h = elim (cases_eq (length p.0) f) [
-      inl here ↦ rw (eq-eqb _ _ here) refl
-    | inr ne ↦ rw (ne_eqb _ _ ne) (last_level-any (max n (length p.0)) ps o q f e (λ k. elim (cases_lt n (length p.0)) [ inl lt ↦ ne (omega arith) | inr ge ↦ h (omega arith) ]))
-    ]
+  | inl here ↦ rw (eq-eqb _ _ here) refl
+  | inr ne ↦ rw (ne_eqb _ _ ne) (last_level-any (max n (length p.0)) ps o q f e (λ k. elim (cases_lt n (length p.0)) [ inl lt ↦ ne (omega arith) | inr ge ↦ h (omega arith) ]))
+]
 
 -- one pass gives the level of the last pair of the greatest length f
 chosen-is : (n : ℕ) (o : Option Level) (ps : List Pair) (f : ℕ) → f ≡ longest_from n ps → chosen n o ps ≡ last_level o (of_length f ps)
 chosen-is n o [] f e = refl
 chosen-is n o (p ∷ ps) f e = elim (cases_lt (length p.0) n) [
-      inl lt ↦ (let same : f ≡ longest_from n ps = e ∙ ap (λ m. longest_from m ps) (omega arith) in
-        let above = longest_from-above n ps in
-        let shorter : length p.0 ≢ f = λ k. absurd (omega arith) in
-        rw (lt-leb n (length p.0) lt, ne_eqb _ _ shorter) (chosen-is n o ps f same))
-    | inr ge ↦ (let same : f ≡ longest_from (length p.0) ps = e ∙ ap (λ m. longest_from m ps) (omega arith) in
-        rw (le-leb n (length p.0) ge) (elim (cases_eq (length p.0) f) [
-          inl here ↦ rw (eq-eqb _ _ here) (chosen-is (length p.0) (Some p.1) ps f same)
-        | inr ne ↦ rw (ne_eqb _ _ ne) (chosen-is (length p.0) (Some p.1) ps f same ∙ last_level-any (length p.0) ps (Some p.1) o f same (λ k. ne (sym k))) ]))
-    ]
+  | inl lt ↦ (let same : f ≡ longest_from n ps = e ∙ ap (λ m. longest_from m ps) (omega arith) in
+      let above = longest_from-above n ps in
+      let shorter : length p.0 ≢ f = λ k. absurd (omega arith) in
+      rw (lt-leb n (length p.0) lt, ne_eqb _ _ shorter) (chosen-is n o ps f same))
+  | inr ge ↦ (let same : f ≡ longest_from (length p.0) ps = e ∙ ap (λ m. longest_from m ps) (omega arith) in
+      rw (le-leb n (length p.0) ge) (elim (cases_eq (length p.0) f) [
+        | inl here ↦ rw (eq-eqb _ _ here) (chosen-is (length p.0) (Some p.1) ps f same)
+        | inr ne ↦ rw (ne_eqb _ _ ne) (chosen-is (length p.0) (Some p.1) ps f same ∙ last_level-any (length p.0) ps (Some p.1) o f same (λ k. ne (sym k)))
+      ]))
+]
 
 picked-matching : (target : List ℕ) (n : ℕ) (o : Option Level) (ps : List Pair) → picked target n o ps ≡ chosen n o (matching ps target)
 picked-matching target n o [] = refl
 picked-matching target n o (p ∷ ps) = elim (cases_Bool (starts_with nat_eq target p.0)) [
-      inl t ↦ rw t (elim (cases_Bool (nat_le n (length p.0))) [
-        inl l ↦ rw l (picked-matching target (length p.0) (Some p.1) ps)
-      | inr l ↦ rw l (picked-matching target n o ps) ])
-    | inr t ↦ rw t (elim (cases_Bool (nat_le n (length p.0))) [
-        inl l ↦ rw l (picked-matching target n o ps)
-      | inr l ↦ rw l (picked-matching target n o ps) ])
-    ]
+  | inl t ↦ rw t (elim (cases_Bool (nat_le n (length p.0))) [
+    | inl l ↦ rw l (picked-matching target (length p.0) (Some p.1) ps)
+    | inr l ↦ rw l (picked-matching target n o ps)
+  ])
+  | inr t ↦ rw t (elim (cases_Bool (nat_le n (length p.0))) [
+    | inl l ↦ rw l (picked-matching target n o ps)
+    | inr l ↦ rw l (picked-matching target n o ps)
+  ])
+]
 
 pub picked-deciding : (target : List ℕ) (ps : List Pair) → picked target 0 None ps ≡ option_map (λ p. p.1) (deciding ps target)
 picked-deciding target ps =

@@ -93,6 +93,12 @@ told = record { layer = 0; kind = OnEvent; worker = 0; id = 0; path = []; fields
 abbrev told_inside : PlainNote
 told_inside = record { layer = 0; kind = OnEvent; worker = 3; id = 2; path = codes "a" ∷ codes "q" ∷ []; fields = (codes "k", codes "v") ∷ []; tail = Some (Info, codes "hi") }
 
+abbrev untold : PlainNote
+untold = record { layer = 0; kind = OnEvent; worker = 0; id = 0; path = []; fields = []; tail = None }
+
+abbrev entered : PlainNote
+entered = record { layer = 0; kind = OnEnter; worker = 0; id = 1; path = codes "a" ∷ []; fields = []; tail = Some (Info, codes "hi") }
+
 abbrev closed : PlainNote
 closed = record { layer = 0; kind = OnClose; worker = 0; id = 1; path = codes "a" ∷ []; fields = (codes "k", codes "1") ∷ (codes "k", codes "2") ∷ []; tail = None }
 
@@ -111,6 +117,15 @@ told_compact = refl
 told_inside_compact : text_of Compact told_inside ≡ codes "event 2 w3 a:q INFO hi k=v"
 unfolding text_of digits
 told_inside_compact = refl
+
+-- the level and the message are shown of an event that has them, and of nothing else
+untold_compact : text_of Compact untold ≡ codes "event 0 w0 -"
+unfolding text_of digits
+untold_compact = refl
+
+entered_compact : text_of Compact entered ≡ codes "enter 1 w0 a"
+unfolding text_of digits
+entered_compact = refl
 
 closed_compact : text_of Compact closed ≡ codes "close 1 w0 a k=1 k=2"
 unfolding text_of digits

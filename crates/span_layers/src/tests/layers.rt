@@ -1,13 +1,7 @@
-ghost use Rattle.std.specs.Prelude.{◌≡◌, Bool, IfOk, string_bytes};
-ghost use Rattle.std.specs.Result.{ForOk};
-ghost use Rattle.span_layers.specs.Note.{plain_note};
-ghost use Rattle.span_layers.specs.Rule.{pairs_of, is_admitted};
-ghost use Rattle.span_layers.specs.Text.{text_of};
-
 use crate::example::told_by_one_layer;
 use crate::{
-    Filters, FmtSpan, Form, Hooks, Kind, Layer, Layers, MAX_LAYERS, Note, Rule, Say, Style, Tellers,
-    admits, text,
+    Filters, FmtSpan, Form, Hooks, Kind, Layer, Layers, MAX_LAYERS, Note, Rule, Say, Style,
+    Tellers, admits, text,
 };
 use bitflags::Flags;
 use span_id::{Fault, Field, Level, Meta};
@@ -18,27 +12,25 @@ use std::test::Fail;
 /// Hooks that answer as `admits` and `text` do.
 fn hooks(alloc: Global) -> Result<Hooks, AllocError> {
     Ok(Hooks::new(
-        Box::new(alloc, |rule: &Rule, meta: &Meta| -> bool
-            ensures { result ≡ is_admitted (pairs_of rule.now) (string_bytes meta.now.target) meta.now.level }
-        {
-            admits(rule, meta)
-        })?,
-        Box::new(alloc, |alloc: Global, form: Form, note: &Note| -> Result<Vec<u8>, AllocError>
-            ensures { ForOk result (λ text. text.items ≡ text_of form (plain_note note.now)) }
-        {
-            text(alloc, form, note)
-        })?,
+        Box::new(alloc, |rule: &Rule, meta: &Meta| admits(rule, meta))?,
+        Box::new(
+            alloc,
+            |alloc: Global, form: Form, note: &Note| text(alloc, form, note),
+        )?,
     ))
 }
 
-fn layer(alloc: Global, form: Form, spans: FmtSpan, prefix: &str, level: Level) -> Result<Layer, AllocError> {
+fn layer(
+    alloc: Global,
+    form: Form,
+    spans: FmtSpan,
+    prefix: &str,
+    level: Level,
+) -> Result<Layer, AllocError> {
     let mut pairs = Vec::new(alloc);
     pairs.push((String::from_str(alloc, prefix)?, level))?;
     Ok(Layer {
-        style: Style {
-            form,
-            spans,
-        },
+        style: Style { form, spans },
         rule: Rule { pairs },
         hooks: hooks(alloc)?,
     })
@@ -116,7 +108,11 @@ fn every_set_of_kinds(rt: HostRuntime) -> Result<(), Fail> {
             (Kind::OnEvent, true),
         ];
         for (kind, want) in cases {
-            assert_eq!(rt; filters.want(layer, kind), want, "{kind:?} of the set {layer}");
+            assert_eq!(rt;
+                filters.want(layer, kind),
+                want,
+                "{kind:?} of the set {layer}"
+            );
         }
     }
     assert!(rt; FmtSpan::from_bits(16).is_none());
@@ -127,9 +123,21 @@ fn every_set_of_kinds(rt: HostRuntime) -> Result<(), Fail> {
 fn parts_of_three_layers(rt: HostRuntime) -> Result<(), Fail> {
     let alloc = rt.alloc();
     let mut layers = Layers::new(alloc);
-    assert!(rt; layers.add(layer(alloc, Form::Json, FmtSpan::FULL, "", Level::Trace)?).is_ok());
-    assert!(rt; layers.add(layer(alloc, Form::Compact, FmtSpan::NEW, "app", Level::Info)?).is_ok());
-    assert!(rt; layers.add(layer(alloc, Form::Compact, FmtSpan::NONE, "lib", Level::Warn)?).is_ok());
+    assert!(rt;
+        layers
+            .add(layer(alloc, Form::Json, FmtSpan::FULL, "", Level::Trace)?)
+            .is_ok()
+    );
+    assert!(rt;
+        layers
+            .add(layer(alloc, Form::Compact, FmtSpan::NEW, "app", Level::Info)?)
+            .is_ok()
+    );
+    assert!(rt;
+        layers
+            .add(layer(alloc, Form::Compact, FmtSpan::NONE, "lib", Level::Warn)?)
+            .is_ok()
+    );
     let (filters, tellers) = layers.split();
     admit_and_want(&rt, alloc, &filters)?;
     tell(&rt, alloc, &tellers)
@@ -184,16 +192,11 @@ fn said<S: Say>(rt: &impl Abort, alloc: Global, formatters: &S) -> Result<(), Fa
 fn refused_text_is_memory(rt: HostRuntime) -> Result<(), Fail> {
     let alloc = rt.alloc();
     let refusing = Hooks::new(
-        Box::new(alloc, |rule: &Rule, meta: &Meta| -> bool
-            ensures { result ≡ is_admitted (pairs_of rule.now) (string_bytes meta.now.target) meta.now.level }
-        {
-            admits(rule, meta)
-        })?,
-        Box::new(alloc, |_alloc: Global, form: Form, note: &Note| -> Result<Vec<u8>, AllocError>
-            ensures { ForOk result (λ text. text.items ≡ text_of form (plain_note note.now)) }
-        {
-            Err(AllocError)
-        })?,
+        Box::new(alloc, |rule: &Rule, meta: &Meta| admits(rule, meta))?,
+        Box::new(
+            alloc,
+            |_alloc: Global, _form: Form, _note: &Note| Err(AllocError),
+        )?,
     );
     let mut layers = Layers::new(alloc);
     let layer = layer(alloc, Form::Compact, FmtSpan::FULL, "", Level::Trace)?;

@@ -18,15 +18,15 @@ loop-prefix-preserved c =
     let prefix = c.as_str-prefix.result.now in
     let inv = c.loop-prefix.invariant in
     elim c.if-prefix-longest.branch [
-      then-prefix-longest+then-starts_with w ↦
-        (let starts = sym w.if-starts_with.true ∙ starts_text w.starts_with.result prefix c.as_str-target.result.now w.starts_with.ensures.cases in
-         rw (w.longest-is, w.greatest-is) (sym (picked-longer c.as_str-target.result.now c.loop-prefix.longest c.loop-prefix.greatest c.args.rule.now.pairs.items c.loop-prefix.prefix-index x within is prefix c.as_str-prefix.ensures.value w.if-prefix-longest.true starts) ∙ inv))
-    | else-prefix-longest w ↦ elim w.else-prefix-longest.branch [
-        else-prefix-longest-via-then-prefix-longest+else-starts_with v ↦
-          (let starts = sym v.if-starts_with.false ∙ starts_text v.starts_with.result prefix c.as_str-target.result.now v.starts_with.ensures.cases in
-           rw (w.longest-is, w.greatest-is) (sym (picked-other c.as_str-target.result.now c.loop-prefix.longest c.loop-prefix.greatest c.args.rule.now.pairs.items c.loop-prefix.prefix-index x within is prefix c.as_str-prefix.ensures.value v.if-prefix-longest.true starts) ∙ inv))
-      | else-prefix-longest-via-else-prefix-longest v ↦
-          rw (w.longest-is, w.greatest-is) (sym (picked-shorter c.as_str-target.result.now c.loop-prefix.longest c.loop-prefix.greatest c.args.rule.now.pairs.items c.loop-prefix.prefix-index x within is prefix c.as_str-prefix.ensures.value v.if-prefix-longest.false) ∙ inv)
+      | then-prefix-longest+then-starts_with w ↦
+          (let starts = sym w.if-starts_with.true ∙ starts_text w.starts_with.result prefix c.as_str-target.result.now w.starts_with.ensures.cases in
+          rw (w.longest-is, w.greatest-is) (sym (picked-longer c.as_str-target.result.now c.loop-prefix.longest c.loop-prefix.greatest c.args.rule.now.pairs.items c.loop-prefix.prefix-index x within is prefix c.as_str-prefix.ensures.value w.if-prefix-longest.true starts) ∙ inv))
+      | else-prefix-longest w ↦ elim w.else-prefix-longest.branch [
+        | else-prefix-longest-via-then-prefix-longest+else-starts_with v ↦
+            (let starts = sym v.if-starts_with.false ∙ starts_text v.starts_with.result prefix c.as_str-target.result.now v.starts_with.ensures.cases in
+            rw (w.longest-is, w.greatest-is) (sym (picked-other c.as_str-target.result.now c.loop-prefix.longest c.loop-prefix.greatest c.args.rule.now.pairs.items c.loop-prefix.prefix-index x within is prefix c.as_str-prefix.ensures.value v.if-prefix-longest.true starts) ∙ inv))
+        | else-prefix-longest-via-else-prefix-longest v ↦
+            rw (w.longest-is, w.greatest-is) (sym (picked-shorter c.as_str-target.result.now c.loop-prefix.longest c.loop-prefix.greatest c.args.rule.now.pairs.items c.loop-prefix.prefix-index x within is prefix c.as_str-prefix.ensures.value v.if-prefix-longest.false) ∙ inv)
       ]
     ]
 

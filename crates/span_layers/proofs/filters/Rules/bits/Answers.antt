@@ -26,18 +26,18 @@ loop-layer-preserved g c =
     let all = admission_set (map view filters) target level in
     let so_far = rw (sym c.self.view_is) at c.loop-layer.invariant.so_far in
     elim c.if-admits.branch [
-      then-admits w ↦
-        (let taken = admission_set-take view filters layer x target level within is bits small all few (sym w.if-admits.true ∙ c.admits.ensures) so_far in
-         rw w.bits-is (record {
-           small = small-take view filters layer x target level within is bits small few;
-           so_far = subst (λ (fs : List Filter). bit_or bits (1 * 2 ^ layer % 2 ^ 64) + 2 ^ (layer + 1) * admission_set (drop (layer + 1) fs) target level ≡ admission_set fs target level) c.self.view_is taken;
-         }))
-    | else-admits w ↦
-        (let skipped = admission_set-skip view filters layer x target level within is bits small all (sym w.if-admits.false ∙ c.admits.ensures) so_far in
-         rw w.bits-is (record {
-           small = small-skip view filters layer x target level within is bits small;
-           so_far = subst (λ (fs : List Filter). bits + 2 ^ (layer + 1) * admission_set (drop (layer + 1) fs) target level ≡ admission_set fs target level) c.self.view_is skipped;
-         }))
+      | then-admits w ↦
+          (let taken = admission_set-take view filters layer x target level within is bits small all few (sym w.if-admits.true ∙ c.admits.ensures) so_far in
+          rw w.bits-is (record {
+            small = small-take view filters layer x target level within is bits small few;
+            so_far = subst (λ (fs : List Filter). bit_or bits (1 * 2 ^ layer % 2 ^ 64) + 2 ^ (layer + 1) * admission_set (drop (layer + 1) fs) target level ≡ admission_set fs target level) c.self.view_is taken;
+          }))
+      | else-admits w ↦
+          (let skipped = admission_set-skip view filters layer x target level within is bits small all (sym w.if-admits.false ∙ c.admits.ensures) so_far in
+          rw w.bits-is (record {
+            small = small-skip view filters layer x target level within is bits small;
+            so_far = subst (λ (fs : List Filter). bits + 2 ^ (layer + 1) * admission_set (drop (layer + 1) fs) target level ≡ admission_set fs target level) c.self.view_is skipped;
+          }))
     ]
 
 pub returns-clause-layers : goal.returns-clause-layers
