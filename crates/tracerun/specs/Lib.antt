@@ -1,0 +1,4 @@
+pub mod Counted
+pub mod RunFault
+pub mod Script
+pub mod Device

@@ -1,0 +1,74 @@
+//! Why a run ends early.
+ghost use Rattle.std.specs.Prelude.{◌≡◌};
+ghost use Rattle.tracerun.specs.RunFault.{status_of};
+
+use std::fmt;
+use thiserror::Error;
+
+/// The side on which a device failed.
+#[derive(Clone, Copy, Debug, PartialEq, Eq)]
+pub enum Side {
+    Read,
+    Write,
+}
+
+/// Why a script is at fault.
+#[derive(Clone, Copy, Debug, PartialEq, Eq, Error)]
+pub enum Reason {
+    /// The line is no JSON text, or no UTF-8.
+    #[error("not JSON")]
+    NotJson,
+    #[error("not an object")]
+    NotObject,
+    /// The line has no `op`, or one that is not in the table.
+    #[error("no such op")]
+    NoSuchOp,
+    /// The line came after a line that it has to come before.
+    #[error("late line")]
+    LateLine,
+    /// A required key is missing, or a value is not of its type or range.
+    #[error("bad key {0}")]
+    BadKey(&'static str),
+    /// A span is named by a label that no `new` has bound.
+    #[error("no such label")]
+    NoSuchLabel,
+    /// The label's span is open and has handles.
+    #[error("label taken")]
+    LabelTaken,
+    /// The script has more than 16,777,216 bytes.
+    #[error("too long")]
+    TooLong,
+}
+
+/// Why a run ended early.
+#[derive(Debug, Drop, Error)]
+pub enum RunFault {
+    /// The script is at fault in this line, counted from 1; 0 stands for the whole script.
+    #[error("line {0}: {1}")]
+    Script(u64, Reason),
+    #[error("out of memory")]
+    Memory,
+    #[error("device: {0} failed")]
+    Device(Side),
+}
+
+impl fmt::Display for Side {
+    fn fmt<W: fmt::Write>(&self, f: &mut fmt::Formatter<W>) -> fmt::Result {
+        f.write_str(match self {
+            Side::Read => "read",
+            Side::Write => "write",
+        })
+    }
+}
+
+impl RunFault {
+    /// The status with which the program ends: 1 for a fault of the script, else 3.
+    pub fn status(&self) -> u8
+        ensures { result ≡ status_of self.now }
+    {
+        match self {
+            RunFault::Script(_, _) => 1,
+            RunFault::Memory | RunFault::Device(_) => 3,
+        }
+    }
+}

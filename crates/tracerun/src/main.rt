@@ -1,0 +1,10 @@
+//! The program `tracerun`, which runs scripts of calls on the span registry.
+#![tactic(auto)]
+
+mod command_line;
+mod counted;
+mod device;
+mod fault;
+mod orders;
+
+fn main(_rt: HostRuntime) {}
