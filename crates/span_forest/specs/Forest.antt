@@ -3,8 +3,8 @@ use Rattle.std.specs.Prelude.{ℕ, ◌+◌, ◌-◌, ◌<◌, ◌≤◌, ◌≡�
 use Rattle.std.specs.Option.{option_map}
 use Rattle.span_slots.specs.Table.{next_slot_of, issue}
 use Rattle.span_id.specs.Id.{slot_of, id_of}
-use Rattle.span_id.specs.declared.Fault.{Fault}
-use Rattle.span_id.specs.declared.Fault.TheVariants.{Unknown, CountFull, Full, Memory}
+use Rattle.span_id.specs.declared.fault.Fault.{Fault}
+use Rattle.span_id.specs.declared.fault.Fault.TheVariants.{Unknown, CountFull, Full, Memory}
 use Rattle.span_forest.specs.declared.Holder.{Holder}
 use Rattle.span_forest.specs.declared.Holder.TheVariants.{Handle, Entry}
 use Rattle.span_forest.specs.Spans.{Node, Spans, find, is_live, walk, changed, live_part, gone_on_walk, written_count, with_node, holders}

@@ -2,7 +2,7 @@
 use Rattle.std.specs.Prelude.{ℕ, zero, suc, ◌+◌, ◌-◌, ◌<◌, ◌≤◌, ◌≡◌, Bool, true, false, cond, not, ◌&&◌, ◌||◌, ◌==◌, nat_lt, List, [], ◌∷◌, ◌++◌, length, map, filter, count_by, Option, Some, None, IsSome, IsSomeAnd, MatchOption, reverse, ◌/◌, ◌%◌, ◌^◌}
 use Rattle.std.specs.List.{list_any, flat_map}
 use Rattle.span_id.specs.Id.{slot_of}
-use Rattle.span_id.specs.declared.Level.{Level}
+use Rattle.span_id.specs.declared.level.Level.{Level}
 
 -- a span, with its parent and how many handles and entries hold it
 pub record Node : Type 0 where

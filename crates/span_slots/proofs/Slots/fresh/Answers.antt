@@ -35,7 +35,7 @@ returns-clause-table g c =
     let slot : c.len-slot.result ≡ length i.cells.items = omega (arith, c.len-slot.ensures, i.cells.ok.0) in
     let none = rw (← c.self.view_is) at c.requires.none_freed in
     let t = freshened i.slots i.last_generation c.len-slot.result i.cells.items i.freed.items (record { given = 1; value = Some c.args.value }) c.args.value (omega (arith, v.slots_high)) slot refl refl none in
-    rw (← c.self.view_is, c.push_reserved.ensures.items, c.pack.ensures) t
+    rw (← c.self.view_is, c.push_reserved.ensures.items, c.pack.ensures.id) t
 
 pub returns-clause-vacant : goal.returns-clause-vacant
 returns-clause-vacant g c =
@@ -45,5 +45,5 @@ returns-clause-vacant g c =
     let req = rw (← c.self.view_is) at c.requires.room in
     let room : length i.cells.items < i.slots = (let k = length-map i.cells.items (λ x. x.given) in omega arith) in
     let slot : c.len-slot.result ≡ length i.cells.items = omega (arith, c.len-slot.ensures, i.cells.ok.0) in
-    rw (← c.self.view_is, c.pack.ensures) (vacant_fresh i.last_generation c.len-slot.result i.cells.items v.good (omega (arith, v.slots_high)) slot)
+    rw (← c.self.view_is, c.pack.ensures.id) (vacant_fresh i.last_generation c.len-slot.result i.cells.items v.good (omega (arith, v.slots_high)) slot)
 

@@ -102,7 +102,7 @@ returns-clause-id g c =
     let none : cell.value ≡ None = sym (ap (λ x. x.1) row) ∙ ap (λ x. x.1) f.row in
     let low : cell.given ≤ i.last_generation = omega (arith, f.low, given) in
     let q : get_or (map row_of i.cells.items) c.in-Some.slot (0, None) ≡ (cell.given, None) = row ∙ ap (λ x. (cell.given, x)) none in
-    rw (← c.self.view_is, c.pack.ensures) (next_id_reused i.slots i.last_generation c.in-Some.slot i.cells.items i.freed.items c.pop.new.self.items cell within at popped)
+    rw (← c.self.view_is, c.pack.ensures.id) (next_id_reused i.slots i.last_generation c.in-Some.slot i.cells.items i.freed.items c.pop.new.self.items cell within at popped)
 
 pub returns-clause-table : goal.returns-clause-table
 returns-clause-table g c =
@@ -121,7 +121,7 @@ returns-clause-table g c =
     let q : get_or (map row_of i.cells.items) c.in-Some.slot (0, None) ≡ (cell.given, None) = row ∙ ap (λ x. (cell.given, x)) none in
     let n : length i.cells.items ≤ 16777216 = omega (arith, lm, v.used, v.slots_high) in
     let t = reused i.slots i.last_generation c.in-Some.slot i.cells.items i.freed.items c.pop.new.self.items cell (record { given = cell.given + 1; value = Some c.args.value }) c.args.value n within at none refl refl popped in
-    rw (← c.self.view_is, c.pack.ensures) t
+    rw (← c.self.view_is, c.pack.ensures.id) t
 
 pub returns-clause-vacant : goal.returns-clause-vacant
 returns-clause-vacant g c =
@@ -139,5 +139,5 @@ returns-clause-vacant g c =
     let low : cell.given ≤ i.last_generation = omega (arith, f.low, given) in
     let q : get_or (map row_of i.cells.items) c.in-Some.slot (0, None) ≡ (cell.given, None) = row ∙ ap (λ x. (cell.given, x)) none in
     let n : length i.cells.items ≤ 16777216 = omega (arith, lm, v.used, v.slots_high) in
-    rw (← c.self.view_is, c.pack.ensures) (vacant_reused i.last_generation c.in-Some.slot i.cells.items cell v.good n within at none (omega (arith, low, v.last_high)))
+    rw (← c.self.view_is, c.pack.ensures.id) (vacant_reused i.last_generation c.in-Some.slot i.cells.items cell v.good n within at none (omega (arith, low, v.last_high)))
 
