@@ -1,5 +1,6 @@
 //! Why a run ends early.
 ghost use Rattle.std.specs.Prelude.{◌≡◌};
+ghost use Rattle.tracerun.specs.Key.{key_text};
 ghost use Rattle.tracerun.specs.RunFault.{status_of};
 
 use std::fmt;
@@ -10,6 +11,24 @@ use thiserror::Error;
 pub enum Side {
     Read,
     Write,
+}
+
+/// The keys of a script's lines whose values are looked at.
+#[derive(Clone, Copy, Debug, PartialEq, Eq)]
+pub enum Key {
+    Slots,
+    LastGeneration,
+    MaxCount,
+    Workers,
+    Name,
+    Target,
+    Level,
+    Parent,
+    Fields,
+    Label,
+    Worker,
+    Span,
+    Old,
 }
 
 /// Why a script is at fault.
@@ -28,7 +47,7 @@ pub enum Reason {
     LateLine,
     /// A required key is missing, or a value is not of its type or range.
     #[error("bad key {0}")]
-    BadKey(&'static str),
+    BadKey(Key),
     /// A span is named by a label that no `new` has bound.
     #[error("no such label")]
     NoSuchLabel,
@@ -58,6 +77,35 @@ impl fmt::Display for Side {
             Side::Read => "read",
             Side::Write => "write",
         })
+    }
+}
+
+impl Key {
+    /// The key as it is written in a line.
+    pub fn text(self) -> &'static str
+        ensures { result.now ≡ key_text self }
+    {
+        match self {
+            Key::Slots => "slots",
+            Key::LastGeneration => "last_generation",
+            Key::MaxCount => "max_count",
+            Key::Workers => "workers",
+            Key::Name => "name",
+            Key::Target => "target",
+            Key::Level => "level",
+            Key::Parent => "parent",
+            Key::Fields => "fields",
+            Key::Label => "label",
+            Key::Worker => "w",
+            Key::Span => "span",
+            Key::Old => "old",
+        }
+    }
+}
+
+impl fmt::Display for Key {
+    fn fmt<W: fmt::Write>(&self, f: &mut fmt::Formatter<W>) -> fmt::Result {
+        f.write_str(self.text())
     }
 }
 

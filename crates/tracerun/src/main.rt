@@ -5,6 +5,10 @@ mod command_line;
 mod counted;
 mod device;
 mod fault;
+mod fields;
+mod operation;
 mod orders;
+mod reading;
+mod stop;
 
 fn main(_rt: HostRuntime) {}
