@@ -6,3 +6,4 @@ pub mod Script
 pub mod Device
 pub mod Operation
 pub mod Views
+pub mod Answer
