@@ -1,0 +1,5 @@
+pub mod Entries
+mod Examples
+pub mod Removals
+pub mod Searches
+pub mod Stacks

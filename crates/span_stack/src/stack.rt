@@ -1,0 +1,149 @@
+ghost use Rattle.std.specs.Prelude.{◌≡◌, ℕ, ◌+◌, ◌^◌, ◌<◌, ◌≤◌, ◌==◌, true, false, not, [], ◌∷◌, ◌++◌, length, IsOk, IfErr, OnOk, OnErr, IfSome, IfNone, OnSome, MatchOption, is_some};
+ghost use Rattle.std.specs.Iterator.{YieldsFirst};
+ghost use Rattle.std.specs.Iterator.Runs.{YieldsInOrder};
+ghost use Rattle.span_stack.specs.Entry.{ids_of, IsLastPlace};
+ghost use Rattle.span_stack.specs.Stack as words;
+
+use crate::entry::Entry;
+use crate::walk::Walk;
+use smallvec::SmallVec;
+use span_id::{Fault, Id};
+use std::alloc::Global;
+use std::marker::Model;
+
+/// How many entries lie in the value itself, and need no memory.
+pub const IN_PLACE: usize = 8;
+
+/// The spans that a worker has entered and not left, the one entered last topmost.
+///
+/// Contracts see the list of ids, the topmost last, and how many more entries it takes with no
+/// further memory. Up to `IN_PLACE` entries lie in the value itself.
+#[derive(Debug, Drop)]
+pub struct SpanStack {
+    entries: SmallVec<Entry, IN_PLACE>,
+}
+
+impl Model for SpanStack {
+    ghost use Rattle.span_stack.specs.Stack.{Stack};
+
+    ghost Value = { Stack };
+
+    ghost use Rattle.span_stack.specs.Entry.{stack_of, IsSound};
+
+    ghost view = { λ s. stack_of s.entries };
+
+    ghost invariant = { λ s. IsSound s.entries };
+}
+
+impl SpanStack {
+    /// An empty stack, which takes no memory.
+    pub fn new(alloc: Global) -> SpanStack
+        ensures ids { result.ids ≡ [] }
+        ensures room { result.room ≡ IN_PLACE }
+    {
+        SpanStack {
+            entries: SmallVec::new(alloc),
+        }
+    }
+
+    /// Makes room for `n` more entries, after which `n` calls of `push` take no memory.
+    ///
+    /// The one error is `Fault::Memory`, which leaves the stack as it was.
+    pub fn reserve(&mut self, n: usize) -> Result<(), Fault>
+        ensures ok { OnOk result (n ≤ self.new.room) }
+        ensures ids { self.new.ids ≡ self.old.ids }
+        ensures room { self.old.room ≤ self.new.room }
+        ensures succeeds { n ≤ self.old.room → IsOk result }
+        ensures had_room { n ≤ self.old.room → self.new ≡ self.old }
+        ensures err { OnErr result (self.new ≡ self.old) }
+        ensures memory { IfErr result (λ fault. fault ≡ Fault.Memory) }
+    {
+        self.entries.reserve(n).map_err(|_| Fault::Memory)
+    }
+
+    /// Puts the span on top, and answers whether this entry is no duplicate.
+    ///
+    /// It takes no memory: the room was made by `new` or `reserve`.
+    pub fn push(&mut self, id: Id) -> bool
+        requires { 0 < self.old.room }
+        ensures ids { self.new.ids ≡ self.old.ids ++ id ∷ [] }
+        ensures no_duplicate { result ≡ not (words.has self.old.ids id) }
+        ensures room { self.new.room + 1 ≡ self.old.room }
+    {
+        let duplicate = self.has(id);
+        self.entries.push_reserved(Entry { id, duplicate });
+        !duplicate
+    }
+
+    /// Takes out the topmost entry of the span, and answers whether that entry was no duplicate.
+    ///
+    /// It answers `None`, and changes nothing, where the span doesn't stand in the stack.
+    pub fn pop(&mut self, id: Id) -> Option<bool>
+        ensures found { is_some result ≡ words.has self.old.ids id }
+        ensures ids { self.new.ids ≡ words.without_last self.old.ids id }
+        ensures no_duplicate { IfSome result (λ first. first ≡ not (words.has self.new.ids id)) }
+        ensures room { OnSome result (self.new.room ≡ self.old.room + 1) }
+        ensures absent { IfNone result (self.new ≡ self.old) }
+    {
+        let place = last_place(self.entries.as_slice(), id)?;
+        Some(!self.entries.remove(place).duplicate)
+    }
+
+    /// The spans entered and not left, each once: the entries that are no duplicates, topmost first.
+    ///
+    /// A walk to its end looks once at each entry.
+    pub fn walk(&self) -> Walk<'_>
+        ensures ids { result ≡ words.walk self.now.ids }
+        ensures fits { length result < 2 ^ 64 }
+        ensures runs { YieldsInOrder (YieldsFirst {A = ℕ} (λ rest. rest)) (λ rest. rest) }
+    {
+        Walk {
+            entries: self.entries.as_slice().iter(),
+        }
+    }
+
+    /// The current span: the topmost entry that is no duplicate.
+    pub fn current(&self) -> Option<Id>
+        ensures { result ≡ words.current self.now.ids }
+    {
+        self.walk().next()
+    }
+
+    /// The topmost entry, duplicate or not.
+    pub fn top(&self) -> Option<Id>
+        ensures { result ≡ words.top self.now.ids }
+    {
+        self.entries.as_slice().last().map(|entry| entry.id)
+    }
+
+    /// Whether the span stands in the stack.
+    pub fn has(&self, id: Id) -> bool
+        ensures { result ≡ words.has self.now.ids id }
+    {
+        self.entries.as_slice().iter().any(|entry| entry.id == id)
+    }
+
+    /// The number of entries, duplicates too.
+    pub fn len(&self) -> usize
+        ensures { result ≡ length self.now.ids }
+    {
+        self.entries.len()
+    }
+
+    /// Whether there is no entry.
+    pub fn is_empty(&self) -> bool
+        ensures { result ≡ (length self.now.ids == 0) }
+    {
+        self.entries.is_empty()
+    }
+}
+
+// The place of the topmost entry of the span, if there is one.
+fn last_place(entries: &[Entry], id: Id) -> Option<usize>
+    ensures { MatchOption result (words.has (ids_of entries.now) id ≡ false) (IsLastPlace entries.now id) }
+{
+    entries.iter().rposition(|entry| entry.id == id)
+}
+
+#[cfg(test)]
+mod tests;
