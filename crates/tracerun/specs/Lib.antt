@@ -7,3 +7,9 @@ pub mod Device
 pub mod Operation
 pub mod Views
 pub mod Answer
+pub mod Labels
+pub mod Names
+pub mod Refusals
+pub mod Spans
+pub mod Faults
+pub mod Output

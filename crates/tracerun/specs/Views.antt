@@ -1,5 +1,5 @@
 -- The code's operations, as the definitions see them.
-use Rattle.std.specs.Prelude.{ℕ, List, map, string_bytes}
+use Rattle.std.specs.Prelude.{ℕ, ◌<◌, List, map, string_bytes}
 use Rattle.span_id.specs.declared.meta.Field.{Field}
 use Rattle.tracerun.specs.Operation as meant
 use Rattle.tracerun.specs.declared.operation.SpanKey.{SpanKey}
@@ -46,3 +46,10 @@ op_seen ops.Limits = meant.limits_op
 op_seen ops.New = meant.new_op
 op_seen (ops.OnSpan call) = meant.span_op call
 op_seen ops.Find = meant.find_op
+
+-- the worker that an operation names is one of so many
+abbrev pub NamesWorker : Operation → ℕ → Type 0
+NamesWorker (Limits limits) workers = Unit {0}
+NamesWorker (New new) workers = new.worker < workers
+NamesWorker (OnSpan call span worker) workers = worker < workers
+NamesWorker (Find span) workers = Unit {0}

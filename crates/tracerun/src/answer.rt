@@ -1,13 +1,13 @@
 //! What a call answers, as a line of text.
-ghost use Rattle.std.specs.Prelude.{◌≡◌, ◌++◌, OnOk, OnErr, string_bytes, Some};
+ghost use Rattle.std.specs.Prelude.{◌≡◌, ◌++◌, OnOk, string_bytes};
 ghost use Rattle.tracerun.specs.Answer.{answer_text, found_text, left_text};
 
 use span_id::{Fault, Id};
 use std::alloc::AllocError;
 
 /// What a call answers.
-#[derive(Clone, Copy, Debug)]
-pub enum Answer<'s> {
+#[derive(Clone, Copy, Debug, PartialEq, Eq)]
+pub enum Answer {
     /// The limits stand.
     Limits,
     /// A span was made.
@@ -17,8 +17,6 @@ pub enum Answer<'s> {
     Closed(bool),
     /// Whether the entry is no duplicate.
     Entered(bool),
-    /// The span that was looked up.
-    Found(Found<'s>),
     Refused(Fault),
 }
 
@@ -34,8 +32,8 @@ pub struct Found<'s> {
 }
 
 /// Appends the line of an answer to a text.
-pub fn write_answer(text: &mut String, answer: &Answer<'_>) -> Result<(), AllocError>
-    ensures { OnOk result (string_bytes text.new ≡ string_bytes text.old ++ answer_text answer.now) }
+pub fn write_answer(text: &mut String, answer: Answer) -> Result<(), AllocError>
+    ensures { OnOk result (string_bytes text.new ≡ string_bytes text.old ++ answer_text answer) }
 {
     match answer {
         Answer::Limits => text.push_str("= limits\n"),
@@ -45,13 +43,12 @@ pub fn write_answer(text: &mut String, answer: &Answer<'_>) -> Result<(), AllocE
         Answer::Closed(false) => text.push_str("= open\n"),
         Answer::Entered(true) => text.push_str("= entered\n"),
         Answer::Entered(false) => text.push_str("= again\n"),
-        Answer::Found(found) => write_found(text, found),
         Answer::Refused(fault) => writeln!(text, "! {fault}"),
     }
 }
 
 /// Appends the line of a span that was looked up to a text.
-fn write_found(text: &mut String, found: &Found<'_>) -> Result<(), AllocError>
+pub fn write_found(text: &mut String, found: &Found<'_>) -> Result<(), AllocError>
     ensures { OnOk result (string_bytes text.new ≡ string_bytes text.old ++ found_text found.now) }
 {
     let Found {

@@ -28,7 +28,7 @@ pub struct NewSpan<'v> {
     pub parent: Parent<'v>,
     /// What later lines call the span.
     pub label: &'v str,
-    pub worker: u32,
+    pub worker: usize,
 }
 
 /// A call on one span.
@@ -50,7 +50,7 @@ pub enum Operation<'v> {
     OnSpan {
         call: SpanCall,
         span: SpanKey<'v>,
-        worker: u32,
+        worker: usize,
     },
     Find(SpanKey<'v>),
 }

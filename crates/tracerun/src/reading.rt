@@ -1,12 +1,12 @@
 //! Reading a line: from its bytes to the operation that it asks for.
-ghost use Rattle.std.specs.Prelude.{◌≡◌, codes, Some, None, Ok, IfOk, IfSome, IfErr, OnErr, OnOk, Result, option_and_then};
+ghost use Rattle.std.specs.Prelude.{◌≡◌, ℕ, ◌<◌, codes, Some, None, Ok, IfOk, IfSome, IfErr, OnErr, OnOk, Result, option_and_then};
 ghost use Rattle.std.specs.Option.{option_map};
 ghost use Rattle.serde_json.specs.View.{view};
 ghost use Rattle.serde_json.specs.Find.{as_object, as_str};
 ghost use Rattle.serde_json.specs.Read.{read};
 ghost use Rattle.tracerun.specs.Reason.{Answers, AnswersOrStops, or_fault};
 ghost use Rattle.tracerun.specs.Operation.{json_of, required, optional, limit_in, worker_in, level_in, level_named, span_key_in, parent_in, old_id_in, id_numbered, old_id_numbered, limits_of, on_span_of, find_of, find_old_of, op_of, operation_of, new_of, whole_number, keys_of, current, by_id};
-ghost use Rattle.tracerun.specs.Views.{key_seen, parent_seen, operation_seen, op_seen};
+ghost use Rattle.tracerun.specs.Views.{key_seen, parent_seen, operation_seen, op_seen, NamesWorker};
 ghost use Rattle.span_id.specs.declared.level.Level.TheVariants.{Info};
 
 use crate::fault::{Key, Reason};
@@ -50,10 +50,11 @@ pub fn json(alloc: Global, line: &[u8]) -> Result<Value, Stop>
 pub fn operation<'v>(
     alloc: Global,
     line: &'v Value,
-    workers: u32,
+    workers: usize,
     is_first: bool,
 ) -> Result<Operation<'v>, Stop>
-    ensures { AnswersOrStops operation_seen result (operation_of workers is_first (view line.now)) }
+    ensures meant { AnswersOrStops operation_seen result (operation_of workers is_first (view line.now)) }
+    ensures worker { 0 < workers → IfOk result (λ operation. NamesWorker operation workers) }
 {
     if !line.is_object() {
         return Err(Stop::Refused(Reason::NotObject));
@@ -87,7 +88,8 @@ fn op_in(line: &Value) -> Result<Op, Reason>
 /// The limits that a line asks for, the default where it gives none. They may be out of their ranges.
 #[tactic(auto, unfolding(crate::specs::Operation::limits_of))]
 fn limits<'v>(line: &Value) -> Result<Operation<'v>, Reason>
-    ensures { Answers operation_seen result (limits_of (view line.now)) }
+    ensures meant { Answers operation_seen result (limits_of (view line.now)) }
+    ensures worker { (workers : ℕ) → IfOk result (λ operation. NamesWorker operation workers) }
 {
     let default = Limits::default();
     Ok(Operation::Limits(Limits {
@@ -114,8 +116,9 @@ fn limit(line: &Value, key: Key, default: u32) -> Result<u32, Reason>
 
 /// The new span that a line asks for.
 #[tactic(auto, unfolding(crate::specs::Operation::new_of))]
-fn new_span<'v>(alloc: Global, line: &'v Value, workers: u32) -> Result<Operation<'v>, Stop>
-    ensures { AnswersOrStops operation_seen result (new_of workers (view line.now)) }
+fn new_span<'v>(alloc: Global, line: &'v Value, workers: usize) -> Result<Operation<'v>, Stop>
+    ensures meant { AnswersOrStops operation_seen result (new_of workers (view line.now)) }
+    ensures worker { 0 < workers → IfOk result (λ operation. NamesWorker operation workers) }
 {
     let name = name(line)?;
     let target = text(line, Key::Target, "app")?;
@@ -199,22 +202,24 @@ fn parent(line: &Value) -> Result<Parent<'_>, Reason>
 }
 
 /// The worker that makes the call, below `workers`; 0 where the line gives none.
-fn worker(line: &Value, workers: u32) -> Result<u32, Reason>
-    ensures { Answers (λ n. n) result (optional Key.Worker (worker_in workers) 0 (view line.now)) }
+fn worker(line: &Value, workers: usize) -> Result<usize, Reason>
+    ensures meant { Answers (λ n. n) result (optional Key.Worker (worker_in workers) 0 (view line.now)) }
+    ensures worker { 0 < workers → IfOk result (λ n. n < workers) }
 {
     let Some(value) = line.get(Key::Worker.text()) else {
         return Ok(0);
     };
     match value.as_u64() {
-        Some(n) if n < u64::from(workers) => Ok(n as u32),
+        Some(n) if n < workers as u64 => Ok(n as usize),
         _ => Err(Reason::BadKey(Key::Worker)),
     }
 }
 
 /// The call on a span that a line asks for.
 #[tactic(auto, unfolding(crate::specs::Operation::on_span_of))]
-fn on_span(line: &Value, workers: u32, call: SpanCall) -> Result<Operation<'_>, Reason>
-    ensures { Answers operation_seen result (on_span_of workers call (view line.now)) }
+fn on_span(line: &Value, workers: usize, call: SpanCall) -> Result<Operation<'_>, Reason>
+    ensures meant { Answers operation_seen result (on_span_of workers call (view line.now)) }
+    ensures worker { 0 < workers → IfOk result (λ operation. NamesWorker operation workers) }
 {
     match span(line) {
         Ok(span) => {
@@ -249,7 +254,8 @@ fn span_key(value: &Value) -> Option<SpanKey<'_>>
 /// The look-up that a line asks for: by `span`, or by `old`, an id of the older layout.
 #[tactic(auto, unfolding(crate::specs::Operation::find_of))]
 fn find(line: &Value) -> Result<Operation<'_>, Reason>
-    ensures { Answers operation_seen result (find_of (view line.now)) }
+    ensures meant { Answers operation_seen result (find_of (view line.now)) }
+    ensures worker { (workers : ℕ) → IfOk result (λ operation. NamesWorker operation workers) }
 {
     let old = line.get(Key::Old.text());
     if line.get(Key::Span.text()).is_none() && let Some(old) = old {
@@ -264,7 +270,8 @@ fn find(line: &Value) -> Result<Operation<'_>, Reason>
 
 /// The look-up of the span that had this id in the older layout.
 fn find_old<'v>(value: &Value) -> Result<Operation<'v>, Reason>
-    ensures { Answers operation_seen result (find_old_of (view value.now)) }
+    ensures meant { Answers operation_seen result (find_old_of (view value.now)) }
+    ensures worker { (workers : ℕ) → IfOk result (λ operation. NamesWorker operation workers) }
 {
     match value.as_u64().and_then(Id::from_v1) {
         Some(id) => Ok(Operation::Find(SpanKey::Id(id))),
