@@ -10,7 +10,7 @@ use Rattle.span_forest.specs.declared.span.Span.{Span}
 use Rattle.span_forest.specs.Node.{Node, node_of}
 use Rattle.span_forest.specs.Spans.{Spans, find, IsOpen, parent_in, parent_of, AreApart, with_node, nodes_of}
 use Rattle.span_forest.specs.Count.{is_some_id, children, holders, holders_in, written_count}
-use Rattle.span_forest.specs.Invariant.{AreCounted, IsSettled, IsKept, counts_more}
+use Rattle.span_forest.specs.Invariant.{AreCounted, IsSettled, IsConsistent, counts_more}
 use Rattle.span_forest.proofs.Ranks.{IsRanked, ranked}
 use Rattle.span_forest.proofs.Walks.{forest_from}
 use Rattle.span_forest.proofs.Finds.{child_exists, is_some_id_same}
@@ -155,8 +155,8 @@ not_found es id h = find-nodes es id ∙ ap (option_map node_of) h
 pub found_open : (es : List (ℕ × Span)) (id : ℕ) (span : Span) → value_at es id ≡ Some span → IsOpen (nodes_of es) id
 found_open es id span h = rw (node_found es id span h) refl
 
-pub IsKept-empty : (max total : ℕ) → total ≡ 0 → 1 ≤ max → max ≤ 4294967295 → IsKept [] max total
-IsKept-empty max total none low high = record {
+pub IsConsistent-empty : (max total : ℕ) → total ≡ 0 → 1 ≤ max → max ≤ 4294967295 → IsConsistent [] max total
+IsConsistent-empty max total none low high = record {
   settled = record {
     forest = forest_from [] (record {
       apart = tt;

@@ -9,14 +9,14 @@ use Rattle.span_forest.specs.declared.span.Span.{Span}
 use Rattle.span_forest.specs.declared.span.Holder.{Holder}
 use Rattle.span_forest.specs.declared.span.Holder.TheVariants.{Handle, Entry}
 use Rattle.span_forest.specs.Node.{Node, node_of}
-use Rattle.span_forest.specs.Spans.{Spans, find, IsOpen, parent_in, parent_of, without, changed, AreApart, nodes_of}
+use Rattle.span_forest.specs.Spans.{Spans, find, IsOpen, parent_in, parent_of, changed, AreApart, nodes_of}
 use Rattle.span_forest.specs.Count.{is_some_id, children, holders, holders_in, written_count}
 use Rattle.span_forest.specs.Forest.{ForestView}
 use Rattle.span_forest.specs.Holders.{held_by, held_in, IsHeld, with_less, with_more}
 use Rattle.span_forest.specs.Keep.{kept}
 use Rattle.span_forest.specs.Release.{taken, freed_after, released, closing_list}
-use Rattle.span_forest.specs.Invariant.{AreCounted, IsSettled, IsKept, span_less, span_more}
-use Rattle.span_forest.specs.Chain.{without_all, Chain, IsPending}
+use Rattle.span_forest.specs.Invariant.{AreCounted, IsSettled, IsConsistent, span_less, span_more}
+use Rattle.span_forest.specs.Chain.{without, without_all, Chain, IsPending}
 use Rattle.span_forest.proofs.Ranks.{IsRanked}
 use Rattle.span_forest.specs.Forest.{IsForest}
 use Rattle.span_forest.proofs.Finds.{no_child, is_some_id_same, find-without_other, find-without_same, AreApart-without}
@@ -335,8 +335,8 @@ pub nodes_more : (es : List (ℕ × Span)) (id : ℕ) (holder : Holder) (span : 
 nodes_more es id holder span a h = nodes-written (with_more holder) es id span (span_more holder span) a h (node_more holder span)
 
 -- a forest with one more holder
-pub IsKept-kept : (es : List (ℕ × Span)) (max total more id : ℕ) (holder : Holder) (span : Span) → IsKept es max total → value_at es id ≡ Some span → span.count < max → more ≡ total + 1 → IsKept (with_value es id (span_more holder span)) max more
-IsKept-kept es max total more id holder span w h low one =
+pub IsConsistent-kept : (es : List (ℕ × Span)) (max total more id : ℕ) (holder : Holder) (span : Span) → IsConsistent es max total → value_at es id ≡ Some span → span.count < max → more ≡ total + 1 → IsConsistent (with_value es id (span_more holder span)) max more
+IsConsistent-kept es max total more id holder span w h low one =
     let n = nodes_more es id holder span w.settled.forest.ids_apart h in
     let f = node_found es id span h in
     let c0 = w.settled.counted id span h in
@@ -386,7 +386,7 @@ held_part es id holder w h =
     (s.0, s.1, (omega arith, b))
 
 -- all holders are few enough to be counted in 64 bits
-pub total_fits : (es : List (ℕ × Span)) (max total : ℕ) → IsKept es max total → total < 18446744073709551615
+pub total_fits : (es : List (ℕ × Span)) (max total : ℕ) → IsConsistent es max total → total < 18446744073709551615
 total_fits es max total w =
     let t = total_le (nodes_of es) w.settled.forest.ids_apart (λ id. let b = w.bounded id in let h = w.max_high in omega arith) in
     let n = length-nodes es in
@@ -424,8 +424,8 @@ length-closed-le [] spans = omega arith
 length-closed-le (x ∷ xs) spans = let r = length-closed-le xs (without spans x) in let q = length-without-le spans x in omega arith
 
 -- a forest after a release
-pub IsKept-released : (es new : List (ℕ × Span)) (max total : ℕ) (id : ℕ) (holder : Holder) (xs : List ℕ) → IsKept es max total → IsHeld (nodes_of es) id holder → Chain (taken (nodes_of es) id holder) (Some id) xs → IsSettled new → nodes_of new ≡ without_all (taken (nodes_of es) id holder) xs → IsKept new max (total - 1)
-IsKept-released es new max total id holder xs w h c s n =
+pub IsConsistent-released : (es new : List (ℕ × Span)) (max total : ℕ) (id : ℕ) (holder : Holder) (xs : List ℕ) → IsConsistent es max total → IsHeld (nodes_of es) id holder → Chain (taken (nodes_of es) id holder) (Some id) xs → IsSettled new → nodes_of new ≡ without_all (taken (nodes_of es) id holder) xs → IsConsistent new max (total - 1)
+IsConsistent-released es new max total id holder xs w h c s n =
     let spans = nodes_of es in
     let p = (Along_none es id holder w.settled h).pending in
     let one = total-taken es id holder w.settled h in
@@ -440,5 +440,5 @@ IsKept-released es new max total id holder xs w h c s n =
       max_high = w.max_high;
     }
 
-pub total_positive : (es : List (ℕ × Span)) (max total id : ℕ) (holder : Holder) → IsKept es max total → IsHeld (nodes_of es) id holder → 0 < total
+pub total_positive : (es : List (ℕ × Span)) (max total id : ℕ) (holder : Holder) → IsConsistent es max total → IsHeld (nodes_of es) id holder → 0 < total
 total_positive es max total id holder w h = let a = total-taken es id holder w.settled h in let t = w.total_is in omega arith

@@ -14,7 +14,7 @@ use Rattle.span_forest.specs.Spans.{find, IsOpen, AreApart, with_node, nodes_of}
 use Rattle.span_forest.specs.Count.{holders, is_some_id, written_count}
 use Rattle.span_forest.specs.Forest.{IsForest, ForestView}
 use Rattle.span_forest.specs.Add.{WhyNoChild, WhyNotAdded, HasRoomAbove, IsNew}
-use Rattle.span_forest.specs.Invariant.{IsSettled, IsKept, counts_more}
+use Rattle.span_forest.specs.Invariant.{IsSettled, IsConsistent, counts_more}
 use Rattle.span_forest.proofs.Ranks.{ranked}
 use Rattle.span_forest.proofs.Walks.{forest_from}
 use Rattle.span_forest.proofs.Finds.{is_some_id_true}
@@ -146,9 +146,9 @@ own_parent es max id (Some p) absent room =
     ne_eqb p id (λ s. some_none (sym up.1 ∙ (ap (value_at es) s ∙ absent)))
 
 -- what every forest keeps holds with a new span too
-pub IsKept-added : (es new : List (ℕ × Span)) (max total id : ℕ) (span : Span) → IsKept es max total → value_at es id ≡ None → IsNew span → HasRoomAbove es max span.parent → IsSettled new → nodes_of new ≡ with_node (nodes_of es) id (node_of span) → length new ≤ 4294967295 → IsKept new max (total + 1)
+pub IsConsistent-added : (es new : List (ℕ × Span)) (max total id : ℕ) (span : Span) → IsConsistent es max total → value_at es id ≡ None → IsNew span → HasRoomAbove es max span.parent → IsSettled new → nodes_of new ≡ with_node (nodes_of es) id (node_of span) → length new ≤ 4294967295 → IsConsistent new max (total + 1)
 unfolding as_one
-IsKept-added es new max total id span w absent fresh room s n few =
+IsConsistent-added es new max total id span w absent fresh room s n few =
     let one = one_count span fresh in
     record {
       settled = s;

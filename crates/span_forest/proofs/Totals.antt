@@ -5,7 +5,8 @@ use Rattle.std.proofs.lemmas.Bool.Decides.{eqb_tells}
 use Rattle.std.proofs.lemmas.Bool.{cases_Bool}
 use Rattle.span_id.specs.Id.{slot_of}
 use Rattle.span_forest.specs.Node.{Node}
-use Rattle.span_forest.specs.Spans.{Spans, nodes_of, find, AreApart, with_node, changed, without}
+use Rattle.span_forest.specs.Chain.{without}
+use Rattle.span_forest.specs.Spans.{Spans, nodes_of, find, AreApart, with_node, changed}
 use Rattle.span_forest.specs.Count.{holders, holders_in, total_held}
 use Rattle.std.proofs.lemmas.Bool.{eq-eqb}
 use Rattle.std.proofs.Common.{ltb}

@@ -10,7 +10,7 @@ use Rattle.span_forest.specs.declared.span.Span.{Span}
 use Rattle.span_forest.specs.Node.{Node, node_of, fields_of, with_fields}
 use Rattle.span_forest.specs.Spans.{Spans, find, nodes_of, changed}
 use Rattle.span_forest.specs.Count.{holders, holders_in, written_count, total_held}
-use Rattle.span_forest.specs.Invariant.{IsSettled, IsKept}
+use Rattle.span_forest.specs.Invariant.{IsSettled, IsConsistent}
 use Rattle.span_forest.proofs.Nodes.{find-changed_same, find-changed_other, children-changed, IsOpen-changed, IsForest-changed}
 use Rattle.span_forest.proofs.Counts.{value_at-with_value_same, value_at-with_value_other, nodes-written, changed_none, some_same}
 use Rattle.span_forest.proofs.Totals.{length-nodes, length-changed}
@@ -53,8 +53,8 @@ module _ (f : Node → Node) (same_parent : (n : Node) → (f n).parent ≡ n.pa
       let k = same_holders e.1 in
       elim (eqb_tells e.0 id) [ inl t ↦ rw t.0 (omega arith) | inr t ↦ rw t.0 (omega arith) ]
 
-  pub IsKept-written : (es new : List (ℕ × Span)) (max total id : ℕ) → IsKept es max total → IsSettled new → nodes_of new ≡ changed f (nodes_of es) id → IsKept new max total
-  IsKept-written es new max total id w s n = record {
+  pub IsConsistent-written : (es new : List (ℕ × Span)) (max total id : ℕ) → IsConsistent es max total → IsSettled new → nodes_of new ≡ changed f (nodes_of es) id → IsConsistent new max total
+  IsConsistent-written es new max total id w s n = record {
     settled = s;
     bounded = λ j. rw n (let k = written-changed (nodes_of es) id j in let b = w.bounded j in omega arith);
     total_is = rw n (let k = total-written (nodes_of es) id in let b = w.total_is in omega arith);
@@ -64,8 +64,8 @@ module _ (f : Node → Node) (same_parent : (n : Node) → (f n).parent ≡ n.pa
   }
 
 -- a forest of the same nodes
-pub IsKept-same : (es new : List (ℕ × Span)) (max total : ℕ) → IsKept es max total → IsSettled new → nodes_of new ≡ nodes_of es → IsKept new max total
-IsKept-same es new max total w s n = record {
+pub IsConsistent-same : (es new : List (ℕ × Span)) (max total : ℕ) → IsConsistent es max total → IsSettled new → nodes_of new ≡ nodes_of es → IsConsistent new max total
+IsConsistent-same es new max total w s n = record {
   settled = s;
   bounded = λ j. rw n (w.bounded j);
   total_is = rw n w.total_is;
@@ -113,9 +113,9 @@ module _ (es : List (ℕ × Span)) (id : ℕ) (span : Span) (new : Vec Field Glo
   refused_appended (Err v) w f h = nodes-written (λ n. n) es id span (refielded span new) w.forest.ids_apart f (kept_node h) ∙ changed_none (nodes_of es) id
 
 -- a forest after an append, or after one that was refused
-pub IsKept-appended : {R E : Type 0} (r : Result R E) (es new : List (ℕ × Span)) (max total id : ℕ) (more : List (List ℕ × List ℕ)) → IsKept es max total → IsSettled new → OnOk r (nodes_of new ≡ changed (with_fields more) (nodes_of es) id) → OnErr r (nodes_of new ≡ nodes_of es) → IsKept new max total
-IsKept-appended (Ok v) es new max total id more w s h k = IsKept-written (with_fields more) (with_fields-parent more) (with_fields-holders more) es new max total id w s h
-IsKept-appended (Err v) es new max total id more w s h k = IsKept-same es new max total w s k
+pub IsConsistent-appended : {R E : Type 0} (r : Result R E) (es new : List (ℕ × Span)) (max total id : ℕ) (more : List (List ℕ × List ℕ)) → IsConsistent es max total → IsSettled new → OnOk r (nodes_of new ≡ changed (with_fields more) (nodes_of es) id) → OnErr r (nodes_of new ≡ nodes_of es) → IsConsistent new max total
+IsConsistent-appended (Ok v) es new max total id more w s h k = IsConsistent-written (with_fields more) (with_fields-parent more) (with_fields-holders more) es new max total id w s h
+IsConsistent-appended (Err v) es new max total id more w s h k = IsConsistent-same es new max total w s k
 
 pub on_ok : {R E P : Type 0} (r : Result R E) → P → OnOk r P
 on_ok (Ok v) h = h

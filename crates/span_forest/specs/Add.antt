@@ -23,7 +23,8 @@ added forest id node = record forest {
   freed = drop 1 forest.freed;
 }
 
--- why no span is added: the parent isn't open, else its count is at its greatest, else no slot is free, else there was no memory
+-- why no span is added: the parent isn't open, else its count is at its greatest, else no slot is free,
+-- else there was no memory
 abbrev pub WhyNotAdded : ForestView → Option ℕ → Fault → Type 0
 WhyNotAdded forest parent Unknown = IsSomeAnd parent (λ p. find forest.spans p ≡ None)
 WhyNotAdded forest parent CountFull =

@@ -18,8 +18,9 @@ pub record IsSettled (entries : List (ℕ × Span)) : Type 0 where
   pub counted : AreCounted entries
   pub positive : (id : ℕ) → IsOpen (nodes_of entries) id → 0 < written_count (nodes_of entries) id
 
--- what every forest keeps
-pub record IsKept (entries : List (ℕ × Span)) (max_count total : ℕ) : Type 0 where
+-- what is true of every forest: it is settled, no count is above the greatest one, and the number of all
+-- holders is written beside it
+pub record IsConsistent (entries : List (ℕ × Span)) (max_count total : ℕ) : Type 0 where
   pub settled : IsSettled entries
   pub bounded : (id : ℕ) → written_count (nodes_of entries) id ≤ max_count
   pub total_is : total ≡ total_held (nodes_of entries)

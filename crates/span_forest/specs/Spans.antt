@@ -1,5 +1,5 @@
 -- The open spans: a finite map from ids to spans, as pairs by ascending slot.
-use Rattle.std.specs.Prelude.{ℕ, ◌≡◌, ◌==◌, cond, not, nat_lt, List, [], ◌∷◌, map, filter, Option, Some, None, IsSome}
+use Rattle.std.specs.Prelude.{ℕ, ◌≡◌, ◌==◌, cond, nat_lt, List, [], ◌∷◌, map, Option, Some, None, IsSome}
 use Rattle.span_id.specs.Id.{slot_of}
 use Rattle.span_id.specs.declared.fault.Fault.{Fault}
 use Rattle.span_id.specs.declared.fault.Fault.TheVariants.{Unknown, Memory}
@@ -40,10 +40,6 @@ with_node (e ∷ es) id node =
 -- the map with a change of one span
 abbrev pub changed : (Node → Node) → Spans → ℕ → Spans
 changed f spans id = map (λ e. (e.0, cond (e.0 == id) (f e.1) e.1)) spans
-
--- the map without one span
-abbrev pub without : Spans → ℕ → Spans
-without spans id = filter (λ e. not (e.0 == id)) spans
 
 -- what the code's table of spans stands for
 abbrev pub nodes_of : List (ℕ × Span) → Spans

@@ -1,13 +1,13 @@
 ghost use Rattle.std.specs.Prelude.{◌≡◌, Some, IfOk};
 ghost use Rattle.span_slots.specs.Table.{freed_with};
 ghost use Rattle.span_id.specs.Id.{slot_of};
-ghost use Rattle.span_forest.specs.Spans.{IsOpen, nodes_of, without};
+ghost use Rattle.span_forest.specs.Spans.{IsOpen, nodes_of};
 ghost use Rattle.span_forest.specs.Count.{written_count};
 ghost use Rattle.span_forest.specs.Forest.{IsForest};
 ghost use Rattle.span_forest.specs.Holders.{IsHeld};
 ghost use Rattle.span_forest.specs.Release.{taken, freed_after};
 ghost use Rattle.span_forest.specs.Invariant.{AreCounted, IsSettled};
-ghost use Rattle.span_forest.specs.Chain.{without_all, Chain};
+ghost use Rattle.span_forest.specs.Chain.{without, without_all, Chain};
 
 use crate::holders::{drop_holder, lower};
 use crate::span::{Holder, Span};

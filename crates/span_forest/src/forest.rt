@@ -23,7 +23,11 @@ use span_slots::Slots;
 use std::alloc::Global;
 use std::marker::Model;
 
-/// The open spans, each under its id.
+/// The open spans, each under its id, with what holds them.
+///
+/// No call costs more than its work: `release` and `closing` go along the spans that close, `path` along the
+/// walk to the root, `add` and `write_fields` over what they copy. All others cost the same however many
+/// spans are open. What a forest promises beside its calls' contracts is said by the functions of [`laws`].
 #[derive(Debug, Drop)]
 pub struct Forest {
     slots: Slots<Span>,
@@ -39,7 +43,7 @@ impl Model for Forest {
     ghost Value = { ForestView };
 
     ghost use Rattle.span_forest.specs.Spans.{nodes_of};
-    ghost use Rattle.span_forest.specs.Invariant.{IsKept};
+    ghost use Rattle.span_forest.specs.Invariant.{IsConsistent};
 
     ghost view = { λ f. record {
       spans = nodes_of f.slots.entries;
@@ -50,7 +54,7 @@ impl Model for Forest {
       freed = f.slots.freed;
     } };
 
-    ghost invariant = { λ f. IsKept f.slots.entries f.max_count f.total };
+    ghost invariant = { λ f. IsConsistent f.slots.entries f.max_count f.total };
 }
 
 impl Forest {
@@ -82,7 +86,8 @@ impl Forest {
         ensures found { IfSome result (λ span. find self.now.spans id ≡ Some (node_of span.now)) }
         ensures count { IfSome result (λ span. span.now.count ≡ written_count self.now.spans id) }
     {
-        let _kept = &self.max_count;
+        // Looked at, the forest shows what it keeps: here that the count is the written one.
+        let _opened = &self.max_count;
         self.slots.get(id)
     }
 
@@ -127,12 +132,14 @@ impl Forest {
     ) -> Result<Id, Fault>
         ensures parent { OnOk result (CanHaveChild self.old.spans self.old.max_count parent) }
         ensures id { IfOk result (λ id. next_span_id self.old ≡ Some id) }
-        ensures forest { IfOk result (λ id. self.new ≡ added self.old id (new_node meta.now fields.now parent bits.0)) }
+        ensures forest { IfOk result (λ id.
+            self.new ≡ added self.old id (new_node meta.now fields.now parent bits.0)) }
 
         // The id was never issued before, and is the only one that this call issues.
         ensures never_issued { IfOk result (λ id. IsIssued (table_of self.old) id → ⊥) }
         ensures issued { IfOk result (λ id. (other : ℕ) → IsId other →
-            (IsIssued (table_of self.new) other ↔ (IsIssued (table_of self.old) other ⊎ (id ≡ other)))) }
+            (IsIssued (table_of self.new) other
+            ↔ (IsIssued (table_of self.old) other ⊎ (id ≡ other)))) }
 
         ensures refused { IfErr result (λ fault. WhyNotAdded self.old parent fault) }
         ensures unchanged { OnErr result (self.new ≡ self.old) }
@@ -162,7 +169,8 @@ impl Forest {
     /// count stands at its greatest.
     pub fn keep(&mut self, id: Id, holder: Holder) -> Result<(), Fault>
         ensures accepted { OnOk result (CanKeep self.old.spans self.old.max_count id) }
-        ensures forest { OnOk result (self.new ≡ record self.old { spans = kept self.old.spans id holder }) }
+        ensures forest { OnOk result
+            (self.new ≡ record self.old { spans = kept self.old.spans id holder }) }
         ensures refused { IfErr result (λ fault. WhyNotKept self.old.spans self.old.max_count id fault) }
         ensures unchanged { OnErr result (self.new ≡ self.old) }
     {
@@ -202,7 +210,8 @@ impl Forest {
         ensures list { IfOk result (λ ids. ids.items ≡ closing_list self.old.spans id holder) }
         ensures forest { OnOk result (self.new ≡ record self.old {
           spans = released self.old.spans id holder;
-          freed = freed_after self.old.last_generation self.old.given self.old.freed (closing_list self.old.spans id holder);
+          freed = freed_after self.old.last_generation self.old.given self.old.freed
+              (closing_list self.old.spans id holder);
         }) }
         ensures held { OnOk result (IsHeld self.old.spans id holder) }
         ensures refused { IfErr result (λ fault. WhyNotReleased self.old.spans id holder fault) }

@@ -1,6 +1,7 @@
 //! A forest of counted spans: a span is open as long as a handle, an entry or an open child holds it.
 //!
-//! A release takes one holder from a span and closes exactly the spans that nothing holds any longer, child first.
+//! A release takes one holder from a span, and closes exactly the spans that nothing holds any longer,
+//! child first.
 #![tactic(auto)]
 
 mod adding;

@@ -98,85 +98,98 @@ fn release(
     Ok(())
 }
 
+// A root `a` and its child `b`, which layer 0 admits.
+fn pair(alloc: Global) -> Result<Forest, Fail> {
+    let mut forest = Forest::new(alloc, &checked(1024, 4294967295, 4294967295)?)?;
+    add(alloc, &mut forest, "a", None, 1)?;
+    add(alloc, &mut forest, "b", Id::from_u64(1), 1)?;
+    Ok(forest)
+}
+
 #[test]
-fn a_child_keeps_its_parent_open(rt: HostRuntime) -> Result<(), Fail> {
-    let mut forest = Forest::new(rt.alloc(), &checked(1024, 4294967295, 4294967295)?)?;
-    assert!(rt; forest.is_empty());
-    assert_eq!(rt; add(rt.alloc(), &mut forest, "a", None, 1)?, 1);
-    let a = id(&rt, 1);
-    let b = id(&rt, 2);
-    assert_eq!(rt; forest.next_id(), Some(b));
-    assert_eq!(rt; add(rt.alloc(), &mut forest, "b", Some(a), 1)?, 2);
-    assert_eq!(rt; path(rt.alloc(), &forest, 0, b)?.as_str(), "a:b:");
-    assert_eq!(rt; path(rt.alloc(), &forest, 1, b)?.as_str(), "");
-
-    let field = Field {
-        key: String::from_str(rt.alloc(), "k")?,
-        value: String::from_str(rt.alloc(), "1")?,
-    };
-    let fields = [field];
-    forest.write_fields(a, &fields)?;
-    forest.write_fields(a, &fields)?;
-    let span = forest.find(a).expect(&rt, "a is open");
-    assert_eq!(rt; span.fields.len(), 2);
-    assert_eq!(rt; span.fields[1].key.as_str(), "k");
-    assert_eq!(rt; span.fields[1].value.as_str(), "1");
-    assert_eq!(rt; span.count, 2);
-
-    release(&rt, rt.alloc(), &mut forest, 1, Holder::Handle, "")?;
-    let told = forest.closing(b, Holder::Handle)?;
-    assert_eq!(rt; listed(rt.alloc(), told.as_slice())?.as_str(), "2,1");
-    assert_eq!(rt;
-        forest.find(b).expect(&rt, "b is open").meta.name.as_str(),
-        "b"
-    );
-    assert_eq!(rt; forest.keep(a, Holder::Handle), Err(Fault::Unknown));
-    assert_eq!(rt; forest.total(), 1);
-    release(&rt, rt.alloc(), &mut forest, 2, Holder::Handle, "2,1")?;
-    assert_eq!(rt; forest.len(), 0);
-    assert_eq!(rt; forest.total(), 0);
-    assert!(rt; forest.release(b, Holder::Handle).is_err());
-    assert!(rt; forest.path(0, b).is_err());
-    // The root's slot was freed last.
-    assert_eq!(rt; add(rt.alloc(), &mut forest, "c", None, 1)?, 16777217);
+fn a_path_names_what_the_layer_admits(rt: HostRuntime) -> Result<(), Fail> {
+    let mut forest = pair(rt.alloc())?;
+    assert_eq!(rt; path(rt.alloc(), &forest, 0, id(&rt, 2))?.as_str(), "a:b:");
+    assert_eq!(rt; path(rt.alloc(), &forest, 1, id(&rt, 2))?.as_str(), "");
+    add(rt.alloc(), &mut forest, "c", Id::from_u64(2), 2)?;
+    assert_eq!(rt; path(rt.alloc(), &forest, 0, id(&rt, 3))?.as_str(), "a:b:");
+    assert_eq!(rt; path(rt.alloc(), &forest, 1, id(&rt, 3))?.as_str(), "c:");
     Ok(())
 }
 
 #[test]
-fn a_root_and_its_child_close_in_either_order(rt: HostRuntime) -> Result<(), Fail> {
-    let mut forest = Forest::new(rt.alloc(), &checked(2, 0, 2)?)?;
-    assert_eq!(rt; add(rt.alloc(), &mut forest, "a", None, 0)?, 1);
-    assert_eq!(rt; add(rt.alloc(), &mut forest, "b", Some(id(&rt, 1)), 0)?, 2);
+fn fields_are_written_at_the_end(rt: HostRuntime) -> Result<(), Fail> {
+    let mut forest = pair(rt.alloc())?;
+    let key = String::from_str(rt.alloc(), "k")?;
+    let value = String::from_str(rt.alloc(), "1")?;
+    let fields = [Field { key, value }];
+    forest.write_fields(id(&rt, 1), &fields)?;
+    forest.write_fields(id(&rt, 1), &fields)?;
+    let span = forest.find(id(&rt, 1)).expect(&rt, "a is open");
+    assert_eq!(rt; span.fields.len(), 2);
+    assert_eq!(rt; span.fields[1].key.as_str(), "k");
+    assert_eq!(rt; span.fields[1].value.as_str(), "1");
+    Ok(())
+}
+
+#[test]
+fn a_child_keeps_its_parent_open(rt: HostRuntime) -> Result<(), Fail> {
+    let mut forest = pair(rt.alloc())?;
+    release(&rt, rt.alloc(), &mut forest, 1, Holder::Handle, "")?;
+    assert_eq!(rt;
+        forest.keep(id(&rt, 1), Holder::Handle),
+        Err(Fault::Unknown)
+    );
+    assert_eq!(rt; forest.total(), 1);
+    release(&rt, rt.alloc(), &mut forest, 2, Holder::Handle, "2,1")?;
+    assert_eq!(rt; forest.len(), 0);
+    assert_eq!(rt; forest.total(), 0);
+    assert!(rt; forest.release(id(&rt, 2), Holder::Handle).is_err());
+    assert!(rt; forest.path(0, id(&rt, 2)).is_err());
+    // The root's slot was freed last.
+    assert_eq!(rt; forest.next_id(), Id::from_u64(16777217));
+    Ok(())
+}
+
+#[test]
+fn a_root_closes_after_its_child(rt: HostRuntime) -> Result<(), Fail> {
+    let mut forest = pair(rt.alloc())?;
     release(&rt, rt.alloc(), &mut forest, 2, Holder::Handle, "2")?;
     release(&rt, rt.alloc(), &mut forest, 1, Holder::Handle, "1")?;
-
-    let mut other = Forest::new(rt.alloc(), &checked(2, 0, 2)?)?;
-    assert_eq!(rt; add(rt.alloc(), &mut other, "a", None, 0)?, 1);
-    assert_eq!(rt; add(rt.alloc(), &mut other, "b", Some(id(&rt, 1)), 0)?, 2);
-    release(&rt, rt.alloc(), &mut other, 1, Holder::Handle, "")?;
-    release(&rt, rt.alloc(), &mut other, 2, Holder::Handle, "2,1")?;
-    // Each slot has given its only id.
-    assert_eq!(rt; other.next_id(), None);
-    let meta = named(rt.alloc(), "c")?;
-    assert_eq!(rt; other.add(&meta, &[], None, Bits(0)), Err(Fault::Full));
+    assert!(rt; forest.is_empty());
     Ok(())
+}
+
+#[test]
+fn a_slot_that_gave_its_last_id_gives_no_more(rt: HostRuntime) -> Result<(), Fail> {
+    let mut forest = Forest::new(rt.alloc(), &checked(1, 0, 1)?)?;
+    add(rt.alloc(), &mut forest, "a", None, 1)?;
+    release(&rt, rt.alloc(), &mut forest, 1, Holder::Handle, "1")?;
+    assert_eq!(rt; forest.next_id(), None);
+    let meta = named(rt.alloc(), "b")?;
+    assert_eq!(rt; forest.add(&meta, &[], None, Bits(0)), Err(Fault::Full));
+    Ok(())
+}
+
+// Each call that takes an id finds none.
+fn finds_nothing(rt: &impl Abort, forest: &mut Forest, absent: Id) {
+    assert!(rt; forest.find(absent).is_none(), "{absent}");
+    assert!(rt; forest.keep(absent, Holder::Entry).is_err(), "{absent}");
+    assert!(rt; forest.write_fields(absent, &[]).is_err(), "{absent}");
+    assert!(rt; forest.closing(absent, Holder::Handle).is_err(), "{absent}");
+    assert!(rt; forest.release(absent, Holder::Handle).is_err(), "{absent}");
+    assert!(rt; forest.path(0, absent).is_err(), "{absent}");
 }
 
 #[test]
 fn what_is_not_open_finds_nothing(rt: HostRuntime) -> Result<(), Fail> {
     let mut forest = Forest::new(rt.alloc(), &checked(3, 9, 9)?)?;
-    assert_eq!(rt; add(rt.alloc(), &mut forest, "a", None, 1)?, 1);
+    add(rt.alloc(), &mut forest, "a", None, 1)?;
     release(&rt, rt.alloc(), &mut forest, 1, Holder::Handle, "1")?;
     assert_eq!(rt; add(rt.alloc(), &mut forest, "b", None, 1)?, 16777217);
     // The closed id, the open slot's next generation, a slot never used, one beyond the table.
     for number in [1, 33554433, 2, 4] {
-        let absent = id(&rt, number);
-        assert!(rt; forest.find(absent).is_none(), "{number}");
-        assert_eq!(rt; forest.keep(absent, Holder::Entry), Err(Fault::Unknown));
-        assert_eq!(rt; forest.write_fields(absent, &[]), Err(Fault::Unknown));
-        assert!(rt; forest.closing(absent, Holder::Handle).is_err(), "{number}");
-        assert!(rt; forest.release(absent, Holder::Handle).is_err(), "{number}");
-        assert!(rt; forest.path(0, absent).is_err(), "{number}");
+        finds_nothing(&rt, &mut forest, id(&rt, number));
     }
     assert_eq!(rt; forest.len(), 1);
     assert_eq!(rt; forest.total(), 1);
@@ -186,23 +199,23 @@ fn what_is_not_open_finds_nothing(rt: HostRuntime) -> Result<(), Fail> {
 #[test]
 fn refusals_in_their_order(rt: HostRuntime) -> Result<(), Fail> {
     let mut forest = Forest::new(rt.alloc(), &checked(1, 9, 1)?)?;
-    assert_eq!(rt; add(rt.alloc(), &mut forest, "a", None, 1)?, 1);
-    let a = id(&rt, 1);
+    add(rt.alloc(), &mut forest, "a", None, 1)?;
     let meta = named(rt.alloc(), "b")?;
     assert_eq!(rt;
-        forest.add(&meta, &[], Some(id(&rt, 2)), Bits(1)),
+        forest.add(&meta, &[], Id::from_u64(2), Bits(1)),
         Err(Fault::Unknown)
     );
     assert_eq!(rt;
-        forest.add(&meta, &[], Some(a), Bits(1)),
+        forest.add(&meta, &[], Id::from_u64(1), Bits(1)),
         Err(Fault::CountFull)
     );
     assert_eq!(rt; forest.add(&meta, &[], None, Bits(1)), Err(Fault::Full));
-    assert_eq!(rt; forest.keep(a, Holder::Entry), Err(Fault::CountFull));
-    assert!(rt; forest.release(a, Holder::Entry).is_err());
-    let span = forest.find(a).expect(&rt, "a is open");
+    assert_eq!(rt;
+        forest.keep(id(&rt, 1), Holder::Entry),
+        Err(Fault::CountFull)
+    );
+    let span = forest.find(id(&rt, 1)).expect(&rt, "a is open");
     assert_eq!(rt; (span.handles, span.entries, span.count), (1, 0, 1));
-    assert_eq!(rt; forest.total(), 1);
     Ok(())
 }
 

@@ -1,7 +1,7 @@
 use Rattle.std.proofs.Common.{refl, arith}
 use Rattle.span_forest.specs.declared.span.Span.{Span}
 use Rattle.span_forest.proofs.Counts.{total_fits}
-use Rattle.span_forest.proofs.Placed.{IsKept-added}
+use Rattle.span_forest.proofs.Placed.{IsConsistent-added}
 use Rattle.span_forest.proofs.forest.Forest.add.Goals as goal
 use Rattle.span_forest.proofs.forest.Forest.add.Goals.{After-place}
 
@@ -19,4 +19,4 @@ pub invariant_of-self : goal.invariant_of-self
 unfolding made
 invariant_of-self c =
     let i = c.self.inside in
-    IsKept-added i.slots.entries c.place.new.slots.entries i.max_count i.total c.place.result (made c) c.self.invariant c.place.ensures.vacant (record { handles = refl; entries = refl; count = refl }) (rw c.in_ok-parent.ensures.same c.in_ok-parent.ensures.above) c.place.ensures.settled c.place.ensures.nodes c.place.ensures.few
+    IsConsistent-added i.slots.entries c.place.new.slots.entries i.max_count i.total c.place.result (made c) c.self.invariant c.place.ensures.vacant (record { handles = refl; entries = refl; count = refl }) (rw c.in_ok-parent.ensures.same c.in_ok-parent.ensures.above) c.place.ensures.settled c.place.ensures.nodes c.place.ensures.few

@@ -7,8 +7,8 @@ use Rattle.span_forest.specs.Node.{node_of}
 use Rattle.span_forest.specs.Spans.{nodes_of}
 use Rattle.span_forest.specs.Count.{written_count}
 use Rattle.span_forest.specs.Holders.{IsHeld, held_by}
-use Rattle.span_forest.specs.Invariant.{IsKept, span_more}
-use Rattle.span_forest.proofs.Counts.{held_part, nodes_more, IsKept-kept, kept_view, total_fits}
+use Rattle.span_forest.specs.Invariant.{IsConsistent, span_more}
+use Rattle.span_forest.proofs.Counts.{held_part, nodes_more, IsConsistent-kept, kept_view, total_fits}
 use Rattle.span_forest.proofs.forest.Forest.keep.Goals as goal
 
 pub returns-then-count_of-self-clause-refused : goal.returns-then-count_of-self-clause-refused
@@ -40,7 +40,7 @@ invariant_of-self c =
     let s = held_part i.slots.entries c.args.id c.args.holder v.settled held in
     let e = c.count_of.ensures s.0 s.1 in
     let low : s.0.count < i.max_count = omega (arith, c.if-count_of-self.false) in
-    subst (λ (t : Table Span). IsKept t.entries i.max_count (i.total + 1)) (sym (c.raise_holder.ensures s.0 s.1)) (IsKept-kept i.slots.entries i.max_count i.total (i.total + 1) c.args.id c.args.holder s.0 v s.1 low refl)
+    subst (λ (t : Table Span). IsConsistent t.entries i.max_count (i.total + 1)) (sym (c.raise_holder.ensures s.0 s.1)) (IsConsistent-kept i.slots.entries i.max_count i.total (i.total + 1) c.args.id c.args.holder s.0 v s.1 low refl)
 
 pub returns-clause-forest : goal.returns-clause-forest
 returns-clause-forest c =

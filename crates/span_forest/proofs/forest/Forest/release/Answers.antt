@@ -4,7 +4,7 @@ use Rattle.span_forest.specs.Holders.{IsHeld}
 use Rattle.span_forest.specs.Release.{taken}
 use Rattle.span_forest.specs.Chain.{Chain, without_all}
 use Rattle.span_forest.proofs.Along.{released_by}
-use Rattle.span_forest.proofs.Counts.{release_view, IsKept-released, total_positive}
+use Rattle.span_forest.proofs.Counts.{release_view, IsConsistent-released, total_positive}
 use Rattle.span_forest.proofs.forest.Forest.release.Goals as goal
 
 pub overflow_sub-self : goal.overflow_sub-self
@@ -18,7 +18,7 @@ invariant_of-self c =
     let i = c.self.inside in
     let held : IsHeld (nodes_of i.slots.entries) c.args.id c.args.holder = c.is_held.ensures.0 c.if-not-is_held.false in
     let chain : Chain (taken (nodes_of i.slots.entries) c.args.id c.args.holder) (Some c.args.id) c.as_slice.result.now = rw c.as_slice.ensures.value c.in-Ok.ensures in
-    IsKept-released i.slots.entries c.let_go.new.slots.entries i.max_count i.total c.args.id c.args.holder c.as_slice.result.now c.self.invariant held chain c.let_go.ensures.settled c.let_go.ensures.nodes
+    IsConsistent-released i.slots.entries c.let_go.new.slots.entries i.max_count i.total c.args.id c.args.holder c.as_slice.result.now c.self.invariant held chain c.let_go.ensures.settled c.let_go.ensures.nodes
 
 pub returns-in-Ok-clause-list : goal.returns-in-Ok-clause-list
 returns-in-Ok-clause-list c =
