@@ -1,12 +1,12 @@
 -- A forest with a new span.
-use Rattle.std.proofs.Common.{◌≡◌, ◌≢◌, ℕ, ◌+◌, ◌<◌, ◌≤◌, Bool, false, cond, List, length, drop, Option, Some, None, refl, sym, ap, ◌∙◌, inl, inr, arith}
+use Rattle.std.proofs.Common.{subst, ◌⊎◌, slice_index, ◌≡◌, ◌≢◌, ℕ, ◌+◌, ◌<◌, ◌≤◌, Bool, false, cond, List, length, drop, Option, Some, None, refl, sym, ap, ◌∙◌, inl, inr, arith}
 use Rattle.std.specs.Option.{option_map, IsSomeAnd}
 use Rattle.std.proofs.lemmas.Bool.Decides.{eqb_tells}
 use Rattle.std.proofs.lemmas.Bool.{ne_eqb, cases_Bool}
-use Rattle.span_id.specs.Id.{slot_of}
+use Rattle.span_id.specs.Id.{slot_of, generation_of}
 use Rattle.span_id.specs.declared.fault.Fault.{Fault}
 use Rattle.span_id.specs.declared.fault.Fault.TheVariants.{Unknown, CountFull, Full, NotEntered, TooManyLayers, BadName, Backlog, BadLimits, Memory}
-use Rattle.span_slots.specs.Table.{Table, value_at, with_value, with_entry, issue, id_at, inserted, next_id, next_slot}
+use Rattle.span_slots.specs.Table.{Table, value_at, with_value, with_entry, issue, id_at, inserted, next_id, next_slot, IsIssued}
 use Rattle.span_slots.specs.Change.{Insert, after, inserted_in}
 use Rattle.span_forest.specs.declared.span.Span.{Span}
 use Rattle.span_forest.specs.Node.{node_of}
@@ -25,6 +25,9 @@ use Rattle.span_forest.proofs.Adds.{nodes-with, value_at-with_other, AreApart-wi
 no_id : (id : ℕ) → None ≡ Some id → ⊥
 no_id id h = cc
 
+same_id : (t : Table Span) (id other : ℕ) → next_id t ≡ Some id → next_id t ≡ Some other → id ≡ other
+same_id t id other h k = let e : Some id ≡ Some other = sym h ∙ k in cc
+
 -- the table with the span, before its parent counts it
 abbrev pub stored : Table Span → ℕ → Span → Table Span
 stored t id span = record t { entries = with_entry t.entries id span; given = issue t.given (slot_of id); freed = drop 1 t.freed }
@@ -39,6 +42,16 @@ pub stored_is : (t mid : Table Span) (id : ℕ) (span : Span) → next_id t ≡ 
 stored_is t mid id span h e a =
     let entries = entry_in t mid id span (next_slot t) h a in
     e ∙ ap (λ es. record t { entries = es; given = issue t.given (slot_of id); freed = drop 1 t.freed }) (sym (ap (λ (x : Table Span). x.entries) e) ∙ entries)
+
+-- the new id alone is issued
+pub issued_alone : (t mid new : Table Span) (id other : ℕ) (span : Span) → next_id t ≡ Some id → mid ≡ after t (Insert span) → mid ≡ stored t id span → new.given ≡ issue t.given (slot_of id) → (IsIssued (after t (Insert span)) other → IsIssued t other ⊎ (next_id t ≡ Some other)) × (IsIssued t other ⊎ (next_id t ≡ Some other) → IsIssued (after t (Insert span)) other) → (IsIssued new other → IsIssued t other ⊎ (id ≡ other)) × (IsIssued t other ⊎ (id ≡ other) → IsIssued new other)
+issued_alone t mid new id other span n a s g law =
+    let same : (after t (Insert span)).given ≡ new.given = sym (ap (λ (x : Table Span). x.given) a) ∙ (ap (λ (x : Table Span). x.given) s ∙ sym g) in
+    let step : (v : List ℕ) → v ≡ new.given → generation_of other < slice_index v (slot_of other) → generation_of other < slice_index new.given (slot_of other) = λ v e h. subst (λ x. generation_of other < slice_index x (slot_of other)) e h in
+    let back : (v : List ℕ) → v ≡ new.given → generation_of other < slice_index new.given (slot_of other) → generation_of other < slice_index v (slot_of other) = λ v e h. subst (λ x. generation_of other < slice_index x (slot_of other)) (sym e) h in (
+      λ h. elim (law.0 (back (after t (Insert span)).given same h)) [ inl x ↦ inl x | inr y ↦ inr (same_id t id other n y) ],
+      λ h. step (after t (Insert span)).given same (law.1 (elim h [ inl x ↦ inl x | inr y ↦ inr (n ∙ ap (λ v. Some v) y) ])),
+    )
 
 -- what a new span leaves of a table
 pub record Placed (t new : Table Span) (id : ℕ) (span : Span) : Type 0 where
@@ -77,9 +90,10 @@ module _ (t : Table Span) (id : ℕ) (span : Span) (w : IsSettled t.entries) (ab
   positive_with : is_some_id span.parent id ≡ false → (j : ℕ) → IsOpen (with_node (nodes_of t.entries) id (node_of span)) j → 0 < written_count (with_node (nodes_of t.entries) id (node_of span)) j
   positive_with own j o =
       elim (eqb_tells j id) [
-        inl q ↦ (let n = written_new t.entries id span w absent (one_count span fresh) own in let c = fresh.count in rw q.1 (omega arith))
-      | inr q ↦ (let n = written_old t.entries id span w absent (one_count span fresh) j q.1 in
-                 let b = w.positive j (open_back (nodes_of t.entries) id j (node_of span) q.1 o) in omega arith) ]
+        | inl q ↦ (let n = written_new t.entries id span w absent (one_count span fresh) own in let c = fresh.count in rw q.1 (omega arith))
+        | inr q ↦ (let n = written_old t.entries id span w absent (one_count span fresh) j q.1 in
+            let b = w.positive j (open_back (nodes_of t.entries) id j (node_of span) q.1 o) in omega arith)
+      ]
 
   pub placed_root : (mid : Table Span) → mid ≡ stored t id span → span.parent ≡ None → Placed t mid id span
   placed_root mid e root =
@@ -109,7 +123,7 @@ module _ (t : Table Span) (id : ℕ) (span : Span) (w : IsSettled t.entries) (ab
       let apart : AreApart (nodes_of es) = rw nodes (AreApart-with (nodes_of t.entries) id (node_of span) absent_node w.forest.ids_apart) in
       let at : value_at es p ≡ Some up.0 = value_at-with_other t.entries id p span up.4 ∙ up.1 in
       let step : new ≡ record t { entries = with_value es p (counts_more up.0); given = issue t.given (slot_of id); freed = drop 1 t.freed } =
-        raised up.0 up.3 ∙ ap (λ (x : Table Span). record x { entries = with_value x.entries p (counts_more up.0) }) e in
+      raised up.0 up.3 ∙ ap (λ (x : Table Span). record x { entries = with_value x.entries p (counts_more up.0) }) e in
       let whole : nodes_of (with_value es p (counts_more up.0)) ≡ with_node (nodes_of t.entries) id (node_of span) = nodes_kept es p up.0 (counts_more up.0) apart at refl ∙ nodes in
       let own : is_some_id span.parent id ≡ false = rw q (ne_eqb p id up.4) in
       rw step (record {
@@ -139,16 +153,18 @@ IsKept-added es new max total id span w absent fresh room s n few =
     record {
       settled = s;
       bounded = λ j. rw n (elim (eqb_tells j id) [
-        inl q ↦ (let k = written_new es id span w.settled absent one (own_parent es max id span.parent absent room) in
-                 let c = fresh.count in let low = w.max_low in rw q.1 (omega arith))
-      | inr q ↦ (let k = written_old es id span w.settled absent one j q.1 in
-                 let b = w.bounded j in
-                 elim (cases_Bool (is_some_id span.parent j)) [
-                   inl t ↦ (let up = the_above (value_at es j) max (open_above es max span.parent room j (is_some_id_true span.parent j t)) in
-                            let c = w.settled.counted j up.0 up.1 in
-                            let z : as_one (is_some_id span.parent j) ≡ 1 = ap as_one t in
-                            let low = up.2 in omega arith)
-                 | inr t ↦ (let z : as_one (is_some_id span.parent j) ≡ 0 = ap as_one t in omega arith) ]) ]);
+        | inl q ↦ (let k = written_new es id span w.settled absent one (own_parent es max id span.parent absent room) in
+            let c = fresh.count in let low = w.max_low in rw q.1 (omega arith))
+        | inr q ↦ (let k = written_old es id span w.settled absent one j q.1 in
+            let b = w.bounded j in
+            elim (cases_Bool (is_some_id span.parent j)) [
+              | inl t ↦ (let up = the_above (value_at es j) max (open_above es max span.parent room j (is_some_id_true span.parent j t)) in
+                  let c = w.settled.counted j up.0 up.1 in
+                  let z : as_one (is_some_id span.parent j) ≡ 1 = ap as_one t in
+                  let low = up.2 in omega arith)
+              | inr t ↦ (let z : as_one (is_some_id span.parent j) ≡ 0 = ap as_one t in omega arith)
+            ])
+      ]);
       total_is = rw n (let k = total-with (nodes_of es) id (node_of span) in let b = w.total_is in let c = fresh.count in omega arith);
       few = few;
       max_low = w.max_low;

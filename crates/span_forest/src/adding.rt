@@ -1,20 +1,24 @@
-ghost use Rattle.std.specs.Prelude.{◌≡◌, ℕ, ◌<◌, ◌≤◌, Some, IsSome, IsSomeAnd, MatchOption, IfOk, IfErr, OnOk, drop, length};
-ghost use Rattle.span_slots.specs.Table.{value_at, next_id, issue};
-ghost use Rattle.span_id.specs.Id.{slot_of};
+ghost use Rattle.std.specs.Prelude.{◌≡◌, ℕ, ◌<◌, ◌≤◌, ◌↔◌, ◌⊎◌, Some, IsSome, IsSomeAnd, MatchOption, IfOk, IfErr, OnOk, drop, length};
+ghost use Rattle.span_slots.specs.Table.{value_at, next_id, issue, IsIssued};
+ghost use Rattle.span_id.specs.Id.{slot_of, IsId};
 ghost use Rattle.span_forest.specs.Node.{node_of};
 ghost use Rattle.span_forest.specs.Spans.{nodes_of, with_node};
 ghost use Rattle.span_forest.specs.Count.{written_count};
 ghost use Rattle.span_forest.specs.Invariant.{AreCounted, IsSettled};
 ghost use Rattle.span_forest.specs.Add.{CanHaveChild, WhyNoChild, IsNew, HasRoomAbove};
 
-use span_id::{Fault, Id};
-use span_slots::Slots;
-
 use crate::holders::raise;
 use crate::span::Span;
+use span_id::{Fault, Id};
+use span_slots::Slots;
+use span_slots::laws::{insert_issues_its_id_alone, next_id_was_never_issued};
 
 // The parent of a new span, if the span may be made under it: it is open, and its count may rise.
-pub(crate) fn checked_parent(slots: &Slots<Span>, max_count: u32, parent: Option<Id>) -> Result<Option<Id>, Fault>
+pub(crate) fn checked_parent(
+    slots: &Slots<Span>,
+    max_count: u32,
+    parent: Option<Id>,
+) -> Result<Option<Id>, Fault>
     requires counted { AreCounted slots.now.entries }
     requires bounded { (id : ℕ) → written_count (nodes_of slots.now.entries) id ≤ max_count }
     ensures same { IfOk result (λ checked. checked ≡ parent) }
@@ -44,14 +48,19 @@ pub(crate) fn place(slots: &mut Slots<Span>, span: Span) -> Id
     ensures settled { IsSettled slots.new.entries }
     ensures nodes { nodes_of slots.new.entries ≡ with_node (nodes_of slots.old.entries) result (node_of span) }
     ensures vacant { value_at slots.old.entries result ≡ None }
+    ensures never_issued { IsIssued slots.old result → ⊥ }
+    ensures issued { (other : ℕ) → IsId other →
+        (IsIssued slots.new other ↔ (IsIssued slots.old other ⊎ (result ≡ other))) }
     ensures few { length slots.new.entries ≤ 4294967295 }
     ensures table { slots.new ≡ record slots.old {
-        entries = slots.new.entries;
-        given = issue slots.old.given (slot_of result);
-        freed = drop 1 slots.old.freed
+      entries = slots.new.entries;
+      given = issue slots.old.given (slot_of result);
+      freed = drop 1 slots.old.freed;
     } }
 {
     let parent = span.parent;
+    next_id_was_never_issued(slots);
+    insert_issues_its_id_alone(slots);
     let Ok(id) = slots.insert(span) else {
         unreachable!()
     };
