@@ -1,10 +1,10 @@
 -- The first line of a script, and what follows its newline.
-use Rattle.std.proofs.Common.{◌≡◌, ℕ, zero, suc, ◌+◌, ◌<◌, ◌≤◌, List, [], ◌∷◌, length, Bool, true, false, refl, ap, sym, ◌∙◌, arith, take, drop, one-add, add-one, Option, Some, None, cond, not, ◌-◌, drop_of_length-le}
+use Rattle.std.proofs.Common.{◌≡◌, ℕ, ◌+◌, ◌<◌, ◌≤◌, List, [], ◌∷◌, length, Bool, true, false, refl, arith, take, drop, one-add, add-one, Some, None, cond, ◌-◌, drop_of_length-le}
 use Rattle.std.proofs.lemmas.List.{take_rest}
 use Rattle.std.proofs.lemmas.Bool.{ltb-true, ltb-false}
 use Rattle.std.specs.Prelude.{◌==◌, nat_lt}
 use Rattle.std.specs.List.{position, position_or_len}
-use Rattle.tracerun.specs.Script.{lines_of, onto_line}
+use Rattle.tracerun.specs.Script.{lines_of}
 
 abbrev is_newline : ℕ → Bool
 is_newline b = b == 10

@@ -1,10 +1,9 @@
 -- A line as JSON, from what `Value::from_slice` says.
-use Rattle.std.proofs.Common.{◌≡◌, ℕ, List, Bool, true, false, refl, ap, sym, ◌∙◌, Some, None, Ok, Err}
+use Rattle.std.proofs.Common.{◌≡◌, ℕ, List, Bool, true, false, refl, Some, None, Ok, Err}
 use Rattle.std.specs.Str.{IsUtf8, is_utf8}
 use Rattle.std.proofs.lemmas.Str.{is_utf8-from_IsUtf8, IsUtf8-from_is_utf8}
 use Rattle.serde_json.specs.Data.{Data}
 use Rattle.serde_json.specs.Read.{read}
-use Rattle.tracerun.specs.Reason.{or_fault}
 use Rattle.tracerun.specs.declared.fault.Reason.TheVariants.{NotJson}
 use Rattle.tracerun.specs.Operation.{json_of}
 

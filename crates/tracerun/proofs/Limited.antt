@@ -1,6 +1,6 @@
 -- What always holds of the spans of a script, after each call on the forest.
 use Rattle.std.proofs.Common.{◌≡◌, ℕ, sym, subst}
-use Rattle.std.specs.Prelude.{Result, Ok, Err, OnOk, OnErr, IfOk, string_bytes}
+use Rattle.std.specs.Prelude.{Result, Ok, Err, OnOk, OnErr, IfOk}
 use Rattle.span_id.specs.Name.{IsName}
 use Rattle.span_id.specs.declared.fault.Fault.{Fault}
 use Rattle.span_forest.specs.Add.{added}

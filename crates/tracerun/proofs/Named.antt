@@ -1,6 +1,6 @@
 -- The names of the open spans, after each change of a forest.
-use Rattle.std.proofs.Common.{◌≡◌, ℕ, List, [], ◌∷◌, Bool, true, false, cond, Option, Some, None, refl, sym, subst}
-use Rattle.std.specs.Prelude.{All, nat_lt, ◌==◌}
+use Rattle.std.proofs.Common.{◌≡◌, ℕ, [], ◌∷◌, Bool, true, false, cond, Option, Some, refl, sym, subst}
+use Rattle.std.specs.Prelude.{nat_lt, ◌==◌}
 use Rattle.std.proofs.lemmas.List.Elements.{All-nil, All-cons, All-head, All-tail, All-map, All-weaker, All-filter}
 use Rattle.span_id.specs.Id.{slot_of}
 use Rattle.span_id.specs.Name.{IsName}
@@ -33,7 +33,7 @@ name_stays f same false e h = h
 named_changed : (f : Node → Node) → ((node : Node) → (f node).name ≡ node.name) → (spans : Spans) (id : ℕ) → AreNamed spans → AreNamed (changed f spans id)
 named_changed f same spans id all =
     All-map Named (λ e. (e.0, cond (e.0 == id) (f e.1) e.1)) spans
-        (All-weaker Named (λ e. IsName (cond (e.0 == id) (f e.1) e.1).name) (λ e h. name_stays f same (e.0 == id) e h) spans all)
+    (All-weaker Named (λ e. IsName (cond (e.0 == id) (f e.1) e.1).name) (λ e h. name_stays f same (e.0 == id) e h) spans all)
 
 more_same : (holder : Holder) (node : Node) → (with_more holder node).name ≡ node.name
 more_same Handle node = refl

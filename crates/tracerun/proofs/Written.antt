@@ -1,13 +1,13 @@
 -- What goes out in a run, piece after piece.
 use Rattle.std.proofs.Common.{◌≡◌, ℕ, ◌+◌, ◌<◌, ◌≤◌, List, [], ◌∷◌, ◌++◌, length, refl, ap, sym, ◌∙◌, subst, append_assoc, append-nil, Option, Some, None, arith, length-append, inl, inr}
-use Rattle.std.specs.Prelude.{All, IfSome, IfOk, IfErr, OnOk, OnErr, Result, Ok, Err, true, false}
+use Rattle.std.specs.Prelude.{IfSome, IfOk, IfErr, OnOk, OnErr, Result, Ok, Err, true, false}
 use Rattle.std.specs.Io.KnownBytes.{Appends, Consumes, Keeps, IsAtEnd}
 use Rattle.std.proofs.KnownBytes.{Appends-nil, Appends-trans, Appends-kept, Consumes-whole, Keeps-refl, Keeps-trans}
 use Rattle.std.proofs.lemmas.List.Elements.{All-nil, All-cons, All-append}
 use Rattle.std.proofs.lemmas.Grind.{flat_map-append}
 use Rattle.tracerun.specs.Answer.{IsAnswer, AddsAnswer, left_text}
 use Rattle.tracerun.specs.Device.{AppendsFront, ReadFails}
-use Rattle.tracerun.specs.Output.{joined, answers_of, answers_of_lines, Answered, HasAnswered, HasBegun, IsFinished, StopsAt, IsTooLong, FailsIn, Fails, IsReplayed, LineFails, TidyFails}
+use Rattle.tracerun.specs.Output.{joined, answers_of, answers_of_lines, Answered, HasAnswered, HasBegun, IsFinished, FailsIn, Fails, IsReplayed, LineFails, TidyFails}
 use Rattle.tracerun.specs.Script.{lines_of, most_bytes, is_skipped}
 use Rattle.tracerun.specs.declared.fault.RunFault.{RunFault}
 use Rattle.tracerun.specs.declared.fault.RunFault.TheVariants.{Script, Memory, Device}
@@ -222,14 +222,17 @@ finished_kept bytes a b c left k p = record {
 stops_kept : (bytes : List ℕ) (a b c : Known) (number : ℕ) (reason : Reason) → Keeps b c → Fails bytes a b (Script number reason) → Fails bytes a c (Script number reason)
 stops_kept bytes a b c number reason k (inl p) =
     inl (record { number_is = p.number_is; reason_is = p.reason_is; long = p.long; nothing = Keeps-trans a b c p.nothing k })
-stops_kept bytes a b c number reason k (inr (fits, p)) = inr (fits, record {
-  before = p.before;
-  line = p.line;
-  after = p.after;
-  whole = p.whole;
-  place = p.place;
-  answered = kept_answered a b c (answers_of_lines p.before) p.answered k;
-})
+stops_kept bytes a b c number reason k (inr (fits, p)) = inr (
+  fits,
+  record {
+    before = p.before;
+    line = p.line;
+    after = p.after;
+    whole = p.whole;
+    place = p.place;
+    answered = kept_answered a b c (answers_of_lines p.before) p.answered k;
+  },
+)
 
 finished_begun : (bytes : List ℕ) (a b c : Known) (left : ℕ) → Keeps b c → IsFinished bytes a b left → HasBegun a c
 finished_begun bytes a b c left k p = record {

@@ -1,13 +1,13 @@
 -- The faults of a script that rest on its labels.
-use Rattle.std.specs.Prelude.{ℕ, Bool, false, nat_lt, if◌then◌else◌, List, Option, Some, None, Result, Ok, Err, ⊤}
+use Rattle.std.specs.Prelude.{ℕ, Bool, false, nat_lt, List, Option, Some, None, Result, Ok, Err}
 use Rattle.span_forest.specs.Spans as forest
 use Rattle.span_forest.specs.Holders.{held_in}
 use Rattle.span_forest.specs.declared.span.Holder.TheVariants.{Handle}
 use Rattle.tracerun.specs.Labels.{id_of_label}
-use Rattle.tracerun.specs.Operation.{SpanKey, by_label, by_id, Parent, current, root, named, NewSpan, Operation, set_limits, make, on_span, find}
-use Rattle.tracerun.specs.Reason.{or_fault, ◌>>=◌}
+use Rattle.tracerun.specs.Operation.{SpanKey, by_label, by_id, Parent, current, root, named}
+use Rattle.tracerun.specs.Reason.{or_fault}
 use Rattle.tracerun.specs.declared.fault.Reason.{Reason}
-use Rattle.tracerun.specs.declared.fault.Reason.TheVariants.{NoSuchLabel, LabelTaken}
+use Rattle.tracerun.specs.declared.fault.Reason.TheVariants.{NoSuchLabel}
 use Rattle.tracerun.specs.declared.labels.Labels.{Labels}
 
 -- the id of the span that a line names: a label has to be bound

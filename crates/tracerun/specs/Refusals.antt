@@ -2,7 +2,7 @@
 use Rattle.std.specs.Prelude.{◌≡◌, ℕ, ◌≤◌, ◌⊎◌, List, All, Option, string_bytes, false, true}
 use Rattle.span_id.specs.Name.{IsName}
 use Rattle.span_id.specs.declared.fault.Fault.{Fault}
-use Rattle.span_id.specs.declared.fault.Fault.TheVariants.{Unknown, CountFull, NotEntered, BadName, Full, Memory}
+use Rattle.span_id.specs.declared.fault.Fault.TheVariants.{Unknown, CountFull, NotEntered, BadName, Memory}
 use Rattle.span_id.specs.declared.meta.Field.{Field}
 use Rattle.span_id.specs.declared.meta.Meta.{Meta}
 use Rattle.span_forest.specs.Spans as forest

@@ -17,10 +17,7 @@ const MOST_BYTES: usize = 16_777_216;
 /// Reads a script to its end.
 ///
 /// A script of more than 16,777,216 bytes is the fault `TooLong` of line 0.
-pub fn read_script<R: Read>(
-    alloc: Global,
-    input: &mut Counted<R>,
-) -> Result<Vec<u8>, RunFault>
+pub fn read_script<R: Read>(alloc: Global, input: &mut Counted<R>) -> Result<Vec<u8>, RunFault>
     requires calls { calls_of input.old < 2 ^ 63 }
     requires failed { failed_of input.old < 2 ^ 63 }
     ensures all { IfOk result (λ v. Consumes (R.remaining (inner_of input.old)) (R.remaining (inner_of input.new)) v.items) }

@@ -258,7 +258,9 @@ fn find(line: &Value) -> Result<Operation<'_>, Reason>
     ensures worker { (workers : ℕ) → IfOk result (λ operation. NamesWorker operation workers) }
 {
     let old = line.get(Key::Old.text());
-    if line.get(Key::Span.text()).is_none() && let Some(old) = old {
+    if line.get(Key::Span.text()).is_none()
+        && let Some(old) = old
+    {
         return find_old(old);
     }
     match span(line) {

@@ -12,8 +12,8 @@ use crate::answer::{Answer, write_left};
 use crate::counted::Counted;
 use crate::device::{flush, read_script, write_text};
 use crate::fault::RunFault;
-use crate::lines::{cut_line, is_skipped};
 use crate::labels::Labels;
+use crate::lines::{cut_line, is_skipped};
 use crate::operation::SpanCall;
 use crate::script::{Script, answer_reply};
 use crate::spans::Spans;
@@ -272,11 +272,7 @@ fn tell<W: Write>(
 }
 
 /// Writes the last line: how many spans are open.
-fn finish<W: Write>(
-    left: u32,
-    text: &mut String,
-    output: &mut Counted<W>,
-) -> Result<u64, RunFault>
+fn finish<W: Write>(left: u32, text: &mut String, output: &mut Counted<W>) -> Result<u64, RunFault>
     requires { failed_of output.old < 2 ^ 63 }
     ensures ok { IfOk result (λ n. (n ≡ left) × Appends (W.contents (inner_of output.old)) (W.contents (inner_of output.new)) (left_text n)) }
     ensures err { IfErr result (TidyFails (W.contents (inner_of output.old)) (W.contents (inner_of output.new))) }

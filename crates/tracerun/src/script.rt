@@ -58,7 +58,12 @@ impl Script {
     }
 
     /// Runs an operation, and appends its answer to the text.
-    fn run(&mut self, alloc: Global, operation: &Operation<'_>, text: &mut String) -> Result<(), Stop>
+    fn run(
+        &mut self,
+        alloc: Global,
+        operation: &Operation<'_>,
+        text: &mut String,
+    ) -> Result<(), Stop>
         requires { NamesWorker operation.now (length (stacks_of self.old.spans)) }
         ensures answer { OnOk result (AddsAnswer (string_bytes text.old) (string_bytes text.new)) }
     {
@@ -108,7 +113,13 @@ impl Script {
     }
 
     /// Makes a call on a span.
-    fn call(&mut self, call: SpanCall, span: &SpanKey<'_>, worker: usize, text: &mut String) -> Result<(), Stop>
+    fn call(
+        &mut self,
+        call: SpanCall,
+        span: &SpanKey<'_>,
+        worker: usize,
+        text: &mut String,
+    ) -> Result<(), Stop>
         requires { worker < length (stacks_of self.old.spans) }
         ensures answer { OnOk result (AddsAnswer (string_bytes text.old) (string_bytes text.new)) }
     {
@@ -174,7 +185,11 @@ fn id_of(labels: &Labels, key: &SpanKey<'_>) -> Result<Id, Reason>
 }
 
 /// The parent of a new span, where this is its worker's current span.
-fn parent_of(labels: &Labels, current: Option<Id>, parent: &Parent<'_>) -> Result<Option<Id>, Reason>
+fn parent_of(
+    labels: &Labels,
+    current: Option<Id>,
+    parent: &Parent<'_>,
+) -> Result<Option<Id>, Reason>
     ensures { Answers (λ id. id) result (parent_of_key labels.now current (parent_seen parent.now)) }
 {
     match parent {

@@ -68,7 +68,8 @@ fn run(alloc: Global, script: &str) -> Result<(Vec<u8>, String), AllocError> {
     Ok((taken, ended))
 }
 
-const TWO_SPANS: &str = "{\"op\":\"new\",\"name\":\"a\"}\n{\"op\":\"new\",\"name\":\"b\",\"parent\":\"a\"}\n{\"op\":\"close\",\"span\":\"a\"}\n{\"op\":\"close\",\"span\":\"b\"}\n";
+const TWO_SPANS: &str =
+    "{\"op\":\"new\",\"name\":\"a\"}\n{\"op\":\"new\",\"name\":\"b\",\"parent\":\"a\"}\n{\"op\":\"close\",\"span\":\"a\"}\n{\"op\":\"close\",\"span\":\"b\"}\n";
 
 const TWO_SPANS_TEXT: &str = "= 1\n= 2\n= open\n= closed\nleft 0\n";
 
@@ -124,14 +125,35 @@ fn tells_faults_in_their_order(rt: HostRuntime) -> io::Result<()> {
             "{\"op\":\"find\",\"span\":1}\n{\"op\":\"limits\",\"slots\":-1}",
             "line 2: late line",
         ),
-        ("{\"op\":\"limits\",\"slots\":null}", "line 1: bad key slots"),
-        ("{\"op\":\"limits\",\"max_count\":4294967296}", "line 1: bad key max_count"),
+        (
+            "{\"op\":\"limits\",\"slots\":null}",
+            "line 1: bad key slots",
+        ),
+        (
+            "{\"op\":\"limits\",\"max_count\":4294967296}",
+            "line 1: bad key max_count",
+        ),
         ("{\"op\":\"new\"}", "line 1: bad key name"),
-        ("{\"op\":\"new\",\"name\":\"a\",\"level\":\"info\"}", "line 1: bad key level"),
-        ("{\"op\":\"new\",\"name\":\"a\",\"fields\":[[\"k\"]]}", "line 1: bad key fields"),
-        ("{\"op\":\"new\",\"name\":\"a\",\"w\":4}", "line 1: bad key w"),
-        ("{\"op\":\"new\",\"name\":\"a\",\"parent\":false,\"w\":4}", "line 1: bad key parent"),
-        ("{\"op\":\"close\",\"span\":\"a\",\"w\":99}", "line 1: bad key w"),
+        (
+            "{\"op\":\"new\",\"name\":\"a\",\"level\":\"info\"}",
+            "line 1: bad key level",
+        ),
+        (
+            "{\"op\":\"new\",\"name\":\"a\",\"fields\":[[\"k\"]]}",
+            "line 1: bad key fields",
+        ),
+        (
+            "{\"op\":\"new\",\"name\":\"a\",\"w\":4}",
+            "line 1: bad key w",
+        ),
+        (
+            "{\"op\":\"new\",\"name\":\"a\",\"parent\":false,\"w\":4}",
+            "line 1: bad key parent",
+        ),
+        (
+            "{\"op\":\"close\",\"span\":\"a\",\"w\":99}",
+            "line 1: bad key w",
+        ),
         ("{\"op\":\"close\",\"span\":\"a\"}", "line 1: no such label"),
         ("{\"op\":\"close\",\"span\":0}", "line 1: bad key span"),
         ("{\"op\":\"close\",\"span\":-0}", "line 1: bad key span"),
@@ -139,10 +161,22 @@ fn tells_faults_in_their_order(rt: HostRuntime) -> io::Result<()> {
         ("{\"op\":\"close\",\"span\":01}", "line 1: not JSON"),
         ("{\"op\":\"find\"}", "line 1: bad key span"),
         ("{\"op\":\"find\",\"old\":0}", "line 1: bad key old"),
-        ("{\"op\":\"find\",\"span\":1,\"old\":1}", "line 1: bad key old"),
-        ("{\"op\":\"find\",\"span\":1,\"old\":null}", "line 1: bad key old"),
-        ("{\"op\":\"find\",\"span\":null,\"old\":1}", "line 1: bad key span"),
-        ("{\"op\":\"find\",\"span\":72057594037927937}", "line 1: bad key span"),
+        (
+            "{\"op\":\"find\",\"span\":1,\"old\":1}",
+            "line 1: bad key old",
+        ),
+        (
+            "{\"op\":\"find\",\"span\":1,\"old\":null}",
+            "line 1: bad key old",
+        ),
+        (
+            "{\"op\":\"find\",\"span\":null,\"old\":1}",
+            "line 1: bad key span",
+        ),
+        (
+            "{\"op\":\"find\",\"span\":72057594037927937}",
+            "line 1: bad key span",
+        ),
         (
             "{\"op\":\"new\",\"name\":\"a\"}\n{\"op\":\"new\",\"name\":\"a b\",\"label\":\"a\"}",
             "line 2: label taken",
@@ -161,7 +195,8 @@ fn tells_faults_in_their_order(rt: HostRuntime) -> io::Result<()> {
 
 #[test]
 fn a_reader_that_fails_ends_the_run(rt: HostRuntime) -> io::Result<()> {
-    for good_calls in 0..20 {
+    // The script's 113 bytes take 17 calls of seven bytes, and one more finds the end.
+    for good_calls in 0..18 {
         let mut input = Counted::new(FailingReader {
             rest: TWO_SPANS.as_bytes(),
             good_calls,
@@ -171,7 +206,10 @@ fn a_reader_that_fails_ends_the_run(rt: HostRuntime) -> io::Result<()> {
         match replay(rt.alloc(), &mut input, &mut output) {
             Ok(_) => assert!(rt; false, "after {good_calls}"),
             Err(fault) => {
-                assert_eq!(rt; fault.to_string(rt.alloc())?.as_str(), "device: read failed");
+                assert_eq!(rt;
+                    fault.to_string(rt.alloc())?.as_str(),
+                    "device: read failed"
+                );
                 assert_eq!(rt; fault.status(), 3);
             }
         }
@@ -210,7 +248,11 @@ fn a_writer_that_fails_ends_the_run(rt: HostRuntime) -> io::Result<()> {
     for takes_none in [false, true] {
         for good_calls in 0..13 {
             let (taken, ended) = run_failing(rt.alloc(), good_calls, takes_none, true)?;
-            assert_eq!(rt; ended.as_str(), "device: write failed", "after {good_calls}");
+            assert_eq!(rt;
+                ended.as_str(),
+                "device: write failed",
+                "after {good_calls}"
+            );
             assert!(rt; TWO_SPANS_TEXT.as_bytes().starts_with(taken.as_slice()));
         }
         let (taken, ended) = run_failing(rt.alloc(), 13, takes_none, true)?;

@@ -1,10 +1,9 @@
-use Rattle.std.proofs.Common.{◌≡◌, ◌+◌, ◌-◌, ◌≤◌, ◌++◌, length, take, drop, arith, sym, List, ℕ, rules, take-append-drop, append-nil, []}
+use Rattle.std.proofs.Common.{◌≡◌, ◌+◌, ◌-◌, length, take, drop, arith, sym, List, ℕ, rules, take-append-drop, append-nil, []}
 use Rattle.std.specs.Io.KnownBytes.{Appends, Keeps}
 use Rattle.std.specs.Prelude.{Option}
 use Rattle.std.proofs.KnownBytes.{Appends-trans, Appends-kept}
 use Rattle.std.proofs.lemmas.List.{take_rest}
 use Rattle.std.proofs.Math.Seq.{take-add}
-use Rattle.tracerun.specs.Counted.{inner_of, failed_of}
 use Rattle.tracerun.specs.Device.{AppendsFront}
 use Rattle.tracerun.proofs.device.write_text.Goals as goal
 

@@ -1,5 +1,5 @@
 use Rattle.std.proofs.KnownBytes.{Keeps-refl}
-use Rattle.tracerun.proofs.Written.{begun_none, lines_failed, tidy_failed, last_written}
+use Rattle.tracerun.proofs.Written.{begun_none, tidy_failed, last_written}
 use Rattle.tracerun.proofs.runner.run_script.Goals as goal
 
 pub returns-in_default-clause-replayed : goal.returns-in_default-clause-replayed

@@ -7,5 +7,5 @@ pub invariant_of-self : goal.invariant_of-self
 invariant_of-self c =
     let self = c.args.self.now in
     let after = after_change c.keep.result self.max_count self.forest c.keep.new.self _ (record { same = self.same_limit; named = self.named }) self.same_limit
-        (named_kept self.forest.spans c.args.id Handle self.named) c.keep.ensures.forest c.keep.ensures.unchanged in
+    (named_kept self.forest.spans c.args.id Handle self.named) c.keep.ensures.forest c.keep.ensures.unchanged in
     record { same_limit = after.same; named = after.named; some_worker = self.some_worker }

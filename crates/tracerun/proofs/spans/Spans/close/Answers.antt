@@ -7,5 +7,5 @@ pub invariant_of-self : goal.invariant_of-self
 invariant_of-self c =
     let self = c.args.self.now in
     let after = after_change c.release.result self.max_count self.forest c.release.new.self _ (record { same = self.same_limit; named = self.named }) self.same_limit
-        (named_released self.forest.spans c.args.id Handle self.named) c.release.ensures.forest c.release.ensures.unchanged in
+    (named_released self.forest.spans c.args.id Handle self.named) c.release.ensures.forest c.release.ensures.unchanged in
     record { same_limit = after.same; named = after.named; some_worker = self.some_worker }

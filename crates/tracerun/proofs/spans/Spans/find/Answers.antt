@@ -1,4 +1,3 @@
-use Rattle.std.proofs.Common.{rules}
 use Rattle.span_id.specs.Name.{IsName}
 use Rattle.std.specs.Prelude.{string_bytes}
 use Rattle.tracerun.proofs.Named.{named_found}

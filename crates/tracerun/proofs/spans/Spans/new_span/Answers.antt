@@ -1,7 +1,7 @@
 use Rattle.std.proofs.Common.{rules}
 use Rattle.span_id.specs.Name.{IsName}
 use Rattle.std.specs.Prelude.{string_bytes}
-use Rattle.tracerun.proofs.Limited.{IsLimited, after_add}
+use Rattle.tracerun.proofs.Limited.{after_add}
 use Rattle.tracerun.proofs.spans.Spans.new_span.Goals as goal
 
 pub invariant_of-self : goal.invariant_of-self
