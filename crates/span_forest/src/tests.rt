@@ -89,7 +89,7 @@ fn release(
         "{number} closes"
     );
     for id in &gone {
-        assert!(rt; forest.find(*id).is_none(), "{number} closes {id}");
+        assert!(rt; forest.find(*id).is_none());
     }
     assert_eq!(rt;
         u64::from(forest.len()) + gone.len() as u64,
@@ -171,14 +171,14 @@ fn a_slot_that_gave_its_last_id_gives_no_more(rt: HostRuntime) -> Result<(), Fai
     Ok(())
 }
 
-// Each call that takes an id finds none.
-fn finds_nothing(rt: &impl Abort, forest: &mut Forest, absent: Id) {
-    assert!(rt; forest.find(absent).is_none(), "{absent}");
-    assert!(rt; forest.keep(absent, Holder::Entry).is_err(), "{absent}");
-    assert!(rt; forest.write_fields(absent, &[]).is_err(), "{absent}");
-    assert!(rt; forest.closing(absent, Holder::Handle).is_err(), "{absent}");
-    assert!(rt; forest.release(absent, Holder::Handle).is_err(), "{absent}");
-    assert!(rt; forest.path(0, absent).is_err(), "{absent}");
+// Whether each call that takes an id finds none.
+fn finds_nothing(forest: &mut Forest, absent: Id) -> bool {
+    forest.find(absent).is_none()
+        && forest.keep(absent, Holder::Entry) == Err(Fault::Unknown)
+        && forest.write_fields(absent, &[]) == Err(Fault::Unknown)
+        && forest.closing(absent, Holder::Handle).is_err()
+        && forest.release(absent, Holder::Handle).is_err()
+        && forest.path(0, absent).is_err()
 }
 
 #[test]
@@ -189,7 +189,7 @@ fn what_is_not_open_finds_nothing(rt: HostRuntime) -> Result<(), Fail> {
     assert_eq!(rt; add(rt.alloc(), &mut forest, "b", None, 1)?, 16777217);
     // The closed id, the open slot's next generation, a slot never used, one beyond the table.
     for number in [1, 33554433, 2, 4] {
-        finds_nothing(&rt, &mut forest, id(&rt, number));
+        assert!(rt; finds_nothing(&mut forest, id(&rt, number)), "{number}");
     }
     assert_eq!(rt; forest.len(), 1);
     assert_eq!(rt; forest.total(), 1);

@@ -38,9 +38,7 @@ pub fn open_spans_are_counted(forest: &Forest)
 /// An id that has a handle or an entry is open.
 pub fn held_ids_are_open(forest: &Forest)
     ensures { (id : ℕ) (holder : Holder) → IsHeld forest.now.spans id holder → IsOpen forest.now.spans id }
-{
-    let _opened = &forest.slots;
-}
+{}
 
 /// No two open ids have one slot. Each is in the layout of ids, and was issued.
 pub fn each_slot_has_one_open_id(forest: &Forest)
