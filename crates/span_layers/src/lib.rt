@@ -1,2 +1,22 @@
-//! Layers: filters, notes and their texts.
+//! Layers: which spans and events they admit, which kinds of notes they want, and what they write of a note.
 #![tactic(auto)]
+
+mod compact;
+mod filters;
+mod form;
+mod hooks;
+mod json;
+mod layers;
+mod note;
+mod rule;
+mod style;
+mod tellers;
+
+pub use filters::{Admitters, Filters, MAX_LAYERS, Rules};
+pub use form::{Form, text};
+pub use hooks::{AdmitHook, Hooks, SayHook};
+pub use layers::{Layer, Layers};
+pub use note::{Kind, Note};
+pub use rule::{Rule, admits};
+pub use style::{FmtSpan, Style};
+pub use tellers::{Formatters, Forms, Say, Tellers};
