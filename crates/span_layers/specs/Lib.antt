@@ -1,5 +1,6 @@
 pub mod Filter
 pub mod FmtSpan
+pub mod Hooks
 pub mod Layers
 pub mod Note
 pub mod Rule

@@ -1,5 +1,6 @@
 ghost use Rattle.std.specs.Prelude.{◌≡◌, Bool, string_bytes};
 ghost use Rattle.std.specs.Result.{ForOk};
+ghost use Rattle.span_layers.specs.Hooks.{AppliesRules, WritesTexts};
 ghost use Rattle.span_layers.specs.Note.{plain_note};
 ghost use Rattle.span_layers.specs.Rule.{pairs_of, is_admitted};
 ghost use Rattle.span_layers.specs.Text.{text_of};
@@ -21,7 +22,7 @@ pub type SayHook = Box<dyn Fn(Global, Form, &Note) -> Result<Vec<u8>, AllocError
 pub(crate) struct Admitter {
     admit: AdmitHook,
     ghost callable: { AdmitHook.IsAlwaysCallable admit },
-    ghost answers: { (rule : _) (meta : _) (answer : Bool) → AdmitHook.post admit rule meta answer → answer ≡ is_admitted (pairs_of rule.now) (string_bytes meta.now.target) meta.now.level },
+    ghost answers: { AppliesRules (AdmitHook.post admit) },
 }
 
 impl Admitter {
@@ -37,7 +38,7 @@ impl Admitter {
 pub(crate) struct Formatter {
     say: SayHook,
     ghost callable: { SayHook.IsAlwaysCallable say },
-    ghost answers: { (alloc : _) (form : _) (note : _) (answer : _) → SayHook.post say alloc form note answer → ForOk answer (λ text. text.items ≡ text_of form (plain_note note.now)) },
+    ghost answers: { WritesTexts (SayHook.post say) },
 }
 
 impl Formatter {
@@ -63,8 +64,8 @@ impl Hooks {
     pub fn new(admit: AdmitHook, say: SayHook) -> Hooks
         requires admit_callable { AdmitHook.IsAlwaysCallable admit }
         requires say_callable { SayHook.IsAlwaysCallable say }
-        requires admits { (rule : _) (meta : _) (answer : Bool) → AdmitHook.post admit rule meta answer → answer ≡ is_admitted (pairs_of rule.now) (string_bytes meta.now.target) meta.now.level }
-        requires says { (alloc : _) (form : _) (note : _) (answer : _) → SayHook.post say alloc form note answer → ForOk answer (λ text. text.items ≡ text_of form (plain_note note.now)) }
+        requires admits { AppliesRules (AdmitHook.post admit) }
+        requires says { WritesTexts (SayHook.post say) }
     {
         Hooks {
             admitter: Admitter { admit },

@@ -2,6 +2,7 @@
 #![tactic(auto)]
 
 mod compact;
+pub mod example;
 mod filters;
 mod form;
 mod hooks;
