@@ -1,0 +1,13 @@
+//! The registry of spans without a lock: spans, their holders, the workers' stacks, and the notes for the layers.
+#![tactic(auto)]
+
+mod batch;
+mod handles;
+mod held;
+mod outlet;
+mod stacks;
+mod state;
+
+pub use batch::{Batch, Call, ParentOf, Reply};
+pub use outlet::Outlet;
+pub use state::State;
