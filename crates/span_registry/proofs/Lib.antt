@@ -1,3 +1,4 @@
 pub mod Soundness
 pub mod Worlds
 pub mod Accepting
+pub mod Telling

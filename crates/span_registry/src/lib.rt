@@ -2,8 +2,11 @@
 #![tactic(auto)]
 
 mod batch;
+mod entries;
 mod handles;
 mod held;
+mod names;
+mod notes;
 mod outlet;
 mod stacks;
 mod state;
