@@ -1,15 +1,19 @@
 -- A new span.
-use Rattle.std.proofs.Common.{◌≡◌, ◌≢◌, ℕ, zero, suc, ◌+◌, ◌-◌, ◌<◌, ◌≤◌, Bool, true, false, cond, not, eqb, ltb, List, [], ◌∷◌, length, map, Option, Some, None, IsSome, refl, sym, ap, subst, ◌∙◌, ◌⊎◌, inl, inr, arith, rules}
+use Rattle.std.proofs.Common.{◌≡◌, ◌≢◌, ℕ, ◌+◌, ◌≤◌, Bool, false, cond, eqb, ltb, List, [], ◌∷◌, Option, Some, None, IsSome, refl, sym, ap, subst, ◌∙◌, inl, inr, arith}
 use Rattle.std.specs.Option.{option_map, option_copied, IfNone, IfSome}
 use Rattle.std.specs.Borrow.{Bor}
-use Rattle.std.proofs.lemmas.Bool.Decides.{nat_tests, eqb_tells}
-use Rattle.std.proofs.lemmas.Bool.{eqb-true, eq-eqb, ne_eqb, cases_Bool, cases_lt}
+use Rattle.std.proofs.lemmas.Bool.Decides.{eqb_tells}
+use Rattle.std.proofs.lemmas.Bool.{eq-eqb, ne_eqb, cases_Bool, cases_lt}
 use Rattle.span_id.specs.Id.{slot_of}
-use Rattle.span_slots.specs.Table.{Table, value_at, with_value, with_entry}
-use Rattle.span_forest.specs.declared.Span.{Span}
-use Rattle.span_forest.specs.Spans.{Node, Spans, find, IsOpen, parent_in, parent_of, is_some_id, children, AreApart, holders, holders_in, written_count, with_node}
-use Rattle.span_forest.specs.Nodes.{node_of, nodes_of, AreCounted, IsSound, IsSettled, IsForest, counts_more}
-use Rattle.span_forest.proofs.Finds.{no_child, child_exists, is_some_id_same, is_some_id_true, find_apart}
+use Rattle.span_slots.specs.Table.{value_at, with_value, with_entry}
+use Rattle.span_forest.specs.declared.span.Span.{Span}
+use Rattle.span_forest.specs.Node.{Node, node_of}
+use Rattle.span_forest.specs.Spans.{Spans, find, IsOpen, parent_in, parent_of, AreApart, with_node, nodes_of}
+use Rattle.span_forest.specs.Count.{is_some_id, children, holders, holders_in, written_count}
+use Rattle.span_forest.specs.Invariant.{AreCounted, IsSettled, IsKept, counts_more}
+use Rattle.span_forest.proofs.Ranks.{IsRanked, ranked}
+use Rattle.span_forest.proofs.Walks.{forest_from}
+use Rattle.span_forest.proofs.Finds.{child_exists, is_some_id_same}
 use Rattle.span_forest.proofs.Nodes.{find-nodes}
 use Rattle.span_forest.proofs.Counts.{value_at-with_value_same, value_at-with_value_other, nodes_kept, node_found, some_same}
 
@@ -88,7 +92,7 @@ open_absent : (spans : Spans) (id j : ℕ) → find spans id ≡ None → IsOpen
 open_absent spans id j h o e = not_open (find spans j) (ap (find spans) e ∙ h) o
 
 -- no open span has an absent parent
-pub no_children : (spans : Spans) (id : ℕ) → IsSound spans → find spans id ≡ None → children spans id ≡ 0
+pub no_children : (spans : Spans) (id : ℕ) → IsRanked spans → find spans id ≡ None → children spans id ≡ 0
 no_children spans id w h =
     elim (cases_lt 0 (children spans id)) [
       inl t ↦ (let c = child_exists spans id w.apart t in absurd (open_absent spans id id h (w.parents_open c.0 id c.1) refl))
@@ -100,9 +104,9 @@ rank_with rank top id j = cond (eqb j id) top (rank j)
 open_with : (spans : Spans) (id j : ℕ) (node : Node) → find spans id ≡ None → IsOpen spans j → IsOpen (with_node spans id node) j
 open_with spans id j node h o = subst IsSome (sym (find-with_other spans id j node (open_absent spans id j h o))) o
 
-pub IsSound-with : (spans : Spans) (id : ℕ) (node : Node) → IsSound spans → find spans id ≡ None → ((p : ℕ) → node.parent ≡ Some p → IsOpen spans p) → IsSound (with_node spans id node)
+pub IsRanked-with : (spans : Spans) (id : ℕ) (node : Node) → IsRanked spans → find spans id ≡ None → ((p : ℕ) → node.parent ≡ Some p → IsOpen spans p) → IsRanked (with_node spans id node)
 unfolding rank_with
-IsSound-with spans id node w h par =
+IsRanked-with spans id node w h par =
     let new : (p : ℕ) → parent_of (with_node spans id node) id ≡ Some p → IsOpen spans p = λ p e. par p (sym (ap parent_in (find-with_same spans id node h)) ∙ e) in
     let old : (c p : ℕ) → c ≢ id → parent_of (with_node spans id node) c ≡ Some p → parent_of spans c ≡ Some p = λ c p ne e. sym (ap parent_in (find-with_other spans id c node ne)) ∙ e in
     record {
@@ -120,6 +124,10 @@ IsSound-with spans id node w h par =
       | inr t ↦ (let b = w.bounded c (subst IsSome (find-with_other spans id c node t.1) o) in rw t.0 (omega arith)) ];
     }
 
+-- an id that is open after the span came in, and isn't the span's, was open before
+pub open_back : (spans : Spans) (id j : ℕ) (node : Node) → j ≢ id → IsOpen (with_node spans id node) j → IsOpen spans j
+open_back spans id j node ne o = subst IsSome (find-with_other spans id j node ne) o
+
 pub found_none : (es : List (ℕ × Span)) (id : ℕ) (r : Option (Bor Span)) → option_copied r ≡ value_at es id → IfNone r (find (nodes_of es) id ≡ None)
 found_none es id None h = find-nodes es id ∙ ap (option_map node_of) (sym h)
 found_none es id (Some s) h = tt
@@ -128,21 +136,30 @@ pub found_some : (es : List (ℕ × Span)) (id : ℕ) (r : Option (Bor Span)) �
 found_some es id None h = tt
 found_some es id (Some s) h = find-nodes es id ∙ ap (option_map node_of) (sym h)
 
-pub IsForest-empty : (max : ℕ) → 1 ≤ max → max ≤ 4294967295 → IsForest [] max
-IsForest-empty max low high = record {
+-- an id is open exactly where the code's table has its span
+pub not_found : (es : List (ℕ × Span)) (id : ℕ) → value_at es id ≡ None → find (nodes_of es) id ≡ None
+not_found es id h = find-nodes es id ∙ ap (option_map node_of) h
+
+pub found_open : (es : List (ℕ × Span)) (id : ℕ) (span : Span) → value_at es id ≡ Some span → IsOpen (nodes_of es) id
+found_open es id span h = rw (node_found es id span h) refl
+
+pub IsKept-empty : (max total : ℕ) → total ≡ 0 → 1 ≤ max → max ≤ 4294967295 → IsKept [] max total
+IsKept-empty max total none low high = record {
   settled = record {
-    sound = record {
+    forest = forest_from [] (record {
       apart = tt;
       parents_open = λ c p e. cc;
       rank = λ j. 0;
       top = 0;
       falls = λ c p e. absurd (some_none_id p (sym e));
       bounded = λ c o. absurd (not_open None refl o);
-    };
+    });
     counted = λ j s f. absurd (some_none s (sym f));
     positive = λ j o. absurd (not_open None refl o);
   };
   bounded = λ j. omega arith;
+  total_is = none;
+  few = omega arith;
   max_low = low;
   max_high = high;
 }
@@ -152,11 +169,11 @@ module _ (es : List (ℕ × Span)) (id : ℕ) (span : Span) (w : IsSettled es) (
   absent_node : find (nodes_of es) id ≡ None
   absent_node = find-nodes es id ∙ ap (option_map node_of) absent
 
-  written_new : (is_some_id span.parent id ≡ false) → written_count (with_node (nodes_of es) id (node_of span)) id ≡ span.count
+  pub written_new : (is_some_id span.parent id ≡ false) → written_count (with_node (nodes_of es) id (node_of span)) id ≡ span.count
   written_new own =
       let a = ap holders_in (find-with_same (nodes_of es) id (node_of span) absent_node) in
       let b = rw own at (children-with (nodes_of es) id id (node_of span)) in
-      let z = no_children (nodes_of es) id w.sound absent_node in
+      let z = no_children (nodes_of es) id (ranked (nodes_of es) w.forest) absent_node in
       omega arith
 
   pub written_old : (j : ℕ) → j ≢ id → written_count (with_node (nodes_of es) id (node_of span)) j ≡ written_count (nodes_of es) j + cond (is_some_id span.parent j) 1 0

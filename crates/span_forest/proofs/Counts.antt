@@ -1,23 +1,31 @@
 -- Counts through a write and a removal.
-use Rattle.std.proofs.Common.{◌≡◌, ◌≢◌, ℕ, zero, suc, ◌+◌, ◌-◌, ◌<◌, ◌≤◌, Bool, true, false, cond, not, eqb, ltb, List, [], ◌∷◌, length, get_or, take, drop, ◌++◌, leb, map, filter, Option, Some, None, IsSome, refl, sym, ap, subst, ◌∙◌, ◌⊎◌, inl, inr, arith, rules}
+use Rattle.std.proofs.Common.{◌≡◌, ◌≢◌, ℕ, ◌+◌, ◌-◌, ◌<◌, ◌≤◌, false, cond, List, [], ◌∷◌, length, get_or, take, drop, ◌++◌, leb, Option, Some, None, refl, sym, ap, subst, ◌∙◌, inl, inr, arith}
 use Rattle.std.specs.Option.{option_map}
-use Rattle.std.proofs.lemmas.Bool.Decides.{nat_tests, eqb_tells}
-use Rattle.std.proofs.lemmas.Bool.{eqb-true, eq-eqb, ne_eqb, cases_Bool}
+use Rattle.std.proofs.lemmas.Bool.Decides.{eqb_tells}
+use Rattle.std.proofs.lemmas.Bool.{ne_eqb}
 use Rattle.span_slots.specs.Table.{Table, value_at, with_value, without_entry, removed, freed_with}
 use Rattle.span_id.specs.Id.{slot_of}
-use Rattle.span_forest.specs.declared.Span.{Span}
-use Rattle.span_forest.specs.declared.Holder.{Holder}
-use Rattle.span_forest.specs.declared.Holder.TheVariants.{Handle, Entry}
-use Rattle.span_forest.specs.Spans.{Node, Spans, find, IsOpen, parent_in, parent_of, is_some_id, children, without, changed, AreApart, holders, holders_in, written_count}
-use Rattle.span_forest.specs.Forest.{held_by, held_in, IsHeld, with_less, with_more, kept, taken}
-use Rattle.span_forest.specs.Nodes.{node_of, nodes_of, AreCounted, IsSound, IsSettled, IsForest, span_less, span_more}
-use Rattle.span_forest.proofs.Finds.{find_apart, no_child, is_some_id_same, is_some_id_true, find-without_other, find-without_same, IsOpen-without, AreApart-without}
-use Rattle.std.proofs.lemmas.List.{take_more, drop_more}
-use Rattle.span_forest.specs.Forest.{View, freed_after, released, closing_list}
+use Rattle.span_forest.specs.declared.span.Span.{Span}
+use Rattle.span_forest.specs.declared.span.Holder.{Holder}
+use Rattle.span_forest.specs.declared.span.Holder.TheVariants.{Handle, Entry}
+use Rattle.span_forest.specs.Node.{Node, node_of}
+use Rattle.span_forest.specs.Spans.{Spans, find, IsOpen, parent_in, parent_of, without, changed, AreApart, nodes_of}
+use Rattle.span_forest.specs.Count.{is_some_id, children, holders, holders_in, written_count}
+use Rattle.span_forest.specs.Forest.{ForestView}
+use Rattle.span_forest.specs.Holders.{held_by, held_in, IsHeld, with_less, with_more}
+use Rattle.span_forest.specs.Keep.{kept}
+use Rattle.span_forest.specs.Release.{taken, freed_after, released, closing_list}
+use Rattle.span_forest.specs.Invariant.{AreCounted, IsSettled, IsKept, span_less, span_more}
 use Rattle.span_forest.specs.Chain.{without_all, Chain, IsPending}
+use Rattle.span_forest.proofs.Ranks.{IsRanked}
+use Rattle.span_forest.specs.Forest.{IsForest}
+use Rattle.span_forest.proofs.Finds.{no_child, is_some_id_same, find-without_other, find-without_same, AreApart-without}
+use Rattle.std.proofs.lemmas.List.{take_more, drop_more}
 use Rattle.span_forest.proofs.Chains.{written_without, IsPending-without, chain_end}
-use Rattle.span_forest.proofs.Along.{without_all_more}
-use Rattle.span_forest.proofs.Nodes.{find-nodes, without-nodes, value_of_open, written-taken_same, written-taken_other, held_open, find-changed_same, find-changed_other, children-changed, IsSound-changed, IsOpen-changed}
+use Rattle.span_forest.proofs.Totals.{total-changed, total-without, total_le, length-nodes, length-changed}
+use Rattle.span_forest.specs.Count.{total_held}
+use Rattle.span_forest.proofs.Along.{without_all_more, Along_none}
+use Rattle.span_forest.proofs.Nodes.{find-nodes, without-nodes, value_of_open, written-taken_same, written-taken_other, held_open, find-changed_same, find-changed_other, children-changed, IsForest-changed, IsOpen-changed}
 
 pub value_at-with_value_same : (es : List (ℕ × Span)) (id : ℕ) (span new : Span) → value_at es id ≡ Some span → value_at (with_value es id new) id ≡ Some new
 value_at-with_value_same [] id span new h = cc
@@ -65,7 +73,7 @@ nodes-written f (e ∷ es) id span new a h k =
                rw (t.0, r, k2) refl)
     | inr t ↦ (let r = nodes-written f es id span new a.1 (rw t.0 at h) k in rw (t.0, r) refl) ]
 
-changed_none : (spans : Spans) (id : ℕ) → changed (λ n. n) spans id ≡ spans
+pub changed_none : (spans : Spans) (id : ℕ) → changed (λ n. n) spans id ≡ spans
 changed_none [] id = refl
 changed_none (e ∷ es) id =
     let r = changed_none es id in
@@ -90,7 +98,7 @@ some_same a b o h k = cc
 
 pub counted_less : (es : List (ℕ × Span)) (id : ℕ) (holder : Holder) (span : Span) → IsSettled es → IsHeld (nodes_of es) id holder → value_at es id ≡ Some span → AreCounted (with_value es id (span_less holder span))
 counted_less es id holder span w held h j s f =
-    let n = nodes_less es id holder span w.sound.apart h in
+    let n = nodes_less es id holder span w.forest.ids_apart h in
     rw n (elim (eqb_tells j id) [
       inl t ↦ (let a = some_same s (span_less holder span) (value_at (with_value es id (span_less holder span)) j) f (rw t.1 (value_at-with_value_same es id span (span_less holder span) h)) in
                let b = w.counted id span h in
@@ -148,7 +156,7 @@ pub record Closed (t new : Table Span) (id : ℕ) : Type 0 where
   pub counted : AreCounted new.entries
   pub table : new ≡ record t { entries = new.entries; freed = freed_with t (slot_of id) }
 
-pub closed_root : (t less : Table Span) (id : ℕ) (span : Span) → IsSound (nodes_of t.entries) → AreCounted t.entries → value_at t.entries id ≡ Some span → less ≡ removed t id → span.parent ≡ None → Closed t less id
+pub closed_root : (t less : Table Span) (id : ℕ) (span : Span) → IsRanked (nodes_of t.entries) → AreCounted t.entries → value_at t.entries id ≡ Some span → less ≡ removed t id → span.parent ≡ None → Closed t less id
 closed_root t less id span w c h e p =
     let q = e ∙ removed_is t id span h in
     let es = ap (λ x. x.entries) q in
@@ -159,7 +167,7 @@ closed_root t less id span w c h e p =
     })
 
 -- the parent is there, and counts the child
-pub parent_counts : (t less : Table Span) (id p : ℕ) (span : Span) → IsSound (nodes_of t.entries) → AreCounted t.entries → written_count (nodes_of t.entries) id ≡ 0 → value_at t.entries id ≡ Some span → less ≡ removed t id → span.parent ≡ Some p → (up : Span) × (value_at less.entries p ≡ Some up) × (0 < up.count)
+pub parent_counts : (t less : Table Span) (id p : ℕ) (span : Span) → IsRanked (nodes_of t.entries) → AreCounted t.entries → written_count (nodes_of t.entries) id ≡ 0 → value_at t.entries id ≡ Some span → less ≡ removed t id → span.parent ≡ Some p → (up : Span) × (value_at less.entries p ≡ Some up) × (0 < up.count)
 parent_counts t less id p span w c z h e k =
     let nodes = nodes_of t.entries in
     let par : parent_of nodes id ≡ Some p = ap parent_in (node_found t.entries id span h) ∙ k in
@@ -171,7 +179,7 @@ parent_counts t less id p span w c z h e k =
     let q = e ∙ removed_is t id span h in
     (up.0, ap (λ x. value_at x.entries p) q ∙ (value_at-without_other t.entries id p np ∙ up.1), omega arith)
 
-pub closed_child : (t less new : Table Span) (id p : ℕ) (span : Span) → IsSound (nodes_of t.entries) → AreCounted t.entries → written_count (nodes_of t.entries) id ≡ 0 → value_at t.entries id ≡ Some span → less ≡ removed t id → span.parent ≡ Some p → ((up : Span) → value_at less.entries p ≡ Some up → new ≡ record less { entries = with_value less.entries p (record up { count = up.count - 1 }) }) → Closed t new id
+pub closed_child : (t less new : Table Span) (id p : ℕ) (span : Span) → IsRanked (nodes_of t.entries) → AreCounted t.entries → written_count (nodes_of t.entries) id ≡ 0 → value_at t.entries id ≡ Some span → less ≡ removed t id → span.parent ≡ Some p → ((up : Span) → value_at less.entries p ≡ Some up → new ≡ record less { entries = with_value less.entries p (record up { count = up.count - 1 }) }) → Closed t new id
 closed_child t less new id p span w c z h e k lowered =
     let nodes = nodes_of t.entries in
     let up = parent_counts t less id p span w c z h e k in
@@ -204,8 +212,8 @@ freed_after_more : (last : ℕ) (given freed xs : List ℕ) (x : ℕ) → freed_
 freed_after_more last given freed [] x = refl
 freed_after_more last given freed (y ∷ ys) x = freed_after_more last given (cond (leb (get_or given (slot_of y) 0) last) (slot_of y ∷ freed) freed) ys x
 
-pub Closes_first : (t now : Table Span) (done rest : List ℕ) (x : ℕ) → Closes t now done (x ∷ rest) → IsSound (nodes_of now.entries) × IsOpen (nodes_of now.entries) x × (written_count (nodes_of now.entries) x ≡ 0)
-Closes_first t now done rest x w = (w.pending.sound, w.pending.here x w.chain.0, w.chain.1)
+pub Closes_first : (t now : Table Span) (done rest : List ℕ) (x : ℕ) → Closes t now done (x ∷ rest) → IsForest (nodes_of now.entries) × IsOpen (nodes_of now.entries) x × (written_count (nodes_of now.entries) x ≡ 0)
+Closes_first t now done rest x w = (w.pending.forest, w.pending.here x w.chain.0, w.chain.1)
 
 pub Closes_more : (t now new : Table Span) (done rest : List ℕ) (x : ℕ) → Closes t now done (x ∷ rest) → Closed now new x → Closes t new (done ++ x ∷ []) rest
 Closes_more t now new done rest x w d =
@@ -222,7 +230,7 @@ Closes_more t now new done rest x w d =
 
 pub settled_at_end : (t now : Table Span) (done : List ℕ) → Closes t now done [] → IsSettled now.entries
 settled_at_end t now done w = record {
-  sound = w.pending.sound;
+  forest = w.pending.forest;
   counted = w.counted;
   positive = λ j o. chain_end (nodes_of now.entries) w.next w.pending w.chain j o;
 }
@@ -267,10 +275,10 @@ held_counts es id holder w h =
     let p = w.positive id o in
     (s.0, s.1, (omega arith, omega arith))
 
-abbrev pub view_of : Table Span → ℕ → View
+abbrev pub view_of : Table Span → ℕ → ForestView
 view_of t max = record { spans = nodes_of t.entries; slots = t.slots; last_generation = t.last_generation; given = t.given; freed = t.freed; max_count = max }
 
-view_same : {s1 s2 : Spans} {a1 a2 b1 b2 m : ℕ} {g1 g2 f1 f2 : List ℕ} → s1 ≡ s2 → a1 ≡ a2 → b1 ≡ b2 → g1 ≡ g2 → f1 ≡ f2 → ◌≡◌ {A = View} (record { spans = s1; slots = a1; last_generation = b1; given = g1; freed = f1; max_count = m }) (record { spans = s2; slots = a2; last_generation = b2; given = g2; freed = f2; max_count = m })
+view_same : {s1 s2 : Spans} {a1 a2 b1 b2 m : ℕ} {g1 g2 f1 f2 : List ℕ} → s1 ≡ s2 → a1 ≡ a2 → b1 ≡ b2 → g1 ≡ g2 → f1 ≡ f2 → ◌≡◌ {A = ForestView} (record { spans = s1; slots = a1; last_generation = b1; given = g1; freed = f1; max_count = m }) (record { spans = s2; slots = a2; last_generation = b2; given = g2; freed = f2; max_count = m })
 view_same p q r s t = cc
 
 pub release_view : (t new : Table Span) (max id : ℕ) (holder : Holder) (ys : List ℕ) → new ≡ record t { entries = new.entries; freed = freed_after t.last_generation t.given t.freed ys } → nodes_of new.entries ≡ released (nodes_of t.entries) id holder → ys ≡ closing_list (nodes_of t.entries) id holder → view_of new max ≡ record (view_of t max) { spans = released (nodes_of t.entries) id holder; freed = freed_after t.last_generation t.given t.freed (closing_list (nodes_of t.entries) id holder) }
@@ -316,15 +324,15 @@ pub nodes_more : (es : List (ℕ × Span)) (id : ℕ) (holder : Holder) (span : 
 nodes_more es id holder span a h = nodes-written (with_more holder) es id span (span_more holder span) a h (node_more holder span)
 
 -- a forest with one more holder
-pub IsForest-kept : (es : List (ℕ × Span)) (max id : ℕ) (holder : Holder) (span : Span) → IsForest es max → value_at es id ≡ Some span → span.count < max → IsForest (with_value es id (span_more holder span)) max
-IsForest-kept es max id holder span w h low =
-    let n = nodes_more es id holder span w.settled.sound.apart h in
+pub IsKept-kept : (es : List (ℕ × Span)) (max total more id : ℕ) (holder : Holder) (span : Span) → IsKept es max total → value_at es id ≡ Some span → span.count < max → more ≡ total + 1 → IsKept (with_value es id (span_more holder span)) max more
+IsKept-kept es max total more id holder span w h low one =
+    let n = nodes_more es id holder span w.settled.forest.ids_apart h in
     let f = node_found es id span h in
     let c0 = w.settled.counted id span h in
     let same = written-kept_same (nodes_of es) id (node_of span) holder f in
     record {
       settled = record {
-        sound = rw n (IsSound-changed (with_more holder) (with_more-parent holder) (nodes_of es) id w.settled.sound);
+        forest = rw n (IsForest-changed (with_more holder) (with_more-parent holder) (nodes_of es) id w.settled.forest);
         counted = λ j s g. rw n (elim (eqb_tells j id) [
           inl t ↦ (let a = some_same s (span_more holder span) (value_at (with_value es id (span_more holder span)) j) g (rw t.1 (value_at-with_value_same es id span (span_more holder span) h)) in
                    let q : s.count ≡ span.count + 1 = ap (λ x. x.count) a ∙ count_more_is holder span in
@@ -340,6 +348,8 @@ IsForest-kept es max id holder span w h low =
       bounded = λ j. rw n (let p = w.bounded j in elim (eqb_tells j id) [
         inl t ↦ rw t.1 (omega arith)
       | inr t ↦ (let d = written-kept_other (nodes_of es) id j holder t.1 in omega arith) ]);
+      total_is = rw n (let q = total-changed (with_more holder) (nodes_of es) id (node_of span) w.settled.forest.ids_apart f in let k = more_holders holder (node_of span) in let z = w.total_is in omega arith);
+      few = (let a = ap length n in let b = length-nodes es in let d = length-nodes (with_value es id (span_more holder span)) in let e = length-changed (with_more holder) (nodes_of es) id in let q = w.few in omega arith);
       max_low = w.max_low;
       max_high = w.max_high;
     }
@@ -360,3 +370,61 @@ held_part es id holder w h =
     let a = ap holders_in (node_found es id s.0 s.1) in
     let p = part holder s.0 in
     (s.0, s.1, (omega arith, b))
+
+-- all holders are few enough to be counted in 64 bits
+pub total_fits : (es : List (ℕ × Span)) (max total : ℕ) → IsKept es max total → total < 18446744073709551615
+total_fits es max total w =
+    let t = total_le (nodes_of es) w.settled.forest.ids_apart (λ id. let b = w.bounded id in let h = w.max_high in omega arith) in
+    let n = length-nodes es in
+    let few = w.few in
+    let same = w.total_is in
+    omega arith
+
+less_by_one : (holder : Holder) (node : Node) → 0 < held_by holder node → holders (with_less holder node) + 1 ≡ holders node
+less_by_one Handle node h = omega arith
+less_by_one Entry node h = omega arith
+
+-- one holder less is held in all
+pub total-taken : (es : List (ℕ × Span)) (id : ℕ) (holder : Holder) → IsSettled es → IsHeld (nodes_of es) id holder → total_held (taken (nodes_of es) id holder) + 1 ≡ total_held (nodes_of es)
+total-taken es id holder w h =
+    let s = held_counts es id holder w h in
+    let q = total-changed (with_less holder) (nodes_of es) id (node_of s.0) w.forest.ids_apart (node_found es id s.0 s.1) in
+    let k = less_by_one holder (node_of s.0) s.2.0 in
+    omega arith
+
+-- the closing of spans that nothing holds takes no holder away
+total-closed : (xs : List ℕ) (spans : Spans) (o : Option ℕ) → AreApart spans → Chain spans o xs → total_held (without_all spans xs) ≡ total_held spans
+total-closed [] spans o a c = refl
+total-closed (x ∷ xs) spans o a c =
+    let z : written_count spans x ≡ 0 = c.1 in
+    total-closed xs (without spans x) (parent_of spans x) (AreApart-without spans x a) c.2 ∙ total-without spans x a (omega arith)
+
+length-without-le : (spans : Spans) (x : ℕ) → length (without spans x) ≤ length spans
+length-without-le [] x = omega arith
+length-without-le (e ∷ es) x =
+    let r = length-without-le es x in
+    elim (eqb_tells e.0 x) [ inl t ↦ rw t.0 (omega arith) | inr t ↦ rw t.0 (omega arith) ]
+
+length-closed-le : (xs : List ℕ) (spans : Spans) → length (without_all spans xs) ≤ length spans
+length-closed-le [] spans = omega arith
+length-closed-le (x ∷ xs) spans = let r = length-closed-le xs (without spans x) in let q = length-without-le spans x in omega arith
+
+-- a forest after a release
+pub IsKept-released : (es new : List (ℕ × Span)) (max total : ℕ) (id : ℕ) (holder : Holder) (xs : List ℕ) → IsKept es max total → IsHeld (nodes_of es) id holder → Chain (taken (nodes_of es) id holder) (Some id) xs → IsSettled new → nodes_of new ≡ without_all (taken (nodes_of es) id holder) xs → IsKept new max (total - 1)
+IsKept-released es new max total id holder xs w h c s n =
+    let spans = nodes_of es in
+    let p = (Along_none es id holder w.settled h).pending in
+    let one = total-taken es id holder w.settled h in
+    let rest = total-closed xs (taken spans id holder) (Some id) p.forest.ids_apart c in
+    let t = w.total_is in
+    record {
+      settled = s;
+      bounded = λ j. (let a = written_left_le spans id holder xs j h in let b = w.bounded j in rw n (omega arith));
+      total_is = rw n (omega arith);
+      few = (let a = ap length n in let b = length-nodes es in let d = length-nodes new in let e = length-changed (with_less holder) spans id in let f = length-closed-le xs (taken spans id holder) in let q = w.few in omega arith);
+      max_low = w.max_low;
+      max_high = w.max_high;
+    }
+
+pub total_positive : (es : List (ℕ × Span)) (max total id : ℕ) (holder : Holder) → IsKept es max total → IsHeld (nodes_of es) id holder → 0 < total
+total_positive es max total id holder w h = let a = total-taken es id holder w.settled h in let t = w.total_is in omega arith

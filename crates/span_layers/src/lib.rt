@@ -12,6 +12,8 @@ mod note;
 mod rule;
 mod style;
 mod tellers;
+#[cfg(test)]
+mod tests;
 
 pub use filters::{Admitters, Filters, MAX_LAYERS, Rules};
 pub use form::{Form, text};

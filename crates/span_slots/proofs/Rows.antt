@@ -36,8 +36,9 @@ module _ {T : Type 0} where
   value_here : (es : List (ℕ × T)) (b g id : ℕ) (v : T) → IsId id → 0 < g → slot_of id ≡ b → value_at es id ≡ None → cond (eqb (id_of b (g - 1)) id) (Some v) (value_at es id) ≡ cond (eqb g (generation_of id + 1)) (Some v) None
   value_here es b g id v i p e none =
       elim (eqb_tells g (generation_of id + 1)) [
-        inl t ↦ (let q : id_of b (g - 1) ≡ id = (let r = id_again id i in omega (arith, t.1)) in rw (t.0, eq-eqb (id_of b (g - 1)) id q) refl)
-      | inr t ↦ (let q : id_of b (g - 1) ≢ id = λ u. t.1 (let r = id_again id i in omega arith) in rw (t.0, ne_eqb (id_of b (g - 1)) id q, none) refl) ]
+        | inl t ↦ (let q : id_of b (g - 1) ≡ id = (let r = id_again id i in omega (arith, t.1)) in rw (t.0, eq-eqb (id_of b (g - 1)) id q) refl)
+        | inr t ↦ (let q : id_of b (g - 1) ≢ id = λ u. t.1 (let r = id_again id i in omega arith) in rw (t.0, ne_eqb (id_of b (g - 1)) id q, none) refl)
+      ]
 
   pub value_at_rows : (last : ℕ) (rows : List (ℕ × Option T)) (b k id : ℕ) → IsId id → AreGoodRows last rows → b + length rows ≤ 16777216 → slot_of id ≡ b + k → value_at (entries_from b rows) id ≡ row_value (get_or rows k (0, None)) (generation_of id)
   value_at_rows last [] b k id i a h e = rw (ne_eqb 0 (generation_of id + 1) (λ q. absurd (omega arith))) refl
@@ -230,3 +231,35 @@ last_item [] n h = absurd (omega arith)
 last_item (x ∷ []) zero h = refl
 last_item (x ∷ (y ∷ ys)) zero h = absurd (omega arith)
 last_item (x ∷ xs) (suc n) h = ap (λ v. x ∷ v) (last_item xs n (omega arith))
+
+-- the entries of one row more
+pub entries-take_none : {T : Type 0} (rows : List (ℕ × Option T)) (b k g : ℕ) (d : ℕ × Option T) → k < length rows → get_or rows k d ≡ (g, None) → entries_from b (take (k + 1) rows) ≡ entries_from b (take k rows)
+entries-take_none [] b k g d h q = absurd (omega arith)
+entries-take_none (row ∷ rest) b zero g d h q = ap (λ x. entries_from b (x ∷ [])) q
+entries-take_none ((g1, None) ∷ rest) b (suc k) g d h q =
+    let more : suc k + 1 ≡ suc (k + 1) = omega arith in
+    rw more (entries-take_none rest (b + 1) k g d (omega arith) q)
+entries-take_none ((g1, Some v) ∷ rest) b (suc k) g d h q =
+    let more : suc k + 1 ≡ suc (k + 1) = omega arith in
+    let r = entries-take_none rest (b + 1) k g d (omega arith) q in
+    rw (more, r) refl
+
+pub entries-take_some : {T : Type 0} (rows : List (ℕ × Option T)) (b k s g : ℕ) (v : T) (d : ℕ × Option T) → k < length rows → s ≡ b + k → get_or rows k d ≡ (g, Some v) → entries_from b (take (k + 1) rows) ≡ entries_from b (take k rows) ++ (id_of s (g - 1), v) ∷ []
+entries-take_some [] b k s g v d h e q = absurd (omega arith)
+entries-take_some (row ∷ rest) b zero s g v d h e q =
+    let same : s ≡ b = omega arith in
+    rw same (ap (λ x. entries_from b (x ∷ [])) q)
+entries-take_some ((g1, None) ∷ rest) b (suc k) s g v d h e q =
+    let more : suc k + 1 ≡ suc (k + 1) = omega arith in
+    rw more (entries-take_some rest (b + 1) k s g v d (omega arith) (omega arith) q)
+entries-take_some ((g1, Some w) ∷ rest) b (suc k) s g v d h e q =
+    let more : suc k + 1 ≡ suc (k + 1) = omega arith in
+    let r = entries-take_some rest (b + 1) k s g v d (omega arith) (omega arith) q in
+    rw (more, r) refl
+
+pub length-entries_take : {T : Type 0} (rows : List (ℕ × Option T)) (b k g : ℕ) (v : T) (d : ℕ × Option T) → k < length rows → get_or rows k d ≡ (g, Some v) → length (entries_from b (take k rows)) < length (entries_from b rows)
+length-entries_take [] b k g v d h q = absurd (omega arith)
+length-entries_take (row ∷ rest) b zero g v d h q =
+    subst (λ x. 0 < length (entries_from b (x ∷ rest))) (sym q) (omega arith)
+length-entries_take ((g1, None) ∷ rest) b (suc k) g v d h q = length-entries_take rest (b + 1) k g v d (omega arith) q
+length-entries_take ((g1, Some w) ∷ rest) b (suc k) g v d h q = let r = length-entries_take rest (b + 1) k g v d (omega arith) q in omega arith

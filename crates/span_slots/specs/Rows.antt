@@ -1,4 +1,5 @@
--- How the cells of a slot table stand for what contracts see.
+-- How the cells of a slot table stand for what contracts see. A row is a cell as a pair: how many ids
+-- the slot has given, and the value that stands in it under the last of them.
 use Rattle.std.specs.Prelude.{ℕ, zero, suc, ◌+◌, ◌-◌, ◌<◌, ◌≤◌, ◌≡◌, Bool, true, false, cond, ◌&&◌, ◌==◌, nat_le, List, [], ◌∷◌, length, map, Option, Some, None, is_none, slice_index_or, count_by}
 use Rattle.span_id.specs.Id.{id_of}
 
@@ -9,10 +10,9 @@ module _ {T : Type 0} where
   entries_from slot ((given, None) ∷ rest) = entries_from (slot + 1) rest
   entries_from slot ((given, Some value) ∷ rest) = (id_of slot (given - 1), value) ∷ entries_from (slot + 1) rest
 
-  -- a row that holds a value has given its id
+  -- the row's slot has given at least one id, and none past the last generation
   abbrev pub IsGoodRow : ℕ → ℕ × Option T → Type 0
-  IsGoodRow last (given, None) = given ≤ last + 1
-  IsGoodRow last (given, Some value) = (0 < given) × (given ≤ last + 1)
+  IsGoodRow last row = (0 < row.0) × (row.0 ≤ last + 1)
 
   abbrev pub AreGoodRows : ℕ → List (ℕ × Option T) → Type 0
   AreGoodRows last [] = Unit {0}

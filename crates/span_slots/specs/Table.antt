@@ -1,12 +1,15 @@
 -- What contracts see of a slot table.
-use Rattle.std.specs.Prelude.{ℕ, ◌+◌, ◌-◌, ◌<◌, ◌≤◌, ◌≡◌, Bool, true, false, cond, not, ◌==◌, nat_lt, nat_le, List, [], ◌∷◌, ◌++◌, length, map, filter, Option, Some, None, is_some, IsSome, slice_index, slice_set, drop, refl}
+use Rattle.std.specs.Prelude.{ℕ, ◌+◌, ◌<◌, Bool, cond, not, ◌&&◌, ◌||◌, ◌==◌, nat_lt, nat_le, List, [], ◌∷◌, ◌++◌, length, map, filter, count_by, Option, Some, None, is_some, IsTrue, slice_index, slice_set, drop, refl}
+use Rattle.std.specs.List.{list_any, range_with_len}
 use Rattle.std.specs.Option.{option_map}
-
 use Rattle.std.specs.Coded.{Coded, code_by, coded×, coded_ℕ, coded_list}
 use Rattle.span_id.specs.Id.{id_of, slot_of, generation_of}
 
--- how many slots there are, their last generation, the values under their ids by ascending slot, how
--- many ids each slot has given so far, and the slots that are free again, the one freed last first
+-- How many slots there are, and the generation of the last id of each.
+-- The map: the values under their ids, by ascending slot.
+-- How many ids each slot has given so far; a slot past the end of the list has given none. A slot gives
+-- its ids at the generations 0, 1, 2 and so on, so this says which ids were issued.
+-- The slots that were freed and may be given again, the one freed last first.
 pub record Table (T : Type 0) : Type 0 where
   pub slots : ℕ
   pub last_generation : ℕ
@@ -24,7 +27,8 @@ table_code {T} code =
     (λ p. record { slots = p.0; last_generation = p.1.0; entries = p.1.1.0; given = p.1.1.1.0; freed = p.1.1.1.1 })
     (λ _. refl)
 
--- the slot of the next value: the one freed last, else the lowest that was never used
+-- The slot of the next value: the one freed last, else the lowest that was never used. The slots that
+-- were used are the first ones, as many as the second argument says.
 abbrev pub next_slot_of : ℕ → ℕ → List ℕ → Option ℕ
 next_slot_of slots used [] = cond (nat_lt used slots) (Some used) None
 next_slot_of slots used (slot ∷ rest) = Some slot
@@ -53,9 +57,37 @@ module _ {T : Type 0} where
   abbrev pub with_value : List (ℕ × T) → ℕ → T → List (ℕ × T)
   with_value es id value = map (λ e. (e.0, cond (e.0 == id) value e.1)) es
 
-  -- the id was given at some time
+  -- the id was issued: its slot has given its id of that generation
   abbrev pub IsIssued : Table T → ℕ → Type 0
   IsIssued t id = generation_of id < slice_index t.given (slot_of id)
+
+  -- the same as a test
+  abbrev pub is_issued : Table T → ℕ → Bool
+  is_issued t id = nat_lt (generation_of id) (slice_index t.given (slot_of id))
+
+  -- a value stands in the slot
+  abbrev pub is_occupied : Table T → ℕ → Bool
+  is_occupied t slot = list_any (λ e. slot_of e.0 == slot) t.entries
+
+  -- the slot's id of the last generation was issued, so the slot is never given again
+  abbrev pub is_retired : Table T → ℕ → Bool
+  is_retired t slot = is_issued t (id_of slot t.last_generation)
+
+  -- the slot is neither occupied nor retired
+  abbrev pub is_free : Table T → ℕ → Bool
+  is_free t slot = not (is_occupied t slot || is_retired t slot)
+
+  -- how many slots are neither occupied nor retired
+  abbrev pub free_count : Table T → ℕ
+  free_count t = count_by (is_free t) (range_with_len 0 t.slots)
+
+  -- each slot is occupied or retired
+  abbrev pub IsFull : Table T → Type 0
+  IsFull t = (slot : ℕ) → slot < t.slots → IsTrue (is_occupied t slot || is_retired t slot)
+
+  -- some id of the slot was issued
+  abbrev pub IsUsed : Table T → ℕ → Type 0
+  IsUsed t slot = IsIssued t (id_of slot 0)
 
   abbrev pub next_slot : Table T → Option ℕ
   next_slot t = next_slot_of t.slots (length t.given) t.freed
@@ -73,10 +105,10 @@ module _ {T : Type 0} where
   inserted t slot value = record t {
     entries = with_entry t.entries (id_at t slot) value;
     given = issue t.given slot;
-    freed = drop 1 t.freed
+    freed = drop 1 t.freed;
   }
 
-  -- the freed slots with that of an id, unless it gave its last
+  -- the freed slots with one more, unless that one gave its last id
   abbrev pub freed_with : Table T → ℕ → List ℕ
   freed_with t slot = cond (nat_le (slice_index t.given slot) t.last_generation) (slot ∷ t.freed) t.freed
 

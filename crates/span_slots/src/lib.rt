@@ -1,32 +1,41 @@
-//! A table of slots, each of which gives ids of rising generations to the values that it holds.
+//! A table of slots: values under ids, where an id that was removed finds nothing ever again.
+//!
+//! Each slot gives its ids one after another, at the generations 0, 1, 2 and so on up to the last
+//! generation of the limits. Then it is retired. What a table promises over all its calls is said
+//! by the functions of [`laws`].
 #![tactic(auto)]
 
-ghost use Rattle.std.specs.Prelude.{◌≡◌, ℕ, ◌+◌, ◌-◌, ◌<◌, ◌≤◌, ◌↔◌, [], length, map, Some, None, Ok, Err, is_some, IsOk, IsSome, IfOk, IfErr, OnErr, option_copied, slice_index};
+ghost use Rattle.std.specs.Prelude.{◌≡◌, ℕ, ◌+◌, ◌-◌, ◌<◌, ◌≤◌, ◌↔◌, [], length, map, Some, None, Ok, Err, is_some, IsTrue, IsOk, IsSome, IfOk, IfErr, OnErr, option_copied, slice_index};
 ghost use Rattle.std.specs.Option.{option_copied_mut};
 ghost use Rattle.std.specs.Borrow.{sem};
 ghost use Rattle.span_id.specs.Id.{IsId, slot_of};
-ghost use Rattle.span_slots.specs.Table.{Table, value_at, next_id, id_at, inserted, removed};
+ghost use Rattle.span_slots.specs.Table.{Table, value_at, next_id, next_slot, inserted, removed, IsIssued, free_count};
+ghost use Rattle.span_slots.specs.Change.{Insert, Remove, after};
 
+mod cells;
+pub mod laws;
+#[cfg(test)]
+mod tests;
+
+use cells::Cell;
 use span_id::{Checked, Fault, Id};
-use std::alloc::{AllocError, Global};
+use std::alloc::Global;
 use std::marker::Model;
 
-/// Values under ids. A removed id finds nothing again.
-#[derive(Drop)]
+/// Values under ids, in a fixed number of slots.
+///
+/// No call but `new` and `ids` takes memory, and each other call costs the same however many
+/// slots there are.
+#[derive(Debug, Drop)]
 pub struct Slots<T> {
+    // The slots that were used. The others have never given an id.
     cells: Vec<Cell<T>>,
     // The slots that may be given again, the one freed last at the end.
     freed: Vec<u32>,
+    // How many cells hold a value.
     len: u32,
     slots: u32,
     last_generation: u32,
-}
-
-#[derive(Drop)]
-struct Cell<T> {
-    // How many ids the slot has given.
-    given: u64,
-    value: Option<T>,
 }
 
 impl<T> Model for Slots<T> {
@@ -51,37 +60,26 @@ impl<T> Model for Slots<T> {
     ghost invariant = { λ s. IsSound s.slots s.last_generation s.len (vec_capacity s.cells) (vec_capacity s.freed) (map row_of s.cells.items) s.freed.items };
 }
 
-impl<T> Cell<T> {
-    ghost use Rattle.span_slots.specs.Lends.{lends_cell};
-
-    fn value_mut(&mut self) -> &mut T
-        requires { IsSome self.old.value }
-        ensures* lends { sem 𝓛 (lends_cell T.row self.entry result) }
-        ensures value { self.old.value ≡ Some result.now }
-    {
-        match &mut self.value {
-            Some(value) => value,
-            None => unreachable!(),
-        }
-    }
-}
-
 impl<T: Drop> Slots<T> {
     ghost use Rattle.span_slots.specs.Lends.{lends_get, lends_value};
 
-    /// An empty table of as many slots as the limits say, which reserves all that it needs.
-    pub fn new(alloc: Global, checked: &Checked) -> Result<Self, AllocError>
+    /// An empty table with as many slots as the limits say, 1 to 2^24.
+    ///
+    /// It reserves all that it will ever need and touches none of it. The only error is `Memory`.
+    pub fn new(alloc: Global, checked: &Checked) -> Result<Self, Fault>
         ensures slots { IfOk result (λ t. t.slots ≡ checked.now.slots) }
         ensures last_generation { IfOk result (λ t. t.last_generation ≡ checked.now.last_generation) }
         ensures entries { IfOk result (λ t. t.entries ≡ []) }
         ensures given { IfOk result (λ t. t.given ≡ []) }
         ensures freed { IfOk result (λ t. t.freed ≡ []) }
+        ensures none_issued { IfOk result (λ t. (id : ℕ) → IsIssued t id → ⊥) }
+        ensures fault { IfErr result (λ fault. fault ≡ Fault.Memory) }
     {
         let limits = checked.limits();
         let slots = limits.slots;
         let last_generation = limits.last_generation;
-        let cells = Vec::with_capacity(alloc, slots as usize)?;
-        let freed = Vec::with_capacity(alloc, slots as usize)?;
+        let cells = Vec::with_capacity(alloc, slots as usize).map_err(|_| Fault::Memory)?;
+        let freed = Vec::with_capacity(alloc, slots as usize).map_err(|_| Fault::Memory)?;
         Ok(Slots {
             cells,
             freed,
@@ -98,11 +96,39 @@ impl<T: Drop> Slots<T> {
         self.len
     }
 
-    /// How many slots are neither occupied nor retired.
+    /// Whether there is no value.
+    pub fn is_empty(&self) -> bool
+        ensures { IsTrue result ↔ (self.now.entries ≡ []) }
+    {
+        self.len == 0
+    }
+
+    /// How many slots are neither occupied nor retired: so many values can be inserted.
     pub fn free(&self) -> u32
-        ensures { result ≡ self.now.slots - length self.now.given + length self.now.freed }
+        ensures count { result ≡ free_count self.now }
+        ensures parts { result ≡ self.now.slots - length self.now.given + length self.now.freed }
     {
         self.slots - self.cells.len() as u32 + self.freed.len() as u32
+    }
+
+    /// The ids of the values, by ascending slot. The only error is `Memory`.
+    ///
+    /// It looks at each slot that was ever used.
+    pub fn ids(&self) -> Result<Vec<Id>, Fault>
+        ensures ids { IfOk result (λ ids. ids.items ≡ map (λ e. e.0) self.now.entries) }
+        ensures fault { IfErr result (λ fault. fault ≡ Fault.Memory) }
+    {
+        let alloc = *self.cells.allocator();
+        let Ok(mut ids) = Vec::with_capacity(alloc, self.len as usize) else {
+            return Err(Fault::Memory);
+        };
+        for (slot, cell) in self.cells.iter().enumerate() {
+            let occupied = cell.value.is_some();
+            if occupied {
+                ids.push_reserved(Id::pack(slot as u32, (cell.given - 1) as u32));
+            }
+        }
+        Ok(ids)
     }
 
     /// The value under an id.
@@ -122,7 +148,7 @@ impl<T: Drop> Slots<T> {
         cell.value.as_ref()
     }
 
-    /// The id that the next value gets.
+    /// The id that `insert` would give now, or `None` where it would be refused.
     pub fn next_id(&self) -> Option<Id>
         ensures { result ≡ next_id self.now }
     {
@@ -151,6 +177,7 @@ impl<T: Drop> Slots<T> {
         }
     }
 
+    // The value under an id that is there.
     fn value_mut(&mut self, id: Id) -> &mut T
         requires { IsSome (value_at self.old.entries id) }
         ensures* writes_back { sem 𝓛 (lends_value T.row self.entry id result) }
@@ -162,12 +189,17 @@ impl<T: Drop> Slots<T> {
         self.cells[slot as usize].value_mut()
     }
 
-    /// Stores a value under an id that was never given, or hands it back where no slot is free.
+    /// Stores a value under an id that was never issued before: in the slot that was freed last,
+    /// else in the lowest slot that was never used.
+    ///
+    /// Where each slot is occupied or retired it hands the value back, with `Full`.
     pub fn insert(&mut self, value: T) -> Result<Id, (T, Fault)>
         ensures full { IsOk result ↔ IsSome (next_id self.old) }
         ensures id { IfOk result (λ id. next_id self.old ≡ Some id) }
         ensures vacant { IfOk result (λ id. value_at self.old.entries id ≡ None) }
         ensures table { IfOk result (λ id. self.new ≡ inserted self.old (slot_of id) value) }
+        ensures change { self.new ≡ after self.old (Insert value) }
+
         ensures unchanged { OnErr result (self.new ≡ self.old) }
         ensures value_returned { IfErr result (λ e. e.0 ≡ value) }
         ensures fault { IfErr result (λ e. e.1 ≡ Fault.Full) }
@@ -184,6 +216,7 @@ impl<T: Drop> Slots<T> {
     // Stores a value in the slot that was freed last.
     fn reuse(&mut self, value: T) -> Id
         requires { 0 < length self.old.freed }
+        ensures slot { next_slot self.old ≡ Some (slot_of result) }
         ensures id { next_id self.old ≡ Some result }
         ensures vacant { value_at self.old.entries result ≡ None }
         ensures table { self.new ≡ inserted self.old (slot_of result) value }
@@ -199,10 +232,11 @@ impl<T: Drop> Slots<T> {
         Id::pack(slot, given as u32)
     }
 
-    // Stores a value in a slot that was never used.
+    // Stores a value in the lowest slot that was never used.
     fn fresh(&mut self, value: T) -> Id
         requires none_freed { self.old.freed ≡ [] }
         requires room { length self.old.given < self.old.slots }
+        ensures slot { next_slot self.old ≡ Some (slot_of result) }
         ensures id { next_id self.old ≡ Some result }
         ensures vacant { value_at self.old.entries result ≡ None }
         ensures table { self.new ≡ inserted self.old (slot_of result) value }
@@ -216,10 +250,13 @@ impl<T: Drop> Slots<T> {
         Id::pack(slot, 0)
     }
 
-    /// Takes out the value under an id.
+    /// Takes out the value under an id. The id finds nothing ever again.
+    ///
+    /// The slot may be given again, unless the id was its last one.
     pub fn remove(&mut self, id: Id) -> Option<T>
         ensures value { result ≡ value_at self.old.entries id }
         ensures table { self.new ≡ removed self.old id }
+        ensures change { self.new ≡ after self.old (Remove id) }
     {
         if self.get(id).is_none() {
             return None;
@@ -246,32 +283,5 @@ impl<T: Drop> Slots<T> {
             self.freed.push_reserved(slot);
         }
         value
-    }
-}
-
-#[cfg(test)]
-mod tests {
-    use super::*;
-    use span_id::Limits;
-    use std::test::Fail;
-
-    #[test]
-    fn retires(rt: HostRuntime) -> Result<(), Fail> {
-        let limits = Limits { slots: 2, last_generation: 0, max_count: 1, workers: 1, ring: 1 };
-        let checked = limits.check()?;
-        let mut slots: Slots<u32> = Slots::new(rt.alloc(), &checked)?;
-        let first = slots.insert(7).ok().expect(&rt, "first");
-        assert_eq!(rt; first.get(), 1);
-        let second = slots.insert(8).ok().expect(&rt, "second");
-        assert_eq!(rt; second.get(), 2);
-        assert!(rt; slots.insert(9).is_err());
-        assert_eq!(rt; slots.remove(first), Some(7));
-        assert!(rt; slots.get(first).is_none());
-        assert_eq!(rt; slots.remove(first), None);
-        assert!(rt; slots.insert(9).is_err());
-        assert_eq!(rt; slots.len(), 1);
-        assert_eq!(rt; slots.free(), 0);
-        assert!(rt; slots.next_id().is_none());
-        Ok(())
     }
 }

@@ -1,14 +1,14 @@
 -- Facts on the entries of a stack.
-use Rattle.std.proofs.Common.{◌≡◌, ◌≢◌, ℕ, Bool, true, false, not, cond, ◌||◌, ◌&&◌, List, [], ◌∷◌, ◌++◌, eqb, map, reverse, refl, sym, ap, ◌∙◌, rules}
+use Rattle.std.proofs.Common.{◌≡◌, ℕ, Bool, true, false, not, cond, ◌||◌, ◌&&◌, List, [], ◌∷◌, ◌++◌, eqb, reverse, refl, sym, ap, ◌∙◌}
 use Rattle.std.specs.List.{filter, list_any}
-use Rattle.std.proofs.lemmas.Bool.{eqb-true, eqb-false, eq-eqb, false≢true}
+use Rattle.std.proofs.lemmas.Bool.{eqb-true, eq-eqb, false≢true}
 use Rattle.std.proofs.lemmas.List.{map-append, reverse-append}
 use Rattle.std.proofs.lemmas.List.Elements.{filter-append, filter_agree}
 use Rattle.std.proofs.lemmas.List.Folds.{list_any-append}
 use Rattle.span_stack.specs.declared.entry.Entry.{Entry}
-use Rattle.span_stack.specs.Stack.{has, first_places, without_last, walk}
+use Rattle.span_stack.specs.Stack.{has, first_places, walk}
 use Rattle.span_stack.specs.Entry.{ids_of, AreFlagged, unflagged}
-use Rattle.span_stack.proofs.Stacks.{by_cases, or_true, eqb-sym, is_other, filter-filter, without_last-at}
+use Rattle.span_stack.proofs.Stacks.{by_cases, or_true, eqb-sym, is_other, filter-filter}
 
 -- an id is looked for among the entries
 pub has-ids_of : (entries : List Entry) (id : ℕ) → has (ids_of entries) id ≡ list_any (λ entry. eqb entry.id id) entries

@@ -1,4 +1,5 @@
-pub mod Stacks
 pub mod Entries
-pub mod Searches
+mod Examples
 pub mod Removals
+pub mod Searches
+pub mod Stacks

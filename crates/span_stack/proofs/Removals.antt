@@ -5,7 +5,7 @@ use Rattle.span_stack.specs.declared.entry.Entry.{Entry}
 use Rattle.span_stack.specs.Stack.{has, without_last}
 use Rattle.span_stack.specs.Entry.{ids_of, AreFlagged, IsLastPlace}
 use Rattle.span_stack.proofs.Stacks.{without_last-at}
-use Rattle.span_stack.proofs.Entries.{ids_of-append, has-append, or_false, AreFlagged-without, AreFlagged-at}
+use Rattle.span_stack.proofs.Entries.{ids_of-append, has-append, AreFlagged-without, AreFlagged-at}
 
 remove-at : (below : List Entry) (entry : Entry) (above : List Entry)
     → remove (below ++ entry ∷ above) (length below) ≡ below ++ above

@@ -1,13 +1,14 @@
 -- Facts on stacks as lists of ids.
-use Rattle.std.proofs.Common.{◌≡◌, ◌≢◌, ℕ, Bool, true, false, not, cond, ◌||◌, ◌&&◌, List, [], ◌∷◌, ◌++◌, length, suc, eqb, refl, sym, ap, ◌∙◌, rules, inl, inr, ⊎_elim}
-use Rattle.std.specs.List.{filter, list_any, AllPairs}
+use Rattle.std.proofs.Common.{◌≡◌, ◌≤◌, ℕ, arith, Bool, true, false, not, cond, ◌||◌, ◌&&◌, List, [], ◌∷◌, ◌++◌, length, suc, reverse, Some, eqb, refl, sym, ap, ◌∙◌, ⊎_elim}
+use Rattle.std.specs.List.{filter, slice_get}
+use Rattle.std.proofs.lemmas.List.Sorted.{list_any-IsPermutation, IsPermutation-reverse}
 use Rattle.std.proofs.Math.Bool.{and_comm}
 use Rattle.std.proofs.lemmas.Bool.{eqb-true, eqb-false, eq-eqb, ne_eqb, false≢true, cases_Bool}
-use Rattle.std.proofs.lemmas.List.{append-nil}
+use Rattle.std.proofs.lemmas.List.{append-nil, length-reverse}
 use Rattle.std.proofs.lemmas.List.Elements.{filter-append, filter_agree}
 use Rattle.std.proofs.lemmas.List.Folds.{list_any-append}
 use Rattle.std.proofs.lemmas.Map.Views.{any-filter_same}
-use Rattle.span_stack.specs.Stack.{has, first_places, without_last, TakesLast}
+use Rattle.span_stack.specs.Stack.{has, first_places, walk, current, top, without_last, TakesLast}
 
 -- the test that `first_places` makes: another id than this
 abbrev pub is_other : ℕ → ℕ → Bool
@@ -199,3 +200,37 @@ times-first_places (lowest ∷ above) id =
         (λ is. rw is (ap (λ b. not b && true) (ap (λ i. eqb i lowest) (eqb-true x id is)
         ∙ eqb-sym id lowest ∙ other)))
         (λ isnt. rw isnt (and_false (not (eqb x lowest))))
+
+-- a list from top to bottom has the same ids
+has-reverse : (ids : List ℕ) (id : ℕ) → has (reverse ids) id ≡ has ids id
+has-reverse ids id =
+    sym (list_any-IsPermutation (λ entry. eqb entry id) ids (reverse ids) (IsPermutation-reverse ids))
+
+has-first : (ids : List ℕ) (id : ℕ) → slice_get ids 0 ≡ Some id → has ids id ≡ true
+has-first [] id is = cc
+has-first (first ∷ others) id is = let same : first ≡ id = cc in ap (λ b. b || has others id) (eq-eqb first id same)
+
+-- the current span and the topmost entry stand in the stack
+pub has-current : (ids : List ℕ) (id : ℕ) → current ids ≡ Some id → has ids id ≡ true
+has-current ids id is =
+    sym (has-reverse (first_places ids) id ∙ has-first_places ids id) ∙ has-first (walk ids) id is
+
+pub has-top : (ids : List ℕ) (id : ℕ) → top ids ≡ Some id → has ids id ≡ true
+has-top ids id is = sym (has-reverse ids id) ∙ has-first (reverse ids) id is
+
+length-filter_le : (p : ℕ → Bool) (xs : List ℕ) → length (filter p xs) ≤ length xs
+length-filter_le p [] = omega arith
+length-filter_le p (x ∷ xs) =
+    let step = length-filter_le p xs in
+    by_cases (p x) (λ it_is. rw it_is (omega arith)) (λ it_isnt. rw it_isnt (omega arith))
+
+-- no stack has more entries that are no duplicates than entries
+pub length-first_places : (ids : List ℕ) → length (first_places ids) ≤ length ids
+length-first_places [] = omega arith
+length-first_places (lowest ∷ above) =
+    let step = length-first_places above in
+    let fewer = length-filter_le (is_other lowest) (first_places above) in
+    omega arith
+
+pub length-walk : (ids : List ℕ) → length (walk ids) ≤ length ids
+length-walk ids = let step = length-first_places ids in rw length-reverse step

@@ -5,8 +5,9 @@
 #![tactic(auto)]
 
 mod entry;
+pub mod laws;
 mod stack;
 mod walk;
 
-pub use stack::SpanStack;
+pub use stack::{IN_PLACE, SpanStack};
 pub use walk::Walk;

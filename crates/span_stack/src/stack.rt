@@ -1,4 +1,4 @@
-ghost use Rattle.std.specs.Prelude.{◌≡◌, ℕ, ◌+◌, ◌<◌, ◌≤◌, ◌==◌, true, false, not, [], ◌∷◌, ◌++◌, length, IsOk, IfErr, OnOk, OnErr, IfSome, IfNone, OnSome, MatchOption, is_some};
+ghost use Rattle.std.specs.Prelude.{◌≡◌, ℕ, ◌+◌, ◌^◌, ◌<◌, ◌≤◌, ◌==◌, true, false, not, [], ◌∷◌, ◌++◌, length, IsOk, IfErr, OnOk, OnErr, IfSome, IfNone, OnSome, MatchOption, is_some};
 ghost use Rattle.std.specs.Iterator.{YieldsFirst};
 ghost use Rattle.std.specs.Iterator.Runs.{YieldsInOrder};
 ghost use Rattle.span_stack.specs.Entry.{ids_of, IsLastPlace};
@@ -11,13 +11,16 @@ use span_id::{Fault, Id};
 use std::alloc::Global;
 use std::marker::Model;
 
+/// How many entries lie in the value itself, and need no memory.
+pub const IN_PLACE: usize = 8;
+
 /// The spans that a worker has entered and not left, the one entered last topmost.
 ///
 /// Contracts see the list of ids, the topmost last, and how many more entries it takes with no
-/// further memory. Up to 8 entries lie in the value itself.
+/// further memory. Up to `IN_PLACE` entries lie in the value itself.
 #[derive(Debug, Drop)]
 pub struct SpanStack {
-    entries: SmallVec<Entry, 8>,
+    entries: SmallVec<Entry, IN_PLACE>,
 }
 
 impl Model for SpanStack {
@@ -36,7 +39,7 @@ impl SpanStack {
     /// An empty stack, which takes no memory.
     pub fn new(alloc: Global) -> SpanStack
         ensures ids { result.ids ≡ [] }
-        ensures room { result.room ≡ 8 }
+        ensures room { result.room ≡ IN_PLACE }
     {
         SpanStack {
             entries: SmallVec::new(alloc),
@@ -51,6 +54,7 @@ impl SpanStack {
         ensures ids { self.new.ids ≡ self.old.ids }
         ensures room { self.old.room ≤ self.new.room }
         ensures succeeds { n ≤ self.old.room → IsOk result }
+        ensures had_room { n ≤ self.old.room → self.new ≡ self.old }
         ensures err { OnErr result (self.new ≡ self.old) }
         ensures memory { IfErr result (λ fault. fault ≡ Fault.Memory) }
     {
@@ -90,6 +94,7 @@ impl SpanStack {
     /// A walk to its end looks once at each entry.
     pub fn walk(&self) -> Walk<'_>
         ensures ids { result ≡ words.walk self.now.ids }
+        ensures fits { length result < 2 ^ 64 }
         ensures runs { YieldsInOrder (YieldsFirst {A = ℕ} (λ rest. rest)) (λ rest. rest) }
     {
         Walk {
@@ -139,3 +144,6 @@ fn last_place(entries: &[Entry], id: Id) -> Option<usize>
 {
     entries.iter().rposition(|entry| entry.id == id)
 }
+
+#[cfg(test)]
+mod tests;

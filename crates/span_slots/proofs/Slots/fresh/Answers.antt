@@ -4,7 +4,7 @@ use Rattle.span_id.specs.Id.{slot_of, generation_of}
 use Rattle.span_slots.specs.Cells.{row_of}
 use Rattle.span_slots.specs.Rows.{is_free, IsSound}
 use Rattle.span_slots.proofs.Rows.{length-entries-le}
-use Rattle.span_slots.proofs.Cells.{reused, freshened, next_id_reused, next_id_fresh, row_at, vacant_fresh}
+use Rattle.span_slots.proofs.CellLemmas.{reused, freshened, next_slot_fresh, row_at, vacant_fresh}
 use Rattle.span_slots.proofs.Sound.{IsSound-reused, IsSound-fresh, free_row, FreeRow}
 use Rattle.span_slots.proofs.Slots.fresh.Goals as goal
 
@@ -47,3 +47,12 @@ returns-clause-vacant g c =
     let slot : c.len-slot.result ≡ length i.cells.items = omega (arith, c.len-slot.ensures, i.cells.ok.0) in
     rw (← c.self.view_is, c.pack.ensures.id) (vacant_fresh i.last_generation c.len-slot.result i.cells.items v.good (omega (arith, v.slots_high)) slot)
 
+pub returns-clause-slot : goal.returns-clause-slot
+returns-clause-slot g c =
+    let i = c.self.inside in
+    let v = c.self.invariant in
+    let req = rw (← c.self.view_is) at c.requires.room in
+    let room : length i.cells.items < i.slots = (let k = length-map i.cells.items (λ x. x.given) in omega arith) in
+    let slot : c.len-slot.result ≡ length i.cells.items = omega (arith, c.len-slot.ensures, i.cells.ok.0) in
+    let none = rw (← c.self.view_is) at c.requires.none_freed in
+    rw (← c.self.view_is, c.pack.ensures.id) (next_slot_fresh i.slots i.last_generation c.len-slot.result i.cells.items i.freed.items (omega (arith, v.slots_high)) slot (omega arith) none)

@@ -5,7 +5,7 @@ use Rattle.span_id.specs.Id.{slot_of, generation_of}
 use Rattle.span_slots.specs.Cells.{row_of}
 use Rattle.span_slots.specs.Rows.{is_free, IsSound}
 use Rattle.span_slots.proofs.Rows.{length-entries-le}
-use Rattle.span_slots.proofs.Cells.{reused, freshened, next_id_reused, next_id_fresh, row_at, vacant_reused}
+use Rattle.span_slots.proofs.CellLemmas.{reused, freshened, next_id_reused, next_slot_reused, row_at, vacant_reused}
 use Rattle.span_slots.proofs.Sound.{IsSound-reused, IsSound-fresh, free_row, FreeRow}
 use Rattle.span_slots.proofs.Slots.reuse.Goals as goal
 
@@ -87,6 +87,23 @@ invariant_of-self g c =
     let q : get_or (map row_of i.cells.items) c.in-Some.slot (0, None) ≡ (cell.given, None) = row ∙ ap (λ x. (cell.given, x)) none in
     rw map-set (IsSound-reused i.slots i.last_generation i.len _ _ _ c.in-Some.slot cell.given (map row_of i.cells.items) i.freed.items c.pop.new.self.items c.args.value (0, None) v f.within q low c.pop.ensures.capacity popped)
 
+pub returns-clause-slot : goal.returns-clause-slot
+returns-clause-slot g c =
+    let i = c.self.inside in
+    let v = c.self.invariant in
+    let lm = length-map i.cells.items row_of in
+    let popped : i.freed.items ≡ c.pop.new.self.items ++ c.in-Some.slot ∷ [] = c.pop.ensures.items ∙ ap (λ x. c.pop.new.self.items ++ option_to_list x) c.in-Some.is in
+    let f = free_row i.slots i.last_generation i.len _ _ c.in-Some.slot (map row_of i.cells.items) i.freed.items c.pop.new.self.items (0, None) v popped in
+    let within : c.in-Some.slot < length i.cells.items = simp length-map at f.within in
+    let cell = c.index_mut-cell.result.now in
+    let at = c.index_mut-cell.ensures.value in
+    let row = row_at i.cells.items c.in-Some.slot cell within at in
+    let given = ap (λ x. x.0) row in
+    let none : cell.value ≡ None = sym (ap (λ x. x.1) row) ∙ ap (λ x. x.1) f.row in
+    let low : cell.given ≤ i.last_generation = omega (arith, f.low, given) in
+    let q : get_or (map row_of i.cells.items) c.in-Some.slot (0, None) ≡ (cell.given, None) = row ∙ ap (λ x. (cell.given, x)) none in
+    rw (← c.self.view_is, c.pack.ensures.id) (next_slot_reused i.slots i.last_generation c.in-Some.slot cell.given i.cells.items i.freed.items c.pop.new.self.items (omega (arith, within, lm, v.used, v.slots_high)) popped)
+
 pub returns-clause-id : goal.returns-clause-id
 returns-clause-id g c =
     let i = c.self.inside in
@@ -140,4 +157,3 @@ returns-clause-vacant g c =
     let q : get_or (map row_of i.cells.items) c.in-Some.slot (0, None) ≡ (cell.given, None) = row ∙ ap (λ x. (cell.given, x)) none in
     let n : length i.cells.items ≤ 16777216 = omega (arith, lm, v.used, v.slots_high) in
     rw (← c.self.view_is, c.pack.ensures.id) (vacant_reused i.last_generation c.in-Some.slot i.cells.items cell v.good n within at none (omega (arith, low, v.last_high)))
-

@@ -5,7 +5,7 @@ use Rattle.span_id.specs.Id.{slot_of, generation_of}
 use Rattle.span_slots.specs.Cells.{row_of}
 use Rattle.span_slots.specs.Rows.{is_free, IsSound}
 use Rattle.span_slots.proofs.Rows.{free_rows_less, length-entries_set_none}
-use Rattle.span_slots.proofs.Cells.{found_cell, Found, taken_free, taken_retired, row_at, not_there}
+use Rattle.span_slots.proofs.CellLemmas.{found_cell, Found, taken_free, taken_retired, row_at, not_there}
 use Rattle.span_slots.proofs.Sound.{IsSound-taken_free, IsSound-taken_retired}
 use Rattle.span_slots.proofs.Slots.take_out.Goals as goal
 
@@ -124,4 +124,3 @@ returns-else-given-from g c =
       value = rw (← c.self.view_is) (f.value cell at ∙ some);
       table = rw (← c.self.view_is) (taken_retired i.slots i.last_generation c.args.id c.slot-slot.result i.cells.items i.freed.items cell (record { given = cell.given; value = c.take.new.self }) c.in-Some.value c.get-layout.ensures.layout n (sym c.slot-slot.ensures.value) f.within at (f.given cell at) some refl c.take.ensures.after there lt);
     }
-

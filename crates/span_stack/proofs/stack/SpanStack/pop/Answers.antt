@@ -1,4 +1,4 @@
-use Rattle.std.proofs.Common.{◌≡◌, ◌≤◌, ◌+◌, not, length, arith, ap, subst, sym, ◌∙◌}
+use Rattle.std.proofs.Common.{not, arith, ap, subst, sym, ◌∙◌}
 use Rattle.span_stack.specs.Stack.{has, without_last}
 use Rattle.span_stack.specs.Entry.{ids_of, IsLastPlace}
 use Rattle.span_stack.proofs.Stacks.{without_last-absent}

@@ -1,0 +1,124 @@
+-- A write of one span that leaves its parent and its holders as they are.
+use Rattle.std.proofs.Common.{◌≡◌, ℕ, ◌++◌, Vec, Global, List, [], ◌∷◌, length, is_ok, cond, Option, Some, None, IsSome, refl, sym, ap, ◌∙◌, inl, inr, arith}
+use Rattle.std.specs.Prelude.{Result, Ok, Err, OnOk, OnErr, string_bytes}
+use Rattle.std.specs.Option.{option_map}
+use Rattle.std.proofs.lemmas.Bool.Decides.{eqb_tells}
+use Rattle.std.proofs.lemmas.List.{map-append}
+use Rattle.span_id.specs.declared.meta.Field.{Field}
+use Rattle.span_slots.specs.Table.{value_at, with_value}
+use Rattle.span_forest.specs.declared.span.Span.{Span}
+use Rattle.span_forest.specs.Node.{Node, node_of, fields_of, with_fields}
+use Rattle.span_forest.specs.Spans.{Spans, find, nodes_of, changed}
+use Rattle.span_forest.specs.Count.{holders, holders_in, written_count, total_held}
+use Rattle.span_forest.specs.Invariant.{IsSettled, IsKept}
+use Rattle.span_forest.proofs.Nodes.{find-changed_same, find-changed_other, children-changed, IsOpen-changed, IsForest-changed}
+use Rattle.span_forest.proofs.Counts.{value_at-with_value_same, value_at-with_value_other, nodes-written, changed_none, some_same}
+use Rattle.span_forest.proofs.Totals.{length-nodes, length-changed}
+
+holders_map : (f : Node → Node) → ((n : Node) → holders (f n) ≡ holders n) → (o : Option Node) → holders_in (option_map f o) ≡ holders_in o
+holders_map f k None = refl
+holders_map f k (Some n) = k n
+
+module _ (f : Node → Node) (same_parent : (n : Node) → (f n).parent ≡ n.parent) (same_holders : (n : Node) → holders (f n) ≡ holders n) where
+  pub written-changed : (spans : Spans) (id j : ℕ) → written_count (changed f spans id) j ≡ written_count spans j
+  written-changed spans id j =
+      let d = children-changed f same_parent spans id j in
+      elim (eqb_tells j id) [
+        inl t ↦ (let a = ap holders_in (find-changed_same f spans id) ∙ holders_map f same_holders (find spans id) in
+                 let d2 = rw t.1 at d in
+                 rw t.1 (omega arith))
+      | inr t ↦ (let a = ap holders_in (find-changed_other f spans id j t.1) in omega arith) ]
+
+  pub IsSettled-written : (es : List (ℕ × Span)) (id : ℕ) (span new : Span) → IsSettled es → value_at es id ≡ Some span → node_of new ≡ f (node_of span) → new.count ≡ span.count → IsSettled (with_value es id new)
+  IsSettled-written es id span new w h e q =
+      let n = nodes-written f es id span new w.forest.ids_apart h e in
+      record {
+        forest = rw n (IsForest-changed f same_parent (nodes_of es) id w.forest);
+        counted = λ j s g. rw n (let k = written-changed (nodes_of es) id j in elim (eqb_tells j id) [
+          inl t ↦ (let a = some_same s new (value_at (with_value es id new) j) g (rw t.1 (value_at-with_value_same es id span new h)) in
+                   let b = w.counted j span (rw t.1 h) in
+                   let c = ap (λ (x : Span). x.count) a in
+                   omega arith)
+        | inr t ↦ (let b = w.counted j s (sym (value_at-with_value_other es id j new t.1) ∙ g) in omega arith) ]);
+        positive = λ j o. rw n (let k = written-changed (nodes_of es) id j in
+                                let b = w.positive j (IsOpen-changed f (nodes_of es) id j (rw n at o)) in omega arith);
+      }
+
+  pub total-written : (spans : Spans) (id : ℕ) → total_held (changed f spans id) ≡ total_held spans
+  total-written [] id = refl
+  total-written (e ∷ es) id =
+      let r = total-written es id in
+      let k = same_holders e.1 in
+      elim (eqb_tells e.0 id) [ inl t ↦ rw t.0 (omega arith) | inr t ↦ rw t.0 (omega arith) ]
+
+  pub IsKept-written : (es new : List (ℕ × Span)) (max total id : ℕ) → IsKept es max total → IsSettled new → nodes_of new ≡ changed f (nodes_of es) id → IsKept new max total
+  IsKept-written es new max total id w s n = record {
+    settled = s;
+    bounded = λ j. rw n (let k = written-changed (nodes_of es) id j in let b = w.bounded j in omega arith);
+    total_is = rw n (let k = total-written (nodes_of es) id in let b = w.total_is in omega arith);
+    few = (let a = ap length n in let b = length-nodes es in let d = length-nodes new in let e = length-changed f (nodes_of es) id in let q = w.few in omega arith);
+    max_low = w.max_low;
+    max_high = w.max_high;
+  }
+
+-- a forest of the same nodes
+pub IsKept-same : (es new : List (ℕ × Span)) (max total : ℕ) → IsKept es max total → IsSettled new → nodes_of new ≡ nodes_of es → IsKept new max total
+IsKept-same es new max total w s n = record {
+  settled = s;
+  bounded = λ j. rw n (w.bounded j);
+  total_is = rw n w.total_is;
+  few = (let a = ap length n in let b = length-nodes es in let d = length-nodes new in let q = w.few in omega arith);
+  max_low = w.max_low;
+  max_high = w.max_high;
+}
+
+pub with_fields-parent : (more : List (List ℕ × List ℕ)) (n : Node) → (with_fields more n).parent ≡ n.parent
+with_fields-parent more n = refl
+
+pub with_fields-holders : (more : List (List ℕ × List ℕ)) (n : Node) → holders (with_fields more n) ≡ holders n
+with_fields-holders more n = refl
+
+-- a change at an id that isn't there changes nothing
+pub changed-absent : (f : Node → Node) (spans : Spans) (id : ℕ) → find spans id ≡ None → changed f spans id ≡ spans
+changed-absent f [] id h = refl
+changed-absent f (e ∷ es) id h =
+    elim (eqb_tells e.0 id) [
+      inl t ↦ (let h2 = rw t.0 at h in cc)
+    | inr t ↦ (let r = changed-absent f es id (rw t.0 at h) in rw (t.0, r) refl) ]
+
+-- the code's span with these fields
+abbrev pub refielded : Span → Vec Field Global → Span
+refielded span fields = record span { fields = fields }
+
+module _ (es : List (ℕ × Span)) (id : ℕ) (span : Span) (new : Vec Field Global) (more : List Field) where
+  appended_node : new.items ≡ span.fields.items ++ more → node_of (refielded span new) ≡ with_fields (fields_of more) (node_of span)
+  appended_node h = ap (λ fields. record (node_of span) { fields = fields }) (ap fields_of h ∙ map-append (λ f. (string_bytes f.key, string_bytes f.value)) span.fields.items more)
+
+  kept_node : new.items ≡ span.fields.items → node_of (refielded span new) ≡ node_of span
+  kept_node h = ap (λ fields. record (node_of span) { fields = fields }) (ap fields_of h)
+
+  pub settled_appended : {R E : Type 0} (r : Result R E) → IsSettled es → value_at es id ≡ Some span → new.items ≡ cond (is_ok r) (span.fields.items ++ more) span.fields.items → IsSettled (with_value es id (refielded span new))
+  settled_appended (Ok v) w f h = IsSettled-written (with_fields (fields_of more)) (with_fields-parent (fields_of more)) (with_fields-holders (fields_of more)) es id span (refielded span new) w f (appended_node h) refl
+  settled_appended (Err v) w f h = IsSettled-written (λ n. n) (λ n. refl) (λ n. refl) es id span (refielded span new) w f (kept_node h) refl
+
+  pub written_appended : {R E : Type 0} (r : Result R E) → IsSettled es → value_at es id ≡ Some span → new.items ≡ cond (is_ok r) (span.fields.items ++ more) span.fields.items → OnOk r (nodes_of (with_value es id (refielded span new)) ≡ changed (with_fields (fields_of more)) (nodes_of es) id)
+  written_appended (Ok v) w f h = nodes-written (with_fields (fields_of more)) es id span (refielded span new) w.forest.ids_apart f (appended_node h)
+  written_appended (Err v) w f h = tt
+
+  pub refused_appended : {R E : Type 0} (r : Result R E) → IsSettled es → value_at es id ≡ Some span → new.items ≡ cond (is_ok r) (span.fields.items ++ more) span.fields.items → OnErr r (nodes_of (with_value es id (refielded span new)) ≡ nodes_of es)
+  refused_appended (Ok v) w f h = tt
+  refused_appended (Err v) w f h = nodes-written (λ n. n) es id span (refielded span new) w.forest.ids_apart f (kept_node h) ∙ changed_none (nodes_of es) id
+
+-- a forest after an append, or after one that was refused
+pub IsKept-appended : {R E : Type 0} (r : Result R E) (es new : List (ℕ × Span)) (max total id : ℕ) (more : List (List ℕ × List ℕ)) → IsKept es max total → IsSettled new → OnOk r (nodes_of new ≡ changed (with_fields more) (nodes_of es) id) → OnErr r (nodes_of new ≡ nodes_of es) → IsKept new max total
+IsKept-appended (Ok v) es new max total id more w s h k = IsKept-written (with_fields more) (with_fields-parent more) (with_fields-holders more) es new max total id w s h
+IsKept-appended (Err v) es new max total id more w s h k = IsKept-same es new max total w s k
+
+pub on_ok : {R E P : Type 0} (r : Result R E) → P → OnOk r P
+on_ok (Ok v) h = h
+on_ok (Err v) h = tt
+
+-- an id that isn't open finds nothing
+pub closed_none : (o : Option Node) → (IsSome o → ⊥) → o ≡ None
+closed_none None h = refl
+closed_none (Some n) h = absurd (h refl)

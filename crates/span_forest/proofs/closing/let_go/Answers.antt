@@ -1,0 +1,48 @@
+use Rattle.std.proofs.Common.{◌≡◌, ◌<◌, Some, sym, ap, subst, ◌∙◌}
+use Rattle.std.specs.Option.{IsSomeAnd}
+use Rattle.span_slots.specs.Table.{Table}
+use Rattle.span_forest.specs.declared.span.Span.{Span}
+use Rattle.span_forest.specs.Node.{node_of}
+use Rattle.span_forest.specs.Spans.{nodes_of}
+use Rattle.span_forest.specs.Holders.{held_by}
+use Rattle.span_forest.specs.Release.{taken, freed_after}
+use Rattle.span_forest.specs.Chain.{without_all, Chain, IsPending}
+use Rattle.span_forest.proofs.Along.{Along_none}
+use Rattle.span_forest.proofs.Counts.{held_counts, nodes_less, counted_less}
+use Rattle.span_forest.proofs.closing.let_go.Goals as goal
+use Rattle.span_forest.proofs.closing.let_go.Goals.{After-drop_holder}
+
+pub drop_holder-requires : goal.drop_holder-requires
+drop_holder-requires c =
+    let s = held_counts c.args.slots.now.entries c.args.id c.args.holder c.requires.settled c.requires.held in
+    subst (λ o. IsSomeAnd o (λ (span : Span). (0 < held_by c.args.holder (node_of span)) × (0 < span.count))) (sym s.1) s.2
+
+mid_nodes : (c : After-drop_holder) → nodes_of c.drop_holder.new.slots.entries ≡ taken (nodes_of c.args.slots.now.entries) c.args.id c.args.holder
+mid_nodes c =
+    let s = held_counts c.args.slots.now.entries c.args.id c.args.holder c.requires.settled c.requires.held in
+    ap (λ (t : Table Span). nodes_of t.entries) (c.drop_holder.ensures s.0 s.1)
+    ∙ nodes_less c.args.slots.now.entries c.args.id c.args.holder s.0 c.requires.settled.forest.ids_apart s.1
+
+pub close_all-requires-clause-pending : goal.close_all-requires-clause-pending
+close_all-requires-clause-pending c =
+    subst (λ m. IsPending m (Some c.args.id)) (sym (mid_nodes (goal.at.close_all-requires-clause-pending c).After-drop_holder))
+    (Along_none c.args.slots.now.entries c.args.id c.args.holder c.requires.settled c.requires.held).pending
+
+pub close_all-requires-clause-counted : goal.close_all-requires-clause-counted
+close_all-requires-clause-counted c =
+    let s = held_counts c.args.slots.now.entries c.args.id c.args.holder c.requires.settled c.requires.held in
+    rw (c.drop_holder.ensures s.0 s.1) (counted_less c.args.slots.now.entries c.args.id c.args.holder s.0 c.requires.settled c.requires.held s.1)
+
+pub close_all-requires-clause-chain : goal.close_all-requires-clause-chain
+close_all-requires-clause-chain c =
+    subst (λ m. Chain m (Some c.args.id) c.args.closed.now) (sym (mid_nodes (goal.at.close_all-requires-clause-chain c).After-drop_holder)) c.requires.chain
+
+pub returns-clause-nodes : goal.returns-clause-nodes
+returns-clause-nodes c =
+    c.close_all.ensures.nodes ∙ ap (λ m. without_all m c.args.closed.now) (mid_nodes (goal.at.returns-clause-nodes c).After-drop_holder)
+
+pub returns-clause-table : goal.returns-clause-table
+returns-clause-table c =
+    let s = held_counts c.args.slots.now.entries c.args.id c.args.holder c.requires.settled c.requires.held in
+    c.close_all.ensures.table
+    ∙ ap (λ (u : Table Span). record u { entries = c.close_all.new.slots.entries; freed = freed_after u.last_generation u.given u.freed c.args.closed.now }) (c.drop_holder.ensures s.0 s.1)

@@ -1,0 +1,67 @@
+use Rattle.std.proofs.Common.{◌≡◌, ◌+◌, ◌<◌, ◌≤◌, refl, sym, subst, arith}
+use Rattle.std.specs.Option.{IsSomeAnd}
+use Rattle.span_slots.specs.Table.{Table, with_value}
+use Rattle.span_forest.specs.declared.span.Span.{Span}
+use Rattle.span_forest.specs.declared.span.Holder.TheVariants.{Handle}
+use Rattle.span_forest.specs.Node.{node_of}
+use Rattle.span_forest.specs.Spans.{nodes_of}
+use Rattle.span_forest.specs.Count.{written_count}
+use Rattle.span_forest.specs.Holders.{IsHeld, held_by}
+use Rattle.span_forest.specs.Invariant.{IsKept, span_more}
+use Rattle.span_forest.proofs.Counts.{held_part, nodes_more, IsKept-kept, kept_view, total_fits}
+use Rattle.span_forest.proofs.forest.Forest.keep.Goals as goal
+
+pub returns-then-count_of-self-clause-refused : goal.returns-then-count_of-self-clause-refused
+returns-then-count_of-self-clause-refused c =
+    let i = c.self.inside in
+    let v = c.self.invariant in
+    let held : IsHeld (nodes_of i.slots.entries) c.args.id Handle = c.is_held.ensures.0 c.if-not-is_held.false in
+    let s = held_part i.slots.entries c.args.id c.args.holder v.settled held in
+    let e = c.count_of.ensures s.0 s.1 in
+    let b = v.bounded c.args.id in
+    let same : written_count (nodes_of i.slots.entries) c.args.id ≡ i.max_count = omega (arith, c.if-count_of-self.true, s.2.1) in
+    rw (← c.self.view_is) (held, same)
+
+pub raise_holder-requires : goal.raise_holder-requires
+raise_holder-requires c =
+    let i = c.self.inside in
+    let v = c.self.invariant in
+    let held : IsHeld (nodes_of i.slots.entries) c.args.id Handle = c.is_held.ensures.0 c.if-not-is_held.false in
+    let s = held_part i.slots.entries c.args.id c.args.holder v.settled held in
+    let e = c.count_of.ensures s.0 s.1 in
+    let low : s.0.count < 4294967295 = omega (arith, c.if-count_of-self.false, v.max_high) in
+    subst (λ o. IsSomeAnd o (λ (span : Span). (held_by c.args.holder (node_of span) ≤ span.count) × (span.count < 4294967295))) (sym s.1) (s.2.0, low)
+
+pub invariant_of-self : goal.invariant_of-self
+invariant_of-self c =
+    let i = c.self.inside in
+    let v = c.self.invariant in
+    let held : IsHeld (nodes_of i.slots.entries) c.args.id Handle = c.is_held.ensures.0 c.if-not-is_held.false in
+    let s = held_part i.slots.entries c.args.id c.args.holder v.settled held in
+    let e = c.count_of.ensures s.0 s.1 in
+    let low : s.0.count < i.max_count = omega (arith, c.if-count_of-self.false) in
+    subst (λ (t : Table Span). IsKept t.entries i.max_count (i.total + 1)) (sym (c.raise_holder.ensures s.0 s.1)) (IsKept-kept i.slots.entries i.max_count i.total (i.total + 1) c.args.id c.args.holder s.0 v s.1 low refl)
+
+pub returns-clause-forest : goal.returns-clause-forest
+returns-clause-forest c =
+    let i = c.self.inside in
+    let v = c.self.invariant in
+    let held : IsHeld (nodes_of i.slots.entries) c.args.id Handle = c.is_held.ensures.0 c.if-not-is_held.false in
+    let s = held_part i.slots.entries c.args.id c.args.holder v.settled held in
+    rw (← c.self.view_is) (kept_view i.slots c.raise_holder.new.slots i.max_count c.args.id c.args.holder (with_value i.slots.entries c.args.id (span_more c.args.holder s.0)) (c.raise_holder.ensures s.0 s.1) (nodes_more i.slots.entries c.args.id c.args.holder s.0 v.settled.forest.ids_apart s.1))
+
+pub overflow_add-self : goal.overflow_add-self
+overflow_add-self c =
+    let i = c.self.inside in
+    let fits = total_fits i.slots.entries i.max_count i.total c.self.invariant in
+    omega arith
+
+pub returns-clause-accepted : goal.returns-clause-accepted
+returns-clause-accepted c =
+    let i = c.self.inside in
+    let v = c.self.invariant in
+    let held : IsHeld (nodes_of i.slots.entries) c.args.id Handle = c.is_held.ensures.0 c.if-not-is_held.false in
+    let s = held_part i.slots.entries c.args.id c.args.holder v.settled held in
+    let e = c.count_of.ensures s.0 s.1 in
+    let low : written_count (nodes_of i.slots.entries) c.args.id < i.max_count = omega (arith, c.if-count_of-self.false, s.2.1) in
+    rw (← c.self.view_is) (held, low)

@@ -1,0 +1,33 @@
+-- What holds a span: its holders, which are handles and entries, and its open children.
+use Rattle.std.specs.Prelude.{ℕ, ◌+◌, ◌==◌, Bool, false, cond, nat_lt, [], ◌∷◌, Option, Some, None}
+use Rattle.span_forest.specs.Node.{Node}
+use Rattle.span_forest.specs.Spans.{Spans, find}
+
+-- how many handles and entries hold a span
+abbrev pub holders : Node → ℕ
+holders node = node.handles + node.entries
+
+abbrev pub is_held : Node → Bool
+is_held node = nat_lt 0 (holders node)
+
+abbrev pub holders_in : Option Node → ℕ
+holders_in None = 0
+holders_in (Some node) = holders node
+
+abbrev pub is_some_id : Option ℕ → ℕ → Bool
+is_some_id None id = false
+is_some_id (Some parent) id = parent == id
+
+-- how many open spans have this parent
+abbrev pub children : Spans → ℕ → ℕ
+children [] id = 0
+children (e ∷ es) id = cond (is_some_id e.1.parent id) 1 0 + children es id
+
+-- the written count of a span: its holders, and the open spans whose parent it is
+abbrev pub written_count : Spans → ℕ → ℕ
+written_count spans id = holders_in (find spans id) + children spans id
+
+-- how many holders all spans have
+abbrev pub total_held : Spans → ℕ
+total_held [] = 0
+total_held (e ∷ es) = holders e.1 + total_held es

@@ -1,0 +1,52 @@
+-- A span as contracts see it.
+use Rattle.std.specs.Prelude.{ℕ, List, ◌++◌, map, string_bytes, Option}
+use Rattle.span_id.specs.declared.level.Level.{Level}
+use Rattle.span_id.specs.declared.meta.Meta.{Meta}
+use Rattle.span_id.specs.declared.meta.Field.{Field}
+use Rattle.span_forest.specs.declared.span.Span.{Span}
+
+-- a span: what it was made with, its parent, and how many handles and entries hold it
+-- (texts are bytes; bit n of `bits` is set where layer n admits the span)
+pub record Node : Type 0 where
+  pub name : List ℕ
+  pub target : List ℕ
+  pub level : Level
+  pub fields : List (List ℕ × List ℕ)
+  pub bits : ℕ
+  pub parent : Option ℕ
+  pub handles : ℕ
+  pub entries : ℕ
+
+-- keys with their values
+abbrev pub fields_of : List Field → List (List ℕ × List ℕ)
+fields_of fields = map (λ f. (string_bytes f.key, string_bytes f.value)) fields
+
+-- what the code's span stands for
+abbrev pub node_of : Span → Node
+node_of span = record {
+  name = string_bytes span.meta.name;
+  target = string_bytes span.meta.target;
+  level = span.meta.level;
+  fields = fields_of span.fields.items;
+  bits = span.bits.0;
+  parent = span.parent;
+  handles = span.handles;
+  entries = span.entries;
+}
+
+-- a new span has one handle and no entry
+abbrev pub new_node : Meta → List Field → Option ℕ → ℕ → Node
+new_node meta fields parent bits = record {
+  name = string_bytes meta.name;
+  target = string_bytes meta.target;
+  level = meta.level;
+  fields = fields_of fields;
+  bits = bits;
+  parent = parent;
+  handles = 1;
+  entries = 0;
+}
+
+-- the span with more fields at the end of its own; a repeated key stands twice
+abbrev pub with_fields : List (List ℕ × List ℕ) → Node → Node
+with_fields more node = record node { fields = node.fields ++ more }

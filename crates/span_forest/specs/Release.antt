@@ -1,0 +1,38 @@
+-- The release of one holder: it is taken out, and the spans that are no longer live are gone.
+use Rattle.std.specs.Prelude.{ℕ, cond, not, nat_le, List, [], ◌∷◌, filter, slice_index}
+use Rattle.span_id.specs.Id.{slot_of}
+use Rattle.span_id.specs.declared.fault.Fault.{Fault}
+use Rattle.span_id.specs.declared.fault.Fault.TheVariants.{Unknown, Memory}
+use Rattle.span_forest.specs.declared.span.Holder.{Holder}
+use Rattle.span_forest.specs.Spans.{Spans, changed}
+use Rattle.span_forest.specs.Walk.{walk}
+use Rattle.span_forest.specs.Live.{is_live, live_part}
+use Rattle.span_forest.specs.Holders.{IsHeld, with_less}
+
+-- the forest with one holder taken out once
+abbrev pub taken : Spans → ℕ → Holder → Spans
+taken spans id holder = changed (with_less holder) spans id
+
+-- what a release leaves: the spans that are live without the holder
+abbrev pub released : Spans → ℕ → Holder → Spans
+released spans id holder = live_part (taken spans id holder)
+
+-- the spans on the walk of an id that are not live, in the order of the walk
+abbrev pub gone_on_walk : Spans → ℕ → List ℕ
+gone_on_walk spans id = filter (λ s. not (is_live spans s)) (walk spans id)
+
+-- the closing list: the spans that the release makes go, in the order of the walk, so child first
+abbrev pub closing_list : Spans → ℕ → Holder → List ℕ
+closing_list spans id holder = gone_on_walk (taken spans id holder) id
+
+-- the freed slots after these ids closed one after the other: a slot whose id was its last is not freed
+abbrev pub freed_after : ℕ → List ℕ → List ℕ → List ℕ → List ℕ
+freed_after last_generation given freed [] = freed
+freed_after last_generation given freed (id ∷ ids) =
+    freed_after last_generation given (cond (nat_le (slice_index given (slot_of id)) last_generation) (slot_of id ∷ freed) freed) ids
+
+-- why a release is refused: the span has no holder of this kind, else there was no memory for the list
+abbrev pub WhyNotReleased : Spans → ℕ → Holder → Fault → Type 0
+WhyNotReleased spans id holder Unknown = IsHeld spans id holder → ⊥
+WhyNotReleased spans id holder Memory = IsHeld spans id holder
+WhyNotReleased spans id holder _ = ⊥

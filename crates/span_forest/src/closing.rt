@@ -1,0 +1,93 @@
+ghost use Rattle.std.specs.Prelude.{◌≡◌, Some, IfOk};
+ghost use Rattle.span_slots.specs.Table.{freed_with};
+ghost use Rattle.span_id.specs.Id.{slot_of};
+ghost use Rattle.span_forest.specs.Spans.{IsOpen, nodes_of, without};
+ghost use Rattle.span_forest.specs.Count.{written_count};
+ghost use Rattle.span_forest.specs.Forest.{IsForest};
+ghost use Rattle.span_forest.specs.Holders.{IsHeld};
+ghost use Rattle.span_forest.specs.Release.{taken, freed_after};
+ghost use Rattle.span_forest.specs.Invariant.{AreCounted, IsSettled};
+ghost use Rattle.span_forest.specs.Chain.{without_all, Chain, IsPending};
+
+use span_id::Id;
+use span_slots::Slots;
+use std::alloc::{AllocError, Global};
+
+use crate::holders::{drop_holder, lower};
+use crate::span::{Holder, Span};
+
+// The spans that close, child first, where a span gives back one holder.
+pub(crate) fn chain(slots: &Slots<Span>, alloc: Global, id: Id, holder: Holder) -> Result<Vec<Id>, AllocError>
+    requires settled { IsSettled slots.now.entries }
+    requires held { IsHeld (nodes_of slots.now.entries) id holder }
+    ensures { IfOk result (λ ids. Chain (taken (nodes_of slots.now.entries) id holder) (Some id) ids.items) }
+{
+    let mut closed = Vec::new(alloc);
+    let mut next = Some(id);
+    'up: while let Some(at) = next {
+        let Some(span) = slots.get(at) else {
+            unreachable!()
+        };
+        if span.count > 1 {
+            break;
+        }
+        closed.push(at)?;
+        next = span.parent;
+    }
+    Ok(closed)
+}
+
+// Takes one holder from a span, and closes what nothing holds any longer.
+pub(crate) fn let_go(slots: &mut Slots<Span>, id: Id, holder: Holder, closed: &[Id])
+    requires settled { IsSettled slots.old.entries }
+    requires held { IsHeld (nodes_of slots.old.entries) id holder }
+    requires chain { Chain (taken (nodes_of slots.old.entries) id holder) (Some id) closed.now }
+    ensures settled { IsSettled slots.new.entries }
+    ensures nodes { nodes_of slots.new.entries ≡ without_all (taken (nodes_of slots.old.entries) id holder) closed.now }
+    ensures table { slots.new ≡ record slots.old {
+        entries = slots.new.entries;
+        freed = freed_after slots.old.last_generation slots.old.given slots.old.freed closed.now
+    } }
+{
+    drop_holder(slots, id, holder);
+    close_all(slots, id, closed);
+}
+
+// Closes the spans of a chain from this one on, one after the other.
+fn close_all(slots: &mut Slots<Span>, id: Id, closed: &[Id])
+    requires pending { IsPending (nodes_of slots.old.entries) (Some id) }
+    requires counted { AreCounted slots.old.entries }
+    requires chain { Chain (nodes_of slots.old.entries) (Some id) closed.now }
+    ensures settled { IsSettled slots.new.entries }
+    ensures nodes { nodes_of slots.new.entries ≡ without_all (nodes_of slots.old.entries) closed.now }
+    ensures table { slots.new ≡ record slots.old {
+        entries = slots.new.entries;
+        freed = freed_after slots.old.last_generation slots.old.given slots.old.freed closed.now
+    } }
+{
+    let _first = id;
+    for c in closed {
+        close_one(slots, *c);
+    }
+}
+
+// Closes a span that nothing holds, and takes it from its parent's count.
+fn close_one(slots: &mut Slots<Span>, id: Id)
+    requires forest { IsForest (nodes_of slots.old.entries) }
+    requires counted { AreCounted slots.old.entries }
+    requires open { IsOpen (nodes_of slots.old.entries) id }
+    requires leaf { written_count (nodes_of slots.old.entries) id ≡ 0 }
+    ensures nodes { nodes_of slots.new.entries ≡ without (nodes_of slots.old.entries) id }
+    ensures counted { AreCounted slots.new.entries }
+    ensures table { slots.new ≡ record slots.old {
+        entries = slots.new.entries;
+        freed = freed_with slots.old (slot_of id)
+    } }
+{
+    let Some(span) = slots.remove(id) else {
+        unreachable!()
+    };
+    if let Some(parent) = span.parent {
+        lower(slots, parent);
+    }
+}

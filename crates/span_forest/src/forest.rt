@@ -1,0 +1,239 @@
+ghost use Rattle.std.specs.Prelude.{◌≡◌, ℕ, Some, None, IfSome, IfNone, IfOk, IfErr, OnOk, OnErr, IsSome, length, [], map, string_bytes};
+ghost use Rattle.span_forest.specs.Node.{Node, node_of, fields_of, new_node, with_fields};
+ghost use Rattle.span_forest.specs.Spans.{find, IsOpen, changed, WhyNotFound};
+ghost use Rattle.span_forest.specs.Count.{written_count, total_held};
+ghost use Rattle.span_forest.specs.Path.{path};
+ghost use Rattle.span_forest.specs.Forest.{next_span_id};
+ghost use Rattle.span_forest.specs.Holders.{IsHeld};
+ghost use Rattle.span_forest.specs.Keep.{kept, CanKeep, WhyNotKept};
+ghost use Rattle.span_forest.specs.Release.{closing_list, released, freed_after, WhyNotReleased};
+ghost use Rattle.span_forest.specs.Add.{CanHaveChild, added, WhyNotAdded};
+
+use span_id::{Bits, Checked, Fault, Field, Id, Meta};
+use span_slots::Slots;
+use std::alloc::Global;
+use std::marker::Model;
+
+use crate::adding::{checked_parent, place};
+use crate::closing::{chain, let_go};
+use crate::holders::{count_of, is_held, is_open, raise_holder};
+use crate::span::{Holder, Span};
+use crate::writing::{append_fields, copies_of, names_of};
+
+/// The open spans, each under its id.
+#[derive(Drop)]
+pub struct Forest {
+    slots: Slots<Span>,
+    // How many holders all spans have.
+    total: u64,
+    max_count: u32,
+    alloc: Global,
+}
+
+impl Model for Forest {
+    ghost use Rattle.span_forest.specs.Forest.{ForestView};
+
+    ghost Value = { ForestView };
+
+    ghost use Rattle.span_forest.specs.Spans.{nodes_of};
+    ghost use Rattle.span_forest.specs.Invariant.{IsKept};
+
+    ghost view = { λ f. record {
+      spans = nodes_of f.slots.entries;
+      max_count = f.max_count;
+      slots = f.slots.slots;
+      last_generation = f.slots.last_generation;
+      given = f.slots.given;
+      freed = f.slots.freed;
+    } };
+
+    ghost invariant = { λ f. IsKept f.slots.entries f.max_count f.total };
+}
+
+impl Forest {
+    /// A forest with no span, in which a table of `slots` slots is reserved whole. The only error is `Memory`.
+    pub fn new(alloc: Global, checked: &Checked) -> Result<Self, Fault>
+        ensures empty { IfOk result (λ forest. forest ≡ record {
+            spans = [];
+            max_count = checked.now.max_count;
+            slots = checked.now.slots;
+            last_generation = checked.now.last_generation;
+            given = [];
+            freed = []
+        }) }
+        ensures memory { IfErr result (λ fault. fault ≡ Fault.Memory) }
+    {
+        let max_count = checked.limits().max_count;
+        let slots = Slots::new(alloc, checked)?;
+        Ok(Forest {
+            slots,
+            total: 0,
+            max_count,
+            alloc,
+        })
+    }
+
+    /// The span of an id, if it is open. Ids of closed spans and ids that were never given find nothing.
+    pub fn find(&self, id: Id) -> Option<&Span>
+        ensures absent { IfNone result (find self.now.spans id ≡ None) }
+        ensures found { IfSome result (λ span. find self.now.spans id ≡ Some (node_of span.now)) }
+        ensures count { IfSome result (λ span. span.now.count ≡ written_count self.now.spans id) }
+    {
+        let _kept = &self.max_count;
+        self.slots.get(id)
+    }
+
+    /// How many spans are open.
+    pub fn len(&self) -> u32
+        ensures { result ≡ length self.now.spans }
+    {
+        self.slots.len()
+    }
+
+    /// How many handles and entries all spans have.
+    pub fn total(&self) -> u64
+        ensures { result ≡ total_held self.now.spans }
+    {
+        self.total
+    }
+
+    /// The id that the next span gets: None where no slot is free.
+    pub fn next_id(&self) -> Option<Id>
+        ensures { result ≡ next_span_id self.now }
+    {
+        self.slots.next_id()
+    }
+
+    /// Makes a span with copies of the meta and the fields. It has one handle, and its parent's count rises.
+    ///
+    /// Refused in this order: `Unknown` where the parent isn't open, `CountFull` where the parent's count
+    /// stands at its greatest, `Full` where no slot is free, `Memory`.
+    pub fn add(&mut self, meta: &Meta, fields: &[Field], parent: Option<Id>, bits: Bits) -> Result<Id, Fault>
+        ensures parent { OnOk result (CanHaveChild self.old.spans self.old.max_count parent) }
+        ensures id { IfOk result (λ id. next_span_id self.old ≡ Some id) }
+        ensures forest { IfOk result (λ id. self.new ≡ added self.old id (new_node meta.now fields.now parent bits.0)) }
+        ensures refused { IfErr result (λ fault. WhyNotAdded self.old parent fault) }
+        ensures unchanged { OnErr result (self.new ≡ self.old) }
+    {
+        let parent = checked_parent(&self.slots, self.max_count, parent)?;
+        if self.slots.next_id().is_none() {
+            return Err(Fault::Full);
+        }
+        let meta = meta.copy(self.alloc)?;
+        let fields = copies_of(self.alloc, fields)?;
+        let span = Span {
+            meta,
+            fields,
+            parent,
+            bits,
+            handles: 1,
+            entries: 0,
+            count: 1,
+        };
+        self.total += 1;
+        Ok(place(&mut self.slots, span))
+    }
+
+    /// Writes one more holder of a span down. The span needs a handle already, whichever holder comes in.
+    ///
+    /// Refused in this order: `Unknown` where the span isn't open or has no handle, `CountFull` where its
+    /// count stands at its greatest.
+    pub fn keep(&mut self, id: Id, holder: Holder) -> Result<(), Fault>
+        ensures accepted { OnOk result (CanKeep self.old.spans self.old.max_count id) }
+        ensures forest { OnOk result (self.new ≡ record self.old { spans = kept self.old.spans id holder }) }
+        ensures refused { IfErr result (λ fault. WhyNotKept self.old.spans self.old.max_count id fault) }
+        ensures unchanged { OnErr result (self.new ≡ self.old) }
+    {
+        if !is_held(&self.slots, id, Holder::Handle) {
+            return Err(Fault::Unknown);
+        }
+        if count_of(&self.slots, id) >= self.max_count {
+            return Err(Fault::CountFull);
+        }
+        raise_holder(&mut self.slots, id, holder);
+        self.total += 1;
+        Ok(())
+    }
+
+    /// The spans that a release of this holder would close, child first. Nothing changes.
+    ///
+    /// Refused in this order: `Unknown` where the span isn't open or has no holder of this kind, `Memory`.
+    pub fn closing(&self, id: Id, holder: Holder) -> Result<Vec<Id>, Fault>
+        ensures list { IfOk result (λ ids. ids.items ≡ closing_list self.now.spans id holder) }
+        ensures held { OnOk result (IsHeld self.now.spans id holder) }
+        ensures refused { IfErr result (λ fault. WhyNotReleased self.now.spans id holder fault) }
+    {
+        if !is_held(&self.slots, id, holder) {
+            return Err(Fault::Unknown);
+        }
+        match chain(&self.slots, self.alloc, id, holder) {
+            Ok(closed) => Ok(closed),
+            Err(_) => Err(Fault::Memory),
+        }
+    }
+
+    /// Gives one holder of a span back, closes the spans that nothing holds any longer and answers their
+    /// ids, child first. Their slots are freed in this order.
+    ///
+    /// Refused in this order: `Unknown` where the span isn't open or has no holder of this kind, `Memory`.
+    pub fn release(&mut self, id: Id, holder: Holder) -> Result<Vec<Id>, Fault>
+        ensures list { IfOk result (λ ids. ids.items ≡ closing_list self.old.spans id holder) }
+        ensures forest { OnOk result (self.new ≡ record self.old {
+            spans = released self.old.spans id holder;
+            freed = freed_after self.old.last_generation self.old.given self.old.freed (closing_list self.old.spans id holder)
+        }) }
+        ensures held { OnOk result (IsHeld self.old.spans id holder) }
+        ensures refused { IfErr result (λ fault. WhyNotReleased self.old.spans id holder fault) }
+        ensures unchanged { OnErr result (self.new ≡ self.old) }
+    {
+        if !is_held(&self.slots, id, holder) {
+            return Err(Fault::Unknown);
+        }
+        match chain(&self.slots, self.alloc, id, holder) {
+            Ok(closed) => {
+                let_go(&mut self.slots, id, holder, closed.as_slice());
+                self.total -= 1;
+                Ok(closed)
+            }
+            Err(_) => Err(Fault::Memory),
+        }
+    }
+
+    /// Appends copies of the fields to those of a span, in their order.
+    ///
+    /// Refused in this order: `Unknown` where the span isn't open, `Memory`.
+    pub fn write_fields(&mut self, id: Id, fields: &[Field]) -> Result<(), Fault>
+        ensures found { OnOk result (IsOpen self.old.spans id) }
+        ensures forest { OnOk result (self.new ≡ record self.old {
+            spans = changed (with_fields (fields_of fields.now)) self.old.spans id
+        }) }
+        ensures refused { IfErr result (λ fault. WhyNotFound self.old.spans id fault) }
+        ensures unchanged { OnErr result (self.new ≡ self.old) }
+    {
+        if !is_open(&self.slots, id) {
+            return Err(Fault::Unknown);
+        }
+        let copies = copies_of(self.alloc, fields)?;
+        match append_fields(&mut self.slots, id, copies) {
+            Ok(()) => Ok(()),
+            Err(_) => Err(Fault::Memory),
+        }
+    }
+
+    /// The names of a span and its ancestors, root first, without those that the layer doesn't admit.
+    ///
+    /// Refused in this order: `Unknown` where the span isn't open, `Memory`.
+    pub fn path(&self, layer: u32, id: Id) -> Result<Vec<String>, Fault>
+        ensures found { OnOk result (IsOpen self.now.spans id) }
+        ensures names { IfOk result (λ names. map string_bytes names.items ≡ path layer self.now.spans id) }
+        ensures refused { IfErr result (λ fault. WhyNotFound self.now.spans id fault) }
+    {
+        if !is_open(&self.slots, id) {
+            return Err(Fault::Unknown);
+        }
+        match names_of(&self.slots, self.alloc, layer, id) {
+            Ok(names) => Ok(names),
+            Err(_) => Err(Fault::Memory),
+        }
+    }
+}

@@ -1,0 +1,75 @@
+ghost use Rattle.std.specs.Prelude.{◌≡◌, ◌++◌, Some, IsSome, IfOk, IfErr, OnOk, OnErr, map, string_bytes};
+ghost use Rattle.span_slots.specs.Table.{value_at};
+ghost use Rattle.span_forest.specs.Node.{node_of, fields_of, with_fields};
+ghost use Rattle.span_forest.specs.Spans.{nodes_of, changed, IsOpen};
+ghost use Rattle.span_forest.specs.Path.{name_for, path};
+ghost use Rattle.span_forest.specs.Forest.{IsForest};
+ghost use Rattle.span_forest.specs.Invariant.{IsSettled};
+
+use span_id::{Fault, Field, Id};
+use span_slots::Slots;
+use std::alloc::{AllocError, Global};
+
+use crate::span::Span;
+
+// Copies of these fields.
+pub(crate) fn copies_of(alloc: Global, fields: &[Field]) -> Result<Vec<Field>, Fault>
+    ensures fields { IfOk result (λ copies. fields_of copies.items ≡ fields_of fields.now) }
+    ensures memory { IfErr result (λ fault. fault ≡ Fault.Memory) }
+{
+    let Ok(mut copies) = Vec::with_capacity(alloc, fields.len()) else {
+        return Err(Fault::Memory);
+    };
+    for field in fields {
+        let copy = field.copy(alloc)?;
+        copies.push_reserved(copy);
+    }
+    Ok(copies)
+}
+
+// Appends these fields to those of a span. Where memory is refused the span stays as it was.
+pub(crate) fn append_fields(slots: &mut Slots<Span>, id: Id, mut fields: Vec<Field>) -> Result<(), AllocError>
+    requires settled { IsSettled slots.old.entries }
+    ensures settled { IsSettled slots.new.entries }
+    ensures written { OnOk result
+        (nodes_of slots.new.entries ≡ changed (with_fields (fields_of fields.items)) (nodes_of slots.old.entries) id) }
+    ensures refused { OnErr result (nodes_of slots.new.entries ≡ nodes_of slots.old.entries) }
+    ensures table { slots.new ≡ record slots.old { entries = slots.new.entries } }
+{
+    match slots.get_mut(id) {
+        None => Ok(()),
+        Some(span) => span.fields.append(&mut fields),
+    }
+}
+
+// The names of a span and its ancestors that the layer admits, root first.
+pub(crate) fn names_of(slots: &Slots<Span>, alloc: Global, layer: u32, id: Id) -> Result<Vec<String>, AllocError>
+    requires forest { IsForest (nodes_of slots.now.entries) }
+    requires open { IsOpen (nodes_of slots.now.entries) id }
+    ensures names { IfOk result (λ names. map string_bytes names.items ≡ path layer (nodes_of slots.now.entries) id) }
+{
+    let mut names = Vec::new(alloc);
+    let mut next = Some(id);
+    'up: while let Some(at) = next {
+        let Some(span) = slots.get(at) else {
+            unreachable!()
+        };
+        push_name(&mut names, alloc, layer, span)?;
+        next = span.parent;
+    }
+    names.reverse();
+    Ok(names)
+}
+
+// Appends the name of a span, if the layer admits it.
+fn push_name(names: &mut Vec<String>, alloc: Global, layer: u32, span: &Span) -> Result<(), AllocError>
+    ensures { OnOk result (map string_bytes names.new.items
+        ≡ map string_bytes names.old.items ++ name_for layer (Some (node_of span.now))) }
+{
+    if !span.bits.has(layer) {
+        return Ok(());
+    }
+    let name = String::from_str(alloc, span.meta.name.as_str())?;
+    names.push(name)?;
+    Ok(())
+}
