@@ -2,7 +2,7 @@
 use Rattle.std.proofs.Common.{◌≡◌, ℕ, ◌+◌, ◌<◌, Bool, true, false, cond, not, List, [], ◌∷◌, ◌++◌, length, map, get_or, set, Option, Some, None, refl, sym, ap, ◌∙◌, subst, arith}
 use Rattle.std.proofs.lemmas.List.{length-set}
 use Rattle.span_id.specs.declared.limits.Limits.{Limits}
-use Rattle.span_layers.specs.declared.note.Kind.TheVariants.{OnEnter, OnExit}
+use Rattle.span_layers.specs.declared.note.Kind.TheVariants.{OnRecord, OnEnter, OnExit}
 use Rattle.span_layers.specs.Note.{PlainNote, KeyValue}
 use Rattle.span_layers.specs.Filter.{Filter}
 use Rattle.span_forest.specs.declared.span.Holder.{Holder}
@@ -41,14 +41,15 @@ sound_clone limits rules forest new_forest stacks calls old mid new worker id no
       })
       same sent
 
-pub sound_record : (limits : Limits) (rules : List Filter) (forest new_forest : ForestView) (stacks : List (List ℕ)) (calls : ℕ) (old mid new : List PlainBatch) (worker id : ℕ) (fields : List KeyValue) (notes : List PlainNote)
+pub sound_record : (limits : Limits) (rules : List Filter) (forest new_forest : ForestView) (stacks : List (List ℕ)) (calls : ℕ) (old mid new : List PlainBatch) (worker id : ℕ) (fields written : List KeyValue) (notes : List PlainNote)
     → IsSound limits forest stacks rules calls old
     → IsHeld forest.spans id Handle
     → new_forest ≡ record forest { spans = changed (with_fields fields) forest.spans id }
-    → notes ≡ notes_of_all rules worker (happenings rules (record { spans = forest.spans; stacks = stacks }) (record_fields worker id fields) recorded (record { spans = forest.spans; stacks = stacks }))
-    → mid ≡ old → new ≡ mid ++ (record { request = record_fields worker id fields; answer = recorded; notes = notes }) ∷ []
+    → notes ≡ notes_of_all rules worker (at_span forest.spans OnRecord id fields ∷ [])
+    → written ≡ fields
+    → mid ≡ old → new ≡ mid ++ (record { request = record_fields worker id written; answer = recorded; notes = notes }) ∷ []
     → IsSound limits new_forest stacks rules (calls + 1) new
-sound_record limits rules forest new_forest stacks calls old mid new worker id fields notes sound held forest_is notes_are same sent =
+sound_record limits rules forest new_forest stacks calls old mid new worker id fields written notes sound held forest_is notes_are written_are same sent =
     let spans_are = ap (λ f. f.spans) forest_is in
     sound_quiet limits rules forest new_forest stacks stacks calls old mid new (record { request = record_fields worker id fields; answer = recorded; notes = notes }) sound refl refl
       (same_but_spans forest new_forest _ forest_is) refl
@@ -57,7 +58,7 @@ sound_record limits rules forest new_forest stacks calls old mid new worker id f
         changes = record { held = held; after = λ j. record { spans = spans_are j; stacks = stacks } };
         notes_are = notes_are;
       })
-      same sent
+      same (sent ∙ ap (λ (fs : List KeyValue). mid ++ (record { request = record_fields worker id fs; answer = recorded; notes = notes }) ∷ []) written_are)
 
 -- the slots that a release frees, and nothing else, changed
 freed_in : (limits : Limits) (forest new_forest : ForestView) (spans : Spans) (used : SlotsUsed) (closed : List ℕ)

@@ -1,4 +1,5 @@
 pub mod Soundness
 pub mod Worlds
+pub mod StackLists
 pub mod Accepting
 pub mod Telling

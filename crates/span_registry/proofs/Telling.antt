@@ -10,7 +10,7 @@ use Rattle.span_layers.specs.Note.{PlainNote}
 use Rattle.span_layers.specs.Filter.{Filter, layer_wants}
 use Rattle.span_forest.specs.Node.{Node}
 use Rattle.span_forest.specs.Spans.{Spans, find}
-use Rattle.span_registry.specs.Happening.{Happening, is_told, note_of, notes_of, close_of}
+use Rattle.span_registry.specs.Happening.{Happening, is_told, note_of, notes_of, notes_of_all, close_of}
 
 range_more : (a n : ℕ) → range_with_len a (suc n) ≡ range_with_len a n ++ (a + n) ∷ []
 range_more a zero = ap (λ k. k ∷ []) (omega arith)
@@ -64,3 +64,19 @@ closed_none rules worker spans id notes gone =
     append_nil : (xs : List PlainNote) → xs ++ [] ≡ xs
     append_nil [] = refl
     append_nil (x ∷ xs) = ap (λ ys. x ∷ ys) (append_nil xs)
+
+-- the notes of a call with one happening
+pub one_happening : (rules : List Filter) (worker : ℕ) (what : Happening) (first notes : List PlainNote) → first ≡ [] → notes ≡ first ++ notes_of rules worker what → notes ≡ notes_of_all rules worker (what ∷ [])
+one_happening rules worker what first notes none are =
+    are ∙ ap (λ xs. xs ++ notes_of rules worker what) none ∙ sym (append_nil (notes_of rules worker what))
+  where
+    append_nil : (xs : List PlainNote) → xs ++ [] ≡ xs
+    append_nil [] = refl
+    append_nil (x ∷ xs) = ap (λ ys. x ∷ ys) (append_nil xs)
+
+-- the notes of spans that close
+pub closes_told : (rules : List Filter) (worker : ℕ) (spans : Spans) (listed closed : List ℕ) (first notes : List PlainNote) → first ≡ [] → listed ≡ closed
+    → notes ≡ first ++ flat_map (notes_of rules worker) (map (close_of spans) listed) → notes ≡ notes_of_all rules worker (map (close_of spans) closed)
+closes_told rules worker spans listed closed first notes none same are =
+    are ∙ ap (λ xs. xs ++ flat_map (notes_of rules worker) (map (close_of spans) listed)) none
+    ∙ ap (λ ids. flat_map (notes_of rules worker) (map (close_of spans) ids)) same
