@@ -31,10 +31,12 @@ pub find-with_same : (spans : Spans) (id : ℕ) (node : Node) → find spans id 
 find-with_same [] id node h = rw (eq-eqb id id refl) refl
 find-with_same (e ∷ es) id node h =
     elim (cases_Bool (ltb (slot_of id) (slot_of e.0))) [
-      inl t ↦ rw (t, eq-eqb id id refl) refl
-    | inr t ↦ elim (eqb_tells e.0 id) [
-        inl u ↦ (let h2 = rw u.0 at h in cc)
-      | inr u ↦ (let r = find-with_same es id node (rw u.0 at h) in rw (t, u.0) r) ] ]
+      | inl t ↦ rw (t, eq-eqb id id refl) refl
+      | inr t ↦ elim (eqb_tells e.0 id) [
+        | inl u ↦ (let h2 = rw u.0 at h in cc)
+        | inr u ↦ (let r = find-with_same es id node (rw u.0 at h) in rw (t, u.0) r)
+      ]
+    ]
 
 pub find-with_other : (spans : Spans) (id j : ℕ) (node : Node) → j ≢ id → find (with_node spans id node) j ≡ find spans j
 find-with_other [] id j node ne = rw (ne_eqb id j (λ q. ne (sym q))) refl
@@ -42,17 +44,20 @@ find-with_other (e ∷ es) id j node ne =
     let r = find-with_other es id j node ne in
     let other = ne_eqb id j (λ q. ne (sym q)) in
     elim (cases_Bool (ltb (slot_of id) (slot_of e.0))) [
-      inl t ↦ rw (t, other) refl
-    | inr t ↦ elim (eqb_tells e.0 j) [ inl u ↦ rw (t, u.0) refl | inr u ↦ rw (t, u.0) r ] ]
+      | inl t ↦ rw (t, other) refl
+      | inr t ↦ elim (eqb_tells e.0 j) [ inl u ↦ rw (t, u.0) refl | inr u ↦ rw (t, u.0) r ]
+    ]
 
 pub value_at-with_same : (es : List (ℕ × Span)) (id : ℕ) (span : Span) → value_at es id ≡ None → value_at (with_entry es id span) id ≡ Some span
 value_at-with_same [] id span h = rw (eq-eqb id id refl) refl
 value_at-with_same (e ∷ es) id span h =
     elim (cases_Bool (ltb (slot_of id) (slot_of e.0))) [
-      inl t ↦ rw (t, eq-eqb id id refl) refl
-    | inr t ↦ elim (eqb_tells e.0 id) [
-        inl u ↦ (let h2 = rw u.0 at h in cc)
-      | inr u ↦ (let r = value_at-with_same es id span (rw u.0 at h) in rw (t, u.0) r) ] ]
+      | inl t ↦ rw (t, eq-eqb id id refl) refl
+      | inr t ↦ elim (eqb_tells e.0 id) [
+        | inl u ↦ (let h2 = rw u.0 at h in cc)
+        | inr u ↦ (let r = value_at-with_same es id span (rw u.0 at h) in rw (t, u.0) r)
+      ]
+    ]
 
 pub value_at-with_other : (es : List (ℕ × Span)) (id j : ℕ) (span : Span) → j ≢ id → value_at (with_entry es id span) j ≡ value_at es j
 value_at-with_other [] id j span ne = rw (ne_eqb id j (λ q. ne (sym q))) refl
@@ -60,8 +65,9 @@ value_at-with_other (e ∷ es) id j span ne =
     let r = value_at-with_other es id j span ne in
     let other = ne_eqb id j (λ q. ne (sym q)) in
     elim (cases_Bool (ltb (slot_of id) (slot_of e.0))) [
-      inl t ↦ rw (t, other) refl
-    | inr t ↦ elim (eqb_tells e.0 j) [ inl u ↦ rw (t, u.0) refl | inr u ↦ rw (t, u.0) r ] ]
+      | inl t ↦ rw (t, other) refl
+      | inr t ↦ elim (eqb_tells e.0 j) [ inl u ↦ rw (t, u.0) refl | inr u ↦ rw (t, u.0) r ]
+    ]
 
 pub children-with : (spans : Spans) (id j : ℕ) (node : Node) → children (with_node spans id node) j ≡ children spans j + cond (is_some_id node.parent j) 1 0
 children-with [] id j node = omega arith
@@ -76,10 +82,12 @@ pub AreApart-with : (spans : Spans) (id : ℕ) (node : Node) → find spans id �
 AreApart-with [] id node h a = (refl, tt)
 AreApart-with (e ∷ es) id node h a =
     elim (cases_Bool (ltb (slot_of id) (slot_of e.0))) [
-      inl t ↦ rw t (h, a)
-    | inr t ↦ elim (eqb_tells e.0 id) [
-        inl u ↦ absurd (let h2 = rw u.0 at h in some_none e.1 h2)
-      | inr u ↦ rw t (find-with_other es id e.0 node u.1 ∙ a.0, AreApart-with es id node (rw u.0 at h) a.1) ] ]
+      | inl t ↦ rw t (h, a)
+      | inr t ↦ elim (eqb_tells e.0 id) [
+        | inl u ↦ absurd (let h2 = rw u.0 at h in some_none e.1 h2)
+        | inr u ↦ rw t (find-with_other es id e.0 node u.1 ∙ a.0, AreApart-with es id node (rw u.0 at h) a.1)
+      ]
+    ]
 
 some_none_id : (p : ℕ) → Some p ≡ None → ⊥
 some_none_id p h = cc
@@ -95,8 +103,9 @@ open_absent spans id j h o e = not_open (find spans j) (ap (find spans) e ∙ h)
 pub no_children : (spans : Spans) (id : ℕ) → IsRanked spans → find spans id ≡ None → children spans id ≡ 0
 no_children spans id w h =
     elim (cases_lt 0 (children spans id)) [
-      inl t ↦ (let c = child_exists spans id w.apart t in absurd (open_absent spans id id h (w.parents_open c.0 id c.1) refl))
-    | inr t ↦ omega arith ]
+      | inl t ↦ (let c = child_exists spans id w.apart t in absurd (open_absent spans id id h (w.parents_open c.0 id c.1) refl))
+      | inr t ↦ omega arith
+    ]
 
 rank_with : (ℕ → ℕ) → ℕ → ℕ → ℕ → ℕ
 rank_with rank top id j = cond (eqb j id) top (rank j)
@@ -112,16 +121,19 @@ IsRanked-with spans id node w h par =
     record {
       apart = AreApart-with spans id node h w.apart;
       parents_open = λ c p e. elim (eqb_tells c id) [
-        inl t ↦ open_with spans id p node h (new p (rw t.1 at e))
-      | inr t ↦ open_with spans id p node h (w.parents_open c p (old c p t.1 e)) ];
+        | inl t ↦ open_with spans id p node h (new p (rw t.1 at e))
+        | inr t ↦ open_with spans id p node h (w.parents_open c p (old c p t.1 e))
+      ];
       rank = rank_with w.rank w.top id;
       top = w.top + 1;
       falls = λ c p e. elim (eqb_tells c id) [
-        inl t ↦ (let o = new p (rw t.1 at e) in let b = w.bounded p o in rw (t.0, ne_eqb p id (open_absent spans id p h o)) b)
-      | inr t ↦ (let k = old c p t.1 e in let f = w.falls c p k in rw (t.0, ne_eqb p id (open_absent spans id p h (w.parents_open c p k))) f) ];
+        | inl t ↦ (let o = new p (rw t.1 at e) in let b = w.bounded p o in rw (t.0, ne_eqb p id (open_absent spans id p h o)) b)
+        | inr t ↦ (let k = old c p t.1 e in let f = w.falls c p k in rw (t.0, ne_eqb p id (open_absent spans id p h (w.parents_open c p k))) f)
+      ];
       bounded = λ c o. elim (eqb_tells c id) [
-        inl t ↦ rw t.0 (omega arith)
-      | inr t ↦ (let b = w.bounded c (subst IsSome (find-with_other spans id c node t.1) o) in rw t.0 (omega arith)) ];
+        | inl t ↦ rw t.0 (omega arith)
+        | inr t ↦ (let b = w.bounded c (subst IsSome (find-with_other spans id c node t.1) o) in rw t.0 (omega arith))
+      ];
     }
 
 -- an id that is open after the span came in, and isn't the span's, was open before
@@ -186,15 +198,16 @@ module _ (es : List (ℕ × Span)) (id : ℕ) (span : Span) (w : IsSettled es) (
   pub counted_new_root : span.parent ≡ None → AreCounted (with_entry es id span)
   counted_new_root e j s f =
       rw nodes-with (elim (eqb_tells j id) [
-        inl t ↦ (let k = some_same s span (value_at (with_entry es id span) j) f (rw t.1 (value_at-with_same es id span absent)) in
-                 let q : s.count ≡ span.count = ap (λ x. x.count) k in
-                 let n = written_new (rw e refl) in
-                 rw t.1 (omega arith))
-      | inr t ↦ (let g = sym (value_at-with_other es id j span t.1) ∙ f in
-                 let b = w.counted j s g in
-                 let n = written_old j t.1 in
-                 let z : as_one (is_some_id span.parent j) ≡ 0 = rw e refl in
-                 omega arith) ])
+        | inl t ↦ (let k = some_same s span (value_at (with_entry es id span) j) f (rw t.1 (value_at-with_same es id span absent)) in
+            let q : s.count ≡ span.count = ap (λ x. x.count) k in
+            let n = written_new (rw e refl) in
+            rw t.1 (omega arith))
+        | inr t ↦ (let g = sym (value_at-with_other es id j span t.1) ∙ f in
+            let b = w.counted j s g in
+            let n = written_old j t.1 in
+            let z : as_one (is_some_id span.parent j) ≡ 0 = rw e refl in
+            omega arith)
+      ])
 
   -- with a parent, which counts it
   pub counted_new_child : (p : ℕ) (up : Span) → AreApart (nodes_of (with_entry es id span)) → span.parent ≡ Some p → value_at es p ≡ Some up → AreCounted (with_value (with_entry es id span) p (counts_more up))
@@ -203,22 +216,24 @@ module _ (es : List (ℕ × Span)) (id : ℕ) (span : Span) (w : IsSettled es) (
       let at : value_at (with_entry es id span) p ≡ Some up = value_at-with_other es id p span np ∙ u in
       let nodes : nodes_of (with_value (with_entry es id span) p (counts_more up)) ≡ with_node (nodes_of es) id (node_of span) = nodes_kept (with_entry es id span) p up (counts_more up) a at refl ∙ nodes-with es id span in
       rw nodes (elim (eqb_tells j p) [
-        inl t ↦ (let k = some_same s (counts_more up) (value_at (with_value (with_entry es id span) p (counts_more up)) j) f (rw t.1 (value_at-with_value_same (with_entry es id span) p up (counts_more up) at)) in
-                 let q : s.count ≡ up.count + 1 = ap (λ x. x.count) k in
-                 let b = w.counted p up u in
-                 let n = written_old p np in
-                 let z : as_one (is_some_id span.parent p) ≡ 1 = ap as_one (is_some_id_same span.parent p e) in
-                 rw t.1 (omega arith))
-      | inr t ↦ (let g = sym (value_at-with_value_other (with_entry es id span) p j (counts_more up) t.1) ∙ f in
-                 elim (eqb_tells j id) [
-                   inl r ↦ (let k = some_same s span (value_at (with_entry es id span) j) g (rw r.1 (value_at-with_same es id span absent)) in
-                            let q : s.count ≡ span.count = ap (λ x. x.count) k in
-                            let own : is_some_id span.parent id ≡ false = rw e (ne_eqb p id np) in
-                            let n = written_new own in
-                            rw r.1 (omega arith))
-                 | inr r ↦ (let g2 = sym (value_at-with_other es id j span r.1) ∙ g in
-                            let b = w.counted j s g2 in
-                            let n = written_old j r.1 in
-                            let none : is_some_id span.parent j ≡ false = rw e (ne_eqb p j (λ q. t.1 (sym q))) in
-                            let z : as_one (is_some_id span.parent j) ≡ 0 = ap as_one none in
-                            omega arith) ]) ])
+        | inl t ↦ (let k = some_same s (counts_more up) (value_at (with_value (with_entry es id span) p (counts_more up)) j) f (rw t.1 (value_at-with_value_same (with_entry es id span) p up (counts_more up) at)) in
+            let q : s.count ≡ up.count + 1 = ap (λ x. x.count) k in
+            let b = w.counted p up u in
+            let n = written_old p np in
+            let z : as_one (is_some_id span.parent p) ≡ 1 = ap as_one (is_some_id_same span.parent p e) in
+            rw t.1 (omega arith))
+        | inr t ↦ (let g = sym (value_at-with_value_other (with_entry es id span) p j (counts_more up) t.1) ∙ f in
+            elim (eqb_tells j id) [
+              | inl r ↦ (let k = some_same s span (value_at (with_entry es id span) j) g (rw r.1 (value_at-with_same es id span absent)) in
+                  let q : s.count ≡ span.count = ap (λ x. x.count) k in
+                  let own : is_some_id span.parent id ≡ false = rw e (ne_eqb p id np) in
+                  let n = written_new own in
+                  rw r.1 (omega arith))
+              | inr r ↦ (let g2 = sym (value_at-with_other es id j span r.1) ∙ g in
+                  let b = w.counted j s g2 in
+                  let n = written_old j r.1 in
+                  let none : is_some_id span.parent j ≡ false = rw e (ne_eqb p j (λ q. t.1 (sym q))) in
+                  let z : as_one (is_some_id span.parent j) ≡ 0 = ap as_one none in
+                  omega arith)
+            ])
+      ])

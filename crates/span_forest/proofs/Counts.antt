@@ -20,7 +20,7 @@ use Rattle.span_forest.specs.Chain.{without_all, Chain, IsPending}
 use Rattle.span_forest.proofs.Ranks.{IsRanked}
 use Rattle.span_forest.specs.Forest.{IsForest}
 use Rattle.span_forest.proofs.Finds.{no_child, is_some_id_same, find-without_other, find-without_same, AreApart-without}
-use Rattle.std.proofs.lemmas.List.{take_more, drop_more}
+use Rattle.std.proofs.lemmas.List.{take_more, drop_more, take_all, drop_all}
 use Rattle.span_forest.proofs.Chains.{written_without, IsPending-without, chain_end}
 use Rattle.span_forest.proofs.Totals.{total-changed, total-without, total_le, length-nodes, length-changed}
 use Rattle.span_forest.specs.Count.{total_held}
@@ -37,16 +37,18 @@ value_at-with_value_other [] id j new ne = refl
 value_at-with_value_other (e ∷ es) id j new ne =
     let r = value_at-with_value_other es id j new ne in
     elim (eqb_tells e.0 j) [
-      inl t ↦ (let u = ne_eqb e.0 id (λ q. ne (sym t.1 ∙ q)) in rw (t.0, u) refl)
-    | inr t ↦ rw t.0 r ]
+      | inl t ↦ (let u = ne_eqb e.0 id (λ q. ne (sym t.1 ∙ q)) in rw (t.0, u) refl)
+      | inr t ↦ rw t.0 r
+    ]
 
 pub value_at-without_other : (es : List (ℕ × Span)) (id j : ℕ) → j ≢ id → value_at (without_entry es id) j ≡ value_at es j
 value_at-without_other [] id j ne = refl
 value_at-without_other (e ∷ es) id j ne =
     let r = value_at-without_other es id j ne in
     elim (eqb_tells e.0 id) [
-      inl t ↦ (let u = ne_eqb e.0 j (λ q. ne (sym q ∙ t.1)) in rw (t.0, u) r)
-    | inr t ↦ elim (eqb_tells e.0 j) [ inl u ↦ rw (t.0, u.0) refl | inr u ↦ rw (t.0, u.0) r ] ]
+      | inl t ↦ (let u = ne_eqb e.0 j (λ q. ne (sym q ∙ t.1)) in rw (t.0, u) r)
+      | inr t ↦ elim (eqb_tells e.0 j) [ inl u ↦ rw (t.0, u.0) refl | inr u ↦ rw (t.0, u.0) r ]
+    ]
 
 pub value_at-without_same : (es : List (ℕ × Span)) (id : ℕ) → value_at (without_entry es id) id ≡ None
 value_at-without_same [] id = refl
@@ -59,19 +61,21 @@ written_absent : (f : Node → Node) (es : List (ℕ × Span)) (id : ℕ) (new :
 written_absent f [] id new h = refl
 written_absent f (e ∷ es) id new h =
     elim (eqb_tells e.0 id) [
-      inl t ↦ (let h2 = rw t.0 at h in cc)
-    | inr t ↦ (let r = written_absent f es id new (rw t.0 at h) in rw (t.0, r) refl) ]
+      | inl t ↦ (let h2 = rw t.0 at h in cc)
+      | inr t ↦ (let r = written_absent f es id new (rw t.0 at h) in rw (t.0, r) refl)
+    ]
 
 pub nodes-written : (f : Node → Node) (es : List (ℕ × Span)) (id : ℕ) (span new : Span) → AreApart (nodes_of es) → value_at es id ≡ Some span → node_of new ≡ f (node_of span) → nodes_of (with_value es id new) ≡ changed f (nodes_of es) id
 nodes-written f [] id span new a h k = cc
 nodes-written f (e ∷ es) id span new a h k =
     elim (eqb_tells e.0 id) [
-      inl t ↦ (let r = written_absent f es id new (rw t.1 at a.0) in
-               let h2 = rw t.0 at h in
-               let same : e.1 ≡ span = cc in
-               let k2 : node_of new ≡ f (node_of e.1) = k ∙ ap (λ x. f (node_of x)) (sym same) in
-               rw (t.0, r, k2) refl)
-    | inr t ↦ (let r = nodes-written f es id span new a.1 (rw t.0 at h) k in rw (t.0, r) refl) ]
+      | inl t ↦ (let r = written_absent f es id new (rw t.1 at a.0) in
+          let h2 = rw t.0 at h in
+          let same : e.1 ≡ span = cc in
+          let k2 : node_of new ≡ f (node_of e.1) = k ∙ ap (λ x. f (node_of x)) (sym same) in
+          rw (t.0, r, k2) refl)
+      | inr t ↦ (let r = nodes-written f es id span new a.1 (rw t.0 at h) k in rw (t.0, r) refl)
+    ]
 
 pub changed_none : (spans : Spans) (id : ℕ) → changed (λ n. n) spans id ≡ spans
 changed_none [] id = refl
@@ -100,16 +104,17 @@ pub counted_less : (es : List (ℕ × Span)) (id : ℕ) (holder : Holder) (span 
 counted_less es id holder span w held h j s f =
     let n = nodes_less es id holder span w.forest.ids_apart h in
     rw n (elim (eqb_tells j id) [
-      inl t ↦ (let a = some_same s (span_less holder span) (value_at (with_value es id (span_less holder span)) j) f (rw t.1 (value_at-with_value_same es id span (span_less holder span) h)) in
-               let b = w.counted id span h in
-               let d = written-taken_same (nodes_of es) id holder held in
-               let e = count_less holder span in
-               let q : s.count ≡ span.count - 1 = ap (λ x. x.count) a ∙ e in
-               rw t.1 (omega arith))
-    | inr t ↦ (let g = sym (value_at-with_value_other es id j (span_less holder span) t.1) ∙ f in
-               let b = w.counted j s g in
-               let d = written-taken_other (nodes_of es) id j holder t.1 in
-               omega arith) ])
+      | inl t ↦ (let a = some_same s (span_less holder span) (value_at (with_value es id (span_less holder span)) j) f (rw t.1 (value_at-with_value_same es id span (span_less holder span) h)) in
+          let b = w.counted id span h in
+          let d = written-taken_same (nodes_of es) id holder held in
+          let e = count_less holder span in
+          let q : s.count ≡ span.count - 1 = ap (λ x. x.count) a ∙ e in
+          rw t.1 (omega arith))
+      | inr t ↦ (let g = sym (value_at-with_value_other es id j (span_less holder span) t.1) ∙ f in
+          let b = w.counted j s g in
+          let d = written-taken_other (nodes_of es) id j holder t.1 in
+          omega arith)
+    ])
 
 pub node_found : (es : List (ℕ × Span)) (id : ℕ) (span : Span) → value_at es id ≡ Some span → find (nodes_of es) id ≡ Some (node_of span)
 node_found es id span h = find-nodes es id ∙ ap (option_map node_of) h
@@ -131,21 +136,22 @@ counted_child es id p span up a a2 w h e np u j s f =
     let new : Span = record up { count = up.count - 1 } in
     let n = nodes_kept (without_entry es id) p up new a2 u refl ∙ sym (without-nodes es id) in
     rw n (elim (eqb_tells j p) [
-      inl t ↦ (let q = some_same s new (value_at (with_value (without_entry es id) p new) j) f (rw t.1 (value_at-with_value_same (without_entry es id) p up new u)) in
-               let c : s.count ≡ up.count - 1 = ap (λ x. x.count) q in
-               let g = sym (value_at-without_other es id p np) ∙ u in
-               let b = w p up g in
-               let k = written_without (nodes_of es) id p (node_of span) a (node_found es id span h) np in
-               let k2 = rw (is_some_id_same span.parent p e) at k in
-               rw t.1 (omega arith))
-    | inr t ↦ (let f1 = sym (value_at-with_value_other (without_entry es id) p j new t.1) ∙ f in
-               let ne : j ≢ id = λ q. none_is (value_at (without_entry es id) j) s (rw q (value_at-without_same es id)) f1 in
-               let g = sym (value_at-without_other es id j ne) ∙ f1 in
-               let b = w j s g in
-               let k = written_without (nodes_of es) id j (node_of span) a (node_found es id span h) ne in
-               let other : is_some_id span.parent j ≡ false = rw e (ne_eqb p j (λ q. t.1 (sym q))) in
-               let k2 = rw other at k in
-               omega arith) ])
+      | inl t ↦ (let q = some_same s new (value_at (with_value (without_entry es id) p new) j) f (rw t.1 (value_at-with_value_same (without_entry es id) p up new u)) in
+          let c : s.count ≡ up.count - 1 = ap (λ x. x.count) q in
+          let g = sym (value_at-without_other es id p np) ∙ u in
+          let b = w p up g in
+          let k = written_without (nodes_of es) id p (node_of span) a (node_found es id span h) np in
+          let k2 = rw (is_some_id_same span.parent p e) at k in
+          rw t.1 (omega arith))
+      | inr t ↦ (let f1 = sym (value_at-with_value_other (without_entry es id) p j new t.1) ∙ f in
+          let ne : j ≢ id = λ q. none_is (value_at (without_entry es id) j) s (rw q (value_at-without_same es id)) f1 in
+          let g = sym (value_at-without_other es id j ne) ∙ f1 in
+          let b = w j s g in
+          let k = written_without (nodes_of es) id j (node_of span) a (node_found es id span h) ne in
+          let other : is_some_id span.parent j ≡ false = rw e (ne_eqb p j (λ q. t.1 (sym q))) in
+          let k2 = rw other at k in
+          omega arith)
+    ])
 
 -- what one closing leaves of a table
 removed_is : (t : Table Span) (id : ℕ) (span : Span) → value_at t.entries id ≡ Some span → removed t id ≡ record t { entries = without_entry t.entries id; freed = freed_with t (slot_of id) }
@@ -189,7 +195,7 @@ closed_child t less new id p span w c z h e k lowered =
     let at : value_at (without_entry t.entries id) p ≡ Some up.0 = sym (ap (λ x. value_at x.entries p) q) ∙ up.1 in
     let a2 : AreApart (nodes_of (without_entry t.entries id)) = rw (← without-nodes) (AreApart-without nodes id w.apart) in
     let step : new ≡ record t { entries = with_value (without_entry t.entries id) p (record up.0 { count = up.0.count - 1 }); freed = freed_with t (slot_of id) } =
-      lowered up.0 up.1 ∙ ap (λ (x : Table Span). record x { entries = with_value x.entries p (record up.0 { count = up.0.count - 1 }) }) q in
+    lowered up.0 up.1 ∙ ap (λ (x : Table Span). record x { entries = with_value x.entries p (record up.0 { count = up.0.count - 1 }) }) q in
     rw step (record {
       nodes = nodes_kept (without_entry t.entries id) p up.0 (record up.0 { count = up.0.count - 1 }) a2 at refl ∙ sym (without-nodes t.entries id);
       counted = counted_child t.entries id p span up.0 w.apart a2 c h k np at;
@@ -228,6 +234,10 @@ Closes_more t now new done rest x w d =
       table = d.table ∙ (ap (λ (u : Table Span). record u { entries = new.entries; freed = freed_with now (slot_of x) }) w.table ∙ ap (λ v. record t { entries = new.entries; freed = v }) freed);
     }
 
+pub Closes_end : (t now : Table Span) (xs : List ℕ) (i : ℕ) → length xs ≤ i → Closes t now (take i xs) (drop i xs) → Closes t now xs []
+Closes_end t now xs i le w =
+    subst (λ v. Closes t now v []) (take_all i xs le) (subst (Closes t now (take i xs)) (drop_all i xs le) w)
+
 pub settled_at_end : (t now : Table Span) (done : List ℕ) → Closes t now done [] → IsSettled now.entries
 settled_at_end t now done w = record {
   forest = w.pending.forest;
@@ -245,8 +255,9 @@ written_without_le : (spans : Spans) (x j : ℕ) → written_count (without span
 written_without_le spans x j =
     let r = children-without-le spans x j in
     elim (eqb_tells j x) [
-      inl t ↦ (let k0 : find (without spans x) j ≡ None = rw t.1 (find-without_same spans x) in let k : holders_in (find (without spans x) j) ≡ 0 = ap holders_in k0 in omega arith)
-    | inr t ↦ (let k = ap holders_in (find-without_other spans x j t.1) in omega arith) ]
+      | inl t ↦ (let k0 : find (without spans x) j ≡ None = rw t.1 (find-without_same spans x) in let k : holders_in (find (without spans x) j) ≡ 0 = ap holders_in k0 in omega arith)
+      | inr t ↦ (let k = ap holders_in (find-without_other spans x j t.1) in omega arith)
+    ]
 
 written_all_le : (xs : List ℕ) (spans : Spans) (j : ℕ) → written_count (without_all spans xs) j ≤ written_count spans j
 written_all_le [] spans j = omega arith
@@ -256,8 +267,9 @@ pub written_left_le : (spans : Spans) (id : ℕ) (holder : Holder) (xs : List �
 written_left_le spans id holder xs j h =
     let r = written_all_le xs (taken spans id holder) j in
     elim (eqb_tells j id) [
-      inl t ↦ (let q = written-taken_same spans id holder h in let r2 = rw t.1 at r in rw t.1 (omega arith))
-    | inr t ↦ (let q = written-taken_other spans id j holder t.1 in omega arith) ]
+      | inl t ↦ (let q = written-taken_same spans id holder h in let r2 = rw t.1 at r in rw t.1 (omega arith))
+      | inr t ↦ (let q = written-taken_other spans id j holder t.1 in omega arith)
+    ]
 
 pub Closes_turn : (t now new : Table Span) (xs : List ℕ) (i x : ℕ) → i < length xs → x ≡ get_or xs i x → Closes t now (take i xs) (drop i xs) → Closed now new x → Closes t new (take (i + 1) xs) (drop (i + 1) xs)
 Closes_turn t now new xs i x l e w d =
@@ -288,7 +300,6 @@ release_view t new max id holder ys e n l =
     let d = ap (λ (u : Table Span). u.given) e in
     let f : new.freed ≡ freed_after t.last_generation t.given t.freed (closing_list (nodes_of t.entries) id holder) = ap (λ (u : Table Span). u.freed) e ∙ ap (freed_after t.last_generation t.given t.freed) l in
     view_same n a b d f
-
 
 node_more : (holder : Holder) (span : Span) → node_of (span_more holder span) ≡ with_more holder (node_of span)
 node_more Handle span = refl
@@ -334,20 +345,23 @@ IsKept-kept es max total more id holder span w h low one =
       settled = record {
         forest = rw n (IsForest-changed (with_more holder) (with_more-parent holder) (nodes_of es) id w.settled.forest);
         counted = λ j s g. rw n (elim (eqb_tells j id) [
-          inl t ↦ (let a = some_same s (span_more holder span) (value_at (with_value es id (span_more holder span)) j) g (rw t.1 (value_at-with_value_same es id span (span_more holder span) h)) in
-                   let q : s.count ≡ span.count + 1 = ap (λ x. x.count) a ∙ count_more_is holder span in
-                   rw t.1 (omega arith))
-        | inr t ↦ (let k = sym (value_at-with_value_other es id j (span_more holder span) t.1) ∙ g in
-                   let b = w.settled.counted j s k in
-                   let d = written-kept_other (nodes_of es) id j holder t.1 in
-                   omega arith) ]);
+          | inl t ↦ (let a = some_same s (span_more holder span) (value_at (with_value es id (span_more holder span)) j) g (rw t.1 (value_at-with_value_same es id span (span_more holder span) h)) in
+              let q : s.count ≡ span.count + 1 = ap (λ x. x.count) a ∙ count_more_is holder span in
+              rw t.1 (omega arith))
+          | inr t ↦ (let k = sym (value_at-with_value_other es id j (span_more holder span) t.1) ∙ g in
+              let b = w.settled.counted j s k in
+              let d = written-kept_other (nodes_of es) id j holder t.1 in
+              omega arith)
+        ]);
         positive = λ j o. rw n (let o2 = IsOpen-changed (with_more holder) (nodes_of es) id j (rw n at o) in let p = w.settled.positive j o2 in elim (eqb_tells j id) [
-          inl t ↦ rw t.1 (omega arith)
-        | inr t ↦ (let d = written-kept_other (nodes_of es) id j holder t.1 in omega arith) ]);
+          | inl t ↦ rw t.1 (omega arith)
+          | inr t ↦ (let d = written-kept_other (nodes_of es) id j holder t.1 in omega arith)
+        ]);
       };
       bounded = λ j. rw n (let p = w.bounded j in elim (eqb_tells j id) [
-        inl t ↦ rw t.1 (omega arith)
-      | inr t ↦ (let d = written-kept_other (nodes_of es) id j holder t.1 in omega arith) ]);
+        | inl t ↦ rw t.1 (omega arith)
+        | inr t ↦ (let d = written-kept_other (nodes_of es) id j holder t.1 in omega arith)
+      ]);
       total_is = rw n (let q = total-changed (with_more holder) (nodes_of es) id (node_of span) w.settled.forest.ids_apart f in let k = more_holders holder (node_of span) in let z = w.total_is in omega arith);
       few = (let a = ap length n in let b = length-nodes es in let d = length-nodes (with_value es id (span_more holder span)) in let e = length-changed (with_more holder) (nodes_of es) id in let q = w.few in omega arith);
       max_low = w.max_low;

@@ -50,7 +50,7 @@ Gathers_turn es layer id at span names more next w g0 n f m =
     let parent : parent_of spans at ≡ span.parent = ap parent_in found in
     let step : walk_from spans (Some at) ≡ at ∷ walk_from spans span.parent = walk_step spans at w (g.here at refl) ∙ ap (λ o. at ∷ walk_from spans o) parent in
     let first : names_for layer spans (walk_from spans (Some at)) ≡ name_for layer (Some (node_of span)) ++ names_for layer spans (walk_from spans span.parent) =
-      ap (names_for layer spans) step ∙ ap (λ o. name_for layer o ++ names_for layer spans (walk_from spans span.parent)) found in
+    ap (names_for layer spans) step ∙ ap (λ o. name_for layer o ++ names_for layer spans (walk_from spans span.parent)) found in
     record {
       gathers = record {
         all = ap (λ v. v ++ names_for layer spans (walk_from spans span.parent)) m ∙ (append_assoc names (name_for layer (Some (node_of span))) (names_for layer spans (walk_from spans span.parent)) ∙ (ap (λ v. names ++ v) (sym first) ∙ g.all));

@@ -77,9 +77,10 @@ module _ (t : Table Span) (id : ℕ) (span : Span) (w : IsSettled t.entries) (ab
   positive_with : is_some_id span.parent id ≡ false → (j : ℕ) → IsOpen (with_node (nodes_of t.entries) id (node_of span)) j → 0 < written_count (with_node (nodes_of t.entries) id (node_of span)) j
   positive_with own j o =
       elim (eqb_tells j id) [
-        inl q ↦ (let n = written_new t.entries id span w absent (one_count span fresh) own in let c = fresh.count in rw q.1 (omega arith))
-      | inr q ↦ (let n = written_old t.entries id span w absent (one_count span fresh) j q.1 in
-                 let b = w.positive j (open_back (nodes_of t.entries) id j (node_of span) q.1 o) in omega arith) ]
+        | inl q ↦ (let n = written_new t.entries id span w absent (one_count span fresh) own in let c = fresh.count in rw q.1 (omega arith))
+        | inr q ↦ (let n = written_old t.entries id span w absent (one_count span fresh) j q.1 in
+            let b = w.positive j (open_back (nodes_of t.entries) id j (node_of span) q.1 o) in omega arith)
+      ]
 
   pub placed_root : (mid : Table Span) → mid ≡ stored t id span → span.parent ≡ None → Placed t mid id span
   placed_root mid e root =
@@ -109,7 +110,7 @@ module _ (t : Table Span) (id : ℕ) (span : Span) (w : IsSettled t.entries) (ab
       let apart : AreApart (nodes_of es) = rw nodes (AreApart-with (nodes_of t.entries) id (node_of span) absent_node w.forest.ids_apart) in
       let at : value_at es p ≡ Some up.0 = value_at-with_other t.entries id p span up.4 ∙ up.1 in
       let step : new ≡ record t { entries = with_value es p (counts_more up.0); given = issue t.given (slot_of id); freed = drop 1 t.freed } =
-        raised up.0 up.3 ∙ ap (λ (x : Table Span). record x { entries = with_value x.entries p (counts_more up.0) }) e in
+      raised up.0 up.3 ∙ ap (λ (x : Table Span). record x { entries = with_value x.entries p (counts_more up.0) }) e in
       let whole : nodes_of (with_value es p (counts_more up.0)) ≡ with_node (nodes_of t.entries) id (node_of span) = nodes_kept es p up.0 (counts_more up.0) apart at refl ∙ nodes in
       let own : is_some_id span.parent id ≡ false = rw q (ne_eqb p id up.4) in
       rw step (record {
@@ -139,16 +140,18 @@ IsKept-added es new max total id span w absent fresh room s n few =
     record {
       settled = s;
       bounded = λ j. rw n (elim (eqb_tells j id) [
-        inl q ↦ (let k = written_new es id span w.settled absent one (own_parent es max id span.parent absent room) in
-                 let c = fresh.count in let low = w.max_low in rw q.1 (omega arith))
-      | inr q ↦ (let k = written_old es id span w.settled absent one j q.1 in
-                 let b = w.bounded j in
-                 elim (cases_Bool (is_some_id span.parent j)) [
-                   inl t ↦ (let up = the_above (value_at es j) max (open_above es max span.parent room j (is_some_id_true span.parent j t)) in
-                            let c = w.settled.counted j up.0 up.1 in
-                            let z : as_one (is_some_id span.parent j) ≡ 1 = ap as_one t in
-                            let low = up.2 in omega arith)
-                 | inr t ↦ (let z : as_one (is_some_id span.parent j) ≡ 0 = ap as_one t in omega arith) ]) ]);
+        | inl q ↦ (let k = written_new es id span w.settled absent one (own_parent es max id span.parent absent room) in
+            let c = fresh.count in let low = w.max_low in rw q.1 (omega arith))
+        | inr q ↦ (let k = written_old es id span w.settled absent one j q.1 in
+            let b = w.bounded j in
+            elim (cases_Bool (is_some_id span.parent j)) [
+              | inl t ↦ (let up = the_above (value_at es j) max (open_above es max span.parent room j (is_some_id_true span.parent j t)) in
+                  let c = w.settled.counted j up.0 up.1 in
+                  let z : as_one (is_some_id span.parent j) ≡ 1 = ap as_one t in
+                  let low = up.2 in omega arith)
+              | inr t ↦ (let z : as_one (is_some_id span.parent j) ≡ 0 = ap as_one t in omega arith)
+            ])
+      ]);
       total_is = rw n (let k = total-with (nodes_of es) id (node_of span) in let b = w.total_is in let c = fresh.count in omega arith);
       few = few;
       max_low = w.max_low;

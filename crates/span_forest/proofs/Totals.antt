@@ -15,20 +15,22 @@ changed_absent : (f : Node → Node) (spans : Spans) (id : ℕ) → find spans i
 changed_absent f [] id h = refl
 changed_absent f (e ∷ es) id h =
     elim (eqb_tells e.0 id) [
-      inl t ↦ (let h2 = rw t.0 at h in cc)
-    | inr t ↦ (let r = changed_absent f es id (rw t.0 at h) in rw t.0 (omega arith)) ]
+      | inl t ↦ (let h2 = rw t.0 at h in cc)
+      | inr t ↦ (let r = changed_absent f es id (rw t.0 at h) in rw t.0 (omega arith))
+    ]
 
 pub total-changed : (f : Node → Node) (spans : Spans) (id : ℕ) (node : Node) → AreApart spans → find spans id ≡ Some node → total_held (changed f spans id) + holders node ≡ total_held spans + holders (f node)
 total-changed f [] id node a h = cc
 total-changed f (e ∷ es) id node a h =
     elim (eqb_tells e.0 id) [
-      inl t ↦ (let r = changed_absent f es id (rw t.1 at a.0) in
-               let h2 = rw t.0 at h in
-               let same : e.1 ≡ node = cc in
-               let p = ap holders same in
-               let q = ap (λ n. holders (f n)) same in
-               rw t.0 (omega arith))
-    | inr t ↦ (let r = total-changed f es id node a.1 (rw t.0 at h) in rw t.0 (omega arith)) ]
+      | inl t ↦ (let r = changed_absent f es id (rw t.1 at a.0) in
+          let h2 = rw t.0 at h in
+          let same : e.1 ≡ node = cc in
+          let p = ap holders same in
+          let q = ap (λ n. holders (f n)) same in
+          rw t.0 (omega arith))
+      | inr t ↦ (let r = total-changed f es id node a.1 (rw t.0 at h) in rw t.0 (omega arith))
+    ]
 
 pub total-with : (spans : Spans) (id : ℕ) (node : Node) → total_held (with_node spans id node) ≡ total_held spans + holders node
 total-with [] id node = omega arith
@@ -40,17 +42,19 @@ without_absent_total : (spans : Spans) (id : ℕ) → find spans id ≡ None →
 without_absent_total [] id h = refl
 without_absent_total (e ∷ es) id h =
     elim (eqb_tells e.0 id) [
-      inl t ↦ (let h2 = rw t.0 at h in cc)
-    | inr t ↦ (let r = without_absent_total es id (rw t.0 at h) in rw t.0 (omega arith)) ]
+      | inl t ↦ (let h2 = rw t.0 at h in cc)
+      | inr t ↦ (let r = without_absent_total es id (rw t.0 at h) in rw t.0 (omega arith))
+    ]
 
 pub total-without : (spans : Spans) (id : ℕ) → AreApart spans → holders_in (find spans id) ≡ 0 → total_held (without spans id) ≡ total_held spans
 total-without [] id a z = refl
 total-without (e ∷ es) id a z =
     elim (eqb_tells e.0 id) [
-      inl t ↦ (let r = without_absent_total es id (rw t.1 at a.0) in
-               let z2 = rw t.0 at z in
-               rw t.0 (omega arith))
-    | inr t ↦ (let r = total-without es id a.1 (rw t.0 at z) in rw t.0 (omega arith)) ]
+      | inl t ↦ (let r = without_absent_total es id (rw t.1 at a.0) in
+          let z2 = rw t.0 at z in
+          rw t.0 (omega arith))
+      | inr t ↦ (let r = total-without es id a.1 (rw t.0 at z) in rw t.0 (omega arith))
+    ]
 
 first_le : (e : ℕ × Node) (es : Spans) (max : ℕ) → holders_in (find (e ∷ es) e.0) ≤ max → holders e.1 ≤ max
 first_le e es max h = rw (eq-eqb e.0 e.0 refl) at h
@@ -62,8 +66,9 @@ none_le (Some node) max h = cc
 rest_le : (e : ℕ × Node) (es : Spans) (max id : ℕ) → find es e.0 ≡ None → holders_in (find (e ∷ es) id) ≤ max → holders_in (find es id) ≤ max
 rest_le e es max id a h =
     elim (eqb_tells e.0 id) [
-      inl t ↦ none_le (find es id) max (rw t.1 at a)
-    | inr t ↦ (rw t.0 at h) ]
+      | inl t ↦ none_le (find es id) max (rw t.1 at a)
+      | inr t ↦ (rw t.0 at h)
+    ]
 
 -- where no span has more than 4294967295 holders, all have at most that times their number
 pub total_le : (spans : Spans) → AreApart spans → ((id : ℕ) → holders_in (find spans id) ≤ 4294967295) → total_held spans ≤ length spans * 4294967295

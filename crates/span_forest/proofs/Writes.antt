@@ -24,10 +24,11 @@ module _ (f : Node → Node) (same_parent : (n : Node) → (f n).parent ≡ n.pa
   written-changed spans id j =
       let d = children-changed f same_parent spans id j in
       elim (eqb_tells j id) [
-        inl t ↦ (let a = ap holders_in (find-changed_same f spans id) ∙ holders_map f same_holders (find spans id) in
-                 let d2 = rw t.1 at d in
-                 rw t.1 (omega arith))
-      | inr t ↦ (let a = ap holders_in (find-changed_other f spans id j t.1) in omega arith) ]
+        | inl t ↦ (let a = ap holders_in (find-changed_same f spans id) ∙ holders_map f same_holders (find spans id) in
+            let d2 = rw t.1 at d in
+            rw t.1 (omega arith))
+        | inr t ↦ (let a = ap holders_in (find-changed_other f spans id j t.1) in omega arith)
+      ]
 
   pub IsSettled-written : (es : List (ℕ × Span)) (id : ℕ) (span new : Span) → IsSettled es → value_at es id ≡ Some span → node_of new ≡ f (node_of span) → new.count ≡ span.count → IsSettled (with_value es id new)
   IsSettled-written es id span new w h e q =
@@ -35,13 +36,14 @@ module _ (f : Node → Node) (same_parent : (n : Node) → (f n).parent ≡ n.pa
       record {
         forest = rw n (IsForest-changed f same_parent (nodes_of es) id w.forest);
         counted = λ j s g. rw n (let k = written-changed (nodes_of es) id j in elim (eqb_tells j id) [
-          inl t ↦ (let a = some_same s new (value_at (with_value es id new) j) g (rw t.1 (value_at-with_value_same es id span new h)) in
-                   let b = w.counted j span (rw t.1 h) in
-                   let c = ap (λ (x : Span). x.count) a in
-                   omega arith)
-        | inr t ↦ (let b = w.counted j s (sym (value_at-with_value_other es id j new t.1) ∙ g) in omega arith) ]);
+          | inl t ↦ (let a = some_same s new (value_at (with_value es id new) j) g (rw t.1 (value_at-with_value_same es id span new h)) in
+              let b = w.counted j span (rw t.1 h) in
+              let c = ap (λ (x : Span). x.count) a in
+              omega arith)
+          | inr t ↦ (let b = w.counted j s (sym (value_at-with_value_other es id j new t.1) ∙ g) in omega arith)
+        ]);
         positive = λ j o. rw n (let k = written-changed (nodes_of es) id j in
-                                let b = w.positive j (IsOpen-changed f (nodes_of es) id j (rw n at o)) in omega arith);
+            let b = w.positive j (IsOpen-changed f (nodes_of es) id j (rw n at o)) in omega arith);
       }
 
   pub total-written : (spans : Spans) (id : ℕ) → total_held (changed f spans id) ≡ total_held spans
@@ -83,8 +85,9 @@ pub changed-absent : (f : Node → Node) (spans : Spans) (id : ℕ) → find spa
 changed-absent f [] id h = refl
 changed-absent f (e ∷ es) id h =
     elim (eqb_tells e.0 id) [
-      inl t ↦ (let h2 = rw t.0 at h in cc)
-    | inr t ↦ (let r = changed-absent f es id (rw t.0 at h) in rw (t.0, r) refl) ]
+      | inl t ↦ (let h2 = rw t.0 at h in cc)
+      | inr t ↦ (let r = changed-absent f es id (rw t.0 at h) in rw (t.0, r) refl)
+    ]
 
 -- the code's span with these fields
 abbrev pub refielded : Span → Vec Field Global → Span

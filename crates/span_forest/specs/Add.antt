@@ -20,7 +20,7 @@ abbrev pub added : ForestView → ℕ → Node → ForestView
 added forest id node = record forest {
   spans = with_node forest.spans id node;
   given = issue forest.given (slot_of id);
-  freed = drop 1 forest.freed
+  freed = drop 1 forest.freed;
 }
 
 -- why no span is added: the parent isn't open, else its count is at its greatest, else no slot is free, else there was no memory

@@ -1,8 +1,7 @@
 -- A forest of spans.
-use Rattle.std.specs.Prelude.{ℕ, ◌≡◌, List, length, slice_index, Option, Some}
-use Rattle.std.specs.Option.{option_map}
-use Rattle.span_slots.specs.Table.{next_slot_of}
-use Rattle.span_id.specs.Id.{id_of}
+use Rattle.std.specs.Prelude.{ℕ, ◌≡◌, List, length, Option, Some}
+use Rattle.span_slots.specs.Table.{Table, next_id}
+use Rattle.span_forest.specs.Node.{Node}
 use Rattle.span_forest.specs.Spans.{Spans, IsOpen, AreApart, parent_of}
 use Rattle.span_forest.specs.Walk.{Ends}
 
@@ -24,7 +23,17 @@ pub record ForestView : Type 0 where
   pub given : List ℕ
   pub freed : List ℕ
 
--- the id that the next span gets: that of the slot freed last, else of the lowest never used; none where no slot is free
+-- the forest as a slot table of spans
+abbrev pub table_of : ForestView → Table Node
+table_of forest = record {
+  slots = forest.slots;
+  last_generation = forest.last_generation;
+  entries = forest.spans;
+  given = forest.given;
+  freed = forest.freed;
+}
+
+-- the id that the next span gets: of the slot that was freed last, else of the lowest that was never used,
+-- at the slot's next generation; none where no slot is free
 abbrev pub next_span_id : ForestView → Option ℕ
-next_span_id forest =
-    option_map (λ slot. id_of slot (slice_index forest.given slot)) (next_slot_of forest.slots (length forest.given) forest.freed)
+next_span_id forest = next_id (table_of forest)

@@ -7,14 +7,17 @@ ghost use Rattle.span_forest.specs.Count.{written_count};
 ghost use Rattle.span_forest.specs.Invariant.{AreCounted, IsSettled};
 ghost use Rattle.span_forest.specs.Add.{CanHaveChild, WhyNoChild, IsNew, HasRoomAbove};
 
+use crate::holders::raise;
+use crate::span::Span;
 use span_id::{Fault, Id};
 use span_slots::Slots;
 
-use crate::holders::raise;
-use crate::span::Span;
-
 // The parent of a new span, if the span may be made under it: it is open, and its count may rise.
-pub(crate) fn checked_parent(slots: &Slots<Span>, max_count: u32, parent: Option<Id>) -> Result<Option<Id>, Fault>
+pub(crate) fn checked_parent(
+    slots: &Slots<Span>,
+    max_count: u32,
+    parent: Option<Id>,
+) -> Result<Option<Id>, Fault>
     requires counted { AreCounted slots.now.entries }
     requires bounded { (id : ℕ) → written_count (nodes_of slots.now.entries) id ≤ max_count }
     ensures same { IfOk result (λ checked. checked ≡ parent) }
@@ -46,9 +49,9 @@ pub(crate) fn place(slots: &mut Slots<Span>, span: Span) -> Id
     ensures vacant { value_at slots.old.entries result ≡ None }
     ensures few { length slots.new.entries ≤ 4294967295 }
     ensures table { slots.new ≡ record slots.old {
-        entries = slots.new.entries;
-        given = issue slots.old.given (slot_of result);
-        freed = drop 1 slots.old.freed
+      entries = slots.new.entries;
+      given = issue slots.old.given (slot_of result);
+      freed = drop 1 slots.old.freed;
     } }
 {
     let parent = span.parent;

@@ -7,17 +7,21 @@ ghost use Rattle.span_forest.specs.Forest.{IsForest};
 ghost use Rattle.span_forest.specs.Holders.{IsHeld};
 ghost use Rattle.span_forest.specs.Release.{taken, freed_after};
 ghost use Rattle.span_forest.specs.Invariant.{AreCounted, IsSettled};
-ghost use Rattle.span_forest.specs.Chain.{without_all, Chain, IsPending};
+ghost use Rattle.span_forest.specs.Chain.{without_all, Chain};
 
+use crate::holders::{drop_holder, lower};
+use crate::span::{Holder, Span};
 use span_id::Id;
 use span_slots::Slots;
 use std::alloc::{AllocError, Global};
 
-use crate::holders::{drop_holder, lower};
-use crate::span::{Holder, Span};
-
 // The spans that close, child first, where a span gives back one holder.
-pub(crate) fn chain(slots: &Slots<Span>, alloc: Global, id: Id, holder: Holder) -> Result<Vec<Id>, AllocError>
+pub(crate) fn chain(
+    slots: &Slots<Span>,
+    alloc: Global,
+    id: Id,
+    holder: Holder,
+) -> Result<Vec<Id>, AllocError>
     requires settled { IsSettled slots.now.entries }
     requires held { IsHeld (nodes_of slots.now.entries) id holder }
     ensures { IfOk result (λ ids. Chain (taken (nodes_of slots.now.entries) id holder) (Some id) ids.items) }
@@ -45,29 +49,13 @@ pub(crate) fn let_go(slots: &mut Slots<Span>, id: Id, holder: Holder, closed: &[
     ensures settled { IsSettled slots.new.entries }
     ensures nodes { nodes_of slots.new.entries ≡ without_all (taken (nodes_of slots.old.entries) id holder) closed.now }
     ensures table { slots.new ≡ record slots.old {
-        entries = slots.new.entries;
-        freed = freed_after slots.old.last_generation slots.old.given slots.old.freed closed.now
+      entries = slots.new.entries;
+      freed = freed_after slots.old.last_generation slots.old.given slots.old.freed closed.now;
     } }
 {
     drop_holder(slots, id, holder);
-    close_all(slots, id, closed);
-}
-
-// Closes the spans of a chain from this one on, one after the other.
-fn close_all(slots: &mut Slots<Span>, id: Id, closed: &[Id])
-    requires pending { IsPending (nodes_of slots.old.entries) (Some id) }
-    requires counted { AreCounted slots.old.entries }
-    requires chain { Chain (nodes_of slots.old.entries) (Some id) closed.now }
-    ensures settled { IsSettled slots.new.entries }
-    ensures nodes { nodes_of slots.new.entries ≡ without_all (nodes_of slots.old.entries) closed.now }
-    ensures table { slots.new ≡ record slots.old {
-        entries = slots.new.entries;
-        freed = freed_after slots.old.last_generation slots.old.given slots.old.freed closed.now
-    } }
-{
-    let _first = id;
-    for c in closed {
-        close_one(slots, *c);
+    for gone in closed {
+        close_one(slots, *gone);
     }
 }
 
@@ -80,8 +68,8 @@ fn close_one(slots: &mut Slots<Span>, id: Id)
     ensures nodes { nodes_of slots.new.entries ≡ without (nodes_of slots.old.entries) id }
     ensures counted { AreCounted slots.new.entries }
     ensures table { slots.new ≡ record slots.old {
-        entries = slots.new.entries;
-        freed = freed_with slots.old (slot_of id)
+      entries = slots.new.entries;
+      freed = freed_with slots.old (slot_of id);
     } }
 {
     let Some(span) = slots.remove(id) else {

@@ -1,4 +1,4 @@
-ghost use Rattle.std.specs.Prelude.{◌≡◌, ℕ, Some, None, IfSome, IfNone, IfOk, IfErr, OnOk, OnErr, IsSome, length, [], map, string_bytes};
+ghost use Rattle.std.specs.Prelude.{◌≡◌, ℕ, Some, None, IfSome, IfNone, IfOk, IfErr, OnOk, OnErr, IsTrue, ◌↔◌, length, [], map, string_bytes};
 ghost use Rattle.span_forest.specs.Node.{Node, node_of, fields_of, new_node, with_fields};
 ghost use Rattle.span_forest.specs.Spans.{find, IsOpen, changed, WhyNotFound};
 ghost use Rattle.span_forest.specs.Count.{written_count, total_held};
@@ -9,19 +9,20 @@ ghost use Rattle.span_forest.specs.Keep.{kept, CanKeep, WhyNotKept};
 ghost use Rattle.span_forest.specs.Release.{closing_list, released, freed_after, WhyNotReleased};
 ghost use Rattle.span_forest.specs.Add.{CanHaveChild, added, WhyNotAdded};
 
-use span_id::{Bits, Checked, Fault, Field, Id, Meta};
-use span_slots::Slots;
-use std::alloc::Global;
-use std::marker::Model;
+pub mod laws;
 
 use crate::adding::{checked_parent, place};
 use crate::closing::{chain, let_go};
 use crate::holders::{count_of, is_held, is_open, raise_holder};
 use crate::span::{Holder, Span};
 use crate::writing::{append_fields, copies_of, names_of};
+use span_id::{Bits, Checked, Fault, Field, Id, Meta};
+use span_slots::Slots;
+use std::alloc::Global;
+use std::marker::Model;
 
 /// The open spans, each under its id.
-#[derive(Drop)]
+#[derive(Debug, Drop)]
 pub struct Forest {
     slots: Slots<Span>,
     // How many holders all spans have.
@@ -54,12 +55,12 @@ impl Forest {
     /// A forest with no span, in which a table of `slots` slots is reserved whole. The only error is `Memory`.
     pub fn new(alloc: Global, checked: &Checked) -> Result<Self, Fault>
         ensures empty { IfOk result (λ forest. forest ≡ record {
-            spans = [];
-            max_count = checked.now.max_count;
-            slots = checked.now.slots;
-            last_generation = checked.now.last_generation;
-            given = [];
-            freed = []
+          spans = [];
+          max_count = checked.now.max_count;
+          slots = checked.now.slots;
+          last_generation = checked.now.last_generation;
+          given = [];
+          freed = [];
         }) }
         ensures memory { IfErr result (λ fault. fault ≡ Fault.Memory) }
     {
@@ -90,6 +91,13 @@ impl Forest {
         self.slots.len()
     }
 
+    /// Whether no span is open.
+    pub fn is_empty(&self) -> bool
+        ensures { IsTrue result ↔ (self.now.spans ≡ []) }
+    {
+        self.slots.is_empty()
+    }
+
     /// How many handles and entries all spans have.
     pub fn total(&self) -> u64
         ensures { result ≡ total_held self.now.spans }
@@ -108,7 +116,13 @@ impl Forest {
     ///
     /// Refused in this order: `Unknown` where the parent isn't open, `CountFull` where the parent's count
     /// stands at its greatest, `Full` where no slot is free, `Memory`.
-    pub fn add(&mut self, meta: &Meta, fields: &[Field], parent: Option<Id>, bits: Bits) -> Result<Id, Fault>
+    pub fn add(
+        &mut self,
+        meta: &Meta,
+        fields: &[Field],
+        parent: Option<Id>,
+        bits: Bits,
+    ) -> Result<Id, Fault>
         ensures parent { OnOk result (CanHaveChild self.old.spans self.old.max_count parent) }
         ensures id { IfOk result (λ id. next_span_id self.old ≡ Some id) }
         ensures forest { IfOk result (λ id. self.new ≡ added self.old id (new_node meta.now fields.now parent bits.0)) }
@@ -179,8 +193,8 @@ impl Forest {
     pub fn release(&mut self, id: Id, holder: Holder) -> Result<Vec<Id>, Fault>
         ensures list { IfOk result (λ ids. ids.items ≡ closing_list self.old.spans id holder) }
         ensures forest { OnOk result (self.new ≡ record self.old {
-            spans = released self.old.spans id holder;
-            freed = freed_after self.old.last_generation self.old.given self.old.freed (closing_list self.old.spans id holder)
+          spans = released self.old.spans id holder;
+          freed = freed_after self.old.last_generation self.old.given self.old.freed (closing_list self.old.spans id holder);
         }) }
         ensures held { OnOk result (IsHeld self.old.spans id holder) }
         ensures refused { IfErr result (λ fault. WhyNotReleased self.old.spans id holder fault) }
@@ -205,7 +219,7 @@ impl Forest {
     pub fn write_fields(&mut self, id: Id, fields: &[Field]) -> Result<(), Fault>
         ensures found { OnOk result (IsOpen self.old.spans id) }
         ensures forest { OnOk result (self.new ≡ record self.old {
-            spans = changed (with_fields (fields_of fields.now)) self.old.spans id
+          spans = changed (with_fields (fields_of fields.now)) self.old.spans id;
         }) }
         ensures refused { IfErr result (λ fault. WhyNotFound self.old.spans id fault) }
         ensures unchanged { OnErr result (self.new ≡ self.old) }

@@ -6,10 +6,9 @@ ghost use Rattle.span_forest.specs.Spans.{nodes_of, IsOpen};
 ghost use Rattle.span_forest.specs.Holders.{IsHeld, held_by};
 ghost use Rattle.span_forest.specs.Invariant.{span_less, span_more, counts_more};
 
+use crate::span::{Holder, Span};
 use span_id::Id;
 use span_slots::Slots;
-
-use crate::span::{Holder, Span};
 
 // Whether the span is open.
 pub(crate) fn is_open(slots: &Slots<Span>, id: Id) -> bool
@@ -46,7 +45,7 @@ pub(crate) fn raise_holder(slots: &mut Slots<Span>, id: Id, holder: Holder)
     requires { IsSomeAnd (value_at slots.old.entries id)
         (λ span. (held_by holder (node_of span) ≤ span.count) × (span.count < 4294967295)) }
     ensures { (span : Span) → value_at slots.old.entries id ≡ Some span → slots.new ≡ record slots.old {
-        entries = with_value slots.old.entries id (span_more holder span)
+      entries = with_value slots.old.entries id (span_more holder span);
     } }
 {
     if let Some(span) = slots.get_mut(id) {
@@ -63,7 +62,7 @@ pub(crate) fn drop_holder(slots: &mut Slots<Span>, id: Id, holder: Holder)
     requires { IsSomeAnd (value_at slots.old.entries id)
         (λ span. (0 < held_by holder (node_of span)) × (0 < span.count)) }
     ensures { (span : Span) → value_at slots.old.entries id ≡ Some span → slots.new ≡ record slots.old {
-        entries = with_value slots.old.entries id (span_less holder span)
+      entries = with_value slots.old.entries id (span_less holder span);
     } }
 {
     if let Some(span) = slots.get_mut(id) {
@@ -79,7 +78,7 @@ pub(crate) fn drop_holder(slots: &mut Slots<Span>, id: Id, holder: Holder)
 pub(crate) fn raise(slots: &mut Slots<Span>, id: Id)
     requires { IsSomeAnd (value_at slots.old.entries id) (λ span. span.count < 4294967295) }
     ensures { (span : Span) → value_at slots.old.entries id ≡ Some span → slots.new ≡ record slots.old {
-        entries = with_value slots.old.entries id (counts_more span)
+      entries = with_value slots.old.entries id (counts_more span);
     } }
 {
     if let Some(span) = slots.get_mut(id) {
@@ -91,7 +90,7 @@ pub(crate) fn raise(slots: &mut Slots<Span>, id: Id)
 pub(crate) fn lower(slots: &mut Slots<Span>, id: Id)
     requires { IsSomeAnd (value_at slots.old.entries id) (λ span. 0 < span.count) }
     ensures { (span : Span) → value_at slots.old.entries id ≡ Some span → slots.new ≡ record slots.old {
-        entries = with_value slots.old.entries id (record span { count = span.count - 1 })
+      entries = with_value slots.old.entries id (record span { count = span.count - 1 });
     } }
 {
     if let Some(span) = slots.get_mut(id) {

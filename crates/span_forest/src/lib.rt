@@ -8,7 +8,9 @@ mod closing;
 mod forest;
 mod holders;
 mod span;
+#[cfg(test)]
+mod tests;
 mod writing;
 
-pub use forest::Forest;
+pub use forest::{Forest, laws};
 pub use span::{Holder, Span};

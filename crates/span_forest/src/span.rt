@@ -1,7 +1,7 @@
 use span_id::{Bits, Field, Id, Meta};
 
 /// An open span: what it was made with, its parent, and what holds it.
-#[derive(Drop)]
+#[derive(Debug, Drop)]
 pub struct Span {
     /// The name, target and level that it was made with.
     pub meta: Meta,

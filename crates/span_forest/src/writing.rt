@@ -6,11 +6,10 @@ ghost use Rattle.span_forest.specs.Path.{name_for, path};
 ghost use Rattle.span_forest.specs.Forest.{IsForest};
 ghost use Rattle.span_forest.specs.Invariant.{IsSettled};
 
+use crate::span::Span;
 use span_id::{Fault, Field, Id};
 use span_slots::Slots;
 use std::alloc::{AllocError, Global};
-
-use crate::span::Span;
 
 // Copies of these fields.
 pub(crate) fn copies_of(alloc: Global, fields: &[Field]) -> Result<Vec<Field>, Fault>
@@ -28,7 +27,11 @@ pub(crate) fn copies_of(alloc: Global, fields: &[Field]) -> Result<Vec<Field>, F
 }
 
 // Appends these fields to those of a span. Where memory is refused the span stays as it was.
-pub(crate) fn append_fields(slots: &mut Slots<Span>, id: Id, mut fields: Vec<Field>) -> Result<(), AllocError>
+pub(crate) fn append_fields(
+    slots: &mut Slots<Span>,
+    id: Id,
+    mut fields: Vec<Field>,
+) -> Result<(), AllocError>
     requires settled { IsSettled slots.old.entries }
     ensures settled { IsSettled slots.new.entries }
     ensures written { OnOk result
@@ -43,7 +46,12 @@ pub(crate) fn append_fields(slots: &mut Slots<Span>, id: Id, mut fields: Vec<Fie
 }
 
 // The names of a span and its ancestors that the layer admits, root first.
-pub(crate) fn names_of(slots: &Slots<Span>, alloc: Global, layer: u32, id: Id) -> Result<Vec<String>, AllocError>
+pub(crate) fn names_of(
+    slots: &Slots<Span>,
+    alloc: Global,
+    layer: u32,
+    id: Id,
+) -> Result<Vec<String>, AllocError>
     requires forest { IsForest (nodes_of slots.now.entries) }
     requires open { IsOpen (nodes_of slots.now.entries) id }
     ensures names { IfOk result (λ names. map string_bytes names.items ≡ path layer (nodes_of slots.now.entries) id) }
@@ -62,7 +70,12 @@ pub(crate) fn names_of(slots: &Slots<Span>, alloc: Global, layer: u32, id: Id) -
 }
 
 // Appends the name of a span, if the layer admits it.
-fn push_name(names: &mut Vec<String>, alloc: Global, layer: u32, span: &Span) -> Result<(), AllocError>
+fn push_name(
+    names: &mut Vec<String>,
+    alloc: Global,
+    layer: u32,
+    span: &Span,
+) -> Result<(), AllocError>
     ensures { OnOk result (map string_bytes names.new.items
         ≡ map string_bytes names.old.items ++ name_for layer (Some (node_of span.now))) }
 {

@@ -20,19 +20,22 @@ pub returns-clause-settled : goal.returns-clause-settled
 returns-clause-settled c =
     let mid : c.insert.new.self ≡ stored c.args.slots.now c.in-Ok.id c.args.span = stored_is c.args.slots.now c.insert.new.self c.in-Ok.id c.args.span c.in-Ok.ensures.id c.in-Ok.ensures.table c.insert.ensures.change in
     elim c.match-parent.branch [
-      in-Some w ↦ subst (λ (x : Table Span). IsSettled x.entries) (sym w.slots-is) (placed_child c.args.slots.now c.in-Ok.id c.args.span c.requires.settled c.in-Ok.ensures.vacant c.requires.new c.insert.new.self w.raise.new.slots w.in-Some.parent 4294967295 mid w.in-Some.is c.requires.above w.raise.ensures).settled
-    | in_default-parent w ↦ subst (λ (x : Table Span). IsSettled x.entries) (sym w.slots-is) (placed_root c.args.slots.now c.in-Ok.id c.args.span c.requires.settled c.in-Ok.ensures.vacant c.requires.new c.insert.new.self mid w.in_default-parent.is).settled ]
+      | in-Some w ↦ subst (λ (x : Table Span). IsSettled x.entries) (sym w.slots-is) (placed_child c.args.slots.now c.in-Ok.id c.args.span c.requires.settled c.in-Ok.ensures.vacant c.requires.new c.insert.new.self w.raise.new.slots w.in-Some.parent 4294967295 mid w.in-Some.is c.requires.above w.raise.ensures).settled
+      | in_default-parent w ↦ subst (λ (x : Table Span). IsSettled x.entries) (sym w.slots-is) (placed_root c.args.slots.now c.in-Ok.id c.args.span c.requires.settled c.in-Ok.ensures.vacant c.requires.new c.insert.new.self mid w.in_default-parent.is).settled
+    ]
 
 pub returns-clause-nodes : goal.returns-clause-nodes
 returns-clause-nodes c =
     let mid : c.insert.new.self ≡ stored c.args.slots.now c.in-Ok.id c.args.span = stored_is c.args.slots.now c.insert.new.self c.in-Ok.id c.args.span c.in-Ok.ensures.id c.in-Ok.ensures.table c.insert.ensures.change in
     elim c.match-parent.branch [
-      in-Some w ↦ subst (λ (x : Table Span). nodes_of x.entries ≡ with_node (nodes_of c.args.slots.now.entries) c.in-Ok.id (node_of c.args.span)) (sym w.slots-is) (placed_child c.args.slots.now c.in-Ok.id c.args.span c.requires.settled c.in-Ok.ensures.vacant c.requires.new c.insert.new.self w.raise.new.slots w.in-Some.parent 4294967295 mid w.in-Some.is c.requires.above w.raise.ensures).nodes
-    | in_default-parent w ↦ subst (λ (x : Table Span). nodes_of x.entries ≡ with_node (nodes_of c.args.slots.now.entries) c.in-Ok.id (node_of c.args.span)) (sym w.slots-is) (placed_root c.args.slots.now c.in-Ok.id c.args.span c.requires.settled c.in-Ok.ensures.vacant c.requires.new c.insert.new.self mid w.in_default-parent.is).nodes ]
+      | in-Some w ↦ subst (λ (x : Table Span). nodes_of x.entries ≡ with_node (nodes_of c.args.slots.now.entries) c.in-Ok.id (node_of c.args.span)) (sym w.slots-is) (placed_child c.args.slots.now c.in-Ok.id c.args.span c.requires.settled c.in-Ok.ensures.vacant c.requires.new c.insert.new.self w.raise.new.slots w.in-Some.parent 4294967295 mid w.in-Some.is c.requires.above w.raise.ensures).nodes
+      | in_default-parent w ↦ subst (λ (x : Table Span). nodes_of x.entries ≡ with_node (nodes_of c.args.slots.now.entries) c.in-Ok.id (node_of c.args.span)) (sym w.slots-is) (placed_root c.args.slots.now c.in-Ok.id c.args.span c.requires.settled c.in-Ok.ensures.vacant c.requires.new c.insert.new.self mid w.in_default-parent.is).nodes
+    ]
 
 pub returns-clause-table : goal.returns-clause-table
 returns-clause-table c =
     let mid : c.insert.new.self ≡ stored c.args.slots.now c.in-Ok.id c.args.span = stored_is c.args.slots.now c.insert.new.self c.in-Ok.id c.args.span c.in-Ok.ensures.id c.in-Ok.ensures.table c.insert.ensures.change in
     elim c.match-parent.branch [
-      in-Some w ↦ subst (λ (x : Table Span). x ≡ record c.args.slots.now { entries = x.entries; given = issue c.args.slots.now.given (slot_of c.in-Ok.id); freed = drop 1 c.args.slots.now.freed }) (sym w.slots-is) (placed_child c.args.slots.now c.in-Ok.id c.args.span c.requires.settled c.in-Ok.ensures.vacant c.requires.new c.insert.new.self w.raise.new.slots w.in-Some.parent 4294967295 mid w.in-Some.is c.requires.above w.raise.ensures).table
-    | in_default-parent w ↦ subst (λ (x : Table Span). x ≡ record c.args.slots.now { entries = x.entries; given = issue c.args.slots.now.given (slot_of c.in-Ok.id); freed = drop 1 c.args.slots.now.freed }) (sym w.slots-is) (placed_root c.args.slots.now c.in-Ok.id c.args.span c.requires.settled c.in-Ok.ensures.vacant c.requires.new c.insert.new.self mid w.in_default-parent.is).table ]
+      | in-Some w ↦ subst (λ (x : Table Span). x ≡ record c.args.slots.now { entries = x.entries; given = issue c.args.slots.now.given (slot_of c.in-Ok.id); freed = drop 1 c.args.slots.now.freed }) (sym w.slots-is) (placed_child c.args.slots.now c.in-Ok.id c.args.span c.requires.settled c.in-Ok.ensures.vacant c.requires.new c.insert.new.self w.raise.new.slots w.in-Some.parent 4294967295 mid w.in-Some.is c.requires.above w.raise.ensures).table
+      | in_default-parent w ↦ subst (λ (x : Table Span). x ≡ record c.args.slots.now { entries = x.entries; given = issue c.args.slots.now.given (slot_of c.in-Ok.id); freed = drop 1 c.args.slots.now.freed }) (sym w.slots-is) (placed_root c.args.slots.now c.in-Ok.id c.args.span c.requires.settled c.in-Ok.ensures.vacant c.requires.new c.insert.new.self mid w.in_default-parent.is).table
+    ]

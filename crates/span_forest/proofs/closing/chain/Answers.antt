@@ -31,5 +31,6 @@ pub returns : goal.returns
 returns c =
     let start = taken (nodes_of c.args.slots.now.entries) c.args.id c.args.holder in
     elim c.match-next.branch [
-      in-Some+in-Some-get+then-span-gt1 w ↦ Along_stop c.args.slots.now.entries start c.args.id c.up.closed.items c.up.next w.in-Some.at w.in-Some-get.span.now (without_all start c.up.closed.items) c.up.invariant w.in-Some.is (sym w.get.ensures ∙ ap option_copied w.in-Some-get.is) w.if-span-gt1.true
-    | in_default w ↦ Along_root c.args.slots.now.entries start c.args.id c.up.closed.items c.up.next (without_all start c.up.closed.items) c.up.invariant w.in_default.is ]
+      | in-Some+in-Some-get+then-span-gt1 w ↦ Along_stop c.args.slots.now.entries start c.args.id c.up.closed.items c.up.next w.in-Some.at w.in-Some-get.span.now (without_all start c.up.closed.items) c.up.invariant w.in-Some.is (sym w.get.ensures ∙ ap option_copied w.in-Some-get.is) w.if-span-gt1.true
+      | in_default w ↦ Along_root c.args.slots.now.entries start c.args.id c.up.closed.items c.up.next (without_all start c.up.closed.items) c.up.invariant w.in_default.is
+    ]

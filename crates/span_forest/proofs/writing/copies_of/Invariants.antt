@@ -7,5 +7,5 @@ abbrev pub invariant-loop-field : goal.invariant-loop-field
 invariant-loop-field l = record {
   copied : fields_of l.copies.items ≡ fields_of (take l.field-index l.fields);
   made : vec_len l.copies ≡ l.field-index;
-  reserved : vec_capacity l.copies ≡ length l.fields
+  reserved : vec_capacity l.copies ≡ length l.fields;
 }

@@ -30,5 +30,6 @@ pub returns-clause-refused : goal.returns-clause-refused
 returns-clause-refused c =
     let open_now : IsOpen (nodes_of c.self.inside.slots.entries) c.args.id = c.is_open.ensures.0 c.if-not-is_open.false in
     elim c.match-append_fields.branch [
-      in-Ok w ↦ rw w.result-is tt
-    | in-Err w ↦ rw w.result-is (rw (← c.self.view_is) open_now) ]
+      | in-Ok w ↦ rw w.result-is tt
+      | in-Err w ↦ rw w.result-is (rw (← c.self.view_is) open_now)
+    ]

@@ -1,0 +1,6 @@
+use Rattle.span_forest.proofs.Spared.{list_first}
+use Rattle.span_forest.proofs.forest.laws.closing_list_begins_the_walk.Goals as goal
+
+pub returns : goal.returns
+returns c =
+    rw (← c.forest.view_is) (λ id holder held. list_first c.forest.inside.slots.entries c.forest.invariant.settled id holder held)

@@ -1,0 +1,101 @@
+//! What every forest promises, in plain words: each function does nothing, and its contract is the promise.
+ghost use Rattle.std.specs.Prelude.{◌≡◌, ℕ, ◌<◌, ◌≤◌, ◌↔◌, Some, None, IfSome, IsTrue, length, take};
+ghost use Rattle.span_id.specs.Id.{slot_of, IsId};
+ghost use Rattle.span_slots.specs.Table.{IsIssued, IsFull};
+ghost use Rattle.span_forest.specs.declared.span.Holder.{Holder};
+ghost use Rattle.span_forest.specs.Spans.{find, IsOpen, parent_of};
+ghost use Rattle.span_forest.specs.Walk.{walk, Ends};
+ghost use Rattle.span_forest.specs.Count.{holders_in, written_count};
+ghost use Rattle.span_forest.specs.Live.{stands_in};
+ghost use Rattle.span_forest.specs.Forest.{next_span_id, table_of};
+ghost use Rattle.span_forest.specs.Holders.{IsHeld};
+ghost use Rattle.span_forest.specs.Release.{taken, closing_list, released};
+
+use super::Forest;
+use span_slots::laws::{
+    each_slot_has_one_id, full_where_no_slot_is_free, next_id_was_never_issued,
+};
+
+/// Each walk, from an open span to its parent and so on, ends at a root within as many steps as there
+/// are open spans.
+pub fn walks_end(forest: &Forest)
+    ensures { (id : ℕ) → IsOpen forest.now.spans id →
+        Ends (length forest.now.spans) forest.now.spans (Some id) }
+{
+    let _opened = &forest.slots;
+}
+
+/// An open span has a positive count, which is at most the greatest one, and its parent is open.
+pub fn open_spans_are_counted(forest: &Forest)
+    ensures positive { (id : ℕ) → IsOpen forest.now.spans id → 0 < written_count forest.now.spans id }
+    ensures bounded { (id : ℕ) → written_count forest.now.spans id ≤ forest.now.max_count }
+    ensures parent { (id parent : ℕ) → parent_of forest.now.spans id ≡ Some parent →
+        IsOpen forest.now.spans parent }
+{
+    let _opened = &forest.slots;
+}
+
+/// An id that has a handle or an entry is open.
+pub fn held_ids_are_open(forest: &Forest)
+    ensures { (id : ℕ) (holder : Holder) → IsHeld forest.now.spans id holder → IsOpen forest.now.spans id }
+{
+    let _opened = &forest.slots;
+}
+
+/// No two open ids have one slot. Each is in the layout of ids, and was issued.
+pub fn each_slot_has_one_open_id(forest: &Forest)
+    ensures one_slot { (id other : ℕ) → IsOpen forest.now.spans id → IsOpen forest.now.spans other →
+        slot_of id ≡ slot_of other → id ≡ other }
+    ensures in_layout { (id : ℕ) → IsOpen forest.now.spans id → IsId id }
+    ensures issued { (id : ℕ) → IsOpen forest.now.spans id → IsIssued (table_of forest.now) id }
+{
+    each_slot_has_one_id(&forest.slots);
+}
+
+/// The id that the next span gets is in the layout, and was never issued before.
+pub fn next_id_is_new(forest: &Forest)
+    ensures in_layout { IfSome (next_span_id forest.now) IsId }
+    ensures never_issued { IfSome (next_span_id forest.now) (λ id. IsIssued (table_of forest.now) id → ⊥) }
+{
+    next_id_was_never_issued(&forest.slots);
+}
+
+/// No span can be added exactly where each slot is occupied or has given its last id.
+pub fn full_where_each_slot_is_used_up(forest: &Forest)
+    ensures { (next_span_id forest.now ≡ None) ↔ IsFull (table_of forest.now) }
+{
+    full_where_no_slot_is_free(&forest.slots);
+}
+
+/// A release closes exactly the spans of its closing list: each other span stays open.
+pub fn release_closes_its_list(forest: &Forest)
+    ensures { (id span : ℕ) (holder : Holder) → IsHeld forest.now.spans id holder →
+        IsOpen forest.now.spans span →
+        (IsTrue (stands_in span (closing_list forest.now.spans id holder))
+        ↔ (find (released forest.now.spans id holder) span ≡ None)) }
+{
+    let _opened = &forest.slots;
+}
+
+/// A closing list is the first part of the walk of the span that gives a holder back, so each span
+/// stands before its parent.
+pub fn closing_list_begins_the_walk(forest: &Forest)
+    ensures { (id : ℕ) (holder : Holder) → IsHeld forest.now.spans id holder →
+        closing_list forest.now.spans id holder
+        ≡ take (length (closing_list forest.now.spans id holder)) (walk forest.now.spans id) }
+{
+    let _opened = &forest.slots;
+}
+
+/// A span that keeps a holder, and one with a child that stays open, is never in a closing list.
+pub fn what_is_held_stays_open(forest: &Forest)
+    ensures holder { (id span : ℕ) (holder : Holder) → IsHeld forest.now.spans id holder →
+        0 < holders_in (find (taken forest.now.spans id holder) span) →
+        (IsTrue (stands_in span (closing_list forest.now.spans id holder)) → ⊥) }
+    ensures child { (id child parent : ℕ) (holder : Holder) → IsHeld forest.now.spans id holder →
+        parent_of forest.now.spans child ≡ Some parent →
+        IsOpen (released forest.now.spans id holder) child →
+        (IsTrue (stands_in parent (closing_list forest.now.spans id holder)) → ⊥) }
+{
+    let _opened = &forest.slots;
+}
