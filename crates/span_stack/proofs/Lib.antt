@@ -2,4 +2,5 @@ pub mod Entries
 mod Examples
 pub mod Removals
 pub mod Searches
+pub mod Several
 pub mod Stacks

@@ -81,6 +81,8 @@ impl SpanStack {
     pub fn pop(&mut self, id: Id) -> Option<bool>
         ensures found { is_some result ≡ words.has self.old.ids id }
         ensures ids { self.new.ids ≡ words.without_last self.old.ids id }
+
+        // The entry taken out stood at the first place of its id exactly if the id is gone now.
         ensures no_duplicate { IfSome result (λ first. first ≡ not (words.has self.new.ids id)) }
         ensures room { OnSome result (self.new.room ≡ self.old.room + 1) }
         ensures absent { IfNone result (self.new ≡ self.old) }
