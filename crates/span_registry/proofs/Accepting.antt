@@ -4,7 +4,7 @@ use Rattle.std.proofs.lemmas.List.{length-set}
 use Rattle.span_id.specs.declared.limits.Limits.{Limits}
 use Rattle.span_layers.specs.declared.note.Kind.TheVariants.{OnRecord, OnEnter, OnExit}
 use Rattle.span_layers.specs.Note.{PlainNote, KeyValue}
-use Rattle.span_layers.specs.Filter.{Filter}
+use Rattle.span_layers.specs.Filter.{Filter, admission_set}
 use Rattle.span_forest.specs.declared.span.Holder.{Holder}
 use Rattle.span_forest.specs.declared.span.Holder.TheVariants.{Handle, Entry}
 use Rattle.span_forest.specs.Node.{Node, with_fields}
@@ -15,9 +15,9 @@ use Rattle.span_forest.specs.Keep.{kept}
 use Rattle.span_forest.specs.Release.{closing_list, released as spans_left, freed_after}
 use Rattle.span_stack.specs.Stack.{has}
 use Rattle.span_registry.specs.World.{World, IsWorld}
-use Rattle.span_registry.specs.Request.{enter, entered, clone_span, cloned, record_fields, recorded, try_close, released}
+use Rattle.span_registry.specs.Request.{PlainMeta, event, told, enter, entered, clone_span, cloned, record_fields, recorded, try_close, released}
 use Rattle.span_registry.specs.Batch.{PlainBatch}
-use Rattle.span_registry.specs.Happening.{notes_of_all, happenings, close_of, at_span}
+use Rattle.span_registry.specs.Happening.{notes_of_all, happenings, close_of, at_span, event_at}
 use Rattle.span_registry.specs.NextId.{SlotsUsed, with_closed, slots_after}
 use Rattle.span_registry.specs.State.{IsSound, forest_with}
 use Rattle.span_registry.proofs.Soundness.{sound_quiet, sound_more, same_but_spans}
@@ -127,3 +127,16 @@ sound_enter limits rules forest new_forest stacks new_stacks calls old mid new w
         notes_are = notes_are;
       })
       same sent
+
+pub sound_event : (limits : Limits) (rules : List Filter) (forest : ForestView) (stacks : List (List ℕ)) (calls : ℕ) (old mid new : List PlainBatch) (worker : ℕ) (meta written_meta : PlainMeta) (message written : List ℕ) (fields written_fields : List KeyValue) (notes : List PlainNote)
+    → IsSound limits forest stacks rules calls old
+    → notes ≡ notes_of_all rules worker (event_at forest.spans (get_or stacks worker []) (admission_set rules meta.target meta.level) meta.level message fields ∷ [])
+    → written_meta ≡ meta → written ≡ message → written_fields ≡ fields
+    → mid ≡ old → new ≡ mid ++ (record { request = event worker written_meta written written_fields; answer = told; notes = notes }) ∷ []
+    → IsSound limits forest stacks rules (calls + 1) new
+sound_event limits rules forest stacks calls old mid new worker meta written_meta message written fields written_fields notes sound notes_are meta_is message_is fields_are same sent =
+    sound_quiet limits rules forest forest stacks stacks calls old mid new (record { request = event worker meta message fields; answer = told; notes = notes }) sound refl refl
+      refl refl sound.world
+      (record { changes = refl; notes_are = notes_are })
+      same
+      (sent ∙ (λ j. mid ++ (record { request = event worker (meta_is j) (message_is j) (fields_are j); answer = told; notes = notes }) ∷ []))

@@ -3,6 +3,7 @@ use Rattle.std.specs.Prelude.{ℕ, Bool, ◌&&◌, List, [], ◌∷◌, length, 
 use Rattle.std.specs.List.{range_with_len, find as first_that}
 use Rattle.std.specs.Option.{option_map_or}
 use Rattle.span_id.specs.Bits.{has_bit}
+use Rattle.span_id.specs.declared.level.Level.{Level}
 use Rattle.span_layers.specs.declared.note.Kind.{Kind}
 use Rattle.span_layers.specs.declared.note.Kind.TheVariants.{OnNew, OnRecord, OnEvent, OnEnter, OnExit, OnClose}
 use Rattle.span_layers.specs.Note.{KeyValue, Told, PlainNote}
@@ -47,19 +48,24 @@ abbrev pub close_of : Spans → ℕ → Happening
 close_of spans id = at_span spans OnClose id (fields_in spans id)
 
 -- where a layer sees an event: at the topmost entry of the caller's stack, duplicates skipped, that the layer admits
-abbrev pub contextual_span : World → ℕ → ℕ → Option ℕ
-contextual_span world worker layer = first_that (λ id. has_bit (bits_in world.spans id) layer) (walk (stack_of world worker))
+abbrev pub contextual_span : Spans → List ℕ → ℕ → Option ℕ
+contextual_span spans stack layer = first_that (λ id. has_bit (bits_in spans id) layer) (walk stack)
+
+-- an event that these layers admit, told by a worker with this stack
+abbrev pub event_at : Spans → List ℕ → ℕ → Level → List ℕ → List KeyValue → Happening
+event_at spans stack admitted level message fields = record {
+  kind = OnEvent;
+  admitted = admitted;
+  fields = fields;
+  tail = Some (level, message);
+  place = contextual_span spans stack;
+  spans = spans;
+}
 
 -- an event is told; the filters are evaluated for the event itself
 abbrev pub event_told : List Filter → World → ℕ → PlainMeta → List ℕ → List KeyValue → Happening
-event_told rules world worker meta message fields = record {
-  kind = OnEvent;
-  admitted = admission_set rules meta.target meta.level;
-  fields = fields;
-  tail = Some (meta.level, message);
-  place = contextual_span world worker;
-  spans = world.spans;
-}
+event_told rules world worker meta message fields =
+    event_at world.spans (stack_of world worker) (admission_set rules meta.target meta.level) meta.level message fields
 
 -- The happenings of a call, in order. A new span is seen in the world after the call, all else in the
 -- world before it; an exit comes before the closes that it causes, and closes come child first.

@@ -3,14 +3,17 @@
 
 mod batch;
 mod entries;
+mod events;
 mod handles;
 mod held;
 mod names;
 mod notes;
 mod outlet;
+mod registry;
 mod stacks;
 mod state;
 
 pub use batch::{Batch, Call, ParentOf, Reply};
 pub use outlet::Outlet;
+pub use registry::Core;
 pub use state::State;
