@@ -6,11 +6,12 @@ use Rattle.std.proofs.Math.Nat.{zero-div}
 use Rattle.std.specs.List.{range_with_len}
 use Rattle.std.proofs.lemmas.List.{map-append, drop_more}
 use Rattle.std.proofs.lemmas.List.Elements.{filter-append}
-use Rattle.span_layers.specs.Note.{PlainNote}
+use Rattle.span_layers.specs.Note.{PlainNote, KeyValue}
 use Rattle.span_layers.specs.Filter.{Filter, layer_wants}
 use Rattle.span_forest.specs.Node.{Node}
 use Rattle.span_forest.specs.Spans.{Spans, find}
-use Rattle.span_registry.specs.Happening.{Happening, is_told, note_of, notes_of, notes_of_all, close_of}
+use Rattle.span_registry.specs.Happening.{Happening, is_told, note_of, notes_of, notes_of_all, close_of, event_at}
+use Rattle.span_registry.specs.Request.{PlainMeta}
 
 range_more : (a n : ℕ) → range_with_len a (suc n) ≡ range_with_len a n ++ (a + n) ∷ []
 range_more a zero = ap (λ k. k ∷ []) (omega arith)
@@ -80,3 +81,12 @@ pub closes_told : (rules : List Filter) (worker : ℕ) (spans : Spans) (listed c
 closes_told rules worker spans listed closed first notes none same are =
     are ∙ ap (λ xs. xs ++ flat_map (notes_of rules worker) (map (close_of spans) listed)) none
     ∙ ap (λ ids. flat_map (notes_of rules worker) (map (close_of spans) ids)) same
+
+-- the notes of an event
+pub event_notes : (rules : List Filter) (worker : ℕ) (spans : Spans) (stack seen : List ℕ) (bits admitted : ℕ) (meta : PlainMeta) (message : List ℕ) (fields : List KeyValue) (first notes : List PlainNote)
+    → first ≡ [] → seen ≡ stack → bits ≡ admitted
+    → notes ≡ first ++ notes_of rules worker (event_at spans seen bits meta.level message fields)
+    → notes ≡ notes_of_all rules worker (event_at spans stack admitted meta.level message fields ∷ [])
+event_notes rules worker spans stack seen bits admitted meta message fields first notes none same bits_are are =
+    one_happening rules worker (event_at spans stack admitted meta.level message fields) first notes none
+      (are ∙ (λ j. first ++ notes_of rules worker (event_at spans (same j) (bits_are j) meta.level message fields)))

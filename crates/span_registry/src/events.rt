@@ -4,14 +4,14 @@ ghost use Rattle.std.specs.List.{find as first_that};
 ghost use Rattle.span_id.specs.Bits.{has_bit};
 ghost use Rattle.span_layers.specs.Note.{plain_note};
 ghost use Rattle.span_layers.specs.Filter.{admission_set};
-ghost use Rattle.span_stack.specs.Stack.{walk};
+ghost use Rattle.span_stack.specs.Stack.{walk, ids_of_each};
 ghost use Rattle.span_registry.specs.Request.{event, told, plain_meta, plain_fields};
 ghost use Rattle.span_registry.specs.Happening.{bits_in, event_at, id_at, path_at, is_told, note_of, notes_of};
 ghost use Rattle.span_registry.specs.Core.{IsAccepted, IsRefused};
 
 use crate::batch::{Batch, Call, Reply};
+use crate::copies::{copy_fields, copy_meta, copy_text};
 use crate::names::are_keys;
-use crate::notes::copies_of;
 use crate::outlet::{Outlet, ask};
 use crate::state::State;
 use span_forest::Forest;
@@ -41,12 +41,11 @@ impl<O: Outlet> State<O> {
         }
         ask(&mut self.outlet)?;
         let bits = self.rules.bits(admitters, meta);
-        let stack = &self.stacks[worker as usize];
         let mut notes = Vec::new(self.alloc);
-        push_event(self.alloc, &mut notes, &self.rules, &self.forest, stack, worker, bits, meta, message, fields)?;
-        let copied = meta.copy(self.alloc)?;
+        push_event(self.alloc, &mut notes, &self.rules, &self.forest, self.stacks.as_slice(), worker, bits, meta, message, fields)?;
+        let copied = copy_meta(self.alloc, meta)?;
         let text = copy_text(self.alloc, message)?;
-        let copies = copies_of(self.alloc, fields)?;
+        let copies = copy_fields(self.alloc, fields)?;
         self.calls += 1;
         self.outlet.put(Batch {
             call: Call::Event {
@@ -59,16 +58,6 @@ impl<O: Outlet> State<O> {
             notes,
         });
         Ok(())
-    }
-}
-
-fn copy_text(alloc: Global, text: &str) -> Result<String, Fault>
-    ensures text { IfOk result (λ copy. string_bytes copy ≡ text.now) }
-    ensures memory { IfErr result (λ fault. fault ≡ Fault.Memory) }
-{
-    match String::from_str(alloc, text) {
-        Ok(copy) => Ok(copy),
-        Err(_) => Err(Fault::Memory),
     }
 }
 
@@ -98,7 +87,7 @@ fn event_note(alloc: Global, forest: &Forest, stack: &SpanStack, worker: u32, bi
     let place = contextual_span(forest, stack, layer);
     let (id, path) = id_and_path(alloc, forest, layer, place)?;
     let text = copy_text(alloc, message)?;
-    let fields = copies_of(alloc, fields)?;
+    let fields = copy_fields(alloc, fields)?;
     Ok(Note {
         layer,
         kind: Kind::OnEvent,
@@ -149,8 +138,19 @@ fn push_event_note(alloc: Global, notes: &mut Vec<Note>, rules: &Rules, forest: 
     }
 }
 
+// Appends the notes of an event that a worker tells.
+fn push_event(alloc: Global, notes: &mut Vec<Note>, rules: &Rules, forest: &Forest, stacks: &[SpanStack], worker: u32, bits: Bits, meta: &Meta, message: &str, fields: &[Field]) -> Result<(), Fault>
+    requires { worker < length stacks.now }
+    ensures notes { OnOk result (map plain_note notes.new.items ≡ map plain_note notes.old.items
+        ++ notes_of rules.now worker (event_at forest.now.spans (slice_index_or (ids_of_each stacks.now) worker []) bits.0 meta.now.level message.now (plain_fields fields.now))) }
+    ensures memory { IfErr result (λ fault. fault ≡ Fault.Memory) }
+{
+    let stack = &stacks[worker as usize];
+    push_event_notes(alloc, notes, rules, forest, stack, worker, bits, meta, message, fields)
+}
+
 // Appends the notes of an event: one for each layer that admits it.
-fn push_event(alloc: Global, notes: &mut Vec<Note>, rules: &Rules, forest: &Forest, stack: &SpanStack, worker: u32, bits: Bits, meta: &Meta, message: &str, fields: &[Field]) -> Result<(), Fault>
+fn push_event_notes(alloc: Global, notes: &mut Vec<Note>, rules: &Rules, forest: &Forest, stack: &SpanStack, worker: u32, bits: Bits, meta: &Meta, message: &str, fields: &[Field]) -> Result<(), Fault>
     ensures notes { OnOk result (map plain_note notes.new.items ≡ map plain_note notes.old.items
         ++ notes_of rules.now worker (event_at forest.now.spans stack.now.ids bits.0 meta.now.level message.now (plain_fields fields.now))) }
     ensures memory { IfErr result (λ fault. fault ≡ Fault.Memory) }

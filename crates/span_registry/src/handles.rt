@@ -6,9 +6,10 @@ ghost use Rattle.span_registry.specs.Request.{clone_span, cloned, record_fields,
 ghost use Rattle.span_registry.specs.Core.{IsAccepted, IsRefused};
 
 use crate::batch::{Batch, Call, Reply};
+use crate::copies::copy_fields;
 use crate::held::held_span;
 use crate::names::are_keys;
-use crate::notes::{Happening, copies_of, push_closes, push_notes};
+use crate::notes::{Happening, push_closes, push_notes};
 use crate::outlet::{Outlet, ask};
 use crate::state::State;
 use span_forest::Holder;
@@ -61,7 +62,7 @@ impl<O: Outlet> State<O> {
         };
         let mut notes = Vec::new(self.alloc);
         push_notes(self.alloc, &mut notes, &self.rules, &self.forest, &what, fields)?;
-        let copies = copies_of(self.alloc, fields)?;
+        let copies = copy_fields(self.alloc, fields)?;
         let Ok(()) = self.forest.write_fields(id, fields) else {
             return Err(Fault::Memory);
         };

@@ -4,6 +4,7 @@ ghost use Rattle.span_layers.specs.Note.{plain_note};
 ghost use Rattle.span_registry.specs.Request.{plain_fields};
 ghost use Rattle.span_registry.specs.Happening.{at_span, close_of, bits_in, is_told, note_of, notes_of};
 
+use crate::copies::copy_fields;
 use span_forest::Forest;
 use span_id::{Bits, Fault, Field, Id};
 use span_layers::{Kind, Note, Rules};
@@ -18,21 +19,6 @@ pub(crate) struct Happening {
     pub(crate) bits: Bits,
 }
 
-// Copies of these fields.
-pub(crate) fn copies_of(alloc: Global, fields: &[Field]) -> Result<Vec<Field>, Fault>
-    ensures fields { IfOk result (λ copies. plain_fields copies.items ≡ plain_fields fields.now) }
-    ensures memory { IfErr result (λ fault. fault ≡ Fault.Memory) }
-{
-    let Ok(mut copies) = Vec::with_capacity(alloc, fields.len()) else {
-        return Err(Fault::Memory);
-    };
-    for field in fields {
-        let copy = field.copy(alloc)?;
-        copies.push_reserved(copy);
-    }
-    Ok(copies)
-}
-
 // The note that a layer is told.
 fn span_note(alloc: Global, forest: &Forest, what: &Happening, fields: &[Field], layer: u32) -> Result<Note, Fault>
     ensures note { IfOk result (λ note. plain_note note
@@ -42,7 +28,7 @@ fn span_note(alloc: Global, forest: &Forest, what: &Happening, fields: &[Field],
     let Ok(path) = forest.path(layer, what.id) else {
         return Err(Fault::Memory);
     };
-    let fields = copies_of(alloc, fields)?;
+    let fields = copy_fields(alloc, fields)?;
     Ok(Note {
         layer,
         kind: what.kind,

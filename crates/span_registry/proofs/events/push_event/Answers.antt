@@ -1,8 +1,7 @@
-use Rattle.span_registry.specs.Request.{plain_fields}
-use Rattle.span_registry.specs.Happening.{event_at}
-use Rattle.span_registry.proofs.Telling.{told_more}
+use Rattle.std.proofs.Common.{sym}
+use Rattle.span_registry.proofs.StackLists.{ids_at}
 use Rattle.span_registry.proofs.events.push_event.Goals as goal
 
-pub loop-layer-preserved : goal.loop-layer-preserved
-loop-layer-preserved c =
-    told_more c.args.rules.now (event_at c.args.forest.now.spans c.args.stack.now.ids c.args.bits.0 c.args.meta.now.level c.args.message.now (plain_fields c.args.fields.now)) c.args.worker _ _ _ _ c.loop-layer.invariant c.in_ok-push_event_note.ensures.notes
+pub returns-clause-notes : goal.returns-clause-notes
+returns-clause-notes c =
+    rw (ids_at c.args.stacks.now c.args.worker _ c.requires c.index-stacks-worker.ensures) c.push_event_notes.ensures.notes

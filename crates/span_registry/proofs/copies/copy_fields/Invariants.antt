@@ -1,7 +1,7 @@
 use Rattle.std.proofs.Common.{◌≡◌, length, take, vec_len}
 use Rattle.std.specs.Prelude.{vec_capacity}
 use Rattle.span_registry.specs.Request.{plain_fields}
-use Rattle.span_registry.proofs.notes.copies_of.Given as goal
+use Rattle.span_registry.proofs.copies.copy_fields.Given as goal
 
 abbrev pub invariant-loop-field : goal.invariant-loop-field
 invariant-loop-field l = record {

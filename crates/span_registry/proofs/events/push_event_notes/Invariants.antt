@@ -4,7 +4,7 @@ use Rattle.std.specs.List.{range_with_len}
 use Rattle.span_layers.specs.Note.{plain_note}
 use Rattle.span_registry.specs.Request.{plain_fields}
 use Rattle.span_registry.specs.Happening.{Happening, event_at, is_told, note_of}
-use Rattle.span_registry.proofs.events.push_event.Given as goal
+use Rattle.span_registry.proofs.events.push_event_notes.Given as goal
 
 -- the notes of the layers so far
 abbrev pub invariant-loop-layer : goal.invariant-loop-layer
