@@ -3,3 +3,5 @@ pub mod Worlds
 pub mod StackLists
 pub mod Accepting
 pub mod Telling
+pub mod NewSpans
+mod Examples

@@ -90,3 +90,13 @@ pub event_notes : (rules : List Filter) (worker : ℕ) (spans : Spans) (stack se
 event_notes rules worker spans stack seen bits admitted meta message fields first notes none same bits_are are =
     one_happening rules worker (event_at spans stack admitted meta.level message fields) first notes none
       (are ∙ (λ j. first ++ notes_of rules worker (event_at spans (same j) (bits_are j) meta.level message fields)))
+
+-- a turn of a loop over the layers
+pub pushed_more : (f : ℕ → PlainNote) (p : ℕ → Bool) (layer : ℕ) (first before after : List PlainNote)
+    → before ≡ first ++ map f (filter p (range_with_len 0 layer))
+    → after ≡ before ++ cond (p layer) (f layer ∷ []) []
+    → after ≡ first ++ map f (filter p (range_with_len 0 (layer + 1)))
+pushed_more f p layer first before after so_far more =
+    more ∙ ap (λ xs. xs ++ cond (p layer) (f layer ∷ []) []) so_far
+    ∙ append_assoc first _ _
+    ∙ ap (λ xs. first ++ xs) (sym (told_next f p layer))

@@ -1,5 +1,6 @@
 pub mod World
 pub mod Request
+pub mod Parent
 pub mod Batch
 pub mod Happening
 pub mod Step

@@ -11,6 +11,7 @@ mod names;
 mod notes;
 mod outlet;
 mod registry;
+mod spans;
 mod stacks;
 mod state;
 

@@ -4,4 +4,4 @@ use Rattle.span_registry.proofs.events.push_event.Goals as goal
 
 pub returns-clause-notes : goal.returns-clause-notes
 returns-clause-notes c =
-    rw (ids_at c.args.stacks.now c.args.worker _ c.requires c.index-stacks-worker.ensures) c.push_event_notes.ensures.notes
+    rw (ids_at c.args.stacks.now c.args.worker _ c.requires c.index-stacks-worker.is) c.push_event_notes.ensures.notes
