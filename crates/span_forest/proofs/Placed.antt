@@ -1,12 +1,12 @@
 -- A forest with a new span.
-use Rattle.std.proofs.Common.{◌≡◌, ◌≢◌, ℕ, ◌+◌, ◌<◌, ◌≤◌, Bool, false, cond, List, length, drop, Option, Some, None, refl, sym, ap, ◌∙◌, inl, inr, arith}
+use Rattle.std.proofs.Common.{subst, ◌⊎◌, slice_index, ◌≡◌, ◌≢◌, ℕ, ◌+◌, ◌<◌, ◌≤◌, Bool, false, cond, List, length, drop, Option, Some, None, refl, sym, ap, ◌∙◌, inl, inr, arith}
 use Rattle.std.specs.Option.{option_map, IsSomeAnd}
 use Rattle.std.proofs.lemmas.Bool.Decides.{eqb_tells}
 use Rattle.std.proofs.lemmas.Bool.{ne_eqb, cases_Bool}
-use Rattle.span_id.specs.Id.{slot_of}
+use Rattle.span_id.specs.Id.{slot_of, generation_of}
 use Rattle.span_id.specs.declared.fault.Fault.{Fault}
 use Rattle.span_id.specs.declared.fault.Fault.TheVariants.{Unknown, CountFull, Full, NotEntered, TooManyLayers, BadName, Backlog, BadLimits, Memory}
-use Rattle.span_slots.specs.Table.{Table, value_at, with_value, with_entry, issue, id_at, inserted, next_id, next_slot}
+use Rattle.span_slots.specs.Table.{Table, value_at, with_value, with_entry, issue, id_at, inserted, next_id, next_slot, IsIssued}
 use Rattle.span_slots.specs.Change.{Insert, after, inserted_in}
 use Rattle.span_forest.specs.declared.span.Span.{Span}
 use Rattle.span_forest.specs.Node.{node_of}
@@ -25,6 +25,9 @@ use Rattle.span_forest.proofs.Adds.{nodes-with, value_at-with_other, AreApart-wi
 no_id : (id : ℕ) → None ≡ Some id → ⊥
 no_id id h = cc
 
+same_id : (t : Table Span) (id other : ℕ) → next_id t ≡ Some id → next_id t ≡ Some other → id ≡ other
+same_id t id other h k = let e : Some id ≡ Some other = sym h ∙ k in cc
+
 -- the table with the span, before its parent counts it
 abbrev pub stored : Table Span → ℕ → Span → Table Span
 stored t id span = record t { entries = with_entry t.entries id span; given = issue t.given (slot_of id); freed = drop 1 t.freed }
@@ -39,6 +42,16 @@ pub stored_is : (t mid : Table Span) (id : ℕ) (span : Span) → next_id t ≡ 
 stored_is t mid id span h e a =
     let entries = entry_in t mid id span (next_slot t) h a in
     e ∙ ap (λ es. record t { entries = es; given = issue t.given (slot_of id); freed = drop 1 t.freed }) (sym (ap (λ (x : Table Span). x.entries) e) ∙ entries)
+
+-- the new id alone is issued
+pub issued_alone : (t mid new : Table Span) (id other : ℕ) (span : Span) → next_id t ≡ Some id → mid ≡ after t (Insert span) → mid ≡ stored t id span → new.given ≡ issue t.given (slot_of id) → (IsIssued (after t (Insert span)) other → IsIssued t other ⊎ (next_id t ≡ Some other)) × (IsIssued t other ⊎ (next_id t ≡ Some other) → IsIssued (after t (Insert span)) other) → (IsIssued new other → IsIssued t other ⊎ (id ≡ other)) × (IsIssued t other ⊎ (id ≡ other) → IsIssued new other)
+issued_alone t mid new id other span n a s g law =
+    let same : (after t (Insert span)).given ≡ new.given = sym (ap (λ (x : Table Span). x.given) a) ∙ (ap (λ (x : Table Span). x.given) s ∙ sym g) in
+    let step : (v : List ℕ) → v ≡ new.given → generation_of other < slice_index v (slot_of other) → generation_of other < slice_index new.given (slot_of other) = λ v e h. subst (λ x. generation_of other < slice_index x (slot_of other)) e h in
+    let back : (v : List ℕ) → v ≡ new.given → generation_of other < slice_index new.given (slot_of other) → generation_of other < slice_index v (slot_of other) = λ v e h. subst (λ x. generation_of other < slice_index x (slot_of other)) (sym e) h in (
+      λ h. elim (law.0 (back (after t (Insert span)).given same h)) [ inl x ↦ inl x | inr y ↦ inr (same_id t id other n y) ],
+      λ h. step (after t (Insert span)).given same (law.1 (elim h [ inl x ↦ inl x | inr y ↦ inr (n ∙ ap (λ v. Some v) y) ])),
+    )
 
 -- what a new span leaves of a table
 pub record Placed (t new : Table Span) (id : ℕ) (span : Span) : Type 0 where

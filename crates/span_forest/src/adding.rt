@@ -1,6 +1,6 @@
-ghost use Rattle.std.specs.Prelude.{◌≡◌, ℕ, ◌<◌, ◌≤◌, Some, IsSome, IsSomeAnd, MatchOption, IfOk, IfErr, OnOk, drop, length};
-ghost use Rattle.span_slots.specs.Table.{value_at, next_id, issue};
-ghost use Rattle.span_id.specs.Id.{slot_of};
+ghost use Rattle.std.specs.Prelude.{◌≡◌, ℕ, ◌<◌, ◌≤◌, ◌↔◌, ◌⊎◌, Some, IsSome, IsSomeAnd, MatchOption, IfOk, IfErr, OnOk, drop, length};
+ghost use Rattle.span_slots.specs.Table.{value_at, next_id, issue, IsIssued};
+ghost use Rattle.span_id.specs.Id.{slot_of, IsId};
 ghost use Rattle.span_forest.specs.Node.{node_of};
 ghost use Rattle.span_forest.specs.Spans.{nodes_of, with_node};
 ghost use Rattle.span_forest.specs.Count.{written_count};
@@ -11,6 +11,7 @@ use crate::holders::raise;
 use crate::span::Span;
 use span_id::{Fault, Id};
 use span_slots::Slots;
+use span_slots::laws::{insert_issues_its_id_alone, next_id_was_never_issued};
 
 // The parent of a new span, if the span may be made under it: it is open, and its count may rise.
 pub(crate) fn checked_parent(
@@ -47,6 +48,9 @@ pub(crate) fn place(slots: &mut Slots<Span>, span: Span) -> Id
     ensures settled { IsSettled slots.new.entries }
     ensures nodes { nodes_of slots.new.entries ≡ with_node (nodes_of slots.old.entries) result (node_of span) }
     ensures vacant { value_at slots.old.entries result ≡ None }
+    ensures never_issued { IsIssued slots.old result → ⊥ }
+    ensures issued { (other : ℕ) → IsId other →
+        (IsIssued slots.new other ↔ (IsIssued slots.old other ⊎ (result ≡ other))) }
     ensures few { length slots.new.entries ≤ 4294967295 }
     ensures table { slots.new ≡ record slots.old {
       entries = slots.new.entries;
@@ -55,6 +59,8 @@ pub(crate) fn place(slots: &mut Slots<Span>, span: Span) -> Id
     } }
 {
     let parent = span.parent;
+    next_id_was_never_issued(slots);
+    insert_issues_its_id_alone(slots);
     let Ok(id) = slots.insert(span) else {
         unreachable!()
     };

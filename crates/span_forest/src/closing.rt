@@ -15,6 +15,9 @@ use span_id::Id;
 use span_slots::Slots;
 use std::alloc::{AllocError, Global};
 
+// The count of a span that one holder or child alone holds open.
+const LAST: u32 = 1;
+
 // The spans that close, child first, where a span gives back one holder.
 pub(crate) fn chain(
     slots: &Slots<Span>,
@@ -32,7 +35,7 @@ pub(crate) fn chain(
         let Some(span) = slots.get(at) else {
             unreachable!()
         };
-        if span.count > 1 {
+        if span.count > LAST {
             break;
         }
         closed.push(at)?;

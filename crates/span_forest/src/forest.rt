@@ -1,9 +1,11 @@
-ghost use Rattle.std.specs.Prelude.{◌≡◌, ℕ, Some, None, IfSome, IfNone, IfOk, IfErr, OnOk, OnErr, IsTrue, ◌↔◌, length, [], map, string_bytes};
+ghost use Rattle.std.specs.Prelude.{◌≡◌, ℕ, Some, None, IfSome, IfNone, IfOk, IfErr, OnOk, OnErr, IsTrue, ◌↔◌, ◌⊎◌, length, [], map, string_bytes};
+ghost use Rattle.span_id.specs.Id.{IsId};
+ghost use Rattle.span_slots.specs.Table.{IsIssued};
 ghost use Rattle.span_forest.specs.Node.{Node, node_of, fields_of, new_node, with_fields};
 ghost use Rattle.span_forest.specs.Spans.{find, IsOpen, changed, WhyNotFound};
 ghost use Rattle.span_forest.specs.Count.{written_count, total_held};
 ghost use Rattle.span_forest.specs.Path.{path};
-ghost use Rattle.span_forest.specs.Forest.{next_span_id};
+ghost use Rattle.span_forest.specs.Forest.{next_span_id, table_of};
 ghost use Rattle.span_forest.specs.Holders.{IsHeld};
 ghost use Rattle.span_forest.specs.Keep.{kept, CanKeep, WhyNotKept};
 ghost use Rattle.span_forest.specs.Release.{closing_list, released, freed_after, WhyNotReleased};
@@ -126,6 +128,12 @@ impl Forest {
         ensures parent { OnOk result (CanHaveChild self.old.spans self.old.max_count parent) }
         ensures id { IfOk result (λ id. next_span_id self.old ≡ Some id) }
         ensures forest { IfOk result (λ id. self.new ≡ added self.old id (new_node meta.now fields.now parent bits.0)) }
+
+        // The id was never issued before, and is the only one that this call issues.
+        ensures never_issued { IfOk result (λ id. IsIssued (table_of self.old) id → ⊥) }
+        ensures issued { IfOk result (λ id. (other : ℕ) → IsId other →
+            (IsIssued (table_of self.new) other ↔ (IsIssued (table_of self.old) other ⊎ (id ≡ other)))) }
+
         ensures refused { IfErr result (λ fault. WhyNotAdded self.old parent fault) }
         ensures unchanged { OnErr result (self.new ≡ self.old) }
     {

@@ -74,26 +74,26 @@ pub(crate) fn drop_holder(slots: &mut Slots<Span>, id: Id, holder: Holder)
     }
 }
 
-// Adds one to a span's count.
+// Counts one more child at its parent.
 pub(crate) fn raise(slots: &mut Slots<Span>, id: Id)
     requires { IsSomeAnd (value_at slots.old.entries id) (λ span. span.count < 4294967295) }
     ensures { (span : Span) → value_at slots.old.entries id ≡ Some span → slots.new ≡ record slots.old {
       entries = with_value slots.old.entries id (counts_more span);
     } }
 {
-    if let Some(span) = slots.get_mut(id) {
-        span.count += 1;
+    if let Some(parent) = slots.get_mut(id) {
+        parent.count += 1;
     }
 }
 
-// Takes one from a span's count.
+// Counts one child less at its parent.
 pub(crate) fn lower(slots: &mut Slots<Span>, id: Id)
     requires { IsSomeAnd (value_at slots.old.entries id) (λ span. 0 < span.count) }
     ensures { (span : Span) → value_at slots.old.entries id ≡ Some span → slots.new ≡ record slots.old {
       entries = with_value slots.old.entries id (record span { count = span.count - 1 });
     } }
 {
-    if let Some(span) = slots.get_mut(id) {
-        span.count -= 1;
+    if let Some(parent) = slots.get_mut(id) {
+        parent.count -= 1;
     }
 }

@@ -42,12 +42,17 @@ fn id(rt: &impl Abort, number: u64) -> Id {
     Id::from_u64(number).expect(rt, "an id")
 }
 
-fn numbers(alloc: Global, ids: &[Id]) -> Result<Vec<u64>, Fail> {
-    let mut numbers = Vec::new(alloc);
+// The ids as text, as `2,1`.
+fn listed(alloc: Global, ids: &[Id]) -> Result<String, Fail> {
+    let mut text = String::new(alloc);
     for id in ids {
-        numbers.push(id.get())?;
+        if !text.is_empty() {
+            text.push(',')?;
+        }
+        let number = format!(in alloc; "{id}")?;
+        text.push_str(number.as_str())?;
     }
-    Ok(numbers)
+    Ok(text)
 }
 
 // The names of a path, each with a colon after it.
@@ -67,27 +72,27 @@ fn release(
     forest: &mut Forest,
     number: u64,
     holder: Holder,
-    closed: &[u64],
+    closed: &str,
 ) -> Result<(), Fail> {
     let open = forest.len();
     let told = forest.closing(id(rt, number), holder)?;
     assert_eq!(rt;
-        numbers(alloc, told.as_slice())?.as_slice(),
+        listed(alloc, told.as_slice())?.as_str(),
         closed,
         "{number} tells"
     );
     assert_eq!(rt; forest.len(), open);
     let gone = forest.release(id(rt, number), holder)?;
     assert_eq!(rt;
-        numbers(alloc, gone.as_slice())?.as_slice(),
+        listed(alloc, gone.as_slice())?.as_str(),
         closed,
         "{number} closes"
     );
-    for one in closed {
-        assert!(rt; forest.find(id(rt, *one)).is_none(), "{one} is closed");
+    for id in &gone {
+        assert!(rt; forest.find(*id).is_none(), "{number} closes {id}");
     }
     assert_eq!(rt;
-        u64::from(forest.len()) + closed.len() as u64,
+        u64::from(forest.len()) + gone.len() as u64,
         u64::from(open)
     );
     Ok(())
@@ -118,19 +123,16 @@ fn a_child_keeps_its_parent_open(rt: HostRuntime) -> Result<(), Fail> {
     assert_eq!(rt; span.fields[1].value.as_str(), "1");
     assert_eq!(rt; span.count, 2);
 
-    release(&rt, rt.alloc(), &mut forest, 1, Holder::Handle, &[])?;
+    release(&rt, rt.alloc(), &mut forest, 1, Holder::Handle, "")?;
     let told = forest.closing(b, Holder::Handle)?;
-    assert_eq!(rt;
-        numbers(rt.alloc(), told.as_slice())?.as_slice(),
-        [2, 1].as_slice()
-    );
+    assert_eq!(rt; listed(rt.alloc(), told.as_slice())?.as_str(), "2,1");
     assert_eq!(rt;
         forest.find(b).expect(&rt, "b is open").meta.name.as_str(),
         "b"
     );
     assert_eq!(rt; forest.keep(a, Holder::Handle), Err(Fault::Unknown));
     assert_eq!(rt; forest.total(), 1);
-    release(&rt, rt.alloc(), &mut forest, 2, Holder::Handle, &[2, 1])?;
+    release(&rt, rt.alloc(), &mut forest, 2, Holder::Handle, "2,1")?;
     assert_eq!(rt; forest.len(), 0);
     assert_eq!(rt; forest.total(), 0);
     assert!(rt; forest.release(b, Holder::Handle).is_err());
@@ -145,14 +147,14 @@ fn a_root_and_its_child_close_in_either_order(rt: HostRuntime) -> Result<(), Fai
     let mut forest = Forest::new(rt.alloc(), &checked(2, 0, 2)?)?;
     assert_eq!(rt; add(rt.alloc(), &mut forest, "a", None, 0)?, 1);
     assert_eq!(rt; add(rt.alloc(), &mut forest, "b", Some(id(&rt, 1)), 0)?, 2);
-    release(&rt, rt.alloc(), &mut forest, 2, Holder::Handle, &[2])?;
-    release(&rt, rt.alloc(), &mut forest, 1, Holder::Handle, &[1])?;
+    release(&rt, rt.alloc(), &mut forest, 2, Holder::Handle, "2")?;
+    release(&rt, rt.alloc(), &mut forest, 1, Holder::Handle, "1")?;
 
     let mut other = Forest::new(rt.alloc(), &checked(2, 0, 2)?)?;
     assert_eq!(rt; add(rt.alloc(), &mut other, "a", None, 0)?, 1);
     assert_eq!(rt; add(rt.alloc(), &mut other, "b", Some(id(&rt, 1)), 0)?, 2);
-    release(&rt, rt.alloc(), &mut other, 1, Holder::Handle, &[])?;
-    release(&rt, rt.alloc(), &mut other, 2, Holder::Handle, &[2, 1])?;
+    release(&rt, rt.alloc(), &mut other, 1, Holder::Handle, "")?;
+    release(&rt, rt.alloc(), &mut other, 2, Holder::Handle, "2,1")?;
     // Each slot has given its only id.
     assert_eq!(rt; other.next_id(), None);
     let meta = named(rt.alloc(), "c")?;
@@ -164,7 +166,7 @@ fn a_root_and_its_child_close_in_either_order(rt: HostRuntime) -> Result<(), Fai
 fn what_is_not_open_finds_nothing(rt: HostRuntime) -> Result<(), Fail> {
     let mut forest = Forest::new(rt.alloc(), &checked(3, 9, 9)?)?;
     assert_eq!(rt; add(rt.alloc(), &mut forest, "a", None, 1)?, 1);
-    release(&rt, rt.alloc(), &mut forest, 1, Holder::Handle, &[1])?;
+    release(&rt, rt.alloc(), &mut forest, 1, Holder::Handle, "1")?;
     assert_eq!(rt; add(rt.alloc(), &mut forest, "b", None, 1)?, 16777217);
     // The closed id, the open slot's next generation, a slot never used, one beyond the table.
     for number in [1, 33554433, 2, 4] {
@@ -222,10 +224,8 @@ fn a_chain_of_65536_spans(rt: HostRuntime) -> Result<(), Fail> {
     }
     let closed = forest.release(last, Holder::Handle)?;
     assert_eq!(rt; closed.len(), 65536);
-    let mut number = 65536;
-    for id in &closed {
+    for (id, number) in closed.iter().zip((1..65537).rev()) {
         assert_eq!(rt; id.get(), number);
-        number -= 1;
     }
     assert!(rt; forest.is_empty());
     assert_eq!(rt; forest.total(), 0);

@@ -1,5 +1,5 @@
 -- What a list of layers holds beside the closures: it has no model, since it holds them.
-use Rattle.std.specs.Prelude.{List, ◌≡◌, length}
+use Rattle.std.specs.Prelude.{List}
 use Rattle.span_layers.specs.declared.form.Form.{Form}
 use Rattle.span_layers.specs.declared.layers.Layers.{Layers}
 use Rattle.span_layers.specs.Filter.{Filter}

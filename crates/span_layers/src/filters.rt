@@ -1,4 +1,4 @@
-ghost use Rattle.std.specs.Prelude.{◌≡◌, ◌<◌, ◌≤◌, length, string_bytes, ℕ};
+ghost use Rattle.std.specs.Prelude.{◌≡◌, ◌==◌, ◌<◌, ◌≤◌, length, string_bytes, ℕ};
 ghost use Rattle.span_id.specs.Bits.{has_bit};
 ghost use Rattle.span_layers.specs.Filter.{admission_set, layer_admits, layer_wants};
 ghost use Rattle.span_layers.specs.Rule.{pairs_of, is_admitted};
@@ -59,6 +59,13 @@ impl Rules {
         self.filters.len()
     }
 
+    /// Whether there are none.
+    pub fn is_empty(&self) -> bool
+        ensures { result ≡ (length self.now == 0) }
+    {
+        self.filters.is_empty()
+    }
+
     /// Whether a layer that is there wants notes of this kind: a record's and an event's always, the others by its `FmtSpan`.
     pub fn want(&self, layer: u32, kind: Kind) -> bool
         requires { layer < length self.now }
@@ -69,8 +76,10 @@ impl Rules {
 
     /// The layers that admit the span or the event that the meta describes. Each layer's closure is called once.
     pub fn bits(&self, admitters: &Admitters, meta: &Meta) -> Bits
-        ensures value { result.0 ≡ admission_set self.now (string_bytes meta.now.target) meta.now.level }
-        ensures layers { (layer : ℕ) → has_bit result.0 layer ≡ layer_admits self.now layer (string_bytes meta.now.target) meta.now.level }
+        ensures value { result.0
+            ≡ admission_set self.now (string_bytes meta.now.target) meta.now.level }
+        ensures layers { (layer : ℕ) → has_bit result.0 layer
+            ≡ layer_admits self.now layer (string_bytes meta.now.target) meta.now.level }
     {
         let mut bits = 0;
         for (layer, filter) in self.filters.iter().enumerate() {
@@ -85,7 +94,8 @@ impl Rules {
 impl Admitters {
     // The answer of the closure of this number. Where there is none, the rule is applied here, with the same answer.
     fn admits(&self, number: usize, rule: &Rule, meta: &Meta) -> bool
-        ensures { result ≡ is_admitted (pairs_of rule.now) (string_bytes meta.now.target) meta.now.level }
+        ensures { result
+            ≡ is_admitted (pairs_of rule.now) (string_bytes meta.now.target) meta.now.level }
     {
         match self.admitters.get(number) {
             Some(admitter) => admitter.admits(rule, meta),
@@ -103,6 +113,13 @@ impl Filters {
         self.rules.len()
     }
 
+    /// Whether there are none.
+    pub fn is_empty(&self) -> bool
+        ensures { result ≡ (length self.now.rules == 0) }
+    {
+        self.rules.is_empty()
+    }
+
     /// Whether a layer that is there wants notes of this kind: a record's and an event's always, the others by its `FmtSpan`.
     pub fn want(&self, layer: u32, kind: Kind) -> bool
         requires { layer < length self.now.rules }
@@ -113,8 +130,10 @@ impl Filters {
 
     /// The layers that admit the span or the event that the meta describes. Each layer's closure is called once.
     pub fn bits(&self, meta: &Meta) -> Bits
-        ensures value { result.0 ≡ admission_set self.now.rules (string_bytes meta.now.target) meta.now.level }
-        ensures layers { (layer : ℕ) → has_bit result.0 layer ≡ layer_admits self.now.rules layer (string_bytes meta.now.target) meta.now.level }
+        ensures value { result.0
+            ≡ admission_set self.now.rules (string_bytes meta.now.target) meta.now.level }
+        ensures layers { (layer : ℕ) → has_bit result.0 layer
+            ≡ layer_admits self.now.rules layer (string_bytes meta.now.target) meta.now.level }
     {
         self.rules.bits(&self.admitters, meta)
     }

@@ -27,7 +27,8 @@ pub(crate) struct Admitter {
 
 impl Admitter {
     pub(crate) fn admits(&self, rule: &Rule, meta: &Meta) -> bool
-        ensures { result ≡ is_admitted (pairs_of rule.now) (string_bytes meta.now.target) meta.now.level }
+        ensures { result
+            ≡ is_admitted (pairs_of rule.now) (string_bytes meta.now.target) meta.now.level }
     {
         (self.admit)(rule, meta)
     }

@@ -12,8 +12,11 @@ use std::alloc::Global;
 /// A layer: how it writes, what it admits, and what it calls.
 #[derive(Drop)]
 pub struct Layer {
+    /// In which form it writes, and of which kinds.
     pub style: Style,
+    /// Which spans and events it admits.
     pub rule: Rule,
+    /// What applies the rule and writes the notes.
     pub hooks: Hooks,
 }
 
@@ -59,10 +62,14 @@ impl Layers {
     /// `TooManyLayers` exactly where there are 64. The only other error is `Memory`. A refused layer comes back.
     pub fn add(&mut self, layer: Layer) -> Result<usize, (Layer, Fault)>
         ensures number { IfOk result (λ number. number ≡ length (filters_in self.old)) }
-        ensures filters { OnOk result (filters_in self.new ≡ filters_in self.old ++ filter_of layer.rule layer.style.spans ∷ []) }
+        ensures filters { OnOk result
+            (filters_in self.new
+            ≡ filters_in self.old ++ filter_of layer.rule layer.style.spans ∷ []) }
         ensures forms { OnOk result (forms_in self.new ≡ forms_in self.old ++ layer.style.form ∷ []) }
-        ensures full { IsErrAnd result (λ back. back.1 ≡ Fault.TooManyLayers) ↔ (length (filters_in self.old) ≡ 64) }
-        ensures memory { length (filters_in self.old) < 64 → IfErr result (λ back. back.1 ≡ Fault.Memory) }
+        ensures full { IsErrAnd result (λ back. back.1 ≡ Fault.TooManyLayers)
+            ↔ (length (filters_in self.old) ≡ 64) }
+        ensures memory { length (filters_in self.old) < 64
+            → IfErr result (λ back. back.1 ≡ Fault.Memory) }
         ensures back { IfErr result (λ back. back.0 ≡ layer) }
         ensures same_filters { OnErr result (filters_in self.new ≡ filters_in self.old) }
         ensures same_forms { OnErr result (forms_in self.new ≡ forms_in self.old) }

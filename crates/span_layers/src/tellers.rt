@@ -1,5 +1,4 @@
-ghost use Rattle.std.specs.Prelude.{◌≡◌, ◌<◌, length, slice_get, IfOk, IfErr, Some};
-ghost use Rattle.std.specs.Result.{ForOk};
+ghost use Rattle.std.specs.Prelude.{◌≡◌, ◌<◌, length, slice_get, ◌==◌, IfOk, IfErr, IsSomeAnd};
 ghost use Rattle.span_layers.specs.Note.{plain_note};
 ghost use Rattle.span_layers.specs.Text.{text_of};
 
@@ -56,6 +55,13 @@ impl Forms {
         self.forms.len()
     }
 
+    /// Whether there are none.
+    pub fn is_empty(&self) -> bool
+        ensures { result ≡ (length self.now == 0) }
+    {
+        self.forms.is_empty()
+    }
+
     /// The form of the layer of this number, if it is there.
     pub fn get(&self, layer: u32) -> Option<Form>
         ensures { result ≡ slice_get self.now layer }
@@ -82,11 +88,20 @@ impl Tellers {
         self.forms.len()
     }
 
+    /// Whether there are none.
+    pub fn is_empty(&self) -> bool
+        ensures { result ≡ (length self.now.forms == 0) }
+    {
+        self.forms.is_empty()
+    }
+
     /// The text of a note in its layer's form, where the layer is there. The only error is `Memory`: the layer's
     /// closure was refused memory.
     pub fn say(&self, note: &Note) -> Result<Vec<u8>, Fault>
         requires { note.now.layer < length self.now.forms }
-        ensures text { IfOk result (λ text. (form : _) × (slice_get self.now.forms note.now.layer ≡ Some form) × (text.items ≡ text_of form (plain_note note.now))) }
+        ensures text { IfOk result
+            (λ text. IsSomeAnd (slice_get self.now.forms note.now.layer)
+            (λ form. text.items ≡ text_of form (plain_note note.now))) }
         ensures memory { IfErr result (λ fault. fault ≡ Fault.Memory) }
     {
         let form = self.forms.forms[note.layer as usize];

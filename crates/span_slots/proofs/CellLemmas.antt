@@ -1,7 +1,7 @@
 -- The cells of a table by their rows.
-use Rattle.std.proofs.Common.{◌≡◌, ◌≢◌, ℕ, zero, suc, ◌+◌, ◌-◌, ◌<◌, ◌≤◌, Bool, true, false, cond, not, eqb, leb, ltb, List, [], ◌∷◌, ◌++◌, length, get_or, set, map, reverse, Option, Some, None, IsSome, ◌⊎◌, inl, inr, refl, sym, ap, subst, ◌∙◌, arith, rules}
+use Rattle.std.proofs.Common.{◌≡◌, ℕ, ◌+◌, ◌-◌, ◌<◌, ◌≤◌, Bool, true, false, cond, eqb, leb, ltb, List, [], ◌∷◌, ◌++◌, length, get_or, set, map, reverse, Option, Some, None, IsSome, inl, inr, refl, sym, ap, ◌∙◌, arith}
 use Rattle.std.proofs.lemmas.List.{length-map, map-set, get_or-map, get_or_past, reverse-append, map-append}
-use Rattle.std.proofs.lemmas.Bool.{cases_lt, cases_Bool, lt-ltb}
+use Rattle.std.proofs.lemmas.Bool.{cases_lt, lt-ltb}
 use Rattle.std.proofs.lemmas.Bool.Decides.{eqb_tells, nat_tests}
 use Rattle.std.proofs.Math.Seq.{map-set_same}
 use Rattle.span_slots.proofs.Ids.{id_again, slot_of_id}
@@ -9,7 +9,7 @@ use Rattle.span_id.specs.Id.{id_of, slot_of, generation_of, IsId}
 use Rattle.span_slots.specs.declared.cells.Cell.{Cell}
 use Rattle.span_slots.specs.Cells.{row_of}
 use Rattle.span_slots.specs.Table.{Table, with_value, value_at, with_entry, without_entry, removed, inserted, next_id, next_slot}
-use Rattle.span_slots.specs.Rows.{entries_from, IsGoodRow, AreGoodRows, is_free, free_rows, free_at, times_in}
+use Rattle.span_slots.specs.Rows.{entries_from, AreGoodRows}
 use Rattle.span_slots.proofs.Rows.{row_value, row_none, value_at_rows, without_rows, with_rows, push_rows, written_rows}
 
 pair_same : {A B : Type 0} (a : A) (b : B) (c : A) (d : B) → a ≡ c → b ≡ d → ◌≡◌ {A = A × B} (a, b) (c, d)

@@ -1,18 +1,17 @@
 -- A table by its rows: what stands in a slot, what it gave, and which slots are free.
-use Rattle.std.proofs.Common.{◌≡◌, ◌≢◌, ℕ, zero, suc, ◌+◌, ◌-◌, ◌<◌, ◌≤◌, Bool, true, false, cond, not, ◌&&◌, ◌||◌, eqb, ltb, leb, List, [], ◌∷◌, ◌++◌, length, get_or, map, reverse, Option, Some, None, IsSome, is_some, refl, sym, ap, subst, ◌∙◌, ◌⊎◌, inl, inr, arith}
-use Rattle.std.specs.List.{list_any, filter, range_with_len, count_by}
-use Rattle.std.proofs.lemmas.List.{length-map, get_or_past, reverse-append, length-reverse}
+use Rattle.std.proofs.Common.{◌≡◌, ℕ, zero, suc, ◌+◌, ◌-◌, ◌<◌, ◌≤◌, Bool, true, false, not, ◌||◌, eqb, ltb, List, [], ◌∷◌, length, get_or, map, reverse, Option, Some, None, is_some, refl, sym, ap, ◌∙◌, inl, inr, arith}
+use Rattle.std.specs.List.{list_any, filter, range_with_len}
+use Rattle.std.proofs.lemmas.List.{length-map, get_or_past, reverse-append}
 use Rattle.std.proofs.lemmas.List.Sums.{length-filter}
 use Rattle.std.proofs.lemmas.Bool.{eq-eqb, ne_eqb, cases_Bool, cases_lt, lt-ltb, le-ltb, le-leb, lt-leb}
-use Rattle.std.proofs.lemmas.Bool.Decides.{eqb_tells}
-use Rattle.span_id.specs.Id.{id_of, slot_of, generation_of, IsId}
+use Rattle.span_id.specs.Id.{slot_of, generation_of, IsId}
 use Rattle.span_slots.specs.declared.cells.Cell.{Cell}
 use Rattle.span_slots.specs.Cells.{row_of}
 use Rattle.span_slots.specs.Table.{Table, is_occupied, is_retired, free_count}
 use Rattle.span_slots.specs.Table as table
-use Rattle.span_slots.specs.Rows.{entries_from, IsGoodRow, AreGoodRows, is_free, free_rows, free_at, times_in, IsSound}
+use Rattle.span_slots.specs.Rows.{entries_from, AreGoodRows, is_free, free_rows, free_at, times_in, IsSound}
 use Rattle.span_slots.proofs.Ids.{slot_of_id, generation_of_id}
-use Rattle.span_slots.proofs.Issued.{AreBelow, AreIssued, IsKept, used_since}
+use Rattle.span_slots.proofs.Issued.{AreBelow, AreIssued, IsKept}
 use Rattle.span_slots.proofs.Rows.{free_at_row, row_free_at, good_row, times_in-push}
 use Rattle.span_slots.proofs.CellLemmas.{table_of}
 

@@ -1,5 +1,5 @@
 -- Worked cases, computed from the definitions alone.
-use Rattle.std.proofs.Common.{◌≡◌, ℕ, true, false, List, [], ◌∷◌, Some, None, map, refl}
+use Rattle.std.proofs.Common.{◌≡◌, ℕ, true, false, List, [], ◌∷◌, Some, None, refl}
 use Rattle.span_slots.specs.Table.{Table, value_at, next_id, free_count, is_issued, is_occupied, is_retired, is_free}
 use Rattle.span_slots.specs.Change.{Change, Insert, Remove, Write, after_all}
 

@@ -1,14 +1,14 @@
 -- Which ids a table has issued, from call to call.
-use Rattle.std.proofs.Common.{◌≡◌, ◌≢◌, ℕ, ◌+◌, ◌-◌, ◌<◌, ◌≤◌, Bool, true, false, cond, not, eqb, ltb, leb, List, [], ◌∷◌, ◌++◌, length, get_or, set, drop, map, Option, Some, None, IsSome, refl, sym, ap, subst, ◌∙◌, ◌⊎◌, inl, inr, ◌↔◌, arith}
+use Rattle.std.proofs.Common.{◌≡◌, ◌≢◌, ℕ, ◌+◌, ◌<◌, ◌≤◌, eqb, ltb, leb, List, [], ◌∷◌, ◌++◌, length, get_or, drop, Option, Some, None, IsSome, refl, sym, ap, subst, ◌∙◌, ◌⊎◌, inl, inr, ◌↔◌, arith}
 use Rattle.std.proofs.lemmas.List.{get_or-set_same, get_or-set_other, get_or_push, get_or_past, length-set, length-append}
 use Rattle.std.proofs.Math.ListN.{get_or-append}
-use Rattle.std.proofs.lemmas.Bool.{eq-eqb, ne_eqb, cases_Bool, cases_lt, lt-ltb, le-ltb, ltb-true, ltb-false}
+use Rattle.std.proofs.lemmas.Bool.{cases_Bool, cases_lt, lt-ltb, le-ltb}
 use Rattle.std.proofs.lemmas.Bool.Decides.{eqb_tells}
 use Rattle.span_id.specs.Id.{id_of, slot_of, generation_of, IsId}
-use Rattle.span_slots.specs.Table.{Table, value_at, with_entry, without_entry, with_value, IsIssued, next_slot, next_slot_of, next_id, id_at, issue, inserted, removed, freed_with}
+use Rattle.span_slots.specs.Table.{Table, value_at, with_entry, without_entry, with_value, IsIssued, next_slot, next_slot_of, id_at, issue, inserted, removed}
 use Rattle.span_slots.specs.Change.{Change, Insert, Remove, Write, after, after_all}
 use Rattle.span_slots.proofs.Ids.{slot_of_id, generation_of_id, id_again}
-use Rattle.span_slots.proofs.Entries.{value_at-with_entry_same, value_at-with_entry_other, value_at-without_entry_none, value_at-without_entry_same, value_at-with_value_none}
+use Rattle.span_slots.proofs.Entries.{value_at-with_entry_other, value_at-without_entry_none, value_at-without_entry_same, value_at-with_value_none}
 
 -- a slot that gave an id is one of those that were used
 pub used_since : (given : List ℕ) (k g : ℕ) → g < get_or given k 0 → k < length given

@@ -1,17 +1,17 @@
 -- The promises of a table, from what is true of every table.
-use Rattle.std.proofs.Common.{◌≡◌, ◌≢◌, ℕ, zero, suc, ◌+◌, ◌-◌, ◌<◌, ◌≤◌, ◌↔◌, Bool, true, false, cond, not, ◌||◌, eqb, ltb, leb, List, [], ◌∷◌, length, get_or, map, Option, Some, None, IsSome, refl, sym, ap, subst, ◌∙◌, ◌⊎◌, inl, inr, arith, rules}
+use Rattle.std.proofs.Common.{◌≡◌, ◌≢◌, ℕ, zero, suc, ◌+◌, ◌<◌, ◌≤◌, ◌↔◌, Bool, true, false, not, ◌||◌, ltb, leb, List, [], ◌∷◌, length, get_or, map, Option, Some, None, IsSome, refl, sym, ap, subst, ◌∙◌, ◌⊎◌, inl, inr, arith, rules}
 use Rattle.std.specs.Prelude.{IfSome, All, AllPairs, Contains}
 use Rattle.std.specs.List.Sorted.{IsStrictlyIncreasing}
 use Rattle.std.proofs.lemmas.List.{get_or_past}
 use Rattle.std.proofs.lemmas.Bool.{eq-eqb, ne_eqb, cases_Bool, cases_lt, lt-ltb, le-ltb, le-leb, lt-leb, ltb-true, ltb-false, not-false, true≢false}
 use Rattle.std.proofs.lemmas.Bool.Decides.{eqb_tells}
 use Rattle.span_id.specs.Id.{id_of, slot_of, generation_of, IsId}
-use Rattle.span_slots.specs.Table.{Table, value_at, with_entry, without_entry, IsIssued, IsUsed, IsFull, is_free, is_occupied, is_retired, next_slot, next_slot_of, next_id, id_at, inserted, removed, freed_with}
-use Rattle.span_slots.specs.Change.{Change, Insert, Remove, Write, after, after_all}
+use Rattle.span_slots.specs.Table.{Table, value_at, IsIssued, IsUsed, IsFull, is_free, is_occupied, is_retired, next_slot, next_slot_of, next_id, id_at, removed, freed_with}
+use Rattle.span_slots.specs.Change.{Change, Insert, after, after_all}
 use Rattle.span_slots.specs.Rows.{times_in}
-use Rattle.span_slots.proofs.Ids.{slot_of_id, generation_of_id, id_again}
+use Rattle.span_slots.proofs.Ids.{slot_of_id, generation_of_id}
 use Rattle.span_slots.proofs.Entries.{value_at-with_entry_same, value_at-with_entry_other, value_at-without_entry_other}
-use Rattle.span_slots.proofs.Issued.{IsKept, AreIssued, issued_since, used_since, next_slot_low, not_issued, then_issued, issued-inserted, absent-removed, issued_for_good, last-after_all}
+use Rattle.span_slots.proofs.Issued.{IsKept, issued_since, used_since, next_slot_low, not_issued, issued-inserted, issued_for_good, last-after_all}
 use Rattle.span_slots.proofs.Described.{IsTable, AreNewest, AreAscending}
 
 none_some : {A : Type 0} (x : A) → ◌≡◌ {A = Option A} None (Some x) → ⊥

@@ -1,11 +1,11 @@
 -- The rows of a table against its entries.
-use Rattle.std.proofs.Common.{◌≡◌, ◌≢◌, ℕ, zero, suc, ◌+◌, ◌-◌, ◌<◌, ◌≤◌, Bool, true, false, cond, not, eqb, ltb, leb, List, [], ◌∷◌, ◌++◌, length, get_or, set, take, Option, Some, None, refl, sym, ap, subst, ◌∙◌, ◌⊎◌, inl, inr, arith, rules}
-use Rattle.std.proofs.lemmas.Bool.Decides.{nat_tests, eqb_tells, leb_tells}
+use Rattle.std.proofs.Common.{◌≡◌, ◌≢◌, ℕ, zero, suc, ◌+◌, ◌-◌, ◌<◌, ◌≤◌, true, false, cond, eqb, ltb, List, [], ◌∷◌, ◌++◌, length, get_or, set, take, Option, Some, None, refl, sym, ap, subst, ◌∙◌, inl, inr, arith}
+use Rattle.std.proofs.lemmas.Bool.Decides.{nat_tests, eqb_tells}
 use Rattle.std.proofs.lemmas.Bool.{eq-eqb, ne_eqb, cases_Bool}
 use Rattle.span_id.specs.Id.{id_of, slot_of, generation_of, IsId}
 use Rattle.span_slots.specs.Table.{value_at, with_entry, without_entry, with_value}
 use Rattle.span_slots.specs.Rows.{entries_from, IsGoodRow, AreGoodRows, is_free, free_rows, free_at, times_in}
-use Rattle.span_slots.proofs.Ids.{slot_of_id, generation_of_id, id_again, ids_differ}
+use Rattle.span_slots.proofs.Ids.{slot_of_id, id_again, ids_differ}
 
 other_slot : (b g s j : ℕ) → b < 16777216 → s < 16777216 → b < s → eqb (id_of b g) (id_of s j) ≡ false
 other_slot b g s j h k l = ne_eqb (id_of b g) (id_of s j) (λ e. let q : b ≡ s = sym (slot_of_id b g h) ∙ (ap slot_of e ∙ slot_of_id s j k) in omega arith)

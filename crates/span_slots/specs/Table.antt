@@ -1,5 +1,5 @@
 -- What contracts see of a slot table.
-use Rattle.std.specs.Prelude.{ℕ, ◌+◌, ◌<◌, Bool, cond, not, ◌&&◌, ◌||◌, ◌==◌, nat_lt, nat_le, List, [], ◌∷◌, ◌++◌, length, map, filter, count_by, Option, Some, None, is_some, IsTrue, slice_index, slice_set, drop, refl}
+use Rattle.std.specs.Prelude.{ℕ, ◌+◌, ◌<◌, Bool, cond, not, ◌||◌, ◌==◌, nat_lt, nat_le, List, [], ◌∷◌, ◌++◌, length, map, filter, count_by, Option, Some, None, is_some, IsTrue, slice_index, slice_set, drop, refl}
 use Rattle.std.specs.List.{list_any, range_with_len}
 use Rattle.std.specs.Option.{option_map}
 use Rattle.std.specs.Coded.{Coded, code_by, coded×, coded_ℕ, coded_list}
@@ -33,7 +33,8 @@ abbrev pub next_slot_of : ℕ → ℕ → List ℕ → Option ℕ
 next_slot_of slots used [] = cond (nat_lt used slots) (Some used) None
 next_slot_of slots used (slot ∷ rest) = Some slot
 
--- one more id of a slot is given
+-- How many ids each slot has given, after one more of this slot. A slot that was never used comes next
+-- in the list.
 abbrev pub issue : List ℕ → ℕ → List ℕ
 issue given slot = cond (nat_lt slot (length given)) (slice_set given slot (slice_index given slot + 1)) (given ++ 1 ∷ [])
 
@@ -43,7 +44,7 @@ module _ {T : Type 0} where
   value_at [] id = None
   value_at (e ∷ es) id = cond (e.0 == id) (Some e.1) (value_at es id)
 
-  -- the entries with one more, at its slot's place
+  -- the entries with one more, in the order of the slots
   abbrev pub with_entry : List (ℕ × T) → ℕ → T → List (ℕ × T)
   with_entry [] id value = (id, value) ∷ []
   with_entry (e ∷ es) id value =
@@ -89,6 +90,7 @@ module _ {T : Type 0} where
   abbrev pub IsUsed : Table T → ℕ → Type 0
   IsUsed t slot = IsIssued t (id_of slot 0)
 
+  -- the slot of the next value
   abbrev pub next_slot : Table T → Option ℕ
   next_slot t = next_slot_of t.slots (length t.given) t.freed
 
@@ -100,7 +102,7 @@ module _ {T : Type 0} where
   abbrev pub next_id : Table T → Option ℕ
   next_id t = option_map (id_at t) (next_slot t)
 
-  -- the table with one more value, in this slot
+  -- the table with one more value in the next slot, which is this one
   abbrev pub inserted : Table T → ℕ → T → Table T
   inserted t slot value = record t {
     entries = with_entry t.entries (id_at t slot) value;
@@ -112,7 +114,7 @@ module _ {T : Type 0} where
   abbrev pub freed_with : Table T → ℕ → List ℕ
   freed_with t slot = cond (nat_le (slice_index t.given slot) t.last_generation) (slot ∷ t.freed) t.freed
 
-  -- the table without the value of an id
+  -- the table without the value of an id; it stays as it is where the id has none
   abbrev pub removed : Table T → ℕ → Table T
   removed t id =
       cond (is_some (value_at t.entries id))

@@ -1,5 +1,6 @@
 use super::*;
 use span_id::Limits;
+use std::process::Abort;
 use std::test::Fail;
 
 // The limits of a table, whose other limits don't matter here.
@@ -14,6 +15,11 @@ fn checked(slots: u32, last_generation: u32) -> Result<Checked, Fault> {
     limits.check()
 }
 
+// Stores a value where a slot is free.
+fn put(rt: &impl Abort, slots: &mut Slots<u32>, value: u32) -> Id {
+    slots.insert(value).ok().expect(rt, "no slot is free")
+}
+
 // The numbers of the ids, in their order.
 fn numbers(rt: &HostRuntime, slots: &Slots<u32>) -> Result<Vec<u64>, Fail> {
     let mut numbers = Vec::new(rt.alloc());
@@ -26,8 +32,8 @@ fn numbers(rt: &HostRuntime, slots: &Slots<u32>) -> Result<Vec<u64>, Fail> {
 #[test]
 fn a_slot_at_its_last_generation_is_retired(rt: HostRuntime) -> Result<(), Fail> {
     let mut slots: Slots<u32> = Slots::new(rt.alloc(), &checked(2, 0)?)?;
-    let first = slots.insert(7).ok().expect(&rt, "first");
-    let second = slots.insert(8).ok().expect(&rt, "second");
+    let first = put(&rt, &mut slots, 7);
+    let second = put(&rt, &mut slots, 8);
     assert_eq!(rt; first.get(), 1);
     assert_eq!(rt; second.get(), 2);
     assert_eq!(rt; slots.insert(9), Err((9, Fault::Full)));
@@ -47,10 +53,10 @@ fn a_slot_at_its_last_generation_is_retired(rt: HostRuntime) -> Result<(), Fail>
 #[test]
 fn a_slot_is_given_at_one_generation_after_another(rt: HostRuntime) -> Result<(), Fail> {
     let mut slots: Slots<u32> = Slots::new(rt.alloc(), &checked(3, 2)?)?;
-    let kept = slots.insert(10).ok().expect(&rt, "kept");
+    let kept = put(&rt, &mut slots, 10);
     for number in [2, 16777218, 33554434] {
         let next = slots.next_id();
-        let id = slots.insert(20).ok().expect(&rt, "given");
+        let id = put(&rt, &mut slots, 20);
         assert_eq!(rt; id.get(), number);
         assert_eq!(rt; next, Some(id));
         assert_eq!(rt; slots.free(), 1);
@@ -59,7 +65,7 @@ fn a_slot_is_given_at_one_generation_after_another(rt: HostRuntime) -> Result<()
     }
     // The second slot gave its last id, so the third comes next.
     assert_eq!(rt; slots.free(), 1);
-    let third = slots.insert(30).ok().expect(&rt, "third");
+    let third = put(&rt, &mut slots, 30);
     assert_eq!(rt; third.get(), 3);
     assert_eq!(rt; slots.next_id(), None);
     assert_eq!(rt; slots.get(kept), Some(&10));
@@ -70,14 +76,14 @@ fn a_slot_is_given_at_one_generation_after_another(rt: HostRuntime) -> Result<()
 fn the_slot_freed_last_comes_first(rt: HostRuntime) -> Result<(), Fail> {
     let mut slots: Slots<u32> = Slots::new(rt.alloc(), &checked(4, 9)?)?;
     assert!(rt; slots.is_empty());
-    let first = slots.insert(1).ok().expect(&rt, "first");
-    let second = slots.insert(2).ok().expect(&rt, "second");
-    let third = slots.insert(3).ok().expect(&rt, "third");
+    let first = put(&rt, &mut slots, 1);
+    let second = put(&rt, &mut slots, 2);
+    let third = put(&rt, &mut slots, 3);
     assert_eq!(rt; slots.remove(second), Some(2));
     assert_eq!(rt; slots.remove(first), Some(1));
     assert_eq!(rt; slots.free(), 3);
     for number in [16777217, 16777218, 4] {
-        let id = slots.insert(5).ok().expect(&rt, "given");
+        let id = put(&rt, &mut slots, 5);
         assert_eq!(rt; id.get(), number);
     }
     assert_eq!(rt; slots.insert(6), Err((6, Fault::Full)));
@@ -93,8 +99,8 @@ fn the_slot_freed_last_comes_first(rt: HostRuntime) -> Result<(), Fail> {
 #[test]
 fn a_write_changes_one_value(rt: HostRuntime) -> Result<(), Fail> {
     let mut slots: Slots<u32> = Slots::new(rt.alloc(), &checked(2, 1)?)?;
-    let first = slots.insert(1).ok().expect(&rt, "first");
-    let second = slots.insert(2).ok().expect(&rt, "second");
+    let first = put(&rt, &mut slots, 1);
+    let second = put(&rt, &mut slots, 2);
     if let Some(value) = slots.get_mut(first) {
         *value = 11;
     }
@@ -109,12 +115,12 @@ fn a_write_changes_one_value(rt: HostRuntime) -> Result<(), Fail> {
 fn as_many_slots_as_ids_have_room_for(rt: HostRuntime) -> Result<(), Fail> {
     let mut slots: Slots<u32> = Slots::new(rt.alloc(), &checked(16777216, 4294967295)?)?;
     assert_eq!(rt; slots.free(), 16777216);
-    let first = slots.insert(1).ok().expect(&rt, "first");
-    let second = slots.insert(2).ok().expect(&rt, "second");
+    let first = put(&rt, &mut slots, 1);
+    let second = put(&rt, &mut slots, 2);
     assert_eq!(rt; second.get(), 2);
     assert_eq!(rt; slots.remove(first), Some(1));
     assert_eq!(rt; slots.free(), 16777215);
-    let again = slots.insert(3).ok().expect(&rt, "again");
+    let again = put(&rt, &mut slots, 3);
     assert_eq!(rt; again.get(), 16777217);
     assert_eq!(rt; numbers(&rt, &slots)?.as_slice(), [16777217, 2].as_slice());
     Ok(())

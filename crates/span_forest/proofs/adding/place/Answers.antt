@@ -1,4 +1,4 @@
-use Rattle.std.proofs.Common.{◌≡◌, ◌<◌, sym, subst, drop}
+use Rattle.std.proofs.Common.{◌≡◌, ◌<◌, sym, ap, subst, drop}
 use Rattle.std.specs.Option.{IsSomeAnd}
 use Rattle.span_id.specs.Id.{slot_of}
 use Rattle.span_slots.specs.Table.{Table, issue}
@@ -6,7 +6,7 @@ use Rattle.span_forest.specs.declared.span.Span.{Span}
 use Rattle.span_forest.specs.Node.{node_of}
 use Rattle.span_forest.specs.Spans.{nodes_of, with_node}
 use Rattle.span_forest.specs.Invariant.{IsSettled}
-use Rattle.span_forest.proofs.Placed.{stored, stored_is, placed_root, placed_child, parent_there}
+use Rattle.span_forest.proofs.Placed.{stored, stored_is, issued_alone, placed_root, placed_child, parent_there}
 use Rattle.span_forest.proofs.adding.place.Goals as goal
 use Rattle.span_forest.proofs.adding.place.Goals.{in-Some, in_default-parent}
 
@@ -39,3 +39,12 @@ returns-clause-table c =
       | in-Some w ↦ subst (λ (x : Table Span). x ≡ record c.args.slots.now { entries = x.entries; given = issue c.args.slots.now.given (slot_of c.in-Ok.id); freed = drop 1 c.args.slots.now.freed }) (sym w.slots-is) (placed_child c.args.slots.now c.in-Ok.id c.args.span c.requires.settled c.in-Ok.ensures.vacant c.requires.new c.insert.new.self w.raise.new.slots w.in-Some.parent 4294967295 mid w.in-Some.is c.requires.above w.raise.ensures).table
       | in_default-parent w ↦ subst (λ (x : Table Span). x ≡ record c.args.slots.now { entries = x.entries; given = issue c.args.slots.now.given (slot_of c.in-Ok.id); freed = drop 1 c.args.slots.now.freed }) (sym w.slots-is) (placed_root c.args.slots.now c.in-Ok.id c.args.span c.requires.settled c.in-Ok.ensures.vacant c.requires.new c.insert.new.self mid w.in_default-parent.is).table
     ]
+
+pub returns-clause-never_issued : goal.returns-clause-never_issued
+returns-clause-never_issued c = rw c.in-Ok.ensures.id at c.next_id_was_never_issued.ensures.never_issued
+
+pub returns-clause-issued : goal.returns-clause-issued
+returns-clause-issued c = λ other layout.
+    (let mid : c.insert.new.self ≡ stored c.args.slots.now c.in-Ok.id c.args.span = stored_is c.args.slots.now c.insert.new.self c.in-Ok.id c.args.span c.in-Ok.ensures.id c.in-Ok.ensures.table c.insert.ensures.change in
+    let table = returns-clause-table c in
+    issued_alone c.args.slots.now c.insert.new.self c.match-parent.slots c.in-Ok.id other c.args.span c.in-Ok.ensures.id c.insert.ensures.change mid (ap (λ (x : Table Span). x.given) table) (c.insert_issues_its_id_alone.ensures.insert c.args.span other layout))

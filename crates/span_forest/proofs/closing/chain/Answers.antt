@@ -5,7 +5,7 @@ use Rattle.span_forest.specs.Release.{taken}
 use Rattle.span_forest.specs.Chain.{without_all}
 use Rattle.span_forest.proofs.Along.{Along_none, Along_turn, Along_stop, Along_root, next_is_there}
 use Rattle.span_forest.proofs.closing.chain.Goals as goal
-use Rattle.span_forest.proofs.closing.chain.Goals.{in-Some+in-Some-get+then-span-gt1, in_default}
+use Rattle.span_forest.proofs.closing.chain.Goals.{in-Some+in-Some-get+then-span-gt-LAST, in_default}
 
 pub up-init : goal.up-init
 up-init c =
@@ -18,19 +18,19 @@ unreachable-requires c =
 pub up-smaller : goal.up-smaller
 up-smaller c =
     let start = taken (nodes_of c.args.slots.now.entries) c.args.id c.args.holder in
-    let t = Along_turn c.args.slots.now.entries start c.args.id c.up.closed.items c.push.new.self.items c.up.next c.in-Some.at c.in-Some-get.span.now c.up.invariant c.in-Some.is (sym c.get.ensures ∙ ap option_copied c.in-Some-get.is) c.if-span-gt1.false c.in_ok-push.ensures.items in
+    let t = Along_turn c.args.slots.now.entries start c.args.id c.up.closed.items c.push.new.self.items c.up.next c.in-Some.at c.in-Some-get.span.now c.up.invariant c.in-Some.is (sym c.get.ensures ∙ ap option_copied c.in-Some-get.is) c.if-span-gt-LAST.false c.in_ok-push.ensures.items in
     t.smaller
 
 pub up-preserved : goal.up-preserved
 up-preserved c =
     let start = taken (nodes_of c.args.slots.now.entries) c.args.id c.args.holder in
-    let t = Along_turn c.args.slots.now.entries start c.args.id c.up.closed.items c.push.new.self.items c.up.next c.in-Some.at c.in-Some-get.span.now c.up.invariant c.in-Some.is (sym c.get.ensures ∙ ap option_copied c.in-Some-get.is) c.if-span-gt1.false c.in_ok-push.ensures.items in
+    let t = Along_turn c.args.slots.now.entries start c.args.id c.up.closed.items c.push.new.self.items c.up.next c.in-Some.at c.in-Some-get.span.now c.up.invariant c.in-Some.is (sym c.get.ensures ∙ ap option_copied c.in-Some-get.is) c.if-span-gt-LAST.false c.in_ok-push.ensures.items in
     t.along
 
 pub returns : goal.returns
 returns c =
     let start = taken (nodes_of c.args.slots.now.entries) c.args.id c.args.holder in
     elim c.match-next.branch [
-      | in-Some+in-Some-get+then-span-gt1 w ↦ Along_stop c.args.slots.now.entries start c.args.id c.up.closed.items c.up.next w.in-Some.at w.in-Some-get.span.now (without_all start c.up.closed.items) c.up.invariant w.in-Some.is (sym w.get.ensures ∙ ap option_copied w.in-Some-get.is) w.if-span-gt1.true
+      | in-Some+in-Some-get+then-span-gt-LAST w ↦ Along_stop c.args.slots.now.entries start c.args.id c.up.closed.items c.up.next w.in-Some.at w.in-Some-get.span.now (without_all start c.up.closed.items) c.up.invariant w.in-Some.is (sym w.get.ensures ∙ ap option_copied w.in-Some-get.is) w.if-span-gt-LAST.true
       | in_default w ↦ Along_root c.args.slots.now.entries start c.args.id c.up.closed.items c.up.next (without_all start c.up.closed.items) c.up.invariant w.in_default.is
     ]

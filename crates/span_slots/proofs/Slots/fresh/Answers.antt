@@ -1,11 +1,9 @@
-use Rattle.std.proofs.Common.{◌≡◌, ◌≢◌, ℕ, ◌+◌, ◌-◌, ◌<◌, ◌≤◌, cond, eqb, false, None, Some, [], ◌∷◌, ◌++◌, length, map, set, get_or, reverse, refl, sym, ap, ◌∙◌, arith, rules}
-use Rattle.std.proofs.lemmas.List.{length-map, map-set, map-append}
-use Rattle.span_id.specs.Id.{slot_of, generation_of}
+use Rattle.std.proofs.Common.{◌≡◌, ◌<◌, Some, length, map, refl, arith}
+use Rattle.std.proofs.lemmas.List.{length-map, map-append}
 use Rattle.span_slots.specs.Cells.{row_of}
-use Rattle.span_slots.specs.Rows.{is_free, IsSound}
 use Rattle.span_slots.proofs.Rows.{length-entries-le}
-use Rattle.span_slots.proofs.CellLemmas.{reused, freshened, next_slot_fresh, row_at, vacant_fresh}
-use Rattle.span_slots.proofs.Sound.{IsSound-reused, IsSound-fresh, free_row, FreeRow}
+use Rattle.span_slots.proofs.CellLemmas.{freshened, next_slot_fresh, vacant_fresh}
+use Rattle.span_slots.proofs.Sound.{IsSound-fresh}
 use Rattle.span_slots.proofs.Slots.fresh.Goals as goal
 
 pub overflow_add-self : goal.overflow_add-self

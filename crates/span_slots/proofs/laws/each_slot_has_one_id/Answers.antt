@@ -1,4 +1,3 @@
-use Rattle.std.proofs.Common.{◌≡◌}
 use Rattle.span_slots.proofs.Described.{described, kept}
 use Rattle.span_slots.proofs.Issued.{issued_since}
 use Rattle.span_slots.proofs.Promises.{newest, next_not_issued, one_slot, ascending, found}

@@ -1,4 +1,3 @@
-use Rattle.std.proofs.Common.{◌≡◌}
 use Rattle.span_slots.proofs.Described.{described}
 use Rattle.span_slots.proofs.Promises.{freed_exactly, freed_apart}
 use Rattle.span_slots.proofs.laws.freed_slots_may_be_given_again.Goals as goal

@@ -1,4 +1,3 @@
-use Rattle.std.proofs.Common.{◌≡◌}
 use Rattle.span_slots.proofs.Described.{described}
 use Rattle.span_slots.proofs.Promises.{full_exactly}
 use Rattle.span_slots.proofs.laws.full_where_no_slot_is_free.Goals as goal

@@ -1,4 +1,3 @@
-use Rattle.std.proofs.Common.{◌≡◌}
 use Rattle.span_slots.proofs.Described.{kept}
 use Rattle.span_slots.proofs.Promises.{next_absent, added, others-inserted}
 use Rattle.span_slots.proofs.laws.insert_adds_its_value_alone.Goals as goal

@@ -1,4 +1,3 @@
-use Rattle.std.proofs.Common.{◌≡◌}
 use Rattle.span_slots.proofs.Described.{kept}
 use Rattle.span_slots.proofs.Promises.{insert_issues, remove_issues_none}
 use Rattle.span_slots.proofs.laws.insert_issues_its_id_alone.Goals as goal

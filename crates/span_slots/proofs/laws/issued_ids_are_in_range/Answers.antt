@@ -1,4 +1,3 @@
-use Rattle.std.proofs.Common.{◌≡◌}
 use Rattle.span_slots.proofs.Described.{described, kept}
 use Rattle.span_slots.proofs.Promises.{issued_slot, issued_generation}
 use Rattle.span_slots.proofs.laws.issued_ids_are_in_range.Goals as goal

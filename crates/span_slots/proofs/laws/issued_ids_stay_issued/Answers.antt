@@ -1,4 +1,3 @@
-use Rattle.std.proofs.Common.{◌≡◌}
 use Rattle.span_slots.proofs.Described.{kept}
 use Rattle.span_slots.proofs.Issued.{issued_for_good}
 use Rattle.span_slots.proofs.laws.issued_ids_stay_issued.Goals as goal

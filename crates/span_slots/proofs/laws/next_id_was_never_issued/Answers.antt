@@ -1,4 +1,3 @@
-use Rattle.std.proofs.Common.{◌≡◌}
 use Rattle.span_slots.proofs.Described.{described, kept}
 use Rattle.span_slots.proofs.Promises.{next_in_layout, never_issued}
 use Rattle.span_slots.proofs.laws.next_id_was_never_issued.Goals as goal

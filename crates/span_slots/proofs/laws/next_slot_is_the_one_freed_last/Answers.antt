@@ -1,4 +1,3 @@
-use Rattle.std.proofs.Common.{◌≡◌}
 use Rattle.span_slots.proofs.Described.{described}
 use Rattle.span_slots.proofs.Promises.{freed_last, first_use, lowest}
 use Rattle.span_slots.proofs.laws.next_slot_is_the_one_freed_last.Goals as goal

@@ -1,4 +1,3 @@
-use Rattle.std.proofs.Common.{◌≡◌}
 use Rattle.span_slots.proofs.Described.{kept}
 use Rattle.span_slots.proofs.Issued.{removed_for_good, absent_for_good}
 use Rattle.span_slots.proofs.laws.removed_id_never_comes_back.Goals as goal

@@ -1,4 +1,3 @@
-use Rattle.std.proofs.Common.{◌≡◌}
 use Rattle.span_slots.proofs.Described.{described, kept}
 use Rattle.span_slots.proofs.Promises.{retired_at_last, retired_for_good, retired_never_next, retired}
 use Rattle.span_slots.proofs.laws.retired_slots_are_never_given_again.Goals as goal

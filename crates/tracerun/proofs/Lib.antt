@@ -1,0 +1,6 @@
+pub mod Json
+pub mod FieldLists
+pub mod Cuts
+pub mod Named
+pub mod Limited
+pub mod Written

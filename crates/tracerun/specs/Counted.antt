@@ -1,0 +1,19 @@
+-- What a clause reads of a counted reader or writer.
+use Rattle.std.specs.Prelude.{ℕ, ◌+◌, ◌-◌, ◌^◌, min}
+use Rattle.tracerun.specs.declared.counted.Counted.{Counted}
+
+-- the reader or writer inside
+abbrev pub inner_of : {T : Type 0} → Counted T → T
+inner_of c = c.inner
+
+-- how often it was called
+abbrev pub calls_of : {T : Type 0} → Counted T → ℕ
+calls_of c = c.calls
+
+-- how many of those calls failed
+abbrev pub failed_of : {T : Type 0} → Counted T → ℕ
+failed_of c = c.failed
+
+-- one more, at most the greatest value of a count
+abbrev pub one_more : ℕ → ℕ
+one_more n = min (n + 1) (2 ^ 64 - 1)

@@ -1,0 +1,20 @@
+-- The keys of a script's lines.
+use Rattle.std.specs.Prelude.{ℕ, List, codes}
+use Rattle.tracerun.specs.declared.fault.Key.{Key}
+use Rattle.tracerun.specs.declared.fault.Key.TheVariants.{Slots, LastGeneration, MaxCount, Workers, Name, Target, Level, Parent, Fields, Label, Worker, Span, Old}
+
+-- a key as it is written in a line
+abbrev pub key_text : Key → List ℕ
+key_text Slots = codes "slots"
+key_text LastGeneration = codes "last_generation"
+key_text MaxCount = codes "max_count"
+key_text Workers = codes "workers"
+key_text Name = codes "name"
+key_text Target = codes "target"
+key_text Level = codes "level"
+key_text Parent = codes "parent"
+key_text Fields = codes "fields"
+key_text Label = codes "label"
+key_text Worker = codes "w"
+key_text Span = codes "span"
+key_text Old = codes "old"

@@ -1,0 +1,15 @@
+pub mod Counted
+pub mod Key
+pub mod Reason
+pub mod RunFault
+pub mod Script
+pub mod Device
+pub mod Operation
+pub mod Views
+pub mod Answer
+pub mod Labels
+pub mod Names
+pub mod Refusals
+pub mod Spans
+pub mod Faults
+pub mod Output

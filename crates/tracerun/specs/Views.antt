@@ -1,0 +1,55 @@
+-- The code's operations, as the definitions see them.
+use Rattle.std.specs.Prelude.{ℕ, ◌<◌, List, map, string_bytes}
+use Rattle.span_id.specs.declared.meta.Field.{Field}
+use Rattle.tracerun.specs.Operation as meant
+use Rattle.tracerun.specs.declared.operation.SpanKey.{SpanKey}
+use Rattle.tracerun.specs.declared.operation.SpanKey.TheVariants.{Label, Id}
+use Rattle.tracerun.specs.declared.operation.Parent.{Parent}
+use Rattle.tracerun.specs.declared.operation.Parent.TheVariants.{Current, Root, Named}
+use Rattle.tracerun.specs.declared.operation.NewSpan.{NewSpan}
+use Rattle.tracerun.specs.declared.operation.Operation.{Operation}
+use Rattle.tracerun.specs.declared.operation.Operation.TheVariants.{Limits, New, OnSpan, Find}
+use Rattle.tracerun.specs.declared.reading.Op as op
+use Rattle.tracerun.specs.declared.reading.Op.TheVariants as ops
+
+abbrev pub key_seen : SpanKey → meant.SpanKey
+key_seen (Label text) = meant.by_label text.now
+key_seen (Id id) = meant.by_id id
+
+abbrev pub parent_seen : Parent → meant.Parent
+parent_seen Current = meant.current
+parent_seen Root = meant.root
+parent_seen (Named key) = meant.named (key_seen key)
+
+abbrev pub field_seen : Field → List ℕ × List ℕ
+field_seen field = (string_bytes field.key, string_bytes field.value)
+
+abbrev pub new_seen : NewSpan → meant.NewSpan
+new_seen new = record {
+  name = string_bytes new.meta.name;
+  target = string_bytes new.meta.target;
+  level = new.meta.level;
+  parent = parent_seen new.parent;
+  fields = map field_seen new.fields.items;
+  label = new.label.now;
+  worker = new.worker;
+}
+
+abbrev pub operation_seen : Operation → meant.Operation
+operation_seen (Limits limits) = meant.set_limits limits
+operation_seen (New new) = meant.make (new_seen new)
+operation_seen (OnSpan call span worker) = meant.on_span call (key_seen span) worker
+operation_seen (Find span) = meant.find (key_seen span)
+
+abbrev pub op_seen : op.Op → meant.Op
+op_seen ops.Limits = meant.limits_op
+op_seen ops.New = meant.new_op
+op_seen (ops.OnSpan call) = meant.span_op call
+op_seen ops.Find = meant.find_op
+
+-- the worker that an operation names is one of so many
+abbrev pub NamesWorker : Operation → ℕ → Type 0
+NamesWorker (Limits limits) workers = Unit {0}
+NamesWorker (New new) workers = new.worker < workers
+NamesWorker (OnSpan call span worker) workers = worker < workers
+NamesWorker (Find span) workers = Unit {0}

@@ -1,0 +1,56 @@
+//! What a line of a script can ask for.
+
+use span_id::{Field, Id, Limits, Meta};
+
+/// How a line names a span.
+#[derive(Clone, Copy, Debug)]
+pub enum SpanKey<'v> {
+    /// By the label that the last accepted `new` bound to it.
+    Label(&'v str),
+    Id(Id),
+}
+
+/// What a new span is to stand under.
+#[derive(Clone, Copy, Debug)]
+pub enum Parent<'v> {
+    /// The worker's current span, where it has one.
+    Current,
+    /// No span.
+    Root,
+    Named(SpanKey<'v>),
+}
+
+/// A span to be made.
+#[derive(Debug, Drop)]
+pub struct NewSpan<'v> {
+    pub meta: Meta,
+    pub fields: Vec<Field>,
+    pub parent: Parent<'v>,
+    /// What later lines call the span.
+    pub label: &'v str,
+    pub worker: usize,
+}
+
+/// A call on one span.
+#[derive(Clone, Copy, Debug, PartialEq, Eq)]
+pub enum SpanCall {
+    Clone,
+    Close,
+    Enter,
+    Exit,
+}
+
+/// What a line asks for.
+#[derive(Debug, Drop)]
+pub enum Operation<'v> {
+    /// To run with these limits, which may be out of their ranges.
+    Limits(Limits),
+    New(NewSpan<'v>),
+    /// A worker's call on a span.
+    OnSpan {
+        call: SpanCall,
+        span: SpanKey<'v>,
+        worker: usize,
+    },
+    Find(SpanKey<'v>),
+}

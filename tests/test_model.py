@@ -1,0 +1,44 @@
+#!/usr/bin/env python3
+"""Runs the model on each worked case of `tracerun replay` and compares what it says with what the case wants.
+
+usage: test_model.py
+The last line is 'N passed, M failed'; the status is 0 where nothing failed.
+"""
+import os
+import sys
+
+import large_cases
+import model
+from run_cases import HERE, file_cases, shown
+
+
+def difference(case):
+    """Says what differs between the model and the case, or nothing."""
+    output, error, status = model.run(case.script)
+    if status != case.status:
+        return f"status {status}, wanted {case.status}"
+    if output != case.output:
+        return f"standard output\n{shown(output)}wanted\n{shown(case.output)}"
+    if case.error is not None and error != case.error:
+        return f"standard error\n{shown(error)}wanted\n{shown(case.error)}"
+    return None
+
+
+def main():
+    cases = [*file_cases(os.path.join(HERE, "cases")), *large_cases.cuts()]
+    passed = failed = 0
+    for case in cases:
+        if case.words != ["replay"]:
+            continue
+        found = difference(case)
+        if found is None:
+            passed += 1
+        else:
+            failed += 1
+            print(f"FAILED {case.name}: {found}")
+    print(f"{passed} passed, {failed} failed")
+    return 1 if failed else 0
+
+
+if __name__ == "__main__":
+    sys.exit(main())
