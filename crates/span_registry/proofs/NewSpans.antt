@@ -1,11 +1,11 @@
 -- A new span: its path and its notes, as they can be said before it is there.
 use Rattle.std.proofs.Common.{◌≡◌, ◌≢◌, ℕ, zero, suc, ◌+◌, ◌<◌, ◌==◌, Bool, true, false, cond, ◌&&◌, ◌||◌, List, [], ◌∷◌, ◌++◌, length, map, filter, reverse, get_or, set, Option, Some, None, refl, sym, ap, ◌∙◌, subst, inl, inr, arith}
-use Rattle.std.specs.Prelude.{IsSome, MatchOption, slice_index, drop, nat_lt}
+use Rattle.std.specs.Prelude.{is_some, MatchOption, slice_index, drop, nat_lt}
 use Rattle.std.specs.Option.{option_map_or}
 use Rattle.std.specs.List.{range_with_len}
-use Rattle.std.proofs.lemmas.Bool.{cases_Bool, cases_lt, lt-ltb}
+use Rattle.std.proofs.lemmas.Bool.{cases_Bool, cases_lt, lt-ltb, false≢true}
 use Rattle.std.proofs.lemmas.Bool.Decides.{eqb_tells, nat_tests}
-use Rattle.std.proofs.lemmas.List.{get_or-set_same, get_or-set_other, get_or_append_left, get_or_past}
+use Rattle.std.proofs.lemmas.List.{reverse-append, get_or-set_same, get_or-set_other, get_or_append_left, get_or_past}
 use Rattle.span_id.specs.Bits.{has_bit}
 use Rattle.span_id.specs.Id.{slot_of, generation_of, IsId}
 use Rattle.span_id.specs.declared.limits.Limits.{Limits}
@@ -26,7 +26,7 @@ use Rattle.span_forest.proofs.Adds.{find-with_same, find-with_other}
 use Rattle.span_registry.specs.World.{World, IsWorld}
 use Rattle.span_registry.specs.Request.{PlainMeta, new_span, made}
 use Rattle.span_registry.specs.Batch.{PlainBatch}
-use Rattle.span_registry.specs.Step.{ParentIsOpen, is_wanted, made_node}
+use Rattle.span_registry.specs.Step.{ParentIsOpen, IsStep, is_wanted, made_node}
 use Rattle.span_registry.specs.History.{issued}
 use Rattle.span_registry.specs.NextId.{with_answer, slots_after}
 use Rattle.span_registry.specs.Happening.{Happening, at_span, is_told, note_of, notes_of, notes_of_all, path_at}
@@ -44,7 +44,7 @@ length-with_node (e ∷ es) id node =
     elim (cases_Bool (nat_lt (slot_of id) (slot_of e.0))) [ inl t ↦ rw t refl | inr t ↦ rw t (ap suc (length-with_node es id node)) ]
 
 apart : (spans : Spans) (id j : ℕ) → find spans id ≡ None → IsOpen spans j → j ≢ id
-apart spans id j gone there same = absurd (let t : IsSome (find spans id) = subst (λ k. IsOpen spans k) same there in let u = rw gone at t in u)
+apart spans id j gone there same = absurd (false≢true (sym (ap is_some gone) ∙ subst (λ k. IsOpen spans k) same there))
 
 parent_is_open : (spans : Spans) (j : ℕ) → ParentsOpen spans → ParentIsOpen spans (parent_of spans j)
 parent_is_open spans j whole = by_case (parent_of spans j) refl
@@ -81,7 +81,7 @@ new_path spans id node layer gone whole there admitted =
     ∙ ap (λ p. p ++ node.name ∷ []) (path_is spans layer node.parent)
   where
     reverse_first : (x : List ℕ) (xs : List (List ℕ)) → reverse (x ∷ xs) ≡ reverse xs ++ x ∷ []
-    reverse_first x xs = refl
+    reverse_first x xs = reverse-append (x ∷ []) xs
 
 map-filter-same : {X : Type 0} (f g : ℕ → X) (p q : ℕ → Bool) → ((k : ℕ) → p k ≡ q k) → ((k : ℕ) → p k ≡ true → f k ≡ g k) → (ks : List ℕ) → map f (filter p ks) ≡ map g (filter q ks)
 map-filter-same f g p q tests same [] = refl
@@ -124,7 +124,7 @@ not_open spans id Issued issued never = by_case (find spans id) refl
   where
     by_case : (o : Option Node) → find spans id ≡ o → o ≡ None
     by_case None is = refl
-    by_case (Some node) is = absurd (never (issued (rw is tt)))
+    by_case (Some node) is = absurd (never (issued (ap is_some is)))
 
 -- one id more of a slot takes none away
 pub issue_more : (given : List ℕ) (slot k n : ℕ) → n < slice_index given k → n < slice_index (issue given slot) k
@@ -162,6 +162,29 @@ only_one id x h = same_key id x (sym (or_none (id == x)) ∙ h)
     or_none true = refl
     or_none false = refl
 
+pub step_new : (rules : List Filter) (ids : List ℕ) (spans new_spans : Spans) (stacks : List (List ℕ)) (worker id : ℕ) (meta : PlainMeta) (fields : List KeyValue) (parent : Option ℕ) (notes : List PlainNote)
+    → IsId id → stands_in id ids ≡ false → is_wanted rules meta ≡ true → ParentIsOpen spans parent
+    → new_spans ≡ with_node spans id (made_node rules meta fields parent)
+    → notes ≡ notes_of_all rules worker (at_span new_spans OnNew id fields ∷ [])
+    → IsStep rules ids (record { spans = spans; stacks = stacks }) (new_span worker meta fields parent) (made id) notes (record { spans = new_spans; stacks = stacks })
+step_new rules ids spans new_spans stacks worker id meta fields parent notes in_layout not_issued wanted there spans_are notes_are =
+    record {
+      changes = record {
+        in_layout = in_layout;
+        not_issued = not_issued;
+        wanted = wanted;
+        parent_open = there;
+        after = λ j. record { spans = spans_are j; stacks = stacks };
+      };
+      notes_are = notes_are;
+    }
+
+-- an id that no slot has given was not issued by the history
+pub not_in_history : (limits : Limits) (rules : List Filter) (forest : ForestView) (stacks : List (List ℕ)) (calls : ℕ) (sent : List PlainBatch) (id : ℕ) → IsSound limits forest stacks rules calls sent
+    → (generation_of id < slice_index forest.given (slot_of id) → ⊥) → stands_in id (issued sent) ≡ false
+not_in_history limits rules forest stacks calls sent id sound never =
+    elim (cases_Bool (stands_in id (issued sent))) [ inl t ↦ absurd (never (sound.counted id t)) | inr t ↦ t ]
+
 pub sound_new : (limits : Limits) (rules : List Filter) (forest new_forest : ForestView) (stacks : List (List ℕ)) (calls : ℕ) (old mid new : List PlainBatch) (worker id : ℕ) (meta written_meta : PlainMeta) (fields written : List KeyValue) (parent : Option ℕ) (notes : List PlainNote)
     → IsSound limits forest stacks rules calls old
     → IsId id
@@ -186,14 +209,5 @@ sound_new limits rules forest new_forest stacks calls old mid new worker id meta
       (λ x before. rw given_is (issue_more forest.given (slot_of id) (slot_of x) (generation_of x) before))
       refl
       (subst (λ (spans : Spans). IsWorld (record { spans = spans; stacks = stacks })) (sym spans_are) (world_new forest.spans id node stacks gone refl sound.world))
-      (record {
-        changes = record {
-          in_layout = in_layout;
-          not_issued = elim (cases_Bool (stands_in id (issued old))) [ inl t ↦ absurd (never (sound.counted id t)) | inr t ↦ t ];
-          wanted = wanted;
-          parent_open = there;
-          after = λ j. record { spans = spans_are j; stacks = stacks };
-        };
-        notes_are = notes_are;
-      })
+      (step_new rules (issued old) forest.spans new_forest.spans stacks worker id meta fields parent notes in_layout (not_in_history limits rules forest stacks calls old id sound never) wanted there spans_are notes_are)
       same (sent ∙ (λ j. mid ++ (record { request = new_span worker (meta_is j) (fields_are j) parent; answer = made id; notes = notes }) ∷ []))

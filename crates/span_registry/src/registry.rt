@@ -5,10 +5,13 @@ ghost use Rattle.span_forest.specs.Spans.{find};
 ghost use Rattle.span_forest.specs.Count.{total_held};
 ghost use Rattle.span_forest.specs.Release.{closing_list};
 ghost use Rattle.span_registry.specs.World.{empty_world, stack_of, IsCounted};
-ghost use Rattle.span_registry.specs.Request.{clone_span, cloned, record_fields, recorded, try_close, released, enter, entered, event, told, plain_meta, plain_fields};
+ghost use Rattle.span_registry.specs.Request.{new_span, made, clone_span, cloned, record_fields, recorded, try_close, released, enter, entered, event, told, plain_meta, plain_fields};
 ghost use Rattle.span_registry.specs.History.{IsLegal};
-ghost use Rattle.span_registry.specs.Core.{IsAccepted, IsRefused};
+ghost use Rattle.span_registry.specs.Core.{IsAccepted, IsRefused, IsNotWanted};
+ghost use Rattle.span_registry.specs.Parent.{parent_found};
+ghost use Rattle.span_registry.specs.NextId.{next_id};
 
+use crate::batch::ParentOf;
 use crate::outlet::Outlet;
 use crate::state::State;
 use span_forest::Span;
@@ -97,6 +100,37 @@ impl<O: Outlet> Core<O> {
         ensures times_full { O.times_full result.now ≡ self.now.state.times_full }
     {
         self.state.outlet()
+    }
+
+    /// Makes a span with copies of the meta and the fields, under no parent, under the worker's current span or under a
+    /// named one. It has one handle. The layers that admit it are those whose rule admits the meta.
+    ///
+    /// The answer is its id: the one that the history so far gives, which was never issued before. It is `None`, and
+    /// nothing changes, where there are layers and none admits the meta.
+    ///
+    /// Refused in this order: `BadName` where the name or a key is no name; then comes the answer `None`; `Unknown` where
+    /// the parent isn't open, `CountFull` where the parent's count or the number of accepted calls is at its greatest,
+    /// `Full` where no slot is free, `Backlog`, `Memory`.
+    pub fn new_span(
+        &mut self,
+        worker: u32,
+        meta: &Meta,
+        fields: &[Field],
+        parent: ParentOf,
+    ) -> Result<Option<Id>, Fault>
+        requires { worker < self.old.state.limits.workers }
+        ensures made { IfOk result (λ made_id. IfSome made_id (λ id.
+            IsAccepted self.old.state (new_span worker (plain_meta meta.now) (plain_fields fields.now) (parent_found self.old.state.world worker parent)) (made id) self.new.state)) }
+        ensures next { IfOk result (λ made_id. IfSome made_id (λ id.
+            next_id self.old.state.limits.slots self.old.state.limits.last_generation self.old.state.sent ≡ Some id)) }
+        ensures not_wanted { IfOk result (λ made_id. IfNone made_id (
+            IsNotWanted self.old.state (new_span worker (plain_meta meta.now) (plain_fields fields.now) (parent_found self.old.state.world worker parent)) self.new.state)) }
+        ensures refused { IfErr result (λ fault.
+            IsRefused self.old.state (new_span worker (plain_meta meta.now) (plain_fields fields.now) (parent_found self.old.state.world worker parent)) fault self.new.state) }
+    {
+        let parent = self.state.parent(worker, parent);
+        self.state
+            .new_span(&self.admitters, worker, meta, fields, parent)
     }
 
     /// One more handle of a span that has a handle.
