@@ -33,13 +33,13 @@ pub sound_clone : (limits : Limits) (rules : List Filter) (forest new_forest : F
 sound_clone limits rules forest new_forest stacks calls old mid new worker id notes sound held forest_is none same sent =
     let spans_are = ap (λ f. f.spans) forest_is in
     sound_quiet limits rules forest new_forest stacks stacks calls old mid new (record { request = clone_span worker id; answer = cloned; notes = notes }) sound refl refl
-      (same_but_spans forest new_forest _ forest_is) refl
-      (subst (λ (spans : Spans). IsWorld (record { spans = spans; stacks = stacks })) (sym spans_are) (world_kept_handle forest.spans id stacks sound.world))
-      (record {
-        changes = record { held = held; after = λ j. record { spans = spans_are j; stacks = stacks } };
-        notes_are = none;
-      })
-      same sent
+    (same_but_spans forest new_forest _ forest_is) refl
+    (subst (λ (spans : Spans). IsWorld (record { spans = spans; stacks = stacks })) (sym spans_are) (world_kept_handle forest.spans id stacks sound.world))
+    (record {
+      changes = record { held = held; after = λ j. record { spans = spans_are j; stacks = stacks } };
+      notes_are = none;
+    })
+    same sent
 
 pub sound_record : (limits : Limits) (rules : List Filter) (forest new_forest : ForestView) (stacks : List (List ℕ)) (calls : ℕ) (old mid new : List PlainBatch) (worker id : ℕ) (fields written : List KeyValue) (notes : List PlainNote)
     → IsSound limits forest stacks rules calls old
@@ -52,13 +52,13 @@ pub sound_record : (limits : Limits) (rules : List Filter) (forest new_forest : 
 sound_record limits rules forest new_forest stacks calls old mid new worker id fields written notes sound held forest_is notes_are written_are same sent =
     let spans_are = ap (λ f. f.spans) forest_is in
     sound_quiet limits rules forest new_forest stacks stacks calls old mid new (record { request = record_fields worker id fields; answer = recorded; notes = notes }) sound refl refl
-      (same_but_spans forest new_forest _ forest_is) refl
-      (subst (λ (spans : Spans). IsWorld (record { spans = spans; stacks = stacks })) (sym spans_are) (world_changed (with_fields fields) (λ node. refl) forest.spans id stacks sound.world))
-      (record {
-        changes = record { held = held; after = λ j. record { spans = spans_are j; stacks = stacks } };
-        notes_are = notes_are;
-      })
-      same (sent ∙ ap (λ (fs : List KeyValue). mid ++ (record { request = record_fields worker id fs; answer = recorded; notes = notes }) ∷ []) written_are)
+    (same_but_spans forest new_forest _ forest_is) refl
+    (subst (λ (spans : Spans). IsWorld (record { spans = spans; stacks = stacks })) (sym spans_are) (world_changed (with_fields fields) (λ node. refl) forest.spans id stacks sound.world))
+    (record {
+      changes = record { held = held; after = λ j. record { spans = spans_are j; stacks = stacks } };
+      notes_are = notes_are;
+    })
+    same (sent ∙ ap (λ (fs : List KeyValue). mid ++ (record { request = record_fields worker id fs; answer = recorded; notes = notes }) ∷ []) written_are)
 
 -- the slots that a release frees, and nothing else, changed
 freed_in : (limits : Limits) (forest new_forest : ForestView) (spans : Spans) (used : SlotsUsed) (closed : List ℕ)
@@ -82,17 +82,17 @@ sound_close limits rules forest new_forest stacks calls old mid new worker id cl
     let spans_are = ap (λ f. f.spans) forest_is in
     let given_is : new_forest.given ≡ forest.given = ap (λ f. f.given) forest_is in
     sound_more limits rules forest new_forest stacks stacks calls old mid new (record { request = try_close worker id; answer = released closed; notes = notes }) sound
-      (freed_in limits forest new_forest _ (slots_after limits.last_generation old) (closing_list forest.spans id Handle) sound.forest_is forest_is
-        ∙ ap (λ ids. forest_with limits new_forest.spans (with_closed limits.last_generation (slots_after limits.last_generation old) ids)) (sym closed_are))
-      (λ x there. cc)
-      (λ x before. rw given_is before)
-      refl
-      (subst (λ (spans : Spans). IsWorld (record { spans = spans; stacks = stacks })) (sym spans_are) (world_released_handle forest.spans id stacks sound.world))
-      (record {
-        changes = record { held = held; closed_are = closed_are; after = λ j. record { spans = spans_are j; stacks = stacks } };
-        notes_are = notes_are;
-      })
-      same sent
+    (freed_in limits forest new_forest _ (slots_after limits.last_generation old) (closing_list forest.spans id Handle) sound.forest_is forest_is
+    ∙ ap (λ ids. forest_with limits new_forest.spans (with_closed limits.last_generation (slots_after limits.last_generation old) ids)) (sym closed_are))
+    (λ x there. cc)
+    (λ x before. rw given_is before)
+    refl
+    (subst (λ (spans : Spans). IsWorld (record { spans = spans; stacks = stacks })) (sym spans_are) (world_released_handle forest.spans id stacks sound.world))
+    (record {
+      changes = record { held = held; closed_are = closed_are; after = λ j. record { spans = spans_are j; stacks = stacks } };
+      notes_are = notes_are;
+    })
+    same sent
 
 -- a span that is held is open
 pub held_open : (spans : Spans) (id : ℕ) (holder : Holder) → IsHeld spans id holder → (node : Node) × (find spans id ≡ Some node)
@@ -117,16 +117,16 @@ sound_enter limits rules forest new_forest stacks new_stacks calls old mid new w
     let there = held_open forest.spans id Handle held in
     let entered_world = world_entered forest.spans stacks worker id (get_or stacks worker []) (has (get_or stacks worker []) id) there.0 within refl refl there.1 sound.world in
     sound_quiet limits rules forest new_forest stacks new_stacks calls old mid new (record { request = enter worker id; answer = entered first; notes = notes }) sound refl refl
-      (same_but_spans forest new_forest _ forest_is)
-      (ap length stacks_are ∙ length-set stacks worker _)
-      (subst (λ (w : World). IsWorld w)
-        (λ j. record { spans = (ap (λ b. cond b (kept forest.spans id Entry) forest.spans) (sym first_is) ∙ sym spans_are) j; stacks = (sym stacks_are) j })
-        entered_world)
-      (record {
-        changes = record { held = held; first_is = first_is; after = λ j. record { spans = spans_are j; stacks = stacks_are j } };
-        notes_are = notes_are;
-      })
-      same sent
+    (same_but_spans forest new_forest _ forest_is)
+    (ap length stacks_are ∙ length-set stacks worker _)
+    (subst (λ (w : World). IsWorld w)
+    (λ j. record { spans = (ap (λ b. cond b (kept forest.spans id Entry) forest.spans) (sym first_is) ∙ sym spans_are) j; stacks = (sym stacks_are) j })
+    entered_world)
+    (record {
+      changes = record { held = held; first_is = first_is; after = λ j. record { spans = spans_are j; stacks = stacks_are j } };
+      notes_are = notes_are;
+    })
+    same sent
 
 pub sound_event : (limits : Limits) (rules : List Filter) (forest : ForestView) (stacks : List (List ℕ)) (calls : ℕ) (old mid new : List PlainBatch) (worker : ℕ) (meta written_meta : PlainMeta) (message written : List ℕ) (fields written_fields : List KeyValue) (notes : List PlainNote)
     → IsSound limits forest stacks rules calls old
@@ -136,7 +136,7 @@ pub sound_event : (limits : Limits) (rules : List Filter) (forest : ForestView) 
     → IsSound limits forest stacks rules (calls + 1) new
 sound_event limits rules forest stacks calls old mid new worker meta written_meta message written fields written_fields notes sound notes_are meta_is message_is fields_are same sent =
     sound_quiet limits rules forest forest stacks stacks calls old mid new (record { request = event worker meta message fields; answer = told; notes = notes }) sound refl refl
-      refl refl sound.world
-      (record { changes = refl; notes_are = notes_are })
-      same
-      (sent ∙ (λ j. mid ++ (record { request = event worker (meta_is j) (message_is j) (fields_are j); answer = told; notes = notes }) ∷ []))
+    refl refl sound.world
+    (record { changes = refl; notes_are = notes_are })
+    same
+    (sent ∙ (λ j. mid ++ (record { request = event worker (meta_is j) (message_is j) (fields_are j); answer = told; notes = notes }) ∷ []))

@@ -129,7 +129,7 @@ legal : IsLegal [] 1 (made_a ∷ batch (try_close 0 1) (released (1 ∷ [])) ∷
 legal =
     more (batch (try_close 0 1) (released (1 ∷ [])))
     (more {new = record { spans = (1, record { name = codes "a"; target = codes "app"; level = Info; fields = []; bits = 0; parent = None; handles = 1; entries = 0 }) ∷ []; stacks = [] ∷ [] }} made_a none
-      (record { changes = record { in_layout = (omega arith, omega arith); not_issued = refl; wanted = refl; parent_open = tt; after = refl }; notes_are = refl }) refl)
+    (record { changes = record { in_layout = (omega arith, omega arith); not_issued = refl; wanted = refl; parent_open = tt; after = refl }; notes_are = refl }) refl)
     (record { changes = record { held = omega arith; closed_are = refl; after = refl }; notes_are = refl })
     refl
 
@@ -139,7 +139,7 @@ told_of_a = record { layer = 0; kind = OnNew; worker = 0; id = 1; path = codes "
 
 line_of_a : lines_of (Compact ∷ []) (record { request = new_span 0 (meta (codes "a") (codes "app")) [] None; answer = made 1; notes = told_of_a ∷ [] } ∷ [])
     ≡ (record { batch = 0; place = 0; layer = 0; text = codes "new 1 w0 a" }) ∷ []
-  unfolding text_of
+unfolding text_of
 line_of_a = refl
 
 -- a layer without a form has no line

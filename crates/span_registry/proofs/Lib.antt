@@ -4,4 +4,5 @@ pub mod StackLists
 pub mod Accepting
 pub mod Telling
 pub mod NewSpans
+pub mod Counted
 mod Examples

@@ -88,8 +88,9 @@ map-filter-same f g p q tests same [] = refl
 map-filter-same f g p q tests same (k ∷ ks) =
     let rest = map-filter-same f g p q tests same ks in
     elim (cases_Bool (p k)) [
-      inl t ↦ (let u : q k ≡ true = sym (tests k) ∙ t in let e : f k ≡ g k = same k t in rw (t, u) (λ j. e j ∷ rest j))
-    | inr t ↦ (let u : q k ≡ false = sym (tests k) ∙ t in rw (t, u) rest) ]
+      | inl t ↦ (let u : q k ≡ true = sym (tests k) ∙ t in let e : f k ≡ g k = same k t in rw (t, u) (λ j. e j ∷ rest j))
+      | inr t ↦ (let u : q k ≡ false = sym (tests k) ∙ t in rw (t, u) rest)
+    ]
 
 and_first : (a b : Bool) → (a && b) ≡ true → a ≡ true
 and_first true b h = refl
@@ -103,20 +104,22 @@ pub new_notes : (rules : List Filter) (worker id : ℕ) (spans new_spans : Spans
     → notes ≡ notes_of_all rules worker (at_span new_spans OnNew id fields ∷ [])
 new_notes rules worker id spans new_spans node fields first notes gone whole there are none told =
     one_happening rules worker (at_span new_spans OnNew id fields) first notes none
-      (told ∙ ap (λ xs. first ++ xs) (all ∙ ap (λ s. notes_of rules worker (at_span s OnNew id fields)) (sym are)))
+    (told ∙ ap (λ xs. first ++ xs) (all ∙ ap (λ s. notes_of rules worker (at_span s OnNew id fields)) (sym are)))
   where
     here : find (with_node spans id node) id ≡ Some node
     here = find-with_same spans id node gone
+
     bits_are : option_map_or (λ (n : Node). n.bits) (find (with_node spans id node) id) 0 ≡ node.bits
     bits_are = ap (λ (o : Option Node). option_map_or (λ n. n.bits) o 0) here
+
     all : map (first_note spans worker id node.parent node.name fields) (filter (is_told_new rules node.bits) (range_with_len 0 (length rules))) ≡ notes_of rules worker (at_span (with_node spans id node) OnNew id fields)
     all =
         map-filter-same (first_note spans worker id node.parent node.name fields) (note_of worker (at_span (with_node spans id node) OnNew id fields)) (is_told_new rules node.bits) (is_told rules (at_span (with_node spans id node) OnNew id fields))
-          (λ k. ap (λ b. has_bit b k && layer_wants rules k OnNew) (sym bits_are))
-          (λ k told_k. let admitted = and_first (has_bit node.bits k) (layer_wants rules k OnNew) told_k in
-            let p = sym (new_path spans id node k gone whole there admitted) in
-            λ j. record { layer = k; kind = OnNew; worker = worker; id = id; path = p j; fields = fields; tail = None })
-          (range_with_len 0 (length rules))
+        (λ k. ap (λ b. has_bit b k && layer_wants rules k OnNew) (sym bits_are))
+        (λ k told_k. let admitted = and_first (has_bit node.bits k) (layer_wants rules k OnNew) told_k in
+        let p = sym (new_path spans id node k gone whole there admitted) in
+        λ j. record { layer = k; kind = OnNew; worker = worker; id = id; path = p j; fields = fields; tail = None })
+        (range_with_len 0 (length rules))
 
 -- an id of a slot that is free isn't open
 pub not_open : (spans : Spans) (id : ℕ) (Issued : Type 0) → (IsOpen spans id → Issued) → (Issued → ⊥) → find spans id ≡ None
@@ -130,20 +133,24 @@ not_open spans id Issued issued never = by_case (find spans id) refl
 pub issue_more : (given : List ℕ) (slot k n : ℕ) → n < slice_index given k → n < slice_index (issue given slot) k
 issue_more given slot k n before =
     elim (cases_lt slot (length given)) [
-      inl h ↦ (let t : nat_lt slot (length given) ≡ true = lt-ltb slot (length given) h in rw t (at h))
-    | inr h ↦ (let t : nat_lt slot (length given) ≡ false = grind (arith, nat_tests) in rw t past) ]
+      | inl h ↦ (let t : nat_lt slot (length given) ≡ true = lt-ltb slot (length given) h in rw t (at h))
+      | inr h ↦ (let t : nat_lt slot (length given) ≡ false = grind (arith, nat_tests) in rw t past)
+    ]
   where
     at : slot < length given → n < slice_index (set given slot (slice_index given slot + 1)) k
     at h =
         elim (eqb_tells k slot) [
-          inl t ↦ (let same : slice_index (set given slot (slice_index given slot + 1)) slot ≡ slice_index given slot + 1 = get_or-set_same given slot (slice_index given slot + 1) 0 h in
-            subst (λ (i : ℕ). n < slice_index (set given slot (slice_index given slot + 1)) i) (sym t.1) (let b : n < slice_index given slot = subst (λ (i : ℕ). n < slice_index given i) t.1 before in omega (arith, same, b)))
-        | inr t ↦ (let other : slice_index (set given slot (slice_index given slot + 1)) k ≡ slice_index given k = get_or-set_other given slot k (slice_index given slot + 1) 0 t.1 in omega (arith, other, before)) ]
+          | inl t ↦ (let same : slice_index (set given slot (slice_index given slot + 1)) slot ≡ slice_index given slot + 1 = get_or-set_same given slot (slice_index given slot + 1) 0 h in
+              subst (λ (i : ℕ). n < slice_index (set given slot (slice_index given slot + 1)) i) (sym t.1) (let b : n < slice_index given slot = subst (λ (i : ℕ). n < slice_index given i) t.1 before in omega (arith, same, b)))
+          | inr t ↦ (let other : slice_index (set given slot (slice_index given slot + 1)) k ≡ slice_index given k = get_or-set_other given slot k (slice_index given slot + 1) 0 t.1 in omega (arith, other, before))
+        ]
+
     past : n < slice_index (given ++ 1 ∷ []) k
     past =
         elim (cases_lt k (length given)) [
-          inl h ↦ (let same : slice_index (given ++ 1 ∷ []) k ≡ slice_index given k = get_or_append_left given (1 ∷ []) 0 k h in omega (arith, same, before))
-        | inr h ↦ (let none : slice_index given k ≡ 0 = get_or_past given k 0 h in absurd (omega (arith, none, before))) ]
+          | inl h ↦ (let same : slice_index (given ++ 1 ∷ []) k ≡ slice_index given k = get_or_append_left given (1 ∷ []) 0 k h in omega (arith, same, before))
+          | inr h ↦ (let none : slice_index given k ≡ 0 = get_or_past given k 0 h in absurd (omega (arith, none, before)))
+        ]
 
 pub world_new : (spans : Spans) (id : ℕ) (node : Node) (stacks : List (List ℕ)) → find spans id ≡ None → node.entries ≡ 0 → IsWorld (record { spans = spans; stacks = stacks }) → IsWorld (record { spans = with_node spans id node; stacks = stacks })
 world_new spans id node stacks gone none whole = record { entered = λ j. same j ∙ whole.entered j }
@@ -151,9 +158,10 @@ world_new spans id node stacks gone none whole = record { entered = λ j. same j
     same : (j : ℕ) → held_in Entry (find (with_node spans id node) j) ≡ held_in Entry (find spans j)
     same j =
         elim (eqb_tells j id) [
-          inl t ↦ subst (λ (k : ℕ). held_in Entry (find (with_node spans id node) k) ≡ held_in Entry (find spans k)) (sym t.1)
-            (ap (held_in Entry) (find-with_same spans id node gone) ∙ none ∙ sym (ap (held_in Entry) gone))
-        | inr t ↦ ap (held_in Entry) (find-with_other spans id j node t.1) ]
+          | inl t ↦ subst (λ (k : ℕ). held_in Entry (find (with_node spans id node) k) ≡ held_in Entry (find spans k)) (sym t.1)
+              (ap (held_in Entry) (find-with_same spans id node gone) ∙ none ∙ sym (ap (held_in Entry) gone))
+          | inr t ↦ ap (held_in Entry) (find-with_other spans id j node t.1)
+        ]
 
 only_one : (id x : ℕ) → ((id == x) || false) ≡ true → id ≡ x
 only_one id x h = same_key id x (sym (or_none (id == x)) ∙ h)
@@ -203,11 +211,11 @@ sound_new limits rules forest new_forest stacks calls old mid new worker id meta
     let spans_are = ap (λ f. f.spans) forest_is in
     let given_is : new_forest.given ≡ issue forest.given (slot_of id) = ap (λ f. f.given) forest_is in
     sound_more limits rules forest new_forest stacks stacks calls old mid new (record { request = new_span worker meta fields parent; answer = made id; notes = notes }) sound
-      (forest_is ∙ ap (λ (f : ForestView). added f id node) sound.forest_is
-        ∙ ap (λ s. forest_with limits s (with_answer limits.last_generation (slots_after limits.last_generation old) (made id))) (sym spans_are))
-      (λ x there_x. subst (λ (y : ℕ). generation_of y < slice_index new_forest.given (slot_of y)) (only_one id x there_x) now_issued)
-      (λ x before. rw given_is (issue_more forest.given (slot_of id) (slot_of x) (generation_of x) before))
-      refl
-      (subst (λ (spans : Spans). IsWorld (record { spans = spans; stacks = stacks })) (sym spans_are) (world_new forest.spans id node stacks gone refl sound.world))
-      (step_new rules (issued old) forest.spans new_forest.spans stacks worker id meta fields parent notes in_layout (not_in_history limits rules forest stacks calls old id sound never) wanted there spans_are notes_are)
-      same (sent ∙ (λ j. mid ++ (record { request = new_span worker (meta_is j) (fields_are j) parent; answer = made id; notes = notes }) ∷ []))
+    (forest_is ∙ ap (λ (f : ForestView). added f id node) sound.forest_is
+    ∙ ap (λ s. forest_with limits s (with_answer limits.last_generation (slots_after limits.last_generation old) (made id))) (sym spans_are))
+    (λ x there_x. subst (λ (y : ℕ). generation_of y < slice_index new_forest.given (slot_of y)) (only_one id x there_x) now_issued)
+    (λ x before. rw given_is (issue_more forest.given (slot_of id) (slot_of x) (generation_of x) before))
+    refl
+    (subst (λ (spans : Spans). IsWorld (record { spans = spans; stacks = stacks })) (sym spans_are) (world_new forest.spans id node stacks gone refl sound.world))
+    (step_new rules (issued old) forest.spans new_forest.spans stacks worker id meta fields parent notes in_layout (not_in_history limits rules forest stacks calls old id sound never) wanted there spans_are notes_are)
+    same (sent ∙ (λ j. mid ++ (record { request = new_span worker (meta_is j) (fields_are j) parent; answer = made id; notes = notes }) ∷ []))

@@ -75,7 +75,7 @@ sound_more limits rules forest new_forest stacks new_stacks calls old mid new ba
       calls_are = rw new_is (omega (arith, sound.calls_are, length-append old (batch ∷ [])));
       forest_is = forest_is ∙ ap (λ used. forest_with limits new_forest.spans used) (sym (ap (slots_after limits.last_generation) new_is ∙ slots_more limits.last_generation old batch));
       counted = λ id there.
-        either (stands_in id (issued old)) (stands_in id (id_issued batch.answer)) (generation_of id < slice_index new_forest.given (slot_of id))
+          either (stands_in id (issued old)) (stands_in id (id_issued batch.answer)) (generation_of id < slice_index new_forest.given (slot_of id))
           (sym (ap (λ history. stands_in id (issued history)) new_is ∙ ap (stands_in id) (issued_more old batch) ∙ list_any-append (λ x. x == id) (issued old) (id_issued batch.answer)) ∙ there)
           (λ before. still_issued id (sound.counted id before))
           (first_issue id);
@@ -98,10 +98,10 @@ pub sound_quiet : (limits : Limits) (rules : List Filter) (forest new_forest : F
 sound_quiet limits rules forest new_forest stacks new_stacks calls old mid new batch sound used nothing forest_is lengths world step same sent =
     let given_is : new_forest.given ≡ forest.given = ap (λ f. f.given) forest_is in
     sound_more limits rules forest new_forest stacks new_stacks calls old mid new batch sound
-      (forest_is ∙ ap (λ (f : ForestView). record f { spans = new_forest.spans }) sound.forest_is ∙ ap (λ used. forest_with limits new_forest.spans used) (sym used))
-      (λ id there. absurd (let t = rw nothing at there in cc))
-      (λ id before. rw given_is before)
-      lengths world step same sent
+    (forest_is ∙ ap (λ (f : ForestView). record f { spans = new_forest.spans }) sound.forest_is ∙ ap (λ used. forest_with limits new_forest.spans used) (sym used))
+    (λ id there. absurd (let t = rw nothing at there in cc))
+    (λ id before. rw given_is before)
+    lengths world step same sent
 
 -- a forest of which only the spans changed
 pub same_but_spans : (forest new_forest : ForestView) (spans : Spans) → new_forest ≡ record forest { spans = spans } → new_forest ≡ record forest { spans = new_forest.spans }

@@ -22,8 +22,8 @@ range_more a (suc n) =
 pub told_next : {X : Type 0} (f : ℕ → X) (p : ℕ → Bool) (n : ℕ) → map f (filter p (range_with_len 0 (n + 1))) ≡ map f (filter p (range_with_len 0 n)) ++ cond (p n) (f n ∷ []) []
 told_next f p n =
     let next : range_with_len 0 (n + 1) ≡ range_with_len 0 n ++ n ∷ [] =
-      (let one : n + 1 ≡ suc n = omega arith in let same : 0 + n ≡ n = omega arith in
-        ap (range_with_len 0) one ∙ range_more 0 n ∙ ap (λ k. range_with_len 0 n ++ k ∷ []) same) in
+    (let one : n + 1 ≡ suc n = omega arith in let same : 0 + n ≡ n = omega arith in
+    ap (range_with_len 0) one ∙ range_more 0 n ∙ ap (λ k. range_with_len 0 n ++ k ∷ []) same) in
     ap (λ ks. map f (filter p ks)) next
     ∙ ap (map f) (filter-append p (range_with_len 0 n) (n ∷ []))
     ∙ map-append f (filter p (range_with_len 0 n)) (filter p (n ∷ []))
@@ -89,7 +89,7 @@ pub event_notes : (rules : List Filter) (worker : ℕ) (spans : Spans) (stack se
     → notes ≡ notes_of_all rules worker (event_at spans stack admitted meta.level message fields ∷ [])
 event_notes rules worker spans stack seen bits admitted meta message fields first notes none same bits_are are =
     one_happening rules worker (event_at spans stack admitted meta.level message fields) first notes none
-      (are ∙ (λ j. first ++ notes_of rules worker (event_at spans (same j) (bits_are j) meta.level message fields)))
+    (are ∙ (λ j. first ++ notes_of rules worker (event_at spans (same j) (bits_are j) meta.level message fields)))
 
 -- a turn of a loop over the layers
 pub pushed_more : (f : ℕ → PlainNote) (p : ℕ → Bool) (layer : ℕ) (first before after : List PlainNote)

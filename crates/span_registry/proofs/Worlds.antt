@@ -29,23 +29,26 @@ pub find-changed_same : (f : Node → Node) (spans : Spans) (id : ℕ) (node : N
 find-changed_same f [] id node h = cc
 find-changed_same f (e ∷ es) id node h =
     elim (cases_Bool (e.0 == id)) [
-      inl t ↦ (let h2 = rw t at h in rw t cc)
-    | inr t ↦ rw t (find-changed_same f es id node (rw t at h)) ]
+      | inl t ↦ (let h2 = rw t at h in rw t cc)
+      | inr t ↦ rw t (find-changed_same f es id node (rw t at h))
+    ]
 
 pub find-changed_other : (f : Node → Node) (spans : Spans) (id j : ℕ) → (id == j) ≡ false → find (changed f spans id) j ≡ find spans j
 find-changed_other f [] id j other = refl
 find-changed_other f (e ∷ es) id j other =
     elim (cases_Bool (e.0 == j)) [
-      inl t ↦ (let u = other_key e.0 id j t other in rw (t, u) refl)
-    | inr t ↦ rw t (find-changed_other f es id j other) ]
+      | inl t ↦ (let u = other_key e.0 id j t other in rw (t, u) refl)
+      | inr t ↦ rw t (find-changed_other f es id j other)
+    ]
 
 -- a change that leaves the entries
 pub entries-changed : (f : Node → Node) → ((node : Node) → (f node).entries ≡ node.entries) → (spans : Spans) (id j : ℕ) → held_in Entry (find (changed f spans id) j) ≡ held_in Entry (find spans j)
 entries-changed f same [] id j = refl
 entries-changed f same (e ∷ es) id j =
     elim (cases_Bool (e.0 == j)) [
-      inl t ↦ rw t (at (e.0 == id))
-    | inr t ↦ rw t (entries-changed f same es id j) ]
+      | inl t ↦ rw t (at (e.0 == id))
+      | inr t ↦ rw t (entries-changed f same es id j)
+    ]
   where
     at : (b : Bool) → held_by Entry (cond b (f e.1) e.1) ≡ held_by Entry e.1
     at true = same e.1
@@ -88,8 +91,9 @@ unmoved stacks pushed false true grew apart = let same = apart refl in omega (ar
 pub entries-kept : (spans : Spans) (id j : ℕ) (node : Node) → find spans id ≡ Some node → held_in Entry (find (kept spans id Entry) j) ≡ held_in Entry (find spans j) + one (id == j)
 entries-kept spans id j node is =
     elim (cases_Bool (id == j)) [
-      inl t ↦ (let here = same_key id j t in rw (t, ← here) (ap (held_in Entry) (find-changed_same (with_more Entry) spans id node is) ∙ sym (ap (λ o. held_in Entry o + 1) is)))
-    | inr t ↦ rw t (ap (held_in Entry) (find-changed_other (with_more Entry) spans id j t) ∙ omega arith) ]
+      | inl t ↦ (let here = same_key id j t in rw (t, ← here) (ap (held_in Entry) (find-changed_same (with_more Entry) spans id node is) ∙ sym (ap (λ o. held_in Entry o + 1) is)))
+      | inr t ↦ rw t (ap (held_in Entry) (find-changed_other (with_more Entry) spans id j t) ∙ omega arith)
+    ]
 
 -- a worker enters
 pub world_entered : (spans : Spans) (stacks : List (List ℕ)) (w id : ℕ) (stack : List ℕ) (stands : Bool) (node : Node) → w < length stacks → get_or stacks w [] ≡ stack → has stack id ≡ stands → find spans id ≡ Some node
@@ -105,19 +109,22 @@ find-filter p [] j = elim (cases_Bool (p j)) [ inl t ↦ rw t refl | inr t ↦ r
 find-filter p (e ∷ es) j =
     let rest = find-filter p es j in
     elim (cases_Bool (e.0 == j)) [
-      inl t ↦ (let here : e.0 ≡ j = same_key e.0 j t in
-        elim (cases_Bool (p j)) [
-          inl u ↦ (let u' : p e.0 ≡ true = ap p here ∙ u in rw (u', u, t) refl)
-        | inr u ↦ (let u' : p e.0 ≡ false = ap p here ∙ u in rw (u', u) (rest ∙ rw u refl)) ])
-    | inr t ↦ elim (cases_Bool (p e.0)) [ inl u ↦ rw (u, t) rest | inr u ↦ rw (u, t) rest ] ]
+      | inl t ↦ (let here : e.0 ≡ j = same_key e.0 j t in
+          elim (cases_Bool (p j)) [
+            | inl u ↦ (let u' : p e.0 ≡ true = ap p here ∙ u in rw (u', u, t) refl)
+            | inr u ↦ (let u' : p e.0 ≡ false = ap p here ∙ u in rw (u', u) (rest ∙ rw u refl))
+          ])
+      | inr t ↦ elim (cases_Bool (p e.0)) [ inl u ↦ rw (u, t) rest | inr u ↦ rw (u, t) rest ]
+    ]
 
 any_found : (q : ℕ × Node → Bool) (spans : Spans) (j : ℕ) (node : Node) → find spans j ≡ Some node → q (j, node) ≡ true → list_any q spans ≡ true
 any_found q [] j node is passes = cc
 any_found q (e ∷ es) j node is passes =
     elim (cases_Bool (e.0 == j)) [
-      inl t ↦ (let here : e.0 ≡ j = same_key e.0 j t in let h2 = rw t at is in let that : e.1 ≡ node = cc in
-        let first : q (e.0, e.1) ≡ true = ap (λ k. q (k, e.1)) here ∙ ap (λ n. q (j, n)) that ∙ passes in rw first refl)
-    | inr t ↦ (let rest = any_found q es j node (rw t at is) passes in rw rest (or_true (q e))) ]
+      | inl t ↦ (let here : e.0 ≡ j = same_key e.0 j t in let h2 = rw t at is in let that : e.1 ≡ node = cc in
+          let first : q (e.0, e.1) ≡ true = ap (λ k. q (k, e.1)) here ∙ ap (λ n. q (j, n)) that ∙ passes in rw first refl)
+      | inr t ↦ (let rest = any_found q es j node (rw t at is) passes in rw rest (or_true (q e)))
+    ]
   where
     or_true : (b : Bool) → (b || true) ≡ true
     or_true true = refl
@@ -138,8 +145,9 @@ pub entries-live : (spans : Spans) (j : ℕ) → held_in Entry (find (live_part 
 entries-live spans j =
     ap (held_in Entry) (find-filter (is_live spans) spans j)
     ∙ elim (cases_Bool (is_live spans j)) [
-        inl t ↦ rw t refl
-      | inr t ↦ rw t (sym (by_case (find spans j) refl t)) ]
+      | inl t ↦ rw t refl
+      | inr t ↦ rw t (sym (by_case (find spans j) refl t))
+    ]
   where
     by_case : (o : Option Node) → find spans j ≡ o → is_live spans j ≡ false → held_in Entry o ≡ 0
     by_case None is gone = refl
@@ -156,17 +164,20 @@ world_released_handle spans id stacks whole =
 entries-taken : (spans : Spans) (id j : ℕ) (node : Node) → find spans id ≡ Some node → held_in Entry (find (taken spans id Entry) j) ≡ held_in Entry (find spans j) - one (id == j)
 entries-taken spans id j node is =
     elim (cases_Bool (id == j)) [
-      inl t ↦ (let here = same_key id j t in rw (t, ← here) (ap (held_in Entry) (find-changed_same (with_less Entry) spans id node is) ∙ sym (ap (λ o. held_in Entry o - 1) is)))
-    | inr t ↦ rw t (ap (held_in Entry) (find-changed_other (with_less Entry) spans id j t) ∙ omega arith) ]
+      | inl t ↦ (let here = same_key id j t in rw (t, ← here) (ap (held_in Entry) (find-changed_same (with_less Entry) spans id node is) ∙ sym (ap (λ o. held_in Entry o - 1) is)))
+      | inr t ↦ rw t (ap (held_in Entry) (find-changed_other (with_less Entry) spans id j t) ∙ omega arith)
+    ]
 
 pub has-without_last : (stack : List ℕ) (id j : ℕ) → (id == j) ≡ false → has (without_last stack id) j ≡ has stack j
 has-without_last [] id j other = refl
 has-without_last (lowest ∷ above) id j other =
     elim (cases_Bool (has above id)) [
-      inl t ↦ rw t (ap (λ b. (lowest == j) || b) (has-without_last above id j other))
-    | inr t ↦ elim (cases_Bool (lowest == id)) [
-        inl u ↦ (let here : lowest ≡ id = same_key lowest id u in let v : (lowest == j) ≡ false = ap (λ k. k == j) here ∙ other in rw (t, u, v) refl)
-      | inr u ↦ rw (t, u) refl ] ]
+      | inl t ↦ rw t (ap (λ b. (lowest == j) || b) (has-without_last above id j other))
+      | inr t ↦ elim (cases_Bool (lowest == id)) [
+        | inl u ↦ (let here : lowest ≡ id = same_key lowest id u in let v : (lowest == j) ≡ false = ap (λ k. k == j) here ∙ other in rw (t, u, v) refl)
+        | inr u ↦ rw (t, u) refl
+      ]
+    ]
 
 -- a worker leaves: where its id still stands in the stack, nothing changes but the stack
 pub world_left_still : (spans : Spans) (stacks : List (List ℕ)) (w id : ℕ) (stack : List ℕ) → w < length stacks → get_or stacks w [] ≡ stack → has stack id ≡ true → has (without_last stack id) id ≡ true
@@ -178,9 +189,10 @@ world_left_still spans stacks w id stack within is stands still whole =
     same j =
         let moved = inside-set stacks w stack (without_last stack id) j within is in
         let both : has (without_last stack id) j ≡ has stack j =
-          elim (cases_Bool (id == j)) [
-            inl t ↦ (let here = same_key id j t in rw (← here) (still ∙ sym stands))
-          | inr t ↦ has-without_last stack id j t ] in
+        elim (cases_Bool (id == j)) [
+          | inl t ↦ (let here = same_key id j t in rw (← here) (still ∙ sym stands))
+          | inr t ↦ has-without_last stack id j t
+        ] in
         let moved' = rw both at moved in
         omega (arith, moved')
 
@@ -192,9 +204,11 @@ fewer spans stacks left b c false even moved here other = (let h = other refl in
 pub world_left : (spans : Spans) (stacks : List (List ℕ)) (w id : ℕ) (stack : List ℕ) (node : Node) → w < length stacks → get_or stacks w [] ≡ stack → has stack id ≡ true → has (without_last stack id) id ≡ false → find spans id ≡ Some node
     → IsWorld (record { spans = spans; stacks = stacks }) → IsWorld (record { spans = released spans id Entry; stacks = set stacks w (without_last stack id) })
 world_left spans stacks w id stack node within is stands gone found whole =
-    record { entered = λ j.
-      entries-live (taken spans id Entry) j ∙ entries-taken spans id j node found
-      ∙ fewer (held_in Entry (find spans j)) (workers_inside stacks j) _ (has stack j) (has (without_last stack id) j) (id == j) (whole.entered j)
+    record {
+      entered = λ j.
+          entries-live (taken spans id Entry) j ∙ entries-taken spans id j node found
+          ∙ fewer (held_in Entry (find spans j)) (workers_inside stacks j) _ (has stack j) (has (without_last stack id) j) (id == j) (whole.entered j)
           (inside-set stacks w stack (without_last stack id) j within is)
           (λ e. (ap (λ k. has stack k) (sym (same_key id j e)) ∙ stands, ap (λ k. has (without_last stack id) k) (sym (same_key id j e)) ∙ gone))
-          (λ e. sym (has-without_last stack id j e)) }
+          (λ e. sym (has-without_last stack id j e));
+    }

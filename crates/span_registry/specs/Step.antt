@@ -55,7 +55,7 @@ pub record EntersSpan (old : World) (worker id : ℕ) (first : Bool) (new : Worl
   pub first_is : first ≡ not (has (stack_of old worker) id)
   pub after : new ≡ record {
     spans = cond first (kept old.spans id Entry) old.spans;
-    stacks = with_stack old worker (stack_of old worker ++ id ∷ [])
+    stacks = with_stack old worker (stack_of old worker ++ id ∷ []);
   }
 
 -- a worker leaves a span: the last place of the id is taken out, and where the id stands in the stack
@@ -65,7 +65,7 @@ pub record ExitsSpan (old : World) (worker id : ℕ) (closed : List ℕ) (new : 
   pub closed_are : closed ≡ cond (has (without_last (stack_of old worker) id) id) [] (closing_list old.spans id Entry)
   pub after : new ≡ record {
     spans = cond (has (without_last (stack_of old worker) id) id) old.spans (spans_left old.spans id Entry);
-    stacks = with_stack old worker (without_last (stack_of old worker) id)
+    stacks = with_stack old worker (without_last (stack_of old worker) id);
   }
 
 -- a handle is released

@@ -1,8 +1,8 @@
 -- The world: the open spans with their holders, and the stacks of the workers.
-use Rattle.std.specs.Prelude.{◌≡◌, ℕ, ◌+◌, List, [], replicate, count_by, slice_index_or, slice_set}
+use Rattle.std.specs.Prelude.{◌≡◌, ℕ, ◌+◌, ◌<◌, List, [], MatchOption, replicate, count_by, slice_index_or, slice_set}
 use Rattle.span_forest.specs.declared.span.Span.{Span}
 use Rattle.span_forest.specs.declared.span.Holder.TheVariants.{Entry}
-use Rattle.span_forest.specs.Spans.{Spans, find}
+use Rattle.span_forest.specs.Spans.{Spans, find, IsOpen}
 use Rattle.span_forest.specs.Count.{children}
 use Rattle.span_forest.specs.Holders.{held_in}
 use Rattle.span_stack.specs.Stack.{has}
@@ -34,6 +34,9 @@ workers_inside stacks id = count_by (λ stack. has stack id) stacks
 pub record IsWorld (world : World) : Type 0 where
   pub entered : (id : ℕ) → held_in Entry (find world.spans id) ≡ workers_inside world.stacks id
 
--- the count of an open span is its handles, the workers that are inside it, and its open children
+-- the count of an open span is its handles, the workers that are inside it, and its open children; it is
+-- positive, and the parent, if there is one, is open
 pub record IsCounted (world : World) (id : ℕ) (span : Span) : Type 0 where
   pub count : span.count ≡ span.handles + workers_inside world.stacks id + children world.spans id
+  pub positive : 0 < span.count
+  pub parent_open : MatchOption span.parent (Unit {0}) (λ parent. IsOpen world.spans parent)

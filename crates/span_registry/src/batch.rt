@@ -12,13 +12,25 @@ pub enum Call {
         parent: Option<Id>,
     },
     /// One more handle of a span was given out.
-    CloneSpan { worker: u32, id: Id },
+    CloneSpan {
+        worker: u32,
+        id: Id,
+    },
     /// The worker entered a span.
-    Enter { worker: u32, id: Id },
+    Enter {
+        worker: u32,
+        id: Id,
+    },
     /// The worker left a span.
-    Exit { worker: u32, id: Id },
+    Exit {
+        worker: u32,
+        id: Id,
+    },
     /// A handle of a span was given back.
-    TryClose { worker: u32, id: Id },
+    TryClose {
+        worker: u32,
+        id: Id,
+    },
     /// Fields were appended to those of a span.
     RecordFields {
         worker: u32,

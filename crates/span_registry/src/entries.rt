@@ -39,7 +39,14 @@ impl<O: Outlet> State<O> {
             bits: held.bits,
         };
         let mut notes = Vec::new(self.alloc);
-        push_notes(self.alloc, &mut notes, &self.rules, &self.forest, &what, &[])?;
+        push_notes(
+            self.alloc,
+            &mut notes,
+            &self.rules,
+            &self.forest,
+            &what,
+            &[],
+        )?;
         push_at(&mut self.stacks, worker, id)?;
         keep_first(&mut self.forest, first, id);
         self.calls += 1;

@@ -42,7 +42,18 @@ impl<O: Outlet> State<O> {
         ask(&mut self.outlet)?;
         let bits = self.rules.bits(admitters, meta);
         let mut notes = Vec::new(self.alloc);
-        push_event(self.alloc, &mut notes, &self.rules, &self.forest, self.stacks.as_slice(), worker, bits, meta, message, fields)?;
+        push_event(
+            self.alloc,
+            &mut notes,
+            &self.rules,
+            &self.forest,
+            self.stacks.as_slice(),
+            worker,
+            bits,
+            meta,
+            message,
+            fields,
+        )?;
         let copied = copy_meta(self.alloc, meta)?;
         let text = copy_text(self.alloc, message)?;
         let copies = copy_fields(self.alloc, fields)?;
@@ -79,7 +90,17 @@ fn admits(forest: &Forest, id: Id, layer: u32) -> bool
 }
 
 // The note that a layer is told of an event.
-fn event_note(alloc: Global, forest: &Forest, stack: &SpanStack, worker: u32, bits: Bits, meta: &Meta, message: &str, fields: &[Field], layer: u32) -> Result<Note, Fault>
+fn event_note(
+    alloc: Global,
+    forest: &Forest,
+    stack: &SpanStack,
+    worker: u32,
+    bits: Bits,
+    meta: &Meta,
+    message: &str,
+    fields: &[Field],
+    layer: u32,
+) -> Result<Note, Fault>
     ensures note { IfOk result (λ note. plain_note note
         ≡ note_of worker (event_at forest.now.spans stack.now.ids bits.0 meta.now.level message.now (plain_fields fields.now)) layer) }
     ensures memory { IfErr result (λ fault. fault ≡ Fault.Memory) }
@@ -120,18 +141,32 @@ fn id_and_path(
 }
 
 // Appends the note of one layer, if it is told.
-fn push_event_note(alloc: Global, notes: &mut Vec<Note>, rules: &Rules, forest: &Forest, stack: &SpanStack, worker: u32, bits: Bits, meta: &Meta, message: &str, fields: &[Field], layer: u32) -> Result<(), Fault>
+fn push_event_note(
+    alloc: Global,
+    notes: &mut Vec<Note>,
+    rules: &Rules,
+    forest: &Forest,
+    stack: &SpanStack,
+    worker: u32,
+    bits: Bits,
+    meta: &Meta,
+    message: &str,
+    fields: &[Field],
+    layer: u32,
+) -> Result<(), Fault>
     requires there { layer < length rules.now }
     ensures notes { OnOk result (map plain_note notes.new.items ≡ map plain_note notes.old.items
         ++ (if is_told rules.now (event_at forest.now.spans stack.now.ids bits.0 meta.now.level message.now (plain_fields fields.now)) layer
-            then note_of worker (event_at forest.now.spans stack.now.ids bits.0 meta.now.level message.now (plain_fields fields.now)) layer ∷ []
-            else [])) }
+        then note_of worker (event_at forest.now.spans stack.now.ids bits.0 meta.now.level message.now (plain_fields fields.now)) layer ∷ []
+        else [])) }
     ensures memory { IfErr result (λ fault. fault ≡ Fault.Memory) }
 {
     if !(bits.has(layer) && rules.want(layer, Kind::OnEvent)) {
         return Ok(());
     }
-    let note = event_note(alloc, forest, stack, worker, bits, meta, message, fields, layer)?;
+    let note = event_note(
+        alloc, forest, stack, worker, bits, meta, message, fields, layer,
+    )?;
     match notes.push(note) {
         Ok(()) => Ok(()),
         Err(_) => Err(Fault::Memory),
@@ -139,24 +174,60 @@ fn push_event_note(alloc: Global, notes: &mut Vec<Note>, rules: &Rules, forest: 
 }
 
 // Appends the notes of an event that a worker tells.
-fn push_event(alloc: Global, notes: &mut Vec<Note>, rules: &Rules, forest: &Forest, stacks: &[SpanStack], worker: u32, bits: Bits, meta: &Meta, message: &str, fields: &[Field]) -> Result<(), Fault>
+fn push_event(
+    alloc: Global,
+    notes: &mut Vec<Note>,
+    rules: &Rules,
+    forest: &Forest,
+    stacks: &[SpanStack],
+    worker: u32,
+    bits: Bits,
+    meta: &Meta,
+    message: &str,
+    fields: &[Field],
+) -> Result<(), Fault>
     requires { worker < length stacks.now }
     ensures notes { OnOk result (map plain_note notes.new.items ≡ map plain_note notes.old.items
         ++ notes_of rules.now worker (event_at forest.now.spans (slice_index_or (ids_of_each stacks.now) worker []) bits.0 meta.now.level message.now (plain_fields fields.now))) }
     ensures memory { IfErr result (λ fault. fault ≡ Fault.Memory) }
 {
     let stack = &stacks[worker as usize];
-    push_event_notes(alloc, notes, rules, forest, stack, worker, bits, meta, message, fields)
+    push_event_notes(
+        alloc, notes, rules, forest, stack, worker, bits, meta, message, fields,
+    )
 }
 
 // Appends the notes of an event: one for each layer that admits it.
-fn push_event_notes(alloc: Global, notes: &mut Vec<Note>, rules: &Rules, forest: &Forest, stack: &SpanStack, worker: u32, bits: Bits, meta: &Meta, message: &str, fields: &[Field]) -> Result<(), Fault>
+fn push_event_notes(
+    alloc: Global,
+    notes: &mut Vec<Note>,
+    rules: &Rules,
+    forest: &Forest,
+    stack: &SpanStack,
+    worker: u32,
+    bits: Bits,
+    meta: &Meta,
+    message: &str,
+    fields: &[Field],
+) -> Result<(), Fault>
     ensures notes { OnOk result (map plain_note notes.new.items ≡ map plain_note notes.old.items
         ++ notes_of rules.now worker (event_at forest.now.spans stack.now.ids bits.0 meta.now.level message.now (plain_fields fields.now))) }
     ensures memory { IfErr result (λ fault. fault ≡ Fault.Memory) }
 {
     for layer in 0..rules.len() {
-        push_event_note(alloc, notes, rules, forest, stack, worker, bits, meta, message, fields, layer as u32)?;
+        push_event_note(
+            alloc,
+            notes,
+            rules,
+            forest,
+            stack,
+            worker,
+            bits,
+            meta,
+            message,
+            fields,
+            layer as u32,
+        )?;
     }
     Ok(())
 }

@@ -61,7 +61,14 @@ impl<O: Outlet> State<O> {
             bits: held.bits,
         };
         let mut notes = Vec::new(self.alloc);
-        push_notes(self.alloc, &mut notes, &self.rules, &self.forest, &what, fields)?;
+        push_notes(
+            self.alloc,
+            &mut notes,
+            &self.rules,
+            &self.forest,
+            &what,
+            fields,
+        )?;
         let copies = copy_fields(self.alloc, fields)?;
         let Ok(()) = self.forest.write_fields(id, fields) else {
             return Err(Fault::Memory);

@@ -14,6 +14,8 @@ mod registry;
 mod spans;
 mod stacks;
 mod state;
+#[cfg(test)]
+mod tests;
 
 pub use batch::{Batch, Call, ParentOf, Reply};
 pub use outlet::Outlet;

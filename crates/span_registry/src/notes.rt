@@ -20,7 +20,13 @@ pub(crate) struct Happening {
 }
 
 // The note that a layer is told.
-fn span_note(alloc: Global, forest: &Forest, what: &Happening, fields: &[Field], layer: u32) -> Result<Note, Fault>
+fn span_note(
+    alloc: Global,
+    forest: &Forest,
+    what: &Happening,
+    fields: &[Field],
+    layer: u32,
+) -> Result<Note, Fault>
     ensures note { IfOk result (λ note. plain_note note
         ≡ note_of what.now.worker (at_span forest.now.spans what.now.kind what.now.id (plain_fields fields.now)) layer) }
     ensures memory { IfErr result (λ fault. fault ≡ Fault.Memory) }
@@ -54,8 +60,8 @@ fn push_note(
     requires bits { what.now.bits.0 ≡ bits_in forest.now.spans what.now.id }
     ensures notes { OnOk result (map plain_note notes.new.items ≡ map plain_note notes.old.items
         ++ (if is_told rules.now (at_span forest.now.spans what.now.kind what.now.id (plain_fields fields.now)) layer
-            then note_of what.now.worker (at_span forest.now.spans what.now.kind what.now.id (plain_fields fields.now)) layer ∷ []
-            else [])) }
+        then note_of what.now.worker (at_span forest.now.spans what.now.kind what.now.id (plain_fields fields.now)) layer ∷ []
+        else [])) }
     ensures memory { IfErr result (λ fault. fault ≡ Fault.Memory) }
 {
     if !(what.bits.has(layer) && rules.want(layer, what.kind)) {
@@ -89,7 +95,14 @@ pub(crate) fn push_notes(
 }
 
 // Appends the notes of a span that closes, with all its fields.
-fn push_close(alloc: Global, notes: &mut Vec<Note>, rules: &Rules, forest: &Forest, worker: u32, id: Id) -> Result<(), Fault>
+fn push_close(
+    alloc: Global,
+    notes: &mut Vec<Note>,
+    rules: &Rules,
+    forest: &Forest,
+    worker: u32,
+    id: Id,
+) -> Result<(), Fault>
     ensures notes { OnOk result (map plain_note notes.new.items ≡ map plain_note notes.old.items
         ++ notes_of rules.now worker (close_of forest.now.spans id)) }
     ensures memory { IfErr result (λ fault. fault ≡ Fault.Memory) }

@@ -36,14 +36,19 @@ impl<O: Outlet + Drop> Core<O> {
     /// An empty registry: no span is open, and each of the workers has an empty stack. Nothing was sent to the outlet.
     ///
     /// The only error is `Memory`; the filters and the outlet are dropped then.
-    pub fn new(alloc: Global, checked: &Checked, filters: Filters, outlet: O) -> Result<Core<O>, Fault>
+    pub fn new(
+        alloc: Global,
+        checked: &Checked,
+        filters: Filters,
+        outlet: O,
+    ) -> Result<Core<O>, Fault>
         requires { O.sent outlet ≡ [] }
         ensures empty { IfOk result (λ core. core.state ≡ record {
-            limits = checked.now;
-            rules = filters.rules;
-            world = empty_world checked.now.workers;
-            sent = [];
-            times_full = O.times_full outlet;
+          limits = checked.now;
+          rules = filters.rules;
+          world = empty_world checked.now.workers;
+          sent = [];
+          times_full = O.times_full outlet;
         }) }
         ensures memory { IfErr result (λ fault. fault ≡ Fault.Memory) }
     {
@@ -55,7 +60,7 @@ impl<O: Outlet + Drop> Core<O> {
 
 impl<O: Outlet> Core<O> {
     /// The span of an id, if it is open; ids that are closed or were never given find nothing. Its count is its
-    /// handles, the workers that are inside it and its open children.
+    /// handles, the workers that are inside it and its open children; it is positive, and its parent is open.
     pub fn find(&self, id: Id) -> Option<&Span>
         ensures absent { IfNone result (find self.now.state.world.spans id ≡ None) }
         ensures found { IfSome result (λ span. find self.now.state.world.spans id ≡ Some (node_of span.now)) }
@@ -183,7 +188,13 @@ impl<O: Outlet> Core<O> {
     ///
     /// Refused in this order: `BadName` where the name or a key is no name, `CountFull` where the number of accepted
     /// calls is at its greatest, `Backlog`, `Memory`.
-    pub fn event(&mut self, worker: u32, meta: &Meta, message: &str, fields: &[Field]) -> Result<(), Fault>
+    pub fn event(
+        &mut self,
+        worker: u32,
+        meta: &Meta,
+        message: &str,
+        fields: &[Field],
+    ) -> Result<(), Fault>
         requires { worker < self.old.state.limits.workers }
         ensures accepted { OnOk result (IsAccepted self.old.state (event worker (plain_meta meta.now) message.now (plain_fields fields.now)) told self.new.state) }
         ensures refused { IfErr result (λ fault. IsRefused self.old.state (event worker (plain_meta meta.now) message.now (plain_fields fields.now)) fault self.new.state) }

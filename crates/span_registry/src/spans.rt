@@ -69,7 +69,18 @@ impl<O: Outlet> State<O> {
         each_slot_has_one_open_id(&self.forest);
         open_spans_are_counted(&self.forest);
         let mut notes = Vec::new(self.alloc);
-        push_new(self.alloc, &mut notes, &self.rules, &self.forest, worker, next, bits, &parent, meta, fields)?;
+        push_new(
+            self.alloc,
+            &mut notes,
+            &self.rules,
+            &self.forest,
+            worker,
+            next,
+            bits,
+            &parent,
+            meta,
+            fields,
+        )?;
         let copied = copy_meta(self.alloc, meta)?;
         let copies = copy_fields(self.alloc, fields)?;
         let found = copy_id(&parent);
@@ -117,7 +128,13 @@ fn parent_full(forest: &Forest, max_count: u32, parent: &Option<Id>) -> Option<b
 }
 
 // The path of a layer at a new span: that of its parent, and its own name.
-fn new_path(alloc: Global, forest: &Forest, layer: u32, parent: &Option<Id>, name: &str) -> Result<Vec<String>, Fault>
+fn new_path(
+    alloc: Global,
+    forest: &Forest,
+    layer: u32,
+    parent: &Option<Id>,
+    name: &str,
+) -> Result<Vec<String>, Fault>
     ensures path { IfOk result (λ path. map string_bytes path.items ≡ path_at layer forest.now.spans parent.now ++ name.now ∷ []) }
     ensures memory { IfErr result (λ fault. fault ≡ Fault.Memory) }
 {
@@ -152,8 +169,8 @@ fn push_new_note(
     requires there { layer < length rules.now }
     ensures notes { OnOk result (map plain_note notes.new.items ≡ map plain_note notes.old.items
         ++ (if is_told_new rules.now bits.0 layer
-            then first_note forest.now.spans worker id parent.now (string_bytes meta.now.name) (plain_fields fields.now) layer ∷ []
-            else [])) }
+        then first_note forest.now.spans worker id parent.now (string_bytes meta.now.name) (plain_fields fields.now) layer ∷ []
+        else [])) }
     ensures memory { IfErr result (λ fault. fault ≡ Fault.Memory) }
 {
     if !(bits.has(layer) && rules.want(layer, Kind::OnNew)) {
@@ -191,11 +208,23 @@ fn push_new(
 ) -> Result<(), Fault>
     ensures notes { OnOk result (map plain_note notes.new.items ≡ map plain_note notes.old.items
         ++ map (first_note forest.now.spans worker id parent.now (string_bytes meta.now.name) (plain_fields fields.now))
-            (filter (is_told_new rules.now bits.0) (range_with_len 0 (length rules.now)))) }
+        (filter (is_told_new rules.now bits.0) (range_with_len 0 (length rules.now)))) }
     ensures memory { IfErr result (λ fault. fault ≡ Fault.Memory) }
 {
     for layer in 0..rules.len() {
-        push_new_note(alloc, notes, rules, forest, worker, id, bits, parent, meta, fields, layer as u32)?;
+        push_new_note(
+            alloc,
+            notes,
+            rules,
+            forest,
+            worker,
+            id,
+            bits,
+            parent,
+            meta,
+            fields,
+            layer as u32,
+        )?;
     }
     Ok(())
 }

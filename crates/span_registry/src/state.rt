@@ -7,6 +7,7 @@ ghost use Rattle.span_registry.specs.History.{IsLegal};
 
 use crate::outlet::Outlet;
 use crate::stacks::empty_stacks;
+use span_forest::laws::open_spans_are_counted;
 use span_forest::{Forest, Span};
 use span_id::{Checked, Fault, Id};
 use span_layers::Rules;
@@ -49,14 +50,19 @@ impl<O: Outlet> Model for State<O> {
 }
 
 impl<O: Outlet + Drop> State<O> {
-    pub(crate) fn new(alloc: Global, checked: &Checked, rules: Rules, outlet: O) -> Result<State<O>, Fault>
+    pub(crate) fn new(
+        alloc: Global,
+        checked: &Checked,
+        rules: Rules,
+        outlet: O,
+    ) -> Result<State<O>, Fault>
         requires { O.sent outlet ≡ [] }
         ensures state { IfOk result (λ state. state ≡ record {
-            limits = checked.now;
-            rules = rules;
-            world = empty_world checked.now.workers;
-            sent = [];
-            times_full = O.times_full outlet;
+          limits = checked.now;
+          rules = rules;
+          world = empty_world checked.now.workers;
+          sent = [];
+          times_full = O.times_full outlet;
         }) }
         ensures memory { IfErr result (λ fault. fault ≡ Fault.Memory) }
     {
@@ -80,6 +86,7 @@ impl<O: Outlet> State<O> {
         ensures found { IfSome result (λ span. find self.now.world.spans id ≡ Some (node_of span.now)) }
         ensures counted { IfSome result (λ span. IsCounted self.now.world id span.now) }
     {
+        open_spans_are_counted(&self.forest);
         self.forest.find(id)
     }
 

@@ -7,5 +7,5 @@ abbrev pub invariant-loop-field : goal.invariant-loop-field
 invariant-loop-field l = record {
   copied : plain_fields l.copies.items ≡ plain_fields (take l.field-index l.fields);
   made : vec_len l.copies ≡ l.field-index;
-  reserved : vec_capacity l.copies ≡ length l.fields
+  reserved : vec_capacity l.copies ≡ length l.fields;
 }

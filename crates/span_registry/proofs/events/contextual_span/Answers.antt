@@ -14,5 +14,5 @@ pub returns : goal.returns
 returns c =
     as_it_is c.find.result
     ∙ find_from_yields_List (λ id. has_bit (bits_in c.args.forest.now.spans id) c.args.layer) _ _ c.find.result c.find.ensures.ran
-        (YieldsList-from_first (λ x. x) (λ rest. rest) (walk c.args.stack.now.ids) c.walk.ensures.ids)
-        (λ x b q k. search (rules, tests))
+    (YieldsList-from_first (λ x. x) (λ rest. rest) (walk c.args.stack.now.ids) c.walk.ensures.ids)
+    (λ x b q k. search (rules, tests))

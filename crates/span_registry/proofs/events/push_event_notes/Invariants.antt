@@ -11,4 +11,4 @@ abbrev pub invariant-loop-layer : goal.invariant-loop-layer
 invariant-loop-layer l =
     map plain_note l.notes.items ≡ map plain_note l.initial.notes.items
     ++ map (note_of l.worker (event_at l.forest.spans l.stack.ids l.bits.0 l.meta.level l.message (plain_fields l.fields)))
-      (filter (is_told l.rules (event_at l.forest.spans l.stack.ids l.bits.0 l.meta.level l.message (plain_fields l.fields))) (range_with_len 0 l.layer))
+    (filter (is_told l.rules (event_at l.forest.spans l.stack.ids l.bits.0 l.meta.level l.message (plain_fields l.fields))) (range_with_len 0 l.layer))

@@ -21,17 +21,19 @@ key_at first fields k d within = ap (λ (f : KeyValue). f.0) (get_or-map key_val
 
 answer : (r : Bool) (fields : List Field) → Found r fields → IsTrue r ↔ AreKeys (plain_fields fields)
 answer true [] all = (λ _ k d within. absurd (omega (arith, within)), λ _. search rules)
-answer true (f ∷ fs) all =
-    (λ _ k d within.
+answer true (f ∷ fs) all = (
+  λ _ k d within.
       (let inside : k < length (f ∷ fs) = omega (arith, within, length-map (f ∷ fs) key_value) in
-        subst IsName (sym (key_at f (f ∷ fs) k d inside)) (all k f (omega arith) inside)),
-      λ _. search rules)
+      subst IsName (sym (key_at f (f ∷ fs) k d inside)) (all k f (omega arith) inside)),
+  λ _. search rules,
+)
 answer false [] some = absurd (omega (arith, some.1))
-answer false (f ∷ fs) some =
-    (λ never. absurd (search rules),
-      λ all.
-        (let within : some.0 < length (plain_fields (f ∷ fs)) = omega (arith, some.1, length-map (f ∷ fs) key_value) in
-          absurd (some.2 f (subst IsName (key_at f (f ∷ fs) some.0 (key_value f) some.1) (all some.0 (key_value f) within)))))
+answer false (f ∷ fs) some = (
+  λ never. absurd (search rules),
+  λ all.
+      (let within : some.0 < length (plain_fields (f ∷ fs)) = omega (arith, some.1, length-map (f ∷ fs) key_value) in
+      absurd (some.2 f (subst IsName (key_at f (f ∷ fs) some.0 (key_value f) some.1) (all some.0 (key_value f) within)))),
+)
 
 pub returns : goal.returns
 returns c =

@@ -11,4 +11,4 @@ abbrev pub invariant-loop-layer : goal.invariant-loop-layer
 invariant-loop-layer l =
     map plain_note l.notes.items ≡ map plain_note l.initial.notes.items
     ++ map (note_of l.what.worker (at_span l.forest.spans l.what.kind l.what.id (plain_fields l.fields)))
-      (filter (is_told l.rules (at_span l.forest.spans l.what.kind l.what.id (plain_fields l.fields))) (range_with_len 0 l.layer))
+    (filter (is_told l.rules (at_span l.forest.spans l.what.kind l.what.id (plain_fields l.fields))) (range_with_len 0 l.layer))

@@ -11,4 +11,4 @@ abbrev pub invariant-loop-layer : goal.invariant-loop-layer
 invariant-loop-layer l =
     map plain_note l.notes.items ≡ map plain_note l.initial.notes.items
     ++ map (first_note l.forest.spans l.worker l.id l.parent (string_bytes l.meta.name) (plain_fields l.fields))
-      (filter (is_told_new l.rules l.bits.0) (range_with_len 0 l.layer))
+    (filter (is_told_new l.rules l.bits.0) (range_with_len 0 l.layer))

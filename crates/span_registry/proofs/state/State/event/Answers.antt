@@ -14,12 +14,12 @@ use Rattle.span_registry.proofs.state.State.event.Goals.{After-put}
 notes_told : (g : given.Over) (c : After-put g) → map plain_note c.push_event.new.notes.items ≡ notes_of_all c.self.inside.rules c.args.worker (event_told c.self.inside.rules (record { spans = c.self.inside.forest.spans; stacks = ids_of_each c.self.inside.stacks.items }) c.args.worker (plain_meta c.args.meta.now) c.args.message.now (plain_fields c.args.fields.now) ∷ [])
 notes_told g c =
     event_notes c.self.inside.rules c.args.worker c.self.inside.forest.spans _ _ _ _ (plain_meta c.args.meta.now) c.args.message.now (plain_fields c.args.fields.now) _ _
-      (ap (map plain_note) c.new-notes.ensures.items) (ap (λ (ss : List Stack). get_or (ids_of_each ss) c.args.worker []) c.as_slice.ensures.value) c.bits-bits.ensures.value c.in_ok-push_event.ensures.notes
+    (ap (map plain_note) c.new-notes.ensures.items) (ap (λ (ss : List Stack). get_or (ids_of_each ss) c.args.worker []) c.as_slice.ensures.value) c.bits-bits.ensures.value c.in_ok-push_event.ensures.notes
 
 pub invariant_of-self-2 : goal.invariant_of-self-2
 invariant_of-self-2 g c =
     sound_event _ _ _ _ _ _ _ _ c.args.worker (plain_meta c.args.meta.now) _ c.args.message.now _ (plain_fields c.args.fields.now) _ _ c.self.invariant (notes_told g c)
-      c.in_ok-copied.ensures.meta c.in_ok-text.ensures.text c.in_ok-copies.ensures.fields c.in_ok-ask.ensures.sent c.put.ensures.sent
+    c.in_ok-copied.ensures.meta c.in_ok-text.ensures.text c.in_ok-copies.ensures.fields c.in_ok-ask.ensures.sent c.put.ensures.sent
 
 pub returns-clause-accepted : goal.returns-clause-accepted
 returns-clause-accepted g c =

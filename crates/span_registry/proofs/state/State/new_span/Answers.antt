@@ -41,8 +41,9 @@ now_issued g c = (c.in-Ok.ensures.issued c.in-Ok.id (in_layout g c)).1 (inr refl
 wanted : (g : given.Over) (c : After-put g) → is_wanted c.self.inside.rules (plain_meta c.args.meta.now) ≡ true
 wanted g c =
     elim c.else-len-gt0.branch [
-      else-len-gt0-via-then-len-gt0+else-bits-eq0 w ↦ search rules
-    | else-len-gt0-via-else-len-gt0 w ↦ search rules ]
+      | else-len-gt0-via-then-len-gt0+else-bits-eq0 w ↦ search rules
+      | else-len-gt0-via-else-len-gt0 w ↦ search rules
+    ]
 
 forest_is : (g : given.Over) (c : After-put g) → c.add.new.self ≡ added c.self.inside.forest c.in-Ok.id (made_node c.self.inside.rules (plain_meta c.args.meta.now) (plain_fields c.args.fields.now) c.args.parent)
 forest_is g c = c.in-Ok.ensures.forest ∙ ap (λ b. added c.self.inside.forest c.in-Ok.id (new_node c.args.meta.now c.args.fields.now c.args.parent b)) c.bits-bits.ensures.value
@@ -50,19 +51,19 @@ forest_is g c = c.in-Ok.ensures.forest ∙ ap (λ b. added c.self.inside.forest 
 told : (g : given.Over) (c : After-put g) → map plain_note c.push_new.new.notes.items ≡ notes_of_all c.self.inside.rules c.args.worker (at_span c.add.new.self.spans OnNew c.in-Ok.id (plain_fields c.args.fields.now) ∷ [])
 told g c =
     new_notes c.self.inside.rules c.args.worker c.in-Ok.id c.self.inside.forest.spans c.add.new.self.spans (made_node c.self.inside.rules (plain_meta c.args.meta.now) (plain_fields c.args.fields.now) c.args.parent) (plain_fields c.args.fields.now) _ _
-      (gone g c) c.open_spans_are_counted.ensures.parent c.in-Some.ensures.open (ap (λ f. f.spans) (forest_is g c))
-      (ap (map plain_note) c.new-notes.ensures.items)
-      (c.in_ok-push_new.ensures.notes
-        ∙ (λ j. map plain_note c.new-notes.result.items
-          ++ map (first_note c.self.inside.forest.spans c.args.worker (same_id g c j) c.args.parent (string_bytes c.args.meta.now.name) (plain_fields c.args.fields.now))
-            (filter (is_told_new c.self.inside.rules (c.bits-bits.ensures.value j)) (range_with_len 0 (length c.self.inside.rules)))))
+    (gone g c) c.open_spans_are_counted.ensures.parent c.in-Some.ensures.open (ap (λ f. f.spans) (forest_is g c))
+    (ap (map plain_note) c.new-notes.ensures.items)
+    (c.in_ok-push_new.ensures.notes
+    ∙ (λ j. map plain_note c.new-notes.result.items
+    ++ map (first_note c.self.inside.forest.spans c.args.worker (same_id g c j) c.args.parent (string_bytes c.args.meta.now.name) (plain_fields c.args.fields.now))
+    (filter (is_told_new c.self.inside.rules (c.bits-bits.ensures.value j)) (range_with_len 0 (length c.self.inside.rules)))))
 
 pub invariant_of-self-2 : goal.invariant_of-self-2
 invariant_of-self-2 g c =
     sound_new _ _ _ _ _ _ _ _ _ c.args.worker c.in-Ok.id (plain_meta c.args.meta.now) _ (plain_fields c.args.fields.now) _ c.args.parent _
-      c.self.invariant (in_layout g c) c.in-Ok.ensures.never_issued (now_issued g c) (wanted g c) c.in-Some.ensures.open (gone g c) (forest_is g c) (told g c)
-      c.in_ok-copied.ensures.meta c.in_ok-copies.ensures.fields c.in_ok-ask.ensures.sent
-      (c.put.ensures.sent ∙ ap (λ (p : Option ℕ). g.O.Outlet.sent c.ask.new.outlet ++ (record { request = new_span c.args.worker (plain_meta c.in_ok-copied.copied) (plain_fields c.in_ok-copies.copies.items) p; answer = made c.in-Ok.id; notes = map plain_note c.push_new.new.notes.items }) ∷ []) c.copy_id-found.ensures)
+    c.self.invariant (in_layout g c) c.in-Ok.ensures.never_issued (now_issued g c) (wanted g c) c.in-Some.ensures.open (gone g c) (forest_is g c) (told g c)
+    c.in_ok-copied.ensures.meta c.in_ok-copies.ensures.fields c.in_ok-ask.ensures.sent
+    (c.put.ensures.sent ∙ ap (λ (p : Option ℕ). g.O.Outlet.sent c.ask.new.outlet ++ (record { request = new_span c.args.worker (plain_meta c.in_ok-copied.copied) (plain_fields c.in_ok-copies.copies.items) p; answer = made c.in-Ok.id; notes = map plain_note c.push_new.new.notes.items }) ∷ []) c.copy_id-found.ensures)
 
 pub returns-clause-made : goal.returns-clause-made
 returns-clause-made g c =
@@ -71,8 +72,8 @@ returns-clause-made g c =
     let sent_is : g.O.Outlet.sent c.ask.new.outlet ≡ c.args.self.now.sent = c.in_ok-ask.ensures.sent ∙ ap (λ (v : CoreView). v.sent) c.self.view_is in
     let due : IsDue c.args.self.now (new_span c.args.worker (plain_meta c.args.meta.now) (plain_fields c.args.fields.now) c.args.parent) = search rules in
     let step : IsStep c.self.inside.rules (issued (g.O.Outlet.sent c.self.inside.outlet)) (record { spans = c.self.inside.forest.spans; stacks = ids_of_each c.self.inside.stacks.items }) (new_span c.args.worker (plain_meta c.args.meta.now) (plain_fields c.args.fields.now) c.args.parent) (made c.in-Ok.id) (map plain_note c.push_new.new.notes.items) (record { spans = c.add.new.self.spans; stacks = ids_of_each c.self.inside.stacks.items }) =
-      step_new c.self.inside.rules (issued (g.O.Outlet.sent c.self.inside.outlet)) c.self.inside.forest.spans c.add.new.self.spans (ids_of_each c.self.inside.stacks.items) c.args.worker c.in-Ok.id (plain_meta c.args.meta.now) (plain_fields c.args.fields.now) c.args.parent _
-        (in_layout g c) (not_in_history _ _ _ _ _ _ c.in-Ok.id c.self.invariant c.in-Ok.ensures.never_issued) (wanted g c) c.in-Some.ensures.open (ap (λ f. f.spans) (forest_is g c)) (told g c) in
+    step_new c.self.inside.rules (issued (g.O.Outlet.sent c.self.inside.outlet)) c.self.inside.forest.spans c.add.new.self.spans (ids_of_each c.self.inside.stacks.items) c.args.worker c.in-Ok.id (plain_meta c.args.meta.now) (plain_fields c.args.fields.now) c.args.parent _
+    (in_layout g c) (not_in_history _ _ _ _ _ _ c.in-Ok.id c.self.invariant c.in-Ok.ensures.never_issued) (wanted g c) c.in-Some.ensures.open (ap (λ f. f.spans) (forest_is g c)) (told g c) in
     record {
       due = due;
       limits = ap (λ (v : CoreView). v.limits) c.self.view_is;
