@@ -5,6 +5,8 @@ use Rattle.span_id.specs.declared.level.Level.TheVariants.{Info, Trace}
 use Rattle.span_layers.specs.declared.form.Form.TheVariants.{Compact}
 use Rattle.span_layers.specs.declared.note.Kind.TheVariants.{OnNew, OnEvent, OnEnter, OnExit, OnClose}
 use Rattle.span_layers.specs.Note.{PlainNote}
+use Rattle.std.specs.Fmt.{digits}
+use Rattle.span_layers.specs.Rule.{is_admitted}
 use Rattle.span_layers.specs.Filter.{Filter}
 use Rattle.span_layers.specs.Text.{text_of}
 use Rattle.span_forest.specs.declared.span.Holder.TheVariants.{Handle, Entry}
@@ -59,11 +61,13 @@ noted layer id path = record { layer = layer; kind = OnEvent; worker = 0; id = i
 event_of_two_layers :
     notes_of_all (everything ∷ only_app ∷ []) 0 (event_told (everything ∷ only_app ∷ []) inside 0 (meta (codes "event") (codes "app")) (codes "hi") ((codes "k", codes "v") ∷ []) ∷ [])
     ≡ noted 0 2 (codes "a" ∷ codes "q" ∷ []) ∷ noted 1 1 (codes "a" ∷ []) ∷ []
+unfolding is_admitted
 event_of_two_layers =
     refl
 
 -- a span that no layer admits isn't wanted; without layers all spans are
 unwanted : is_wanted (only_app ∷ []) (meta (codes "b") (codes "lib")) ≡ false
+unfolding is_admitted
 unwanted = refl
 
 wanted_without_layers : is_wanted [] (meta (codes "b") (codes "lib")) ≡ true
@@ -128,7 +132,7 @@ retired = refl
 legal : IsLegal [] 1 (made_a ∷ batch (try_close 0 1) (released (1 ∷ [])) ∷ []) (empty_world 1)
 legal =
     more (batch (try_close 0 1) (released (1 ∷ [])))
-    (more {new = record { spans = (1, record { name = codes "a"; target = codes "app"; level = Info; fields = []; bits = 0; parent = None; handles = 1; entries = 0 }) ∷ []; stacks = [] ∷ [] }} made_a none
+    (more made_a none
     (record { changes = record { in_layout = (omega arith, omega arith); not_issued = refl; wanted = refl; parent_open = tt; after = refl }; notes_are = refl }) refl)
     (record { changes = record { held = omega arith; closed_are = refl; after = refl }; notes_are = refl })
     refl
@@ -139,7 +143,7 @@ told_of_a = record { layer = 0; kind = OnNew; worker = 0; id = 1; path = codes "
 
 line_of_a : lines_of (Compact ∷ []) (record { request = new_span 0 (meta (codes "a") (codes "app")) [] None; answer = made 1; notes = told_of_a ∷ [] } ∷ [])
     ≡ (record { batch = 0; place = 0; layer = 0; text = codes "new 1 w0 a" }) ∷ []
-unfolding text_of
+unfolding text_of digits
 line_of_a = refl
 
 -- a layer without a form has no line
