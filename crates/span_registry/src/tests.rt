@@ -135,9 +135,41 @@ fn a_span_from_new_to_close(rt: HostRuntime) -> Result<(), Fail> {
     assert_eq!(&rt; core.len(), 0);
     assert_eq!(&rt; core.calls(), 5);
     let lines = told(alloc, core.outlet())?;
-    assert_eq!(&rt;
-        lines.as_slice(),
-        b"new 1 w0 a\nrecord 1 w0 a k=v\nclose 1 w0 a k=v\n"
-    );
+    let expected: &[u8] = b"new 1 w0 a\nrecord 1 w0 a k=v\nclose 1 w0 a k=v\n";
+    assert_eq!(&rt; lines.as_slice(), expected);
+    Ok(())
+}
+
+#[test]
+fn inside_a_span(rt: HostRuntime) -> Result<(), Fail> {
+    let alloc = rt.alloc();
+    let limits = Limits {
+        slots: 2,
+        last_generation: 0,
+        max_count: 4,
+        workers: 1,
+        ring: 1,
+    };
+    let checked = limits.check()?;
+    let outlet = Sent {
+        batches: Vec::new(alloc),
+        ready: false,
+    };
+    let mut core = Core::new(alloc, &checked, one_layer(alloc)?, outlet)?;
+    let a = meta(alloc, "a")?;
+    let b = meta(alloc, "b")?;
+    let made = core.new_span(0, &a, &[], ParentOf::Root)?;
+    let id = made.expect(&rt, "the layer admits the span");
+    assert_eq!(&rt; core.enter(0, id), Ok(true));
+    assert_eq!(&rt; core.enter(0, id), Ok(false));
+    let child = core.new_span(0, &b, &[], ParentOf::Current)?;
+    assert_eq!(&rt; child.map(|id| id.get()), Some(2));
+    core.event(0, &a, "hi", &[])?;
+    assert_eq!(&rt; core.new_span(0, &b, &[], ParentOf::Root), Err(Fault::Full));
+    assert_eq!(&rt; core.stack(0).len(), 2);
+    let lines = told(alloc, core.outlet())?;
+    let expected: &[u8] =
+        b"new 1 w0 a\nenter 1 w0 a\nenter 1 w0 a\nnew 2 w0 a:b\nevent 1 w0 a INFO hi\n";
+    assert_eq!(&rt; lines.as_slice(), expected);
     Ok(())
 }
