@@ -1,0 +1,142 @@
+-- What each accepted call leaves of a core's parts.
+use Rattle.std.proofs.Common.{◌≡◌, ℕ, ◌+◌, ◌<◌, Bool, true, false, cond, not, List, [], ◌∷◌, ◌++◌, length, map, get_or, set, Option, Some, None, refl, sym, ap, ◌∙◌, subst, arith}
+use Rattle.std.proofs.lemmas.List.{length-set}
+use Rattle.span_id.specs.declared.limits.Limits.{Limits}
+use Rattle.span_layers.specs.declared.note.Kind.TheVariants.{OnRecord, OnEnter, OnExit}
+use Rattle.span_layers.specs.Note.{PlainNote, KeyValue}
+use Rattle.span_layers.specs.Filter.{Filter, admission_set}
+use Rattle.span_forest.specs.declared.span.Holder.{Holder}
+use Rattle.span_forest.specs.declared.span.Holder.TheVariants.{Handle, Entry}
+use Rattle.span_forest.specs.Node.{Node, with_fields}
+use Rattle.span_forest.specs.Spans.{Spans, find, changed}
+use Rattle.span_forest.specs.Forest.{ForestView}
+use Rattle.span_forest.specs.Holders.{IsHeld, held_in}
+use Rattle.span_forest.specs.Keep.{kept}
+use Rattle.span_forest.specs.Release.{closing_list, released as spans_left, freed_after}
+use Rattle.span_stack.specs.Stack.{has}
+use Rattle.span_registry.specs.World.{World, IsWorld}
+use Rattle.span_registry.specs.Request.{PlainMeta, event, told, enter, entered, clone_span, cloned, record_fields, recorded, try_close, released}
+use Rattle.span_registry.specs.Batch.{PlainBatch}
+use Rattle.span_registry.specs.Happening.{notes_of_all, happenings, close_of, at_span, event_at}
+use Rattle.span_registry.specs.NextId.{SlotsUsed, with_closed, slots_after}
+use Rattle.span_registry.specs.State.{IsSound, forest_with}
+use Rattle.span_registry.proofs.Soundness.{sound_quiet, sound_more, same_but_spans}
+use Rattle.span_registry.proofs.Worlds.{world_kept_handle, world_changed, world_released_handle, world_entered}
+
+pub sound_clone : (limits : Limits) (rules : List Filter) (forest new_forest : ForestView) (stacks : List (List ℕ)) (calls : ℕ) (old mid new : List PlainBatch) (worker id : ℕ) (notes : List PlainNote)
+    → IsSound limits forest stacks rules calls old
+    → IsHeld forest.spans id Handle
+    → new_forest ≡ record forest { spans = kept forest.spans id Handle }
+    → notes ≡ []
+    → mid ≡ old → new ≡ mid ++ (record { request = clone_span worker id; answer = cloned; notes = notes }) ∷ []
+    → IsSound limits new_forest stacks rules (calls + 1) new
+sound_clone limits rules forest new_forest stacks calls old mid new worker id notes sound held forest_is none same sent =
+    let spans_are = ap (λ f. f.spans) forest_is in
+    sound_quiet limits rules forest new_forest stacks stacks calls old mid new (record { request = clone_span worker id; answer = cloned; notes = notes }) sound refl refl
+    (same_but_spans forest new_forest _ forest_is) refl
+    (subst (λ (spans : Spans). IsWorld (record { spans = spans; stacks = stacks })) (sym spans_are) (world_kept_handle forest.spans id stacks sound.world))
+    (record {
+      changes = record { held = held; after = λ j. record { spans = spans_are j; stacks = stacks } };
+      notes_are = none;
+    })
+    same sent
+
+pub sound_record : (limits : Limits) (rules : List Filter) (forest new_forest : ForestView) (stacks : List (List ℕ)) (calls : ℕ) (old mid new : List PlainBatch) (worker id : ℕ) (fields written : List KeyValue) (notes : List PlainNote)
+    → IsSound limits forest stacks rules calls old
+    → IsHeld forest.spans id Handle
+    → new_forest ≡ record forest { spans = changed (with_fields fields) forest.spans id }
+    → notes ≡ notes_of_all rules worker (at_span forest.spans OnRecord id fields ∷ [])
+    → written ≡ fields
+    → mid ≡ old → new ≡ mid ++ (record { request = record_fields worker id written; answer = recorded; notes = notes }) ∷ []
+    → IsSound limits new_forest stacks rules (calls + 1) new
+sound_record limits rules forest new_forest stacks calls old mid new worker id fields written notes sound held forest_is notes_are written_are same sent =
+    let spans_are = ap (λ f. f.spans) forest_is in
+    sound_quiet limits rules forest new_forest stacks stacks calls old mid new (record { request = record_fields worker id fields; answer = recorded; notes = notes }) sound refl refl
+    (same_but_spans forest new_forest _ forest_is) refl
+    (subst (λ (spans : Spans). IsWorld (record { spans = spans; stacks = stacks })) (sym spans_are) (world_changed (with_fields fields) (λ node. refl) forest.spans id stacks sound.world))
+    (record {
+      changes = record { held = held; after = λ j. record { spans = spans_are j; stacks = stacks } };
+      notes_are = notes_are;
+    })
+    same (sent ∙ ap (λ (fs : List KeyValue). mid ++ (record { request = record_fields worker id fs; answer = recorded; notes = notes }) ∷ []) written_are)
+
+-- the slots that a release frees, and nothing else, changed
+freed_in : (limits : Limits) (forest new_forest : ForestView) (spans : Spans) (used : SlotsUsed) (closed : List ℕ)
+    → forest ≡ forest_with limits forest.spans used
+    → new_forest ≡ record forest { spans = spans; freed = freed_after forest.last_generation forest.given forest.freed closed }
+    → new_forest ≡ forest_with limits new_forest.spans (with_closed limits.last_generation used closed)
+freed_in limits forest new_forest spans used closed forest_is new_is =
+    new_is
+    ∙ ap (λ (f : ForestView). record f { spans = spans; freed = freed_after f.last_generation f.given f.freed closed }) forest_is
+    ∙ ap (λ s. forest_with limits s (with_closed limits.last_generation used closed)) (sym (ap (λ f. f.spans) new_is))
+
+pub sound_close : (limits : Limits) (rules : List Filter) (forest new_forest : ForestView) (stacks : List (List ℕ)) (calls : ℕ) (old mid new : List PlainBatch) (worker id : ℕ) (closed : List ℕ) (notes : List PlainNote)
+    → IsSound limits forest stacks rules calls old
+    → IsHeld forest.spans id Handle
+    → closed ≡ closing_list forest.spans id Handle
+    → new_forest ≡ record forest { spans = spans_left forest.spans id Handle; freed = freed_after forest.last_generation forest.given forest.freed (closing_list forest.spans id Handle) }
+    → notes ≡ notes_of_all rules worker (map (close_of forest.spans) closed)
+    → mid ≡ old → new ≡ mid ++ (record { request = try_close worker id; answer = released closed; notes = notes }) ∷ []
+    → IsSound limits new_forest stacks rules (calls + 1) new
+sound_close limits rules forest new_forest stacks calls old mid new worker id closed notes sound held closed_are forest_is notes_are same sent =
+    let spans_are = ap (λ f. f.spans) forest_is in
+    let given_is : new_forest.given ≡ forest.given = ap (λ f. f.given) forest_is in
+    sound_more limits rules forest new_forest stacks stacks calls old mid new (record { request = try_close worker id; answer = released closed; notes = notes }) sound
+    (freed_in limits forest new_forest _ (slots_after limits.last_generation old) (closing_list forest.spans id Handle) sound.forest_is forest_is
+    ∙ ap (λ ids. forest_with limits new_forest.spans (with_closed limits.last_generation (slots_after limits.last_generation old) ids)) (sym closed_are))
+    (λ x there. cc)
+    (λ x before. rw given_is before)
+    refl
+    (subst (λ (spans : Spans). IsWorld (record { spans = spans; stacks = stacks })) (sym spans_are) (world_released_handle forest.spans id stacks sound.world))
+    (record {
+      changes = record { held = held; closed_are = closed_are; after = λ j. record { spans = spans_are j; stacks = stacks } };
+      notes_are = notes_are;
+    })
+    same sent
+
+-- a span that is held is open
+pub held_open : (spans : Spans) (id : ℕ) (holder : Holder) → IsHeld spans id holder → (node : Node) × (find spans id ≡ Some node)
+held_open spans id holder held = by_case (find spans id) refl
+  where
+    by_case : (o : Option Node) → find spans id ≡ o → (node : Node) × (find spans id ≡ Some node)
+    by_case None is = absurd (let h = held in omega (arith, h, ap (held_in holder) is))
+    by_case (Some node) is = (node, is)
+
+pub sound_enter : (limits : Limits) (rules : List Filter) (forest new_forest : ForestView) (stacks new_stacks : List (List ℕ)) (calls : ℕ) (old mid new : List PlainBatch) (worker id : ℕ) (first : Bool) (notes : List PlainNote)
+    → IsSound limits forest stacks rules calls old
+    → IsHeld forest.spans id Handle
+    → worker < length stacks
+    → first ≡ not (has (get_or stacks worker []) id)
+    → new_forest ≡ record forest { spans = cond first (kept forest.spans id Entry) forest.spans }
+    → new_stacks ≡ set stacks worker (get_or stacks worker [] ++ id ∷ [])
+    → notes ≡ notes_of_all rules worker (at_span forest.spans OnEnter id [] ∷ [])
+    → mid ≡ old → new ≡ mid ++ (record { request = enter worker id; answer = entered first; notes = notes }) ∷ []
+    → IsSound limits new_forest new_stacks rules (calls + 1) new
+sound_enter limits rules forest new_forest stacks new_stacks calls old mid new worker id first notes sound held within first_is forest_is stacks_are notes_are same sent =
+    let spans_are = ap (λ f. f.spans) forest_is in
+    let there = held_open forest.spans id Handle held in
+    let entered_world = world_entered forest.spans stacks worker id (get_or stacks worker []) (has (get_or stacks worker []) id) there.0 within refl refl there.1 sound.world in
+    sound_quiet limits rules forest new_forest stacks new_stacks calls old mid new (record { request = enter worker id; answer = entered first; notes = notes }) sound refl refl
+    (same_but_spans forest new_forest _ forest_is)
+    (ap length stacks_are ∙ length-set stacks worker _)
+    (subst (λ (w : World). IsWorld w)
+    (λ j. record { spans = (ap (λ b. cond b (kept forest.spans id Entry) forest.spans) (sym first_is) ∙ sym spans_are) j; stacks = (sym stacks_are) j })
+    entered_world)
+    (record {
+      changes = record { held = held; first_is = first_is; after = λ j. record { spans = spans_are j; stacks = stacks_are j } };
+      notes_are = notes_are;
+    })
+    same sent
+
+pub sound_event : (limits : Limits) (rules : List Filter) (forest : ForestView) (stacks : List (List ℕ)) (calls : ℕ) (old mid new : List PlainBatch) (worker : ℕ) (meta written_meta : PlainMeta) (message written : List ℕ) (fields written_fields : List KeyValue) (notes : List PlainNote)
+    → IsSound limits forest stacks rules calls old
+    → notes ≡ notes_of_all rules worker (event_at forest.spans (get_or stacks worker []) (admission_set rules meta.target meta.level) meta.level message fields ∷ [])
+    → written_meta ≡ meta → written ≡ message → written_fields ≡ fields
+    → mid ≡ old → new ≡ mid ++ (record { request = event worker written_meta written written_fields; answer = told; notes = notes }) ∷ []
+    → IsSound limits forest stacks rules (calls + 1) new
+sound_event limits rules forest stacks calls old mid new worker meta written_meta message written fields written_fields notes sound notes_are meta_is message_is fields_are same sent =
+    sound_quiet limits rules forest forest stacks stacks calls old mid new (record { request = event worker meta message fields; answer = told; notes = notes }) sound refl refl
+    refl refl sound.world
+    (record { changes = refl; notes_are = notes_are })
+    same
+    (sent ∙ (λ j. mid ++ (record { request = event worker (meta_is j) (message_is j) (fields_are j); answer = told; notes = notes }) ∷ []))

@@ -1,0 +1,151 @@
+-- Worked cases of the definitions, by computation.
+use Rattle.std.proofs.Common.{◌≡◌, ℕ, Bool, true, false, List, [], ◌∷◌, ◌++◌, map, Option, Some, None, refl, arith}
+use Rattle.std.specs.Prelude.{codes}
+use Rattle.span_id.specs.declared.level.Level.TheVariants.{Info, Trace}
+use Rattle.span_layers.specs.declared.form.Form.TheVariants.{Compact}
+use Rattle.span_layers.specs.declared.note.Kind.TheVariants.{OnNew, OnEvent, OnEnter, OnExit, OnClose}
+use Rattle.span_layers.specs.Note.{PlainNote}
+use Rattle.std.specs.Fmt.{digits}
+use Rattle.span_layers.specs.Rule.{is_admitted}
+use Rattle.span_layers.specs.Filter.{Filter}
+use Rattle.span_layers.specs.Text.{text_of}
+use Rattle.span_forest.specs.declared.span.Holder.TheVariants.{Handle, Entry}
+use Rattle.span_forest.specs.Node.{Node}
+use Rattle.span_forest.specs.Spans.{Spans}
+use Rattle.span_forest.specs.Release.{closing_list}
+use Rattle.span_stack.specs.Stack.{current}
+use Rattle.span_registry.specs.World.{World, empty_world, stack_of, workers_inside}
+use Rattle.span_registry.specs.Request.{PlainMeta, Request, new_span, enter, exit, try_close, event, Answer, made, entered, exited, released, told}
+use Rattle.span_registry.specs.Batch.{PlainBatch}
+use Rattle.span_registry.specs.Happening.{contextual_span, event_told, happenings, notes_of_all}
+use Rattle.span_registry.specs.Step.{is_wanted}
+use Rattle.span_registry.specs.History.{IsLegal, issued}
+use Rattle.span_registry.specs.History.IsLegal.{none, more}
+use Rattle.span_registry.specs.NextId.{next_id}
+use Rattle.span_registry.specs.Lines.{PlainLine, lines_of}
+
+-- two layers: one lets everything in and wants all kinds, one lets in what begins with `app` up to INFO and wants new spans alone
+abbrev everything : Filter
+everything = record { pairs = (codes "", Trace) ∷ []; spans = 15 }
+
+abbrev only_app : Filter
+only_app = record { pairs = (codes "app", Info) ∷ []; spans = 1 }
+
+abbrev meta : List ℕ → List ℕ → PlainMeta
+meta name target = record { name = name; target = target; level = Info }
+
+abbrev span : List ℕ → ℕ → Option ℕ → ℕ → ℕ → Node
+span name bits parent handles entries = record { name = name; target = codes "app"; level = Info; fields = []; bits = bits; parent = parent; handles = handles; entries = entries }
+
+-- `a`, under it `q`, which the second layer doesn't admit, and under that `c`; worker 0 has entered `a` and `q`
+abbrev three : Spans
+three = (1, span (codes "a") 3 None 1 1) ∷ (2, span (codes "q") 1 (Some 1) 1 1) ∷ (3, span (codes "c") 3 (Some 2) 1 0) ∷ []
+
+abbrev inside : World
+inside = record { spans = three; stacks = (1 ∷ 2 ∷ []) ∷ [] ∷ [] }
+
+-- the first layer sees an event at the current span, the second at the topmost that it admits
+first_sees_current : contextual_span three (stack_of inside 0) 0 ≡ Some 2
+first_sees_current = refl
+
+second_sees_below : contextual_span three (stack_of inside 0) 1 ≡ Some 1
+second_sees_below = refl
+
+nothing_entered : contextual_span three (stack_of inside 1) 0 ≡ None
+nothing_entered = refl
+
+-- each layer is told of an event with its own id and path
+abbrev noted : ℕ → ℕ → List (List ℕ) → PlainNote
+noted layer id path = record { layer = layer; kind = OnEvent; worker = 0; id = id; path = path; fields = (codes "k", codes "v") ∷ []; tail = Some (Info, codes "hi") }
+
+event_of_two_layers :
+    notes_of_all (everything ∷ only_app ∷ []) 0 (event_told (everything ∷ only_app ∷ []) inside 0 (meta (codes "event") (codes "app")) (codes "hi") ((codes "k", codes "v") ∷ []) ∷ [])
+    ≡ noted 0 2 (codes "a" ∷ codes "q" ∷ []) ∷ noted 1 1 (codes "a" ∷ []) ∷ []
+unfolding is_admitted
+event_of_two_layers =
+    refl
+
+-- a span that no layer admits isn't wanted; without layers all spans are
+unwanted : is_wanted (only_app ∷ []) (meta (codes "b") (codes "lib")) ≡ false
+unfolding is_admitted
+unwanted = refl
+
+wanted_without_layers : is_wanted [] (meta (codes "b") (codes "lib")) ≡ true
+wanted_without_layers = refl
+
+-- an exit that causes closes is told before them, and the closes child first, each with the path of its own layer
+abbrev entered_alone : World
+entered_alone = record { spans = (1, span (codes "a") 3 None 0 0) ∷ (2, span (codes "b") 3 (Some 1) 0 1) ∷ []; stacks = (2 ∷ []) ∷ [] }
+
+abbrev note_at : Bool → ℕ → List (List ℕ) → PlainNote
+note_at true id path = record { layer = 0; kind = OnExit; worker = 0; id = id; path = path; fields = []; tail = None }
+note_at false id path = record { layer = 0; kind = OnClose; worker = 0; id = id; path = path; fields = []; tail = None }
+
+exit_before_closes :
+    notes_of_all (everything ∷ only_app ∷ []) 0 (happenings (everything ∷ only_app ∷ []) entered_alone (exit 0 2) (exited (closing_list entered_alone.spans 2 Entry)) (empty_world 1))
+    ≡ note_at true 2 (codes "a" ∷ codes "b" ∷ []) ∷ note_at false 2 (codes "a" ∷ codes "b" ∷ []) ∷ note_at false 1 (codes "a" ∷ []) ∷ []
+exit_before_closes =
+    refl
+
+-- after entering a, b and a again the current span is b, and each span has one worker inside
+entered_again : current (1 ∷ 2 ∷ 1 ∷ []) ≡ Some 2
+entered_again = refl
+
+counted_once : workers_inside ((1 ∷ 2 ∷ 1 ∷ []) ∷ [] ∷ []) 1 ≡ 1
+counted_once = refl
+
+abbrev batch : Request → Answer → PlainBatch
+batch request answer = record { request = request; answer = answer; notes = [] }
+
+abbrev made_a : PlainBatch
+made_a = batch (new_span 0 (meta (codes "a") (codes "app")) [] None) (made 1)
+
+-- a, b under it, a's handle given back, then b's: the root's slot was freed last and is given again
+abbrev family : List PlainBatch
+family =
+    made_a
+    ∷ batch (new_span 0 (meta (codes "b") (codes "app")) [] (Some 1)) (made 2)
+    ∷ batch (try_close 0 1) (released [])
+    ∷ batch (try_close 0 2) (released (2 ∷ 1 ∷ []))
+    ∷ []
+
+ids_of_family : issued family ≡ 1 ∷ 2 ∷ []
+ids_of_family = refl
+
+root_slot_again : next_id 1024 4294967295 family ≡ Some 16777217
+root_slot_again = refl
+
+lowest_unused : next_id 1024 4294967295 (made_a ∷ []) ≡ Some 2
+lowest_unused = refl
+
+-- one slot whose last generation is 1: after two spans it is retired
+abbrev once_more : List PlainBatch
+once_more = made_a ∷ batch (try_close 0 1) (released (1 ∷ [])) ∷ []
+
+slot_again : next_id 1 1 once_more ≡ Some 16777217
+slot_again = refl
+
+retired : next_id 1 1 (once_more ++ batch (new_span 0 (meta (codes "b") (codes "app")) [] None) (made 16777217) ∷ batch (try_close 0 16777217) (released (16777217 ∷ [])) ∷ []) ≡ None
+retired = refl
+
+-- a span that is made and closed, without layers, is a legal history and leaves the empty world
+legal : IsLegal [] 1 (made_a ∷ batch (try_close 0 1) (released (1 ∷ [])) ∷ []) (empty_world 1)
+legal =
+    more (batch (try_close 0 1) (released (1 ∷ [])))
+    (more made_a none
+    (record { changes = record { in_layout = (omega arith, omega arith); not_issued = refl; wanted = refl; parent_open = tt; after = refl }; notes_are = refl }) refl)
+    (record { changes = record { held = omega arith; closed_are = refl; after = refl }; notes_are = refl })
+    refl
+
+-- the lines of a history: the number of the batch, the place in it, the layer, and the text
+abbrev told_of_a : PlainNote
+told_of_a = record { layer = 0; kind = OnNew; worker = 0; id = 1; path = codes "a" ∷ []; fields = []; tail = None }
+
+line_of_a : lines_of (Compact ∷ []) (record { request = new_span 0 (meta (codes "a") (codes "app")) [] None; answer = made 1; notes = told_of_a ∷ [] } ∷ [])
+    ≡ (record { batch = 0; place = 0; layer = 0; text = codes "new 1 w0 a" }) ∷ []
+unfolding text_of digits
+line_of_a = refl
+
+-- a layer without a form has no line
+no_line : lines_of [] (record { request = new_span 0 (meta (codes "a") (codes "app")) [] None; answer = made 1; notes = told_of_a ∷ [] } ∷ []) ≡ []
+no_line = refl

@@ -1,0 +1,8 @@
+pub mod Soundness
+pub mod Worlds
+pub mod StackLists
+pub mod Accepting
+pub mod Telling
+pub mod NewSpans
+pub mod Counted
+mod Examples

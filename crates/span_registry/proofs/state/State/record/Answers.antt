@@ -1,0 +1,14 @@
+use Rattle.std.proofs.Common.{ap, map}
+use Rattle.span_layers.specs.declared.note.Kind.TheVariants.{OnRecord}
+use Rattle.span_layers.specs.Note.{plain_note}
+use Rattle.span_registry.specs.Request.{plain_fields}
+use Rattle.span_registry.specs.Happening.{at_span}
+use Rattle.span_registry.proofs.Accepting.{sound_record}
+use Rattle.span_registry.proofs.Telling.{one_happening}
+use Rattle.span_registry.proofs.state.State.record.Goals as goal
+
+pub invariant_of-self-2 : goal.invariant_of-self-2
+invariant_of-self-2 g c =
+    let fields = plain_fields c.args.fields.now in
+    let told = one_happening c.self.inside.rules c.args.worker (at_span c.self.inside.forest.spans OnRecord c.args.id fields) _ _ (ap (map plain_note) c.new-notes.ensures.items) c.in_ok-push_notes.ensures.notes in
+    sound_record _ _ _ _ _ _ _ _ _ c.args.worker c.args.id fields _ _ c.self.invariant c.in-Some.ensures.held c.in-Ok.ensures.forest told c.in_ok-copies.ensures.fields c.in_ok-ask.ensures.sent c.put.ensures.sent

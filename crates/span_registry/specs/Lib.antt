@@ -1,0 +1,11 @@
+pub mod World
+pub mod Request
+pub mod Parent
+pub mod Batch
+pub mod Happening
+pub mod Step
+pub mod History
+pub mod NextId
+pub mod Lines
+pub mod Core
+pub mod State

@@ -1,0 +1,233 @@
+//! Events: notes in the span where each layer sees the caller.
+ghost use Rattle.std.specs.Prelude.{◌≡◌, ◌<◌, ◌++◌, ◌∷◌, [], if◌then◌else◌, map, length, string_bytes, IfOk, OnOk, IfErr, slice_index_or};
+ghost use Rattle.std.specs.List.{find as first_that};
+ghost use Rattle.span_id.specs.Bits.{has_bit};
+ghost use Rattle.span_layers.specs.Note.{plain_note};
+ghost use Rattle.span_layers.specs.Filter.{admission_set};
+ghost use Rattle.span_stack.specs.Stack.{walk, ids_of_each};
+ghost use Rattle.span_registry.specs.Request.{event, told, plain_meta, plain_fields};
+ghost use Rattle.span_registry.specs.Happening.{bits_in, event_at, id_at, path_at, is_told, note_of, notes_of};
+ghost use Rattle.span_registry.specs.Core.{IsAccepted, IsRefused};
+
+use crate::batch::{Batch, Call, Reply};
+use crate::copies::{copy_fields, copy_meta, copy_text};
+use crate::names::are_keys;
+use crate::outlet::{Outlet, ask};
+use crate::state::State;
+use span_forest::Forest;
+use span_id::{Bits, Fault, Field, Id, Meta};
+use span_layers::{Admitters, Kind, Note, Rules};
+use span_stack::SpanStack;
+use std::alloc::Global;
+
+impl<O: Outlet> State<O> {
+    pub(crate) fn event(
+        &mut self,
+        admitters: &Admitters,
+        worker: u32,
+        meta: &Meta,
+        message: &str,
+        fields: &[Field],
+    ) -> Result<(), Fault>
+        requires { worker < self.old.limits.workers }
+        ensures accepted { OnOk result (IsAccepted self.old (event worker (plain_meta meta.now) message.now (plain_fields fields.now)) told self.new) }
+        ensures refused { IfErr result (λ fault. IsRefused self.old (event worker (plain_meta meta.now) message.now (plain_fields fields.now)) fault self.new) }
+    {
+        if !(meta.fit() && are_keys(fields)) {
+            return Err(Fault::BadName);
+        }
+        if self.calls == u64::MAX {
+            return Err(Fault::CountFull);
+        }
+        ask(&mut self.outlet)?;
+        let bits = self.rules.bits(admitters, meta);
+        let mut notes = Vec::new(self.alloc);
+        push_event(
+            self.alloc,
+            &mut notes,
+            &self.rules,
+            &self.forest,
+            self.stacks.as_slice(),
+            worker,
+            bits,
+            meta,
+            message,
+            fields,
+        )?;
+        let copied = copy_meta(self.alloc, meta)?;
+        let text = copy_text(self.alloc, message)?;
+        let copies = copy_fields(self.alloc, fields)?;
+        self.calls += 1;
+        self.outlet.put(Batch {
+            call: Call::Event {
+                worker,
+                meta: copied,
+                message: text,
+                fields: copies,
+            },
+            reply: Reply::Told,
+            notes,
+        });
+        Ok(())
+    }
+}
+
+// Where a layer sees an event: the topmost entry, duplicates skipped, that the layer admits.
+fn contextual_span(forest: &Forest, stack: &SpanStack, layer: u32) -> Option<Id>
+    ensures { result ≡ first_that (λ id. has_bit (bits_in forest.now.spans id) layer) (walk stack.now.ids) }
+{
+    stack.walk().find(|id| admits(forest, *id, layer))
+}
+
+// Whether a layer admits a span that is open.
+fn admits(forest: &Forest, id: Id, layer: u32) -> bool
+    ensures { result ≡ has_bit (bits_in forest.now.spans id) layer }
+{
+    match forest.find(id) {
+        Some(span) => span.bits.has(layer),
+        None => false,
+    }
+}
+
+// The note that a layer is told of an event.
+fn event_note(
+    alloc: Global,
+    forest: &Forest,
+    stack: &SpanStack,
+    worker: u32,
+    bits: Bits,
+    meta: &Meta,
+    message: &str,
+    fields: &[Field],
+    layer: u32,
+) -> Result<Note, Fault>
+    ensures note { IfOk result (λ note. plain_note note
+        ≡ note_of worker (event_at forest.now.spans stack.now.ids bits.0 meta.now.level message.now (plain_fields fields.now)) layer) }
+    ensures memory { IfErr result (λ fault. fault ≡ Fault.Memory) }
+{
+    let place = contextual_span(forest, stack, layer);
+    let (id, path) = id_and_path(alloc, forest, layer, place)?;
+    let text = copy_text(alloc, message)?;
+    let fields = copy_fields(alloc, fields)?;
+    Ok(Note {
+        layer,
+        kind: Kind::OnEvent,
+        worker,
+        id,
+        path,
+        fields,
+        tail: Some((meta.level, text)),
+    })
+}
+
+// The number of a span's id, and the path of a layer at it; without a span 0 and the empty path.
+fn id_and_path(
+    alloc: Global,
+    forest: &Forest,
+    layer: u32,
+    place: Option<Id>,
+) -> Result<(u64, Vec<String>), Fault>
+    ensures id { IfOk result (λ p. p.0 ≡ id_at place) }
+    ensures path { IfOk result (λ p. map string_bytes p.1.items ≡ path_at layer forest.now.spans place) }
+    ensures memory { IfErr result (λ fault. fault ≡ Fault.Memory) }
+{
+    let Some(id) = place else {
+        return Ok((0, Vec::new(alloc)));
+    };
+    match forest.path(layer, id) {
+        Ok(path) => Ok((id.get(), path)),
+        Err(_) => Err(Fault::Memory),
+    }
+}
+
+// Appends the note of one layer, if it is told.
+fn push_event_note(
+    alloc: Global,
+    notes: &mut Vec<Note>,
+    rules: &Rules,
+    forest: &Forest,
+    stack: &SpanStack,
+    worker: u32,
+    bits: Bits,
+    meta: &Meta,
+    message: &str,
+    fields: &[Field],
+    layer: u32,
+) -> Result<(), Fault>
+    requires there { layer < length rules.now }
+    ensures notes { OnOk result (map plain_note notes.new.items ≡ map plain_note notes.old.items
+        ++ (if is_told rules.now (event_at forest.now.spans stack.now.ids bits.0 meta.now.level message.now (plain_fields fields.now)) layer
+        then note_of worker (event_at forest.now.spans stack.now.ids bits.0 meta.now.level message.now (plain_fields fields.now)) layer ∷ []
+        else [])) }
+    ensures memory { IfErr result (λ fault. fault ≡ Fault.Memory) }
+{
+    if !(bits.has(layer) && rules.want(layer, Kind::OnEvent)) {
+        return Ok(());
+    }
+    let note = event_note(
+        alloc, forest, stack, worker, bits, meta, message, fields, layer,
+    )?;
+    match notes.push(note) {
+        Ok(()) => Ok(()),
+        Err(_) => Err(Fault::Memory),
+    }
+}
+
+// Appends the notes of an event that a worker tells.
+fn push_event(
+    alloc: Global,
+    notes: &mut Vec<Note>,
+    rules: &Rules,
+    forest: &Forest,
+    stacks: &[SpanStack],
+    worker: u32,
+    bits: Bits,
+    meta: &Meta,
+    message: &str,
+    fields: &[Field],
+) -> Result<(), Fault>
+    requires { worker < length stacks.now }
+    ensures notes { OnOk result (map plain_note notes.new.items ≡ map plain_note notes.old.items
+        ++ notes_of rules.now worker (event_at forest.now.spans (slice_index_or (ids_of_each stacks.now) worker []) bits.0 meta.now.level message.now (plain_fields fields.now))) }
+    ensures memory { IfErr result (λ fault. fault ≡ Fault.Memory) }
+{
+    let stack = &stacks[worker as usize];
+    push_event_notes(
+        alloc, notes, rules, forest, stack, worker, bits, meta, message, fields,
+    )
+}
+
+// Appends the notes of an event: one for each layer that admits it.
+fn push_event_notes(
+    alloc: Global,
+    notes: &mut Vec<Note>,
+    rules: &Rules,
+    forest: &Forest,
+    stack: &SpanStack,
+    worker: u32,
+    bits: Bits,
+    meta: &Meta,
+    message: &str,
+    fields: &[Field],
+) -> Result<(), Fault>
+    ensures notes { OnOk result (map plain_note notes.new.items ≡ map plain_note notes.old.items
+        ++ notes_of rules.now worker (event_at forest.now.spans stack.now.ids bits.0 meta.now.level message.now (plain_fields fields.now))) }
+    ensures memory { IfErr result (λ fault. fault ≡ Fault.Memory) }
+{
+    for layer in 0..rules.len() {
+        push_event_note(
+            alloc,
+            notes,
+            rules,
+            forest,
+            stack,
+            worker,
+            bits,
+            meta,
+            message,
+            fields,
+            layer as u32,
+        )?;
+    }
+    Ok(())
+}

@@ -1,0 +1,124 @@
+//! The calls on a handle that enter no stack: one more handle, fields appended, a handle given back.
+ghost use Rattle.std.specs.Prelude.{◌≡◌, nat_lt, length, OnOk, IfOk, IfErr};
+ghost use Rattle.span_forest.specs.declared.span.Holder.TheVariants.{Handle};
+ghost use Rattle.span_forest.specs.Release.{closing_list};
+ghost use Rattle.span_registry.specs.Request.{clone_span, cloned, record_fields, recorded, try_close, released, plain_fields};
+ghost use Rattle.span_registry.specs.Core.{IsAccepted, IsRefused};
+
+use crate::batch::{Batch, Call, Reply};
+use crate::copies::copy_fields;
+use crate::held::held_span;
+use crate::names::are_keys;
+use crate::notes::{Happening, push_closes, push_notes};
+use crate::outlet::{Outlet, ask};
+use crate::state::State;
+use span_forest::Holder;
+use span_id::{Fault, Field, Id};
+use span_layers::Kind;
+
+impl<O: Outlet> State<O> {
+    pub(crate) fn clone_span(&mut self, worker: u32, id: Id) -> Result<(), Fault>
+        ensures accepted { OnOk result (IsAccepted self.old (clone_span worker id) cloned self.new) }
+        ensures refused { IfErr result (λ fault. IsRefused self.old (clone_span worker id) fault self.new) }
+    {
+        let Some(held) = held_span(&self.forest, id) else {
+            return Err(Fault::Unknown);
+        };
+        if held.count >= self.limits.limits().max_count || self.calls == u64::MAX {
+            return Err(Fault::CountFull);
+        }
+        ask(&mut self.outlet)?;
+        let Ok(()) = self.forest.keep(id, Holder::Handle) else {
+            unreachable!();
+        };
+        self.calls += 1;
+        self.outlet.put(Batch {
+            call: Call::CloneSpan { worker, id },
+            reply: Reply::Cloned,
+            notes: Vec::new(self.alloc),
+        });
+        Ok(())
+    }
+
+    pub(crate) fn record(&mut self, worker: u32, id: Id, fields: &[Field]) -> Result<(), Fault>
+        ensures accepted { OnOk result (IsAccepted self.old (record_fields worker id (plain_fields fields.now)) recorded self.new) }
+        ensures refused { IfErr result (λ fault. IsRefused self.old (record_fields worker id (plain_fields fields.now)) fault self.new) }
+    {
+        if !are_keys(fields) {
+            return Err(Fault::BadName);
+        }
+        let Some(held) = held_span(&self.forest, id) else {
+            return Err(Fault::Unknown);
+        };
+        if self.calls == u64::MAX {
+            return Err(Fault::CountFull);
+        }
+        ask(&mut self.outlet)?;
+        let what = Happening {
+            worker,
+            kind: Kind::OnRecord,
+            id,
+            bits: held.bits,
+        };
+        let mut notes = Vec::new(self.alloc);
+        push_notes(
+            self.alloc,
+            &mut notes,
+            &self.rules,
+            &self.forest,
+            &what,
+            fields,
+        )?;
+        let copies = copy_fields(self.alloc, fields)?;
+        let Ok(()) = self.forest.write_fields(id, fields) else {
+            return Err(Fault::Memory);
+        };
+        self.calls += 1;
+        self.outlet.put(Batch {
+            call: Call::RecordFields {
+                worker,
+                id,
+                fields: copies,
+            },
+            reply: Reply::Recorded,
+            notes,
+        });
+        Ok(())
+    }
+
+    pub(crate) fn try_close(&mut self, worker: u32, id: Id) -> Result<bool, Fault>
+        ensures accepted { OnOk result (IsAccepted self.old (try_close worker id) (released (closing_list self.old.world.spans id Handle)) self.new) }
+        ensures closed { IfOk result (λ closed. closed ≡ nat_lt 0 (length (closing_list self.old.world.spans id Handle))) }
+        ensures refused { IfErr result (λ fault. IsRefused self.old (try_close worker id) fault self.new) }
+    {
+        if held_span(&self.forest, id).is_none() {
+            return Err(Fault::Unknown);
+        }
+        if self.calls == u64::MAX {
+            return Err(Fault::CountFull);
+        }
+        ask(&mut self.outlet)?;
+        let Ok(closing) = self.forest.closing(id, Holder::Handle) else {
+            return Err(Fault::Memory);
+        };
+        let mut notes = Vec::new(self.alloc);
+        push_closes(
+            self.alloc,
+            &mut notes,
+            &self.rules,
+            &self.forest,
+            worker,
+            closing.as_slice(),
+        )?;
+        let Ok(closed) = self.forest.release(id, Holder::Handle) else {
+            return Err(Fault::Memory);
+        };
+        self.calls += 1;
+        self.outlet.put(Batch {
+            call: Call::TryClose { worker, id },
+            reply: Reply::Released(closed),
+            notes,
+        });
+        Ok(!closing.is_empty())
+    }
+}

@@ -1,0 +1,23 @@
+//! The registry of spans without a lock: spans, their holders, the workers' stacks, and the notes for the layers.
+#![tactic(auto)]
+
+mod batch;
+mod copies;
+mod entries;
+mod events;
+mod handles;
+mod held;
+mod names;
+mod notes;
+mod outlet;
+mod registry;
+mod spans;
+mod stacks;
+mod state;
+#[cfg(test)]
+mod tests;
+
+pub use batch::{Batch, Call, ParentOf, Reply};
+pub use outlet::Outlet;
+pub use registry::Core;
+pub use state::State;

@@ -1,0 +1,50 @@
+ghost use Rattle.std.specs.Prelude.{◌≡◌, ◌<◌, ◌++◌, ◌∷◌, [], length, replicate, slice_index_or, slice_set, IfOk, IfErr, OnOk, OnErr};
+ghost use Rattle.span_stack.specs.Stack.{has, ids_of_each};
+
+use span_id::{Fault, Id};
+use span_stack::SpanStack;
+use std::alloc::Global;
+
+// An empty stack for each worker.
+pub(crate) fn empty_stacks(alloc: Global, workers: u32) -> Result<Vec<SpanStack>, Fault>
+    ensures stacks { IfOk result (λ stacks. ids_of_each stacks.items ≡ replicate workers []) }
+    ensures memory { IfErr result (λ fault. fault ≡ Fault.Memory) }
+{
+    let Ok(mut stacks) = Vec::with_capacity(alloc, workers as usize) else {
+        return Err(Fault::Memory);
+    };
+    for _ in 0..workers {
+        stacks.push_reserved(SpanStack::new(alloc));
+    }
+    Ok(stacks)
+}
+
+// Puts a span on top of a worker's stack. Where memory is refused no stack changes.
+pub(crate) fn push_at(stacks: &mut Vec<SpanStack>, worker: u32, id: Id) -> Result<(), Fault>
+    requires { worker < length stacks.old.items }
+    ensures pushed { OnOk result (ids_of_each stacks.new.items
+        ≡ slice_set (ids_of_each stacks.old.items) worker (slice_index_or (ids_of_each stacks.old.items) worker [] ++ id ∷ [])) }
+    ensures unchanged { OnErr result (ids_of_each stacks.new.items ≡ ids_of_each stacks.old.items) }
+    ensures memory { IfErr result (λ fault. fault ≡ Fault.Memory) }
+{
+    let stack = &mut stacks[worker as usize];
+    push_one(stack, id)
+}
+
+fn push_one(stack: &mut SpanStack, id: Id) -> Result<(), Fault>
+    ensures pushed { OnOk result (stack.new.ids ≡ stack.old.ids ++ id ∷ []) }
+    ensures unchanged { OnErr result (stack.new.ids ≡ stack.old.ids) }
+    ensures memory { IfErr result (λ fault. fault ≡ Fault.Memory) }
+{
+    stack.reserve(1)?;
+    stack.push(id);
+    Ok(())
+}
+
+// Whether the span stands in a worker's stack.
+pub(crate) fn is_inside(stacks: &[SpanStack], worker: u32, id: Id) -> bool
+    requires { worker < length stacks.now }
+    ensures { result ≡ has (slice_index_or (ids_of_each stacks.now) worker []) id }
+{
+    stacks[worker as usize].has(id)
+}
