@@ -4,3 +4,4 @@ pub mod Cuts
 pub mod Named
 pub mod Limited
 pub mod Written
+pub mod Examples
