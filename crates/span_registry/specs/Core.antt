@@ -6,6 +6,7 @@ use Rattle.span_id.specs.declared.limits.Limits.{Limits}
 use Rattle.span_id.specs.Name.{IsName}
 use Rattle.span_layers.specs.Note.{KeyValue, PlainNote}
 use Rattle.span_layers.specs.Filter.{Filter}
+use Rattle.span_layers.specs.declared.form.Form.{Form}
 use Rattle.span_forest.specs.declared.span.Holder.TheVariants.{Handle}
 use Rattle.span_forest.specs.Spans.{IsOpen}
 use Rattle.span_forest.specs.Count.{written_count}
@@ -18,14 +19,15 @@ use Rattle.span_registry.specs.Step.{IsStep, is_wanted, ParentIsOpen}
 use Rattle.span_registry.specs.History.{issued}
 use Rattle.span_registry.specs.NextId.{next_id}
 
--- the limits, the filters of the layers, the world, and of the outlet the batches that were sent to it
--- and how often it had no place for one
+-- the limits, the filters of the layers, the world, and of the outlet the batches that were sent to it,
+-- how often it had no place for one, and the forms in which it writes notes
 pub record CoreView : Type 0 where
   pub limits : Limits
   pub rules : List Filter
   pub world : World
   pub sent : List PlainBatch
   pub times_full : ℕ
+  pub forms : List Form
 
 -- the name of a span or an event and all keys of fields are names
 abbrev pub AreKeys : List KeyValue → Type 0
@@ -123,6 +125,7 @@ pub record IsAccepted (old : CoreView) (request : Request) (answer : Answer) (ne
   pub step : IsStep old.rules (issued old.sent) old.world request answer notes new.world
   pub sent : new.sent ≡ old.sent ++ (record { request = request; answer = answer; notes = notes }) ∷ []
   pub times_full : new.times_full ≡ old.times_full
+  pub forms : new.forms ≡ old.forms
 
 -- a span was not wanted: its name and keys are names, no layer admits it, and nothing changed
 pub record IsNotWanted (old : CoreView) (request : Request) (new : CoreView) : Type 0 where

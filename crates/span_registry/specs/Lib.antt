@@ -8,4 +8,5 @@ pub mod History
 pub mod NextId
 pub mod Lines
 pub mod Core
+pub mod Outcome
 pub mod State

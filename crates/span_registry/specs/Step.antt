@@ -32,6 +32,48 @@ made_node rules meta fields parent = record {
   entries = 0;
 }
 
+-- ---- the world after each call
+
+-- one span more
+abbrev pub world_made : List Filter → World → PlainMeta → List KeyValue → Option ℕ → ℕ → World
+world_made rules old meta fields parent id = record old { spans = with_node old.spans id (made_node rules meta fields parent) }
+
+-- one handle more
+abbrev pub world_cloned : World → ℕ → World
+world_cloned old id = record old { spans = kept old.spans id Handle }
+
+-- one more entry in the worker's stack; only where it is no duplicate it holds the span
+abbrev pub world_entered : World → ℕ → ℕ → Bool → World
+world_entered old worker id first = record {
+  spans = cond first (kept old.spans id Entry) old.spans;
+  stacks = with_stack old worker (stack_of old worker ++ id ∷ []);
+}
+
+-- once the last place of the id is taken out, the id still stands in the worker's stack
+abbrev pub stays_inside : World → ℕ → ℕ → Bool
+stays_inside old worker id = has (without_last (stack_of old worker) id) id
+
+-- the last place of the id is taken out; where the id stands in the stack no longer, the entry is released
+abbrev pub world_exited : World → ℕ → ℕ → World
+world_exited old worker id = record {
+  spans = cond (stays_inside old worker id) old.spans (spans_left old.spans id Entry);
+  stacks = with_stack old worker (without_last (stack_of old worker) id);
+}
+
+-- the spans that close where a worker leaves a span
+abbrev pub closed_by_exit : World → ℕ → ℕ → List ℕ
+closed_by_exit old worker id = cond (stays_inside old worker id) [] (closing_list old.spans id Entry)
+
+-- one handle less, and without the spans that nothing holds any longer
+abbrev pub world_released : World → ℕ → World
+world_released old id = record old { spans = spans_left old.spans id Handle }
+
+-- fields of a span more
+abbrev pub world_recorded : World → ℕ → List KeyValue → World
+world_recorded old id fields = record old { spans = changed (with_fields fields) old.spans id }
+
+-- ---- the steps
+
 -- a parent is none or open
 abbrev pub ParentIsOpen : Spans → Option ℕ → Type 0
 ParentIsOpen spans parent = MatchOption parent (Unit {0}) (λ id. IsOpen spans id)
@@ -42,42 +84,36 @@ pub record MakesSpan (rules : List Filter) (issued : List ℕ) (old : World) (me
   pub not_issued : stands_in id issued ≡ false
   pub wanted : is_wanted rules meta ≡ true
   pub parent_open : ParentIsOpen old.spans parent
-  pub after : new ≡ record old { spans = with_node old.spans id (made_node rules meta fields parent) }
+  pub after : new ≡ world_made rules old meta fields parent id
 
 -- one more handle of a span that has one
 pub record ClonesSpan (old : World) (id : ℕ) (new : World) : Type 0 where
   pub held : IsHeld old.spans id Handle
-  pub after : new ≡ record old { spans = kept old.spans id Handle }
+  pub after : new ≡ world_cloned old id
 
 -- a worker enters a span that has a handle; only an entry that is no duplicate holds the span
 pub record EntersSpan (old : World) (worker id : ℕ) (first : Bool) (new : World) : Type 0 where
   pub held : IsHeld old.spans id Handle
   pub first_is : first ≡ not (has (stack_of old worker) id)
-  pub after : new ≡ record {
-    spans = cond first (kept old.spans id Entry) old.spans;
-    stacks = with_stack old worker (stack_of old worker ++ id ∷ []);
-  }
+  pub after : new ≡ world_entered old worker id first
 
 -- a worker leaves a span: the last place of the id is taken out, and where the id stands in the stack
 -- no longer, the entry is released
 pub record ExitsSpan (old : World) (worker id : ℕ) (closed : List ℕ) (new : World) : Type 0 where
   pub inside : has (stack_of old worker) id ≡ true
-  pub closed_are : closed ≡ cond (has (without_last (stack_of old worker) id) id) [] (closing_list old.spans id Entry)
-  pub after : new ≡ record {
-    spans = cond (has (without_last (stack_of old worker) id) id) old.spans (spans_left old.spans id Entry);
-    stacks = with_stack old worker (without_last (stack_of old worker) id);
-  }
+  pub closed_are : closed ≡ closed_by_exit old worker id
+  pub after : new ≡ world_exited old worker id
 
 -- a handle is released
 pub record ReleasesHandle (old : World) (id : ℕ) (closed : List ℕ) (new : World) : Type 0 where
   pub held : IsHeld old.spans id Handle
   pub closed_are : closed ≡ closing_list old.spans id Handle
-  pub after : new ≡ record old { spans = spans_left old.spans id Handle }
+  pub after : new ≡ world_released old id
 
 -- the fields of a span that has a handle gain the call's at the end
 pub record RecordsFields (old : World) (id : ℕ) (fields : List KeyValue) (new : World) : Type 0 where
   pub held : IsHeld old.spans id Handle
-  pub after : new ≡ record old { spans = changed (with_fields fields) old.spans id }
+  pub after : new ≡ world_recorded old id fields
 
 -- what a call with this answer does to the world; no other pairs of call and answer are given
 abbrev pub Changes : List Filter → List ℕ → World → Request → Answer → World → Type 0

@@ -1,4 +1,5 @@
 ghost use Rattle.std.specs.Prelude.{◌≡◌, ◌++◌, ◌∷◌, [], ◌<◌, ◌-◌, ◌^◌, ℕ, List, Bool, true, false, IfOk, IfErr, OnOk, OnErr, length, if◌then◌else◌};
+ghost use Rattle.span_layers.specs.declared.form.Form.{Form};
 ghost use Rattle.span_registry.specs.Batch.{PlainBatch, plain_batch};
 ghost use Rattle.span_registry.specs.Core.{one_more, times_after};
 ghost use Rattle.span_registry.specs.State.{IsLate};
@@ -18,9 +19,14 @@ pub trait Outlet {
     /// How often `room` answered false. An outlet stores it as a `u64`, which stays at its greatest value.
     ghost times_full: { Self → ℕ };
 
+    /// The forms in which the outlet writes the layers' notes, in the order of the layers. No call changes them; an outlet
+    /// that writes no text has none.
+    ghost forms: { Self → List Form };
+
     /// Whether there is a place for one more batch. The error is want of memory.
     fn room(&mut self) -> Result<bool, AllocError>
         ensures sent { sent self.new ≡ sent self.old }
+        ensures forms { forms self.new ≡ forms self.old }
         ensures ready { IfOk result (λ yes. ready self.new ≡ yes) }
         ensures counted { IfOk result (λ yes. times_full self.new ≡ (if yes then times_full self.old else one_more (times_full self.old))) }
         ensures err { OnErr result (times_full self.new ≡ times_full self.old) };
@@ -30,6 +36,7 @@ pub trait Outlet {
         requires ready { ready self.old ≡ true }
         requires countable { length (sent self.old) < 2 ^ 64 - 1 }
         ensures sent { sent self.new ≡ sent self.old ++ plain_batch batch ∷ [] }
+        ensures forms { forms self.new ≡ forms self.old }
         ensures ready { ready self.new ≡ false }
         ensures times_full { times_full self.new ≡ times_full self.old };
 }
@@ -37,6 +44,7 @@ pub trait Outlet {
 // Asks for a place for one more batch.
 pub(crate) fn ask<O: Outlet>(outlet: &mut O) -> Result<(), Fault>
     ensures sent { O.sent outlet.new ≡ O.sent outlet.old }
+    ensures forms { O.forms outlet.new ≡ O.forms outlet.old }
     ensures ready { OnOk result (O.ready outlet.new ≡ true) }
     ensures times_full { OnOk result (O.times_full outlet.new ≡ O.times_full outlet.old) }
     ensures refused { IfErr result (λ fault. IsLate fault × (O.times_full outlet.new ≡ times_after fault (O.times_full outlet.old))) }

@@ -49,6 +49,7 @@ impl<O: Outlet + Drop> Core<O> {
           world = empty_world checked.now.workers;
           sent = [];
           times_full = O.times_full outlet;
+          forms = O.forms outlet;
         }) }
         ensures memory { IfErr result (λ fault. fault ≡ Fault.Memory) }
     {
@@ -103,6 +104,7 @@ impl<O: Outlet> Core<O> {
     pub fn outlet(&self) -> &O
         ensures sent { O.sent result.now ≡ self.now.state.sent }
         ensures times_full { O.times_full result.now ≡ self.now.state.times_full }
+        ensures forms { O.forms result.now ≡ self.now.state.forms }
     {
         self.state.outlet()
     }

@@ -44,6 +44,7 @@ impl<O: Outlet> Model for State<O> {
       world = record { spans = s.forest.spans; stacks = ids_of_each s.stacks.items };
       sent = O.sent s.outlet;
       times_full = O.times_full s.outlet;
+      forms = O.forms s.outlet;
     } };
 
     ghost invariant = { λ s. IsSound s.limits s.forest (ids_of_each s.stacks.items) s.rules s.calls (O.sent s.outlet) };
@@ -63,6 +64,7 @@ impl<O: Outlet + Drop> State<O> {
           world = empty_world checked.now.workers;
           sent = [];
           times_full = O.times_full outlet;
+          forms = O.forms outlet;
         }) }
         ensures memory { IfErr result (λ fault. fault ≡ Fault.Memory) }
     {
@@ -119,6 +121,7 @@ impl<O: Outlet> State<O> {
     pub(crate) fn outlet(&self) -> &O
         ensures sent { O.sent result.now ≡ self.now.sent }
         ensures times_full { O.times_full result.now ≡ self.now.times_full }
+        ensures forms { O.forms result.now ≡ self.now.forms }
     {
         &self.outlet
     }

@@ -1,5 +1,5 @@
 //! What no clause says: the calls run, with their answers and the texts of their notes.
-ghost use Rattle.std.specs.Prelude.{◌≡◌, ◌<◌, true, map, vec_len, vec_capacity, string_bytes};
+ghost use Rattle.std.specs.Prelude.{◌≡◌, ◌<◌, [], true, map, vec_len, vec_capacity, string_bytes};
 ghost use Rattle.std.specs.Result.{ForOk};
 ghost use Rattle.span_layers.specs.Note.{plain_note};
 ghost use Rattle.span_layers.specs.Rule.{pairs_of, is_admitted};
@@ -27,6 +27,8 @@ impl Outlet for Sent {
     ghost ready = { λ s. s.ready };
 
     ghost times_full = { λ s. 0 };
+
+    ghost forms = { λ s. [] };
 
     fn room(&mut self) -> Result<bool, AllocError> {
         self.ready = false;

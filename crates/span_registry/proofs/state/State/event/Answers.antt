@@ -39,4 +39,5 @@ returns-clause-accepted g c =
       };
       sent = c.put.ensures.sent ∙ (λ j. sent_is j ++ (record { request = event c.args.worker (meta_is j) (text_is j) (fields_are j); answer = told; notes = map plain_note c.push_event.new.notes.items }) ∷ []);
       times_full = c.put.ensures.times_full ∙ c.in_ok-ask.ensures.times_full ∙ ap (λ (v : CoreView). v.times_full) c.self.view_is;
+      forms = c.put.ensures.forms ∙ c.in_ok-ask.ensures.forms ∙ ap (λ (v : CoreView). v.forms) c.self.view_is;
     }

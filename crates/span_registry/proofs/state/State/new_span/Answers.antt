@@ -82,4 +82,5 @@ returns-clause-made g c =
       step = subst (λ (v : CoreView). IsStep v.rules (issued v.sent) v.world (new_span c.args.worker (plain_meta c.args.meta.now) (plain_fields c.args.fields.now) c.args.parent) (made c.in-Ok.id) (map plain_note c.push_new.new.notes.items) (record { spans = c.add.new.self.spans; stacks = ids_of_each c.self.inside.stacks.items })) c.self.view_is step;
       sent = c.put.ensures.sent ∙ (λ j. sent_is j ++ (record { request = new_span c.args.worker (meta_is j) (fields_are j) (c.copy_id-found.ensures j); answer = made c.in-Ok.id; notes = map plain_note c.push_new.new.notes.items }) ∷ []);
       times_full = c.put.ensures.times_full ∙ c.in_ok-ask.ensures.times_full ∙ ap (λ (v : CoreView). v.times_full) c.self.view_is;
+      forms = c.put.ensures.forms ∙ c.in_ok-ask.ensures.forms ∙ ap (λ (v : CoreView). v.forms) c.self.view_is;
     }
