@@ -13,3 +13,8 @@ pub mod Refusals
 pub mod Spans
 pub mod Faults
 pub mod Output
+pub mod State
+pub mod Written
+pub mod Requests
+pub mod Meaning
+pub mod Replayed

@@ -10,13 +10,19 @@ use std::alloc::AllocError;
 pub enum Answer {
     /// The limits stand.
     Limits,
+    /// A layer was added, with this number.
+    Layer(usize),
     /// A span was made.
     Made(Id),
+    /// No layer wants the span.
+    NotWanted,
     Cloned,
     /// Whether the span closed: after a `close` and after an `exit`.
     Closed(bool),
     /// Whether the entry is no duplicate.
     Entered(bool),
+    Recorded,
+    Told,
     Refused(Fault),
 }
 
@@ -37,12 +43,16 @@ pub fn write_answer(text: &mut String, answer: Answer) -> Result<(), AllocError>
 {
     match answer {
         Answer::Limits => text.push_str("= limits\n"),
+        Answer::Layer(number) => writeln!(text, "= layer {number}"),
         Answer::Made(id) => writeln!(text, "= {id}"),
+        Answer::NotWanted => text.push_str("= not wanted\n"),
         Answer::Cloned => text.push_str("= cloned\n"),
         Answer::Closed(true) => text.push_str("= closed\n"),
         Answer::Closed(false) => text.push_str("= open\n"),
         Answer::Entered(true) => text.push_str("= entered\n"),
         Answer::Entered(false) => text.push_str("= again\n"),
+        Answer::Recorded => text.push_str("= recorded\n"),
+        Answer::Told => text.push_str("= told\n"),
         Answer::Refused(fault) => writeln!(text, "! {fault}"),
     }
 }

@@ -72,6 +72,7 @@ impl Script {
             Operation::New(new) => self.make(alloc, new, text),
             Operation::OnSpan { call, span, worker } => self.call(*call, span, *worker, text),
             Operation::Find(span) => self.find(span, text),
+            _ => Err(Stop::Refused(Reason::NoSuchOp)),
         }
     }
 
