@@ -1,6 +1,6 @@
 -- What a call does to a core, as a function: the call's faults in their order, else its step. For each core
 -- and each request there is one outcome. (That memory or the outlet may have no place is not in it.)
-use Rattle.std.specs.Prelude.{◌≡◌, ℕ, ◌-◌, ◌^◌, Bool, true, false, ◌&&◌, ◌||◌, not, if◌then◌else◌, nat_lt, nat_le, List, [], ◌∷◌, ◌++◌, length, Option, Some, None, is_some}
+use Rattle.std.specs.Prelude.{◌≡◌, ℕ, ◌-◌, ◌^◌, Bool, true, false, ◌&&◌, ◌||◌, not, if◌then◌else◌, nat_lt, nat_le, List, [], ◌∷◌, ◌++◌, length, Option, Some, None, is_some, IfSome}
 use Rattle.std.specs.List.{list_all}
 use Rattle.span_id.specs.declared.fault.Fault.{Fault}
 use Rattle.span_id.specs.declared.fault.Fault.TheVariants.{Unknown, CountFull, Full, NotEntered, BadName}
@@ -21,7 +21,7 @@ use Rattle.span_registry.specs.Happening.{happenings, notes_of_all, id_at}
 use Rattle.span_registry.specs.Step.{world_made, world_cloned, world_entered, world_exited, closed_by_exit, world_released, world_recorded}
 use Rattle.span_registry.specs.History.{issued}
 use Rattle.span_registry.specs.NextId.{next_id}
-use Rattle.span_registry.specs.Core.{CoreView, is_wanted_call}
+use Rattle.span_registry.specs.Core.{CoreView, is_wanted_call, IsAccepted, IsRefused, IsNotWanted}
 
 -- a refusal; no layer wants the span; or the answer, the notes, and the core after the call
 pub data Outcome : Type 0 where
@@ -146,14 +146,20 @@ outcome core request =
     (if not (is_inside core request) then refused NotEntered else
     done core request)))))
 
--- ---- what the calls' contracts say beside a step
+-- ---- what the calls' contracts say of it
 
--- a new span's id is the next one
+-- a new span gets the next id
 abbrev pub TakesNextId : CoreView → Answer → Type 0
 TakesNextId core (made id) = id_after core ≡ Some id
 TakesNextId core _ = Unit {0}
 
--- a new span's id is in the layout, and the history didn't issue it
-abbrev pub TakesNewId : CoreView → Answer → Type 0
-TakesNewId core (made id) = IsId id × (stands_in id (issued core.sent) ≡ false)
-TakesNewId core _ = Unit {0}
+-- the next id, if there is one, is in the layout, and the history didn't issue it
+abbrev pub IsNextIdNew : CoreView → Type 0
+IsNextIdNew core = IfSome (id_after core) (λ id. IsId id × (stands_in id (issued core.sent) ≡ false))
+
+-- the contracts allow the outcome: a refusal and an answer that changes nothing leave the core as it is, and an
+-- accepted call is one step, with these notes
+abbrev pub IsAllowed : CoreView → Request → Outcome → Type 0
+IsAllowed core request (refused fault) = IsRefused core request fault core
+IsAllowed core request not_wanted = IsNotWanted core request core
+IsAllowed core request (accepted answer notes new) = (call : IsAccepted core request answer new) × (call.notes ≡ notes) × TakesNextId core answer
