@@ -15,7 +15,7 @@ use Rattle.span_registry.specs.Step.{Changes, IsStep}
 use Rattle.span_registry.specs.History.{issued, id_issued}
 use Rattle.span_registry.specs.Core.{CoreView, AreNamed, is_wanted_call, IsKnown, MayCount, MaySend, HasSlot, IsInside, IsDue, WhyRefused, times_after, IsRefused, IsAccepted, IsNotWanted}
 use Rattle.span_registry.specs.State.{IsLate}
-use Rattle.span_registry.specs.Outcome.{Outcome, refused, not_wanted, accepted, is_named, is_known, may_count, may_send, id_after, has_slot, is_inside, answer_to, world_after, notes_after, core_after, noted, stepped, answered, done, outcome, TakesNextId, IsNextIdNew, IsAllowed}
+use Rattle.span_registry.specs.Outcome.{Outcome, refused, not_wanted, accepted, is_named, is_known, may_count, may_send, id_after, has_slot, is_inside, answer_to, world_after, notes_after, core_after, done, outcome, TakesNextId, IsNextIdNew, IsAllowed}
 use Rattle.span_registry.proofs.Deciding.{same, decides_named, decides_known, decides_counts, decides_slot, decides_inside}
 
 -- ---- the conditions in their order
@@ -27,6 +27,16 @@ passes false d h x y = absurd (true≢false (sym (d.1 h)))
 fails : (b : Bool) {P : Type 0} → Decides b P → (P → ⊥) → (x y : Outcome) → (if not b then x else y) ≡ x
 fails true d h x y = absurd (h (d.0 refl))
 fails false d h x y = refl
+
+-- what is done, from the answer on, from the next world on, and from the notes on
+abbrev noted : CoreView → Request → Answer → World → List PlainNote → Outcome
+noted core request answer new notes = accepted answer notes (core_after core request answer notes new)
+
+abbrev stepped : CoreView → Request → Answer → World → Outcome
+stepped core request answer new = noted core request answer new (notes_after core.rules core.world request answer new)
+
+abbrev answered : CoreView → Request → Answer → Outcome
+answered core request answer = stepped core request answer (world_after core.rules core.world request answer)
 
 -- what is left to judge, once the first conditions hold
 abbrev when_slot : CoreView → Request → Outcome
