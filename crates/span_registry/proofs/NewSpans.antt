@@ -3,9 +3,9 @@ use Rattle.std.proofs.Common.{◌≡◌, ◌≢◌, ℕ, zero, suc, ◌+◌, ◌
 use Rattle.std.specs.Prelude.{is_some, MatchOption, IfSome, slice_index, drop, nat_lt}
 use Rattle.std.specs.Option.{option_map_or}
 use Rattle.std.specs.List.{range_with_len}
-use Rattle.std.proofs.lemmas.Bool.{cases_Bool, cases_lt, lt-ltb, false≢true}
-use Rattle.std.proofs.lemmas.Bool.Decides.{eqb_tells, nat_tests}
-use Rattle.std.proofs.lemmas.List.{reverse-append, get_or-set_same, get_or-set_other, get_or_append_left, get_or_past}
+use Rattle.std.proofs.lemmas.Bool.{cases_Bool, false≢true}
+use Rattle.std.proofs.lemmas.Bool.Decides.{eqb_tells}
+use Rattle.std.proofs.lemmas.List.{reverse-append}
 use Rattle.span_id.specs.Bits.{has_bit}
 use Rattle.span_id.specs.Id.{slot_of, generation_of, IsId}
 use Rattle.span_id.specs.declared.limits.Limits.{Limits}
@@ -20,10 +20,11 @@ use Rattle.span_forest.specs.Holders.{held_in}
 use Rattle.span_forest.specs.Forest.{ForestView, table_of, next_span_id}
 use Rattle.span_forest.specs.Live.{stands_in}
 use Rattle.span_forest.specs.Add.{added}
-use Rattle.span_forest.specs.Walk.{walk, walk_within}
+use Rattle.span_forest.specs.Walk.{walk_within}
 use Rattle.span_forest.specs.Path.{path, names_for, name_for}
 use Rattle.span_forest.proofs.Adds.{find-with_same, find-with_other}
-use Rattle.span_registry.specs.World.{World, IsWorld}
+use Rattle.span_forest.proofs.Slotted.{issue_more}
+use Rattle.span_registry.specs.World.{IsWorld}
 use Rattle.span_registry.specs.Request.{PlainMeta, new_span, made}
 use Rattle.span_registry.specs.Batch.{PlainBatch}
 use Rattle.span_registry.specs.Step.{ParentIsOpen, IsStep, is_wanted, made_node}
@@ -128,29 +129,6 @@ not_open spans id Issued issued never = by_case (find spans id) refl
     by_case : (o : Option Node) → find spans id ≡ o → o ≡ None
     by_case None is = refl
     by_case (Some node) is = absurd (never (issued (ap is_some is)))
-
--- one id more of a slot takes none away
-pub issue_more : (given : List ℕ) (slot k n : ℕ) → n < slice_index given k → n < slice_index (issue given slot) k
-issue_more given slot k n before =
-    elim (cases_lt slot (length given)) [
-      | inl h ↦ (let t : nat_lt slot (length given) ≡ true = lt-ltb slot (length given) h in rw t (at h))
-      | inr h ↦ (let t : nat_lt slot (length given) ≡ false = grind (arith, nat_tests) in rw t past)
-    ]
-  where
-    at : slot < length given → n < slice_index (set given slot (slice_index given slot + 1)) k
-    at h =
-        elim (eqb_tells k slot) [
-          | inl t ↦ (let same : slice_index (set given slot (slice_index given slot + 1)) slot ≡ slice_index given slot + 1 = get_or-set_same given slot (slice_index given slot + 1) 0 h in
-              subst (λ (i : ℕ). n < slice_index (set given slot (slice_index given slot + 1)) i) (sym t.1) (let b : n < slice_index given slot = subst (λ (i : ℕ). n < slice_index given i) t.1 before in omega (arith, same, b)))
-          | inr t ↦ (let other : slice_index (set given slot (slice_index given slot + 1)) k ≡ slice_index given k = get_or-set_other given slot k (slice_index given slot + 1) 0 t.1 in omega (arith, other, before))
-        ]
-
-    past : n < slice_index (given ++ 1 ∷ []) k
-    past =
-        elim (cases_lt k (length given)) [
-          | inl h ↦ (let same : slice_index (given ++ 1 ∷ []) k ≡ slice_index given k = get_or_append_left given (1 ∷ []) 0 k h in omega (arith, same, before))
-          | inr h ↦ (let none : slice_index given k ≡ 0 = get_or_past given k 0 h in absurd (omega (arith, none, before)))
-        ]
 
 pub world_new : (spans : Spans) (id : ℕ) (node : Node) (stacks : List (List ℕ)) → find spans id ≡ None → node.entries ≡ 0 → IsWorld (record { spans = spans; stacks = stacks }) → IsWorld (record { spans = with_node spans id node; stacks = stacks })
 world_new spans id node stacks gone none whole = record { entered = λ j. same j ∙ whole.entered j }
