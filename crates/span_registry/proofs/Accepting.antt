@@ -15,7 +15,7 @@ use Rattle.span_forest.specs.Keep.{kept}
 use Rattle.span_forest.specs.Release.{closing_list, released as spans_left, freed_after}
 use Rattle.span_stack.specs.Stack.{has, without_last}
 use Rattle.span_registry.specs.World.{World, IsWorld}
-use Rattle.span_registry.specs.Request.{PlainMeta, event, told, enter, entered, exit, exited, clone_span, cloned, record_fields, recorded, try_close, released}
+use Rattle.span_registry.specs.Request.{PlainMeta, Request, event, told, enter, entered, exit, exited, clone_span, cloned, record_fields, recorded, try_close, released}
 use Rattle.span_registry.specs.Batch.{PlainBatch}
 use Rattle.span_registry.specs.Happening.{notes_of_all, happenings, close_of, at_span, event_at}
 use Rattle.span_registry.specs.NextId.{SlotsUsed, with_closed, slots_after}
@@ -41,15 +41,15 @@ sound_clone limits rules forest new_forest stacks calls old mid new worker id no
     })
     same sent
 
-pub sound_record : (limits : Limits) (rules : List Filter) (forest new_forest : ForestView) (stacks : List (List ℕ)) (calls : ℕ) (old mid new : List PlainBatch) (worker id : ℕ) (fields written : List KeyValue) (notes : List PlainNote)
+pub sound_record : (limits : Limits) (rules : List Filter) (forest new_forest : ForestView) (stacks : List (List ℕ)) (calls : ℕ) (old mid new : List PlainBatch) (worker id : ℕ) (fields : List KeyValue) (written : Request) (notes : List PlainNote)
     → IsSound limits forest stacks rules calls old
     → IsHeld forest.spans id Handle
     → new_forest ≡ record forest { spans = changed (with_fields fields) forest.spans id }
     → notes ≡ notes_of_all rules worker (at_span forest.spans OnRecord id fields ∷ [])
-    → written ≡ fields
-    → mid ≡ old → new ≡ mid ++ (record { request = record_fields worker id written; answer = recorded; notes = notes }) ∷ []
+    → written ≡ record_fields worker id fields
+    → mid ≡ old → new ≡ mid ++ (record { request = written; answer = recorded; notes = notes }) ∷ []
     → IsSound limits new_forest stacks rules (calls + 1) new
-sound_record limits rules forest new_forest stacks calls old mid new worker id fields written notes sound held forest_is notes_are written_are same sent =
+sound_record limits rules forest new_forest stacks calls old mid new worker id fields written notes sound held forest_is notes_are written_is same sent =
     let spans_are = ap (λ f. f.spans) forest_is in
     sound_quiet limits rules forest new_forest stacks stacks calls old mid new (record { request = record_fields worker id fields; answer = recorded; notes = notes }) sound refl refl
     (same_but_spans forest new_forest _ forest_is) refl
@@ -58,7 +58,7 @@ sound_record limits rules forest new_forest stacks calls old mid new worker id f
       changes = record { held = held; after = λ j. record { spans = spans_are j; stacks = stacks } };
       notes_are = notes_are;
     })
-    same (sent ∙ ap (λ (fs : List KeyValue). mid ++ (record { request = record_fields worker id fs; answer = recorded; notes = notes }) ∷ []) written_are)
+    same (sent ∙ ap (λ (request : Request). mid ++ (record { request = request; answer = recorded; notes = notes }) ∷ []) written_is)
 
 -- the slots that a release frees, and nothing else, changed
 freed_in : (limits : Limits) (forest new_forest : ForestView) (spans : Spans) (used : SlotsUsed) (closed : List ℕ)
@@ -179,15 +179,15 @@ sound_exit limits rules forest new_forest stacks new_stacks calls old mid new wo
     })
     same sent
 
-pub sound_event : (limits : Limits) (rules : List Filter) (forest : ForestView) (stacks : List (List ℕ)) (calls : ℕ) (old mid new : List PlainBatch) (worker : ℕ) (meta written_meta : PlainMeta) (message written : List ℕ) (fields written_fields : List KeyValue) (notes : List PlainNote)
+pub sound_event : (limits : Limits) (rules : List Filter) (forest : ForestView) (stacks : List (List ℕ)) (calls : ℕ) (old mid new : List PlainBatch) (worker : ℕ) (meta : PlainMeta) (message : List ℕ) (fields : List KeyValue) (written : Request) (notes : List PlainNote)
     → IsSound limits forest stacks rules calls old
     → notes ≡ notes_of_all rules worker (event_at forest.spans (get_or stacks worker []) (admission_set rules meta.target meta.level) meta.level message fields ∷ [])
-    → written_meta ≡ meta → written ≡ message → written_fields ≡ fields
-    → mid ≡ old → new ≡ mid ++ (record { request = event worker written_meta written written_fields; answer = told; notes = notes }) ∷ []
+    → written ≡ event worker meta message fields
+    → mid ≡ old → new ≡ mid ++ (record { request = written; answer = told; notes = notes }) ∷ []
     → IsSound limits forest stacks rules (calls + 1) new
-sound_event limits rules forest stacks calls old mid new worker meta written_meta message written fields written_fields notes sound notes_are meta_is message_is fields_are same sent =
+sound_event limits rules forest stacks calls old mid new worker meta message fields written notes sound notes_are written_is same sent =
     sound_quiet limits rules forest forest stacks stacks calls old mid new (record { request = event worker meta message fields; answer = told; notes = notes }) sound refl refl
     refl refl sound.world
     (record { changes = refl; notes_are = notes_are })
     same
-    (sent ∙ (λ j. mid ++ (record { request = event worker (meta_is j) (message_is j) (fields_are j); answer = told; notes = notes }) ∷ []))
+    (sent ∙ ap (λ (request : Request). mid ++ (record { request = request; answer = told; notes = notes }) ∷ []) written_is)

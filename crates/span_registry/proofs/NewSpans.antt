@@ -25,7 +25,7 @@ use Rattle.span_forest.specs.Path.{path, names_for, name_for}
 use Rattle.span_forest.proofs.Adds.{find-with_same, find-with_other}
 use Rattle.span_forest.proofs.Slotted.{issue_more}
 use Rattle.span_registry.specs.World.{IsWorld}
-use Rattle.span_registry.specs.Request.{PlainMeta, new_span, made}
+use Rattle.span_registry.specs.Request.{PlainMeta, Request, new_span, made}
 use Rattle.span_registry.specs.Batch.{PlainBatch}
 use Rattle.span_registry.specs.Step.{ParentIsOpen, IsStep, is_wanted, made_node}
 use Rattle.span_registry.specs.History.{issued}
@@ -98,14 +98,13 @@ and_first true b h = refl
 and_first false b h = h
 
 -- the notes of a new span
-pub new_notes : (rules : List Filter) (worker id : ℕ) (spans new_spans : Spans) (node : Node) (fields : List KeyValue) (first notes : List PlainNote)
+pub new_notes : (rules : List Filter) (worker id : ℕ) (spans new_spans : Spans) (node : Node) (fields : List KeyValue) (notes : List PlainNote)
     → find spans id ≡ None → ParentsOpen spans → ParentIsOpen spans node.parent → new_spans ≡ with_node spans id node
-    → first ≡ []
-    → notes ≡ first ++ map (first_note spans worker id node.parent node.name fields) (filter (is_told_new rules node.bits) (range_with_len 0 (length rules)))
+    → notes ≡ map (first_note spans worker id node.parent node.name fields) (filter (is_told_new rules node.bits) (range_with_len 0 (length rules)))
     → notes ≡ notes_of_all rules worker (at_span new_spans OnNew id fields ∷ [])
-new_notes rules worker id spans new_spans node fields first notes gone whole there are none told =
-    one_happening rules worker (at_span new_spans OnNew id fields) first notes none
-    (told ∙ ap (λ xs. first ++ xs) (all ∙ ap (λ s. notes_of rules worker (at_span s OnNew id fields)) (sym are)))
+new_notes rules worker id spans new_spans node fields notes gone whole there are told =
+    one_happening rules worker (at_span new_spans OnNew id fields) [] notes refl
+    (told ∙ all ∙ ap (λ s. notes_of rules worker (at_span s OnNew id fields)) (sym are))
   where
     here : find (with_node spans id node) id ≡ Some node
     here = find-with_same spans id node gone
@@ -182,7 +181,7 @@ next_is_new limits rules forest stacks calls sent sound in_layout never =
     by_case None there unissued = tt
     by_case (Some id) there unissued = (there, not_in_history limits rules forest stacks calls sent id sound unissued)
 
-pub sound_new : (limits : Limits) (rules : List Filter) (forest new_forest : ForestView) (stacks : List (List ℕ)) (calls : ℕ) (old mid new : List PlainBatch) (worker id : ℕ) (meta written_meta : PlainMeta) (fields written : List KeyValue) (parent : Option ℕ) (notes : List PlainNote)
+pub sound_new : (limits : Limits) (rules : List Filter) (forest new_forest : ForestView) (stacks : List (List ℕ)) (calls : ℕ) (old mid new : List PlainBatch) (worker id : ℕ) (meta : PlainMeta) (fields : List KeyValue) (parent : Option ℕ) (written : Request) (notes : List PlainNote)
     → IsSound limits forest stacks rules calls old
     → IsId id
     → (generation_of id < slice_index forest.given (slot_of id) → ⊥)
@@ -192,10 +191,10 @@ pub sound_new : (limits : Limits) (rules : List Filter) (forest new_forest : For
     → find forest.spans id ≡ None
     → new_forest ≡ added forest id (made_node rules meta fields parent)
     → notes ≡ notes_of_all rules worker (at_span new_forest.spans OnNew id fields ∷ [])
-    → written_meta ≡ meta → written ≡ fields
-    → mid ≡ old → new ≡ mid ++ (record { request = new_span worker written_meta written parent; answer = made id; notes = notes }) ∷ []
+    → written ≡ new_span worker meta fields parent
+    → mid ≡ old → new ≡ mid ++ (record { request = written; answer = made id; notes = notes }) ∷ []
     → IsSound limits new_forest stacks rules (calls + 1) new
-sound_new limits rules forest new_forest stacks calls old mid new worker id meta written_meta fields written parent notes sound in_layout never now_issued wanted there gone forest_is notes_are meta_is fields_are same sent =
+sound_new limits rules forest new_forest stacks calls old mid new worker id meta fields parent written notes sound in_layout never now_issued wanted there gone forest_is notes_are written_is same sent =
     let node = made_node rules meta fields parent in
     let spans_are = ap (λ f. f.spans) forest_is in
     let given_is : new_forest.given ≡ issue forest.given (slot_of id) = ap (λ f. f.given) forest_is in
@@ -207,4 +206,4 @@ sound_new limits rules forest new_forest stacks calls old mid new worker id meta
     refl
     (subst (λ (spans : Spans). IsWorld (record { spans = spans; stacks = stacks })) (sym spans_are) (world_new forest.spans id node stacks gone refl sound.world))
     (step_new rules (issued old) forest.spans new_forest.spans stacks worker id meta fields parent notes in_layout (not_in_history limits rules forest stacks calls old id sound never) wanted there spans_are notes_are)
-    same (sent ∙ (λ j. mid ++ (record { request = new_span worker (meta_is j) (fields_are j) parent; answer = made id; notes = notes }) ∷ []))
+    same (sent ∙ ap (λ (request : Request). mid ++ (record { request = request; answer = made id; notes = notes }) ∷ []) written_is)
