@@ -5,4 +5,9 @@ pub mod Accepting
 pub mod Telling
 pub mod NewSpans
 pub mod Counted
+pub mod Effects
+pub mod Legal
+pub mod Closes
+pub mod Announcing
+pub mod ToldOnce
 mod Examples

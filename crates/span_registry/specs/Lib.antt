@@ -10,3 +10,4 @@ pub mod Lines
 pub mod Core
 pub mod Outcome
 pub mod State
+pub mod Closing

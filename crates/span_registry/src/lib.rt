@@ -7,6 +7,7 @@ mod entries;
 mod events;
 mod handles;
 mod held;
+pub mod laws;
 mod names;
 mod notes;
 mod outlet;
