@@ -37,7 +37,7 @@ stands_filtered p s (x ∷ xs) h k =
           elim (cases_Bool (p x)) [ inl t ↦ rw (t, q.0) r | inr t ↦ rw t r ])
     ]
 
-stands_unfiltered : (p : ℕ → Bool) (s : ℕ) (xs : List ℕ) → stands_in s (filter p xs) ≡ true → stands_in s xs ≡ true
+pub stands_unfiltered : (p : ℕ → Bool) (s : ℕ) (xs : List ℕ) → stands_in s (filter p xs) ≡ true → stands_in s xs ≡ true
 stands_unfiltered p s [] h = cc
 stands_unfiltered p s (x ∷ xs) h =
     elim (eqb_tells x s) [
@@ -80,11 +80,11 @@ not_false false h = cc
 both : (b : Bool) → b ≡ true → b ≡ false → ⊥
 both b t f = false≢true (sym f ∙ t)
 
-not_some : (o : Option Node) → (IsSome o → ⊥) → o ≡ None
+pub not_some : (o : Option Node) → (IsSome o → ⊥) → o ≡ None
 not_some None h = refl
 not_some (Some n) h = absurd (h refl)
 
-none_open : (o : Option Node) → o ≡ None → IsSome o → ⊥
+pub none_open : (o : Option Node) → o ≡ None → IsSome o → ⊥
 none_open None e h = cc
 none_open (Some n) e h = cc
 

@@ -1,5 +1,5 @@
 -- A forest in which a holder or a child holds each span stays one in each change.
-use Rattle.std.proofs.Common.{◌≡◌, ℕ, ◌<◌, ◌≤◌, Bool, true, [], ◌∷◌, filter, Option, Some, None, refl, sym, ap, subst, ◌∙◌, inl, inr, arith}
+use Rattle.std.proofs.Common.{◌≡◌, ℕ, ◌<◌, ◌≤◌, Bool, true, not, [], ◌∷◌, length, filter, Option, Some, None, refl, sym, ap, subst, ◌∙◌, inl, inr, arith}
 use Rattle.std.specs.Prelude.{◌⊎◌, IsSome}
 use Rattle.std.specs.Option.{option_map}
 use Rattle.std.proofs.lemmas.Bool.Decides.{nat_tests, eqb_tells}
@@ -7,26 +7,23 @@ use Rattle.std.proofs.lemmas.Bool.{cases_Bool, cases_lt, eq-eqb}
 use Rattle.span_forest.specs.declared.span.Holder.{Holder}
 use Rattle.span_forest.specs.Node.{Node}
 use Rattle.span_forest.specs.Spans.{Spans, find, IsOpen, AreApart, parent_in, parent_of, changed, with_node}
+use Rattle.span_forest.specs.Walk.{walk}
 use Rattle.span_forest.specs.Count.{holders, holders_in, is_held, children, written_count, total_held}
 use Rattle.span_forest.specs.Forest.{IsForest}
-use Rattle.span_forest.specs.Live.{is_live, live_part}
+use Rattle.span_forest.specs.Live.{stands_in, is_live, live_part}
 use Rattle.span_forest.specs.Holders.{with_less}
-use Rattle.span_forest.specs.Release.{taken, released}
+use Rattle.span_forest.specs.Release.{taken, closing_list, released}
 use Rattle.span_forest.proofs.Ranks.{IsRanked, ranked}
-use Rattle.span_forest.proofs.Walks.{OnWalk, forest_from, Live-from_is_live, is_live-from_Live, all_live, here, above}
+use Rattle.span_forest.proofs.Walks.{OnWalk, forest_from, OnWalk-from_stands, Live-from_is_live, is_live-from_Live, all_live, here, above}
 use Rattle.span_forest.proofs.Finds.{no_child, child_open}
-use Rattle.span_forest.proofs.Nodes.{with_less-parent, find-changed_same, find-changed_other, IsForest-changed, IsOpen-changed, children-changed}
+use Rattle.span_forest.proofs.Nodes.{with_less-parent, find-changed_same, find-changed_other, parent_of-changed, IsForest-changed, IsOpen-changed, children-changed}
 use Rattle.span_forest.proofs.Adds.{find-with_same, find-with_other, children-with, IsRanked-with, open_back}
-use Rattle.span_forest.proofs.Spared.{kept_passes, passing_kept, parent_live}
+use Rattle.span_forest.proofs.Spared.{kept_passes, passing_kept, parent_live, none_open, stands_unfiltered}
 
 -- a forest in which something holds each open span
 pub record IsUpheld (spans : Spans) : Type 0 where
   pub forest : IsForest spans
   pub positive : (id : ℕ) → IsOpen spans id → 0 < written_count spans id
-
-none_open : (o : Option Node) → o ≡ None → IsSome o → ⊥
-none_open None e h = cc
-none_open (Some n) e h = cc
 
 some_none : (p : ℕ) → None ≡ Some p → ⊥
 some_none p h = cc
@@ -153,6 +150,17 @@ pub upheld_released : (spans : Spans) (id : ℕ) (holder : Holder) → IsForest 
 upheld_released spans id holder forest =
     let m = taken spans id holder in
     upheld_live m (ranked m (IsForest-changed (with_less holder) (with_less-parent holder) spans id forest))
+
+-- a span of a closing list is the one that gives the holder back, or is open
+pub listed_known : (spans : Spans) (id : ℕ) (holder : Holder) → IsForest spans → (s : ℕ) → stands_in s (closing_list spans id holder) ≡ true → (id ≡ s) ⊎ IsOpen spans s
+listed_known spans id holder forest s t =
+    let m = taken spans id holder in
+    let k = OnWalk-from_stands m s (length m) (Some id) (stands_unfiltered (λ x. not (is_live m x)) s (walk m id) t) in
+    let same : k.0 ≡ id = (let q = k.1 in cc) in
+    elim (child_on_walk m k.0 s k.2) [
+      | inl q ↦ inl (sym same ∙ q)
+      | inr c ↦ inr (forest.parents_open c.0 s (sym (parent_of-changed (with_less holder) (with_less-parent holder) spans id c.0) ∙ c.2))
+    ]
 
 -- ---- where nothing is held
 

@@ -1,6 +1,6 @@
 -- Worked cases of the definitions, by computation.
 use Rattle.std.proofs.Common.{◌≡◌, ℕ, Bool, true, false, List, [], ◌∷◌, ◌++◌, map, Option, Some, None, refl, arith}
-use Rattle.std.specs.Prelude.{codes}
+use Rattle.std.specs.Prelude.{codes, count_by}
 use Rattle.span_id.specs.declared.level.Level.TheVariants.{Info, Trace}
 use Rattle.span_id.specs.declared.fault.Fault.TheVariants.{Unknown, CountFull, Full, NotEntered, BadName}
 use Rattle.span_layers.specs.declared.form.Form.TheVariants.{Compact}
@@ -23,6 +23,7 @@ use Rattle.span_registry.specs.Step.{is_wanted, closed_by_exit}
 use Rattle.span_registry.specs.History.{IsLegal, issued}
 use Rattle.span_registry.specs.History.IsLegal.{none, more}
 use Rattle.span_registry.specs.NextId.{next_id}
+use Rattle.span_registry.specs.Closing.{closed_by, closed_in, without_holder, tells_close, hears_close}
 use Rattle.span_registry.specs.Lines.{PlainLine, lines_of}
 use Rattle.span_registry.specs.Core.{CoreView}
 use Rattle.span_registry.specs.Outcome.{outcome, refused, not_wanted, accepted}
@@ -99,6 +100,33 @@ exit_stays = refl
 
 exit_leaves : closed_by_exit entered_alone 0 2 ≡ 2 ∷ 1 ∷ []
 exit_leaves = refl
+-- the exit gives the one entry back; b and a close by it, and only the first layer wants to be told, once of each
+exit_gives_entry_back : without_holder entered_alone (exit 0 2) ≡ (1, span (codes "a") 3 None 0 0) ∷ (2, span (codes "b") 3 (Some 1) 0 0) ∷ []
+exit_gives_entry_back = refl
+
+nothing_given_back : without_holder entered_alone (enter 0 2) ≡ entered_alone.spans
+nothing_given_back = refl
+
+exit_closes : closed_by (exited (closing_list entered_alone.spans 2 Entry)) ≡ 2 ∷ 1 ∷ []
+exit_closes = refl
+
+first_layer_hears : hears_close (everything ∷ only_app ∷ []) entered_alone.spans 0 1 ≡ true
+first_layer_hears = refl
+
+second_layer_wants_none : hears_close (everything ∷ only_app ∷ []) entered_alone.spans 1 1 ≡ false
+second_layer_wants_none = refl
+
+abbrev notes_of_exit : List PlainNote
+notes_of_exit = note_at true 2 (codes "a" ∷ codes "b" ∷ []) ∷ note_at false 2 (codes "a" ∷ codes "b" ∷ []) ∷ note_at false 1 (codes "a" ∷ []) ∷ []
+
+told_of_child_once : count_by (tells_close 0 2) notes_of_exit ≡ 1
+told_of_child_once = refl
+
+told_of_parent_once : count_by (tells_close 0 1) notes_of_exit ≡ 1
+told_of_parent_once = refl
+
+second_layer_told_of_none : count_by (tells_close 1 1) notes_of_exit ≡ 0
+second_layer_told_of_none = refl
 
 -- after entering a, b and a again the current span is b, and each span has one worker inside
 entered_again : current (1 ∷ 2 ∷ 1 ∷ []) ≡ Some 2
@@ -124,6 +152,9 @@ family =
 
 ids_of_family : issued family ≡ 1 ∷ 2 ∷ []
 ids_of_family = refl
+
+closed_in_family : closed_in family ≡ 2 ∷ 1 ∷ []
+closed_in_family = refl
 
 root_slot_again : next_id 1024 4294967295 family ≡ Some 16777217
 root_slot_again = refl

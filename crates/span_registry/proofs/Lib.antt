@@ -8,4 +8,9 @@ pub mod Counted
 pub mod Keeping
 pub mod Deciding
 pub mod Outcomes
+pub mod Effects
+pub mod Legal
+pub mod Closes
+pub mod Announcing
+pub mod ToldOnce
 mod Examples

@@ -12,3 +12,4 @@ pub mod Core
 pub mod Outcome
 pub mod State
 pub mod Lent
+pub mod Closing

@@ -9,6 +9,7 @@ mod handles;
 mod held;
 mod kept;
 mod line;
+pub mod laws;
 mod names;
 mod notes;
 pub mod outcome;
