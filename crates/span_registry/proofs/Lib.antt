@@ -4,5 +4,6 @@ pub mod StackLists
 pub mod Accepting
 pub mod Telling
 pub mod NewSpans
+pub mod Closing
 pub mod Counted
 mod Examples

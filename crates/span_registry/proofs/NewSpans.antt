@@ -1,6 +1,6 @@
 -- A new span: its path and its notes, as they can be said before it is there.
-use Rattle.std.proofs.Common.{◌≡◌, ◌≢◌, ℕ, zero, suc, ◌+◌, ◌<◌, ◌==◌, Bool, true, false, cond, ◌&&◌, ◌||◌, List, [], ◌∷◌, ◌++◌, length, map, filter, reverse, get_or, set, Option, Some, None, refl, sym, ap, ◌∙◌, subst, inl, inr, arith}
-use Rattle.std.specs.Prelude.{is_some, MatchOption, slice_index, drop, nat_lt}
+use Rattle.std.proofs.Common.{◌≡◌, ◌≢◌, ℕ, zero, suc, ◌+◌, ◌<◌, ◌==◌, Bool, true, false, cond, ◌&&◌, ◌||◌, List, [], ◌∷◌, ◌++◌, length, map, filter, reverse, set, Option, Some, None, refl, sym, ap, ◌∙◌, subst, inl, inr, arith}
+use Rattle.std.specs.Prelude.{is_some, slice_index, nat_lt}
 use Rattle.std.specs.Option.{option_map_or}
 use Rattle.std.specs.List.{range_with_len}
 use Rattle.std.proofs.lemmas.Bool.{cases_Bool, cases_lt, lt-ltb, false≢true}
@@ -20,22 +20,22 @@ use Rattle.span_forest.specs.Holders.{held_in}
 use Rattle.span_forest.specs.Forest.{ForestView}
 use Rattle.span_forest.specs.Live.{stands_in}
 use Rattle.span_forest.specs.Add.{added}
-use Rattle.span_forest.specs.Walk.{walk, walk_within}
+use Rattle.span_forest.specs.Walk.{walk_within}
 use Rattle.span_forest.specs.Path.{path, names_for, name_for}
 use Rattle.span_forest.proofs.Adds.{find-with_same, find-with_other}
-use Rattle.span_registry.specs.World.{World, IsWorld}
+use Rattle.span_registry.specs.World.{IsWorld}
 use Rattle.span_registry.specs.Request.{PlainMeta, Request, new_span, made}
 use Rattle.span_registry.specs.Batch.{PlainBatch}
 use Rattle.span_registry.specs.Step.{ParentIsOpen, IsStep, is_wanted, made_node}
 use Rattle.span_registry.specs.History.{issued}
 use Rattle.span_registry.specs.NextId.{with_answer, slots_after}
-use Rattle.span_registry.specs.Happening.{Happening, at_span, is_told, note_of, notes_of, notes_of_all, path_at}
+use Rattle.span_registry.specs.Happening.{at_span, is_told, note_of, notes_of, notes_of_all, path_at}
 use Rattle.span_registry.specs.State.{first_note, is_told_new, IsSound, forest_with}
 use Rattle.span_registry.proofs.Soundness.{sound_more}
 use Rattle.span_registry.proofs.Worlds.{same_key}
 use Rattle.span_registry.proofs.Telling.{one_happening}
 
-abbrev ParentsOpen : Spans → Type 0
+abbrev pub ParentsOpen : Spans → Type 0
 ParentsOpen spans = (id parent : ℕ) → parent_of spans id ≡ Some parent → IsOpen spans parent
 
 length-with_node : (spans : Spans) (id : ℕ) (node : Node) → length (with_node spans id node) ≡ suc (length spans)
@@ -46,7 +46,7 @@ length-with_node (e ∷ es) id node =
 apart : (spans : Spans) (id j : ℕ) → find spans id ≡ None → IsOpen spans j → j ≢ id
 apart spans id j gone there same = absurd (false≢true (sym (ap is_some gone) ∙ subst (λ k. IsOpen spans k) same there))
 
-parent_is_open : (spans : Spans) (j : ℕ) → ParentsOpen spans → ParentIsOpen spans (parent_of spans j)
+pub parent_is_open : (spans : Spans) (j : ℕ) → ParentsOpen spans → ParentIsOpen spans (parent_of spans j)
 parent_is_open spans j whole = by_case (parent_of spans j) refl
   where
     by_case : (o : Option ℕ) → parent_of spans j ≡ o → ParentIsOpen spans o
@@ -63,7 +63,7 @@ names_before (suc n) spans id node layer gone whole (Some j) there =
     ap (λ o. name_for layer o ++ names_for layer (with_node spans id node) (walk_within n (with_node spans id node) (parent_in o))) same
     ∙ ap (λ ns. name_for layer (find spans j) ++ ns) (names_before n spans id node layer gone whole (parent_of spans j) (parent_is_open spans j whole))
 
-path_is : (spans : Spans) (layer : ℕ) (o : Option ℕ) → reverse (names_for layer spans (walk_within (length spans) spans o)) ≡ path_at layer spans o
+pub path_is : (spans : Spans) (layer : ℕ) (o : Option ℕ) → reverse (names_for layer spans (walk_within (length spans) spans o)) ≡ path_at layer spans o
 path_is spans layer None = refl
 path_is spans layer (Some p) = refl
 

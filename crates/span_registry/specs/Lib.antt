@@ -11,3 +11,4 @@ pub mod Core
 pub mod Outcome
 pub mod State
 pub mod Lent
+pub mod Closes

@@ -1,8 +1,8 @@
 //! The notes that the layers are told of what happens to spans.
-ghost use Rattle.std.specs.Prelude.{◌≡◌, ◌<◌, ◌++◌, ◌∷◌, [], if◌then◌else◌, map, flat_map, length, IfOk, OnOk, IfErr};
+ghost use Rattle.std.specs.Prelude.{◌≡◌, ◌<◌, ◌++◌, ◌∷◌, [], if◌then◌else◌, map, length, IfOk, OnOk, IfErr};
 ghost use Rattle.span_layers.specs.Note.{plain_note};
 ghost use Rattle.span_registry.specs.Request.{plain_fields};
-ghost use Rattle.span_registry.specs.Happening.{at_span, close_of, bits_in, is_told, note_of, notes_of};
+ghost use Rattle.span_registry.specs.Happening.{at_span, bits_in, is_told, note_of, notes_of};
 
 use crate::copies::copy_fields;
 use span_forest::Forest;
@@ -90,51 +90,6 @@ pub(crate) fn push_notes(
 {
     for layer in 0..rules.len() {
         push_note(alloc, notes, rules, forest, what, fields, layer as u32)?;
-    }
-    Ok(())
-}
-
-// Appends the notes of a span that closes, with all its fields.
-fn push_close(
-    alloc: Global,
-    notes: &mut Vec<Note>,
-    rules: &Rules,
-    forest: &Forest,
-    worker: u32,
-    id: Id,
-) -> Result<(), Fault>
-    ensures notes { OnOk result (map plain_note notes.new.items ≡ map plain_note notes.old.items
-        ++ notes_of rules.now worker (close_of forest.now.spans id)) }
-    ensures memory { IfErr result (λ fault. fault ≡ Fault.Memory) }
-{
-    let Some(span) = forest.find(id) else {
-        // No layer admits a span that isn't open.
-        return Ok(());
-    };
-    let what = Happening {
-        worker,
-        kind: Kind::OnClose,
-        id,
-        bits: span.bits,
-    };
-    push_notes(alloc, notes, rules, forest, &what, span.fields.as_slice())
-}
-
-// Appends the notes of spans that close, one span after the other.
-pub(crate) fn push_closes(
-    alloc: Global,
-    notes: &mut Vec<Note>,
-    rules: &Rules,
-    forest: &Forest,
-    worker: u32,
-    closed: &[Id],
-) -> Result<(), Fault>
-    ensures notes { OnOk result (map plain_note notes.new.items ≡ map plain_note notes.old.items
-        ++ flat_map (notes_of rules.now worker) (map (close_of forest.now.spans) closed.now)) }
-    ensures memory { IfErr result (λ fault. fault ≡ Fault.Memory) }
-{
-    for id in closed {
-        push_close(alloc, notes, rules, forest, worker, *id)?;
     }
     Ok(())
 }
