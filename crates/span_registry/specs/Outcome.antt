@@ -17,7 +17,6 @@ use Rattle.span_registry.specs.World.{World, stack_of}
 use Rattle.span_registry.specs.Request.{Request, new_span, clone_span, enter, exit, try_close, record_fields, event, Answer, made, cloned, entered, exited, released, recorded, told, worker_of}
 use Rattle.span_registry.specs.Happening.{happenings, notes_of_all, id_at}
 use Rattle.span_registry.specs.Step.{world_made, world_cloned, world_entered, world_exited, closed_by_exit, world_released, world_recorded}
-use Rattle.span_registry.specs.Batch.{PlainBatch}
 use Rattle.span_registry.specs.NextId.{next_id}
 use Rattle.span_registry.specs.Core.{CoreView, is_wanted_call}
 
