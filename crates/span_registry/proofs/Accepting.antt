@@ -1,8 +1,8 @@
 -- What each accepted call leaves of a core's parts.
-use Rattle.std.proofs.Common.{◌≡◌, ℕ, ◌+◌, ◌<◌, Bool, true, false, cond, not, List, [], ◌∷◌, ◌++◌, length, map, get_or, set, Option, Some, None, refl, sym, ap, ◌∙◌, subst, arith}
+use Rattle.std.proofs.Common.{◌≡◌, true, false, ℕ, ◌+◌, ◌<◌, Bool, cond, not, List, [], ◌∷◌, ◌++◌, length, map, get_or, set, Option, Some, None, refl, sym, ap, ◌∙◌, subst, arith}
 use Rattle.std.proofs.lemmas.List.{length-set}
 use Rattle.span_id.specs.declared.limits.Limits.{Limits}
-use Rattle.span_layers.specs.declared.note.Kind.TheVariants.{OnRecord, OnEnter, OnExit}
+use Rattle.span_layers.specs.declared.note.Kind.TheVariants.{OnExit, OnRecord, OnEnter}
 use Rattle.span_layers.specs.Note.{PlainNote, KeyValue}
 use Rattle.span_layers.specs.Filter.{Filter, admission_set}
 use Rattle.span_forest.specs.declared.span.Holder.{Holder}
@@ -17,7 +17,7 @@ use Rattle.span_stack.specs.Stack.{has, without_last}
 use Rattle.span_registry.specs.World.{World, IsWorld}
 use Rattle.span_registry.specs.Request.{PlainMeta, Request, event, told, enter, entered, exit, exited, clone_span, cloned, record_fields, recorded, try_close, released}
 use Rattle.span_registry.specs.Batch.{PlainBatch}
-use Rattle.span_registry.specs.Happening.{notes_of_all, happenings, close_of, at_span, event_at}
+use Rattle.span_registry.specs.Happening.{notes_of_all, close_of, at_span, event_at}
 use Rattle.span_registry.specs.NextId.{SlotsUsed, with_closed, slots_after}
 use Rattle.span_registry.specs.State.{IsSound, forest_with}
 use Rattle.span_registry.proofs.Soundness.{sound_quiet, sound_more, same_but_spans}

@@ -4,19 +4,19 @@ use Rattle.std.specs.Prelude.{codes, count_by}
 use Rattle.span_id.specs.declared.level.Level.TheVariants.{Info, Trace}
 use Rattle.span_id.specs.declared.fault.Fault.TheVariants.{Unknown, CountFull, Full, NotEntered, BadName}
 use Rattle.span_layers.specs.declared.form.Form.TheVariants.{Compact}
-use Rattle.span_layers.specs.declared.note.Kind.TheVariants.{OnNew, OnEvent, OnEnter, OnExit, OnClose}
+use Rattle.span_layers.specs.declared.note.Kind.TheVariants.{OnNew, OnEvent, OnExit, OnClose}
 use Rattle.span_layers.specs.Note.{PlainNote}
 use Rattle.std.specs.Fmt.{digits}
 use Rattle.span_layers.specs.Rule.{is_admitted}
 use Rattle.span_layers.specs.Filter.{Filter}
 use Rattle.span_layers.specs.Text.{text_of}
-use Rattle.span_forest.specs.declared.span.Holder.TheVariants.{Handle, Entry}
+use Rattle.span_forest.specs.declared.span.Holder.TheVariants.{Entry}
 use Rattle.span_forest.specs.Node.{Node}
 use Rattle.span_forest.specs.Spans.{Spans}
 use Rattle.span_forest.specs.Release.{closing_list}
 use Rattle.span_stack.specs.Stack.{current}
 use Rattle.span_registry.specs.World.{World, empty_world, stack_of, workers_inside}
-use Rattle.span_registry.specs.Request.{PlainMeta, Request, new_span, enter, exit, try_close, event, Answer, made, entered, exited, released, told}
+use Rattle.span_registry.specs.Request.{PlainMeta, Request, new_span, exit, try_close, Answer, made, exited, released, enter, entered}
 use Rattle.span_registry.specs.Batch.{PlainBatch}
 use Rattle.span_registry.specs.Happening.{contextual_span, event_told, happenings, notes_of_all}
 use Rattle.span_registry.specs.Step.{is_wanted, closed_by_exit}

@@ -4,13 +4,14 @@ pub mod StackLists
 pub mod Accepting
 pub mod Telling
 pub mod NewSpans
+pub mod Closing
 pub mod Counted
 pub mod Keeping
 pub mod Deciding
 pub mod Outcomes
 pub mod Effects
 pub mod Legal
-pub mod Closes
+pub mod Released
 pub mod Announcing
 pub mod ToldOnce
 mod Examples

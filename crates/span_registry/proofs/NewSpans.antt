@@ -36,7 +36,7 @@ use Rattle.span_registry.proofs.Soundness.{sound_more}
 use Rattle.span_registry.proofs.Worlds.{same_key}
 use Rattle.span_registry.proofs.Telling.{one_happening}
 
-abbrev ParentsOpen : Spans → Type 0
+abbrev pub ParentsOpen : Spans → Type 0
 ParentsOpen spans = (id parent : ℕ) → parent_of spans id ≡ Some parent → IsOpen spans parent
 
 length-with_node : (spans : Spans) (id : ℕ) (node : Node) → length (with_node spans id node) ≡ suc (length spans)
@@ -47,7 +47,7 @@ length-with_node (e ∷ es) id node =
 apart : (spans : Spans) (id j : ℕ) → find spans id ≡ None → IsOpen spans j → j ≢ id
 apart spans id j gone there same = absurd (false≢true (sym (ap is_some gone) ∙ subst (λ k. IsOpen spans k) same there))
 
-parent_is_open : (spans : Spans) (j : ℕ) → ParentsOpen spans → ParentIsOpen spans (parent_of spans j)
+pub parent_is_open : (spans : Spans) (j : ℕ) → ParentsOpen spans → ParentIsOpen spans (parent_of spans j)
 parent_is_open spans j whole = by_case (parent_of spans j) refl
   where
     by_case : (o : Option ℕ) → parent_of spans j ≡ o → ParentIsOpen spans o
@@ -64,7 +64,7 @@ names_before (suc n) spans id node layer gone whole (Some j) there =
     ap (λ o. name_for layer o ++ names_for layer (with_node spans id node) (walk_within n (with_node spans id node) (parent_in o))) same
     ∙ ap (λ ns. name_for layer (find spans j) ++ ns) (names_before n spans id node layer gone whole (parent_of spans j) (parent_is_open spans j whole))
 
-path_is : (spans : Spans) (layer : ℕ) (o : Option ℕ) → reverse (names_for layer spans (walk_within (length spans) spans o)) ≡ path_at layer spans o
+pub path_is : (spans : Spans) (layer : ℕ) (o : Option ℕ) → reverse (names_for layer spans (walk_within (length spans) spans o)) ≡ path_at layer spans o
 path_is spans layer None = refl
 path_is spans layer (Some p) = refl
 

@@ -1,7 +1,7 @@
 -- One of several stacks changes.
-use Rattle.std.proofs.Common.{◌≡◌, ℕ, ◌<◌, List, [], ◌∷◌, ◌++◌, length, get_or, set, map, Result, Ok, Err, refl, sym, ap, ◌∙◌}
+use Rattle.std.proofs.Common.{◌≡◌, ℕ, ◌<◌, List, [], ◌∷◌, ◌++◌, length, get_or, set, Result, Ok, Err, sym, ap, ◌∙◌}
 use Rattle.std.specs.Prelude.{OnOk, OnErr}
-use Rattle.std.proofs.lemmas.List.{get_or-map, map-set, get_or_default}
+use Rattle.std.proofs.lemmas.List.{get_or-map, map-set}
 use Rattle.std.proofs.Math.Seq.{map-set_same}
 use Rattle.span_id.specs.declared.fault.Fault.{Fault}
 use Rattle.span_stack.specs.Stack.{Stack, without_last, ids_of_each}

@@ -19,7 +19,7 @@ use Rattle.span_registry.specs.History.{issued, IsLegal}
 use Rattle.span_registry.specs.History.IsLegal.{none, more}
 use Rattle.span_registry.specs.Closing.{closed_by, closed_in, tells_close, hears_close, notes_in}
 use Rattle.span_registry.proofs.Legal.{whole, closed_more}
-use Rattle.span_registry.proofs.Closes.{closes_once}
+use Rattle.span_registry.proofs.Released.{closes_once}
 use Rattle.span_registry.proofs.Announcing.{one, tally, append_count, and_false, closes_counted, call_counted}
 
 -- a span that isn't open is announced to no layer

@@ -13,3 +13,4 @@ pub mod Outcome
 pub mod State
 pub mod Lent
 pub mod Closing
+pub mod Closes

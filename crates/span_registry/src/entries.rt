@@ -5,11 +5,13 @@ ghost use Rattle.span_forest.specs.Count.{written_count};
 ghost use Rattle.span_forest.specs.Holders.{IsHeld};
 ghost use Rattle.span_forest.specs.Keep.{kept};
 ghost use Rattle.span_forest.specs.Release.{closing_list, released as spans_left, freed_after};
+ghost use Rattle.span_registry.specs.Closes.{IsChain};
 ghost use Rattle.span_registry.specs.Request.{enter, entered, exit, exited};
 ghost use Rattle.span_registry.specs.Step.{closed_by_exit};
 ghost use Rattle.span_registry.specs.Core.{IsAccepted, IsRefused};
 
 use crate::batch::{Batch, Call, Reply};
+use crate::closes::closing_lists_are_chains;
 use crate::held::{held_span, open_bits};
 use crate::notes::{Happening, exit_notes, push_notes};
 use crate::outlet::{Outlet, ask};
@@ -121,11 +123,13 @@ fn keep_first(forest: &mut Forest, first: bool, id: Id)
 fn closing_on_exit(alloc: Global, forest: &Forest, stays: bool, id: Id) -> Result<Vec<Id>, Fault>
     requires held { stays ≡ false → IsHeld forest.now.spans id Entry }
     ensures list { IfOk result (λ ids. ids.items ≡ if stays then [] else closing_list forest.now.spans id Entry) }
+    ensures chain { IfOk result (λ ids. IsChain forest.now.spans ids.items) }
     ensures memory { IfErr result (λ fault. fault ≡ Fault.Memory) }
 {
     if stays {
         return Ok(Vec::new(alloc));
     }
+    closing_lists_are_chains(forest);
     match forest.closing(id, Holder::Entry) {
         Ok(closing) => Ok(closing),
         Err(_) => Err(Fault::Memory),

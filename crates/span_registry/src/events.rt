@@ -3,7 +3,6 @@ ghost use Rattle.std.specs.Prelude.{◌≡◌, ◌<◌, ◌++◌, ◌∷◌, [],
 ghost use Rattle.std.specs.List.{find as first_that};
 ghost use Rattle.span_id.specs.Bits.{has_bit};
 ghost use Rattle.span_layers.specs.Note.{plain_note};
-ghost use Rattle.span_layers.specs.Filter.{admission_set};
 ghost use Rattle.span_stack.specs.Stack.{walk, ids_of_each};
 ghost use Rattle.span_registry.specs.Request.{event, told, plain_meta, plain_fields, request_of};
 ghost use Rattle.span_registry.specs.Happening.{bits_in, id_at, path_at, is_told, note_of, notes_of};

@@ -6,10 +6,11 @@ ghost use Rattle.span_registry.specs.Request.{clone_span, cloned, record_fields,
 ghost use Rattle.span_registry.specs.Core.{IsAccepted, IsRefused};
 
 use crate::batch::{Batch, Call, Reply};
+use crate::closes::{closing_lists_are_chains, push_closes};
 use crate::copies::copy_fields;
 use crate::held::held_span;
 use crate::names::are_keys;
-use crate::notes::{Happening, push_closes, push_notes};
+use crate::notes::{Happening, push_notes};
 use crate::outlet::{Outlet, ask};
 use crate::state::State;
 use span_forest::Holder;
@@ -98,6 +99,7 @@ impl<O: Outlet> State<O> {
         let Ok(closing) = self.forest.closing(id, Holder::Handle) else {
             return Err(Fault::Memory);
         };
+        closing_lists_are_chains(&self.forest);
         let mut notes = Vec::new(self.alloc);
         push_closes(
             self.alloc,

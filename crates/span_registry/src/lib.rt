@@ -2,6 +2,7 @@
 #![tactic(auto)]
 
 mod batch;
+mod closes;
 mod copies;
 mod entries;
 mod events;

@@ -1,5 +1,5 @@
 //! New spans.
-ghost use Rattle.std.specs.Prelude.{◌≡◌, ◌<◌, ◌++◌, ◌∷◌, [], ℕ, true, false, if◌then◌else◌, map, filter, length, string_bytes, IfOk, OnOk, IfErr, IfSome, IfNone, OnSome, MatchOption, Some, None};
+ghost use Rattle.std.specs.Prelude.{◌≡◌, ◌<◌, ◌++◌, ◌∷◌, [], true, false, if◌then◌else◌, map, filter, length, string_bytes, IfOk, OnOk, IfErr, IfSome, IfNone, OnSome, MatchOption, Some, None};
 ghost use Rattle.std.specs.List.{range_with_len};
 ghost use Rattle.span_layers.specs.Note.{plain_note};
 ghost use Rattle.span_layers.specs.Filter.{admission_set};

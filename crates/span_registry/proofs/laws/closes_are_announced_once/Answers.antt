@@ -2,7 +2,7 @@ use Rattle.std.proofs.Common.{ap, ◌∙◌}
 use Rattle.span_registry.specs.Request.{worker_of}
 use Rattle.span_registry.specs.Closing.{closed_by, tells_close}
 use Rattle.span_registry.proofs.Legal.{whole}
-use Rattle.span_registry.proofs.Closes.{closes_once}
+use Rattle.span_registry.proofs.Released.{closes_once}
 use Rattle.span_registry.proofs.Announcing.{tally, tally_is, closes_counted, call_counted}
 use Rattle.span_registry.proofs.laws.closes_are_announced_once.Goals as goal
 

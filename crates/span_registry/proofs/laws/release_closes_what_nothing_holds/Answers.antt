@@ -1,5 +1,5 @@
 use Rattle.span_registry.proofs.Legal.{whole}
-use Rattle.span_registry.proofs.Closes.{closes_exactly, closes_dead, closes_once, closes_child_first}
+use Rattle.span_registry.proofs.Released.{closes_exactly, closes_dead, closes_once, closes_child_first}
 use Rattle.span_registry.proofs.laws.release_closes_what_nothing_holds.Goals as goal
 
 pub returns-clause-exact : goal.returns-clause-exact

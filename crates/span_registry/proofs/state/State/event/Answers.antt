@@ -1,9 +1,8 @@
 use Rattle.std.proofs.Common.{rules, ◌≡◌, ◌∙◌, List, [], ◌∷◌, ◌++◌, get_or, ap, map}
-use Rattle.span_layers.specs.Note.{PlainNote, plain_note}
+use Rattle.span_layers.specs.Note.{plain_note}
 use Rattle.span_stack.specs.Stack.{Stack, ids_of_each}
 use Rattle.span_registry.specs.Request.{event, told, plain_meta, plain_fields}
-use Rattle.span_registry.specs.Batch.{PlainBatch}
-use Rattle.span_registry.specs.Happening.{event_at, event_told, notes_of_all}
+use Rattle.span_registry.specs.Happening.{event_told, notes_of_all}
 use Rattle.span_registry.specs.Core.{CoreView, IsDue}
 use Rattle.span_registry.proofs.Accepting.{sound_event}
 use Rattle.span_registry.proofs.Telling.{event_notes}

@@ -1,19 +1,17 @@
-use Rattle.std.proofs.Common.{rules, ◌≡◌, ◌∙◌, ◌<◌, ℕ, true, false, List, [], ◌∷◌, ◌++◌, map, filter, length, Option, Some, None, ap, sym, refl, subst, inr, arith}
+use Rattle.std.proofs.Common.{◌≡◌, ◌∙◌, ◌<◌, ℕ, true, [], ◌∷◌, ◌++◌, map, filter, length, Option, Some, None, ap, sym, refl, subst, inr}
 use Rattle.std.specs.Prelude.{string_bytes, IfSome, slice_index}
 use Rattle.std.specs.List.{range_with_len}
-use Rattle.std.proofs.lemmas.Bool.Decides.{nat_tests}
 use Rattle.span_id.specs.Id.{IsId, slot_of, generation_of}
 use Rattle.span_slots.specs.Table.{IsIssued}
 use Rattle.span_layers.specs.declared.note.Kind.TheVariants.{OnNew}
-use Rattle.span_layers.specs.Note.{PlainNote, plain_note}
+use Rattle.span_layers.specs.Note.{plain_note}
 use Rattle.span_layers.specs.Filter.{admission_set}
 use Rattle.span_forest.specs.Node.{new_node}
-use Rattle.span_forest.specs.Spans.{find, with_node}
+use Rattle.span_forest.specs.Spans.{find}
 use Rattle.span_forest.specs.Forest.{table_of, next_span_id}
 use Rattle.span_forest.specs.Add.{added}
 use Rattle.span_stack.specs.Stack.{ids_of_each}
-use Rattle.span_registry.specs.World.{World}
-use Rattle.span_registry.specs.Request.{new_span, made, plain_meta, plain_fields}
+use Rattle.span_registry.specs.Request.{made, plain_meta, plain_fields}
 use Rattle.span_registry.specs.Happening.{at_span, notes_of_all}
 use Rattle.span_registry.specs.Step.{IsStep, is_wanted, made_node, ParentIsOpen}
 use Rattle.span_registry.specs.History.{issued}
