@@ -6,4 +6,6 @@ pub mod Telling
 pub mod NewSpans
 pub mod Counted
 pub mod Keeping
+pub mod Apart
 mod Examples
+mod KeptCases

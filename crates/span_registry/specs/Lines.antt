@@ -1,5 +1,5 @@
 -- The lines of a history.
-use Rattle.std.specs.Prelude.{◌≡◌, ℕ, List, [], ◌∷◌, ◌++◌, flat_map, Option, slice_get}
+use Rattle.std.specs.Prelude.{ℕ, List, flat_map, Option, slice_get}
 use Rattle.std.specs.List.{enumerate_from, filter_map}
 use Rattle.std.specs.Option.{option_map}
 use Rattle.span_layers.specs.declared.form.Form.{Form}
