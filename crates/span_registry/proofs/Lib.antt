@@ -7,5 +7,7 @@ pub mod NewSpans
 pub mod Counted
 pub mod Keeping
 pub mod Apart
+pub mod Deciding
+pub mod Outcomes
 mod Examples
 mod KeptCases

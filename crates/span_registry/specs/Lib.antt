@@ -11,3 +11,4 @@ pub mod Kept
 pub mod Core
 pub mod Outcome
 pub mod State
+pub mod Lent

@@ -11,6 +11,7 @@ mod kept;
 mod line;
 mod names;
 mod notes;
+pub mod outcome;
 mod outlet;
 mod registry;
 mod spans;
