@@ -7,6 +7,7 @@ pub mod NewSpans
 pub mod Closing
 pub mod Counted
 pub mod Keeping
+pub mod Apart
 pub mod Deciding
 pub mod Outcomes
 pub mod Effects
@@ -15,3 +16,4 @@ pub mod Released
 pub mod Announcing
 pub mod ToldOnce
 mod Examples
+mod KeptCases

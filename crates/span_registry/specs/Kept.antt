@@ -1,5 +1,5 @@
 -- What the outlet that keeps lines has of a history.
-use Rattle.std.specs.Prelude.{◌≡◌, ℕ, ◌-◌, ◌^◌, Bool, List, [], ◌∷◌, map, flat_map, length, min, Some}
+use Rattle.std.specs.Prelude.{◌≡◌, ℕ, ◌-◌, ◌^◌, Bool, List, [], ◌∷◌, map, flat_map, length, min, All, Some}
 use Rattle.std.specs.List.{enumerate_from}
 use Rattle.span_layers.specs.declared.form.Form.{Form}
 use Rattle.span_layers.specs.Note.{PlainNote}
@@ -41,3 +41,7 @@ pub record AreKept (forms : List Form) (notes : List NumberedNote) (lines : List
   pub missed : List NumberedNote
   pub each : AreTold forms notes lines missed
   pub counted : refused ≡ min (2 ^ 64 - 1) (length missed)
+
+-- no line has the batch and the place of the note
+abbrev pub HasNoLine : List PlainLine → NumberedNote → Type 0
+HasNoLine lines note = All (λ line. (line.batch ≡ note.batch) × (line.place ≡ note.place) → ⊥) lines

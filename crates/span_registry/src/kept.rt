@@ -1,9 +1,9 @@
 //! The outlet that keeps the batches and writes their notes at once.
-ghost use Rattle.std.specs.Prelude.{◌≡◌, ◌+◌, ◌-◌, ◌^◌, ◌++◌, ◌∷◌, [], List, false, Some, IfSome, map, min};
+ghost use Rattle.std.specs.Prelude.{◌≡◌, ◌+◌, ◌-◌, ◌^◌, ◌++◌, ◌∷◌, [], List, false, Some, IfSome, map, min, All};
 ghost use Rattle.span_layers.specs.Note.{plain_note};
 ghost use Rattle.span_registry.specs.Batch.{plain_batch};
 ghost use Rattle.span_registry.specs.Lines.{lines_of, line_of, plain_line};
-ghost use Rattle.span_registry.specs.Kept.{AreKept, NumberedNote, numbered, numbered_in};
+ghost use Rattle.span_registry.specs.Kept.{AreKept, AreTold, HasNoLine, NumberedNote, numbered, numbered_in};
 
 use crate::batch::Batch;
 use crate::line::Line;
@@ -140,11 +140,13 @@ impl<V> Kept<V> {
         self.batches.as_slice()
     }
 
-    /// The lines of the notes sent so far, in order, but for the notes that were missed; where none was missed, they are
-    /// the lines of the history.
+    /// The lines of the notes sent so far, in order, but for the notes that were missed. No line has the batch and the
+    /// place of a note that was missed; where none was missed, these are the lines of the history.
     pub fn all(&self) -> &[Line]
         ensures lines { map plain_line result.now ≡ self.now.lines }
         ensures kept { AreKept self.now.forms (numbered self.now.sent) (map plain_line result.now) self.now.refused }
+        ensures apart { (missed : List NumberedNote) → AreTold self.now.forms (numbered self.now.sent) (map plain_line result.now) missed
+            → All (HasNoLine (map plain_line result.now)) missed }
         ensures whole { self.now.refused ≡ 0 → map plain_line result.now ≡ lines_of self.now.forms self.now.sent }
     {
         self.told.lines.as_slice()
