@@ -22,7 +22,7 @@ use Rattle.span_registry.specs.Step.{is_wanted}
 use Rattle.span_registry.specs.History.{IsLegal, issued}
 use Rattle.span_registry.specs.History.IsLegal.{none, more}
 use Rattle.span_registry.specs.NextId.{next_id}
-use Rattle.span_registry.specs.Closing.{closed_by, closed_in, without_holder, tells_close, hears_close}
+use Rattle.span_registry.specs.Closing.{closed_by, closed_in, gives_back, without_holder, tells_close, hears_close}
 use Rattle.span_registry.specs.Lines.{PlainLine, lines_of}
 
 -- two layers: one lets everything in and wants all kinds, one lets in what begins with `app` up to INFO and wants new spans alone
@@ -94,6 +94,12 @@ exit_gives_entry_back = refl
 
 nothing_given_back : without_holder entered_alone (enter 0 2) ≡ entered_alone.spans
 nothing_given_back = refl
+
+exit_gives_back : gives_back (exit 0 2) ≡ true
+exit_gives_back = refl
+
+enter_gives_none_back : gives_back (enter 0 2) ≡ false
+enter_gives_none_back = refl
 
 closed_by_exit : closed_by (exited (closing_list entered_alone.spans 2 Entry)) ≡ 2 ∷ 1 ∷ []
 closed_by_exit = refl

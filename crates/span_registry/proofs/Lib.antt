@@ -8,6 +8,7 @@ pub mod Counted
 pub mod Effects
 pub mod Legal
 pub mod Closes
+pub mod Empties
 pub mod Announcing
 pub mod ToldOnce
 mod Examples
