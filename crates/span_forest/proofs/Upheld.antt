@@ -164,6 +164,18 @@ listed_known spans id holder forest s t =
 
 -- ---- where nothing is held
 
+-- a forest in which no span has a holder is empty
+pub empty_from_none_held : (spans : Spans) → IsUpheld spans → ((id : ℕ) (node : Node) → find spans id ≡ Some node → holders node ≡ 0) → spans ≡ []
+empty_from_none_held [] w none = refl
+empty_from_none_held (e ∷ es) w none =
+    let spans = e ∷ es in
+    let r = ranked spans w.forest in
+    let there : IsOpen spans e.0 = rw (eq-eqb e.0 e.0 refl) refl in
+    let v = Live-from_is_live spans e.0 r (all_live spans r w.positive e.0 there) in
+    let is = none v.holder v.node v.found in
+    let held = held_more v.node v.held in
+    absurd (omega (arith, is, held))
+
 total_has : (spans : Spans) (id : ℕ) (node : Node) → find spans id ≡ Some node → holders node ≤ total_held spans
 total_has [] id node h = cc
 total_has (e ∷ es) id node h =
@@ -172,14 +184,6 @@ total_has (e ∷ es) id node h =
       | inr t ↦ (let r = total_has es id node (rw t.0 at h) in omega (arith, r))
     ]
 
--- a forest in which nothing is held is empty
 pub empty_from_no_holder : (spans : Spans) → IsUpheld spans → total_held spans ≡ 0 → spans ≡ []
-empty_from_no_holder [] w none = refl
-empty_from_no_holder (e ∷ es) w none =
-    let spans = e ∷ es in
-    let r = ranked spans w.forest in
-    let there : IsOpen spans e.0 = rw (eq-eqb e.0 e.0 refl) refl in
-    let v = Live-from_is_live spans e.0 r (all_live spans r w.positive e.0 there) in
-    let some = total_has spans v.holder v.node v.found in
-    let held = held_more v.node v.held in
-    absurd (omega (arith, some, held, none))
+empty_from_no_holder spans w none =
+    empty_from_none_held spans w (λ id node found. (let some = total_has spans id node found in omega (arith, some, none)))

@@ -19,7 +19,7 @@ use Rattle.span_registry.specs.World.{World, IsWorld, stack_of, workers_inside}
 use Rattle.span_registry.specs.Request.{Request, new_span, clone_span, enter, exit, try_close, record_fields, event, Answer, made, cloned, entered, exited, released, recorded, told}
 use Rattle.span_registry.specs.Step.{Changes, ParentIsOpen, stays_inside}
 use Rattle.span_registry.specs.History.{id_issued}
-use Rattle.span_registry.specs.Closing.{closed_by, without_holder}
+use Rattle.span_registry.specs.Closing.{closed_by, without_holder, gives_back}
 
 -- a change of a span that takes no holder and leaves its parent, its admission set and what decides that
 pub record IsMild (f : Node → Node) : Type 0 where
@@ -42,6 +42,7 @@ pub record Makes (rules : List Filter) (ids : List ℕ) (old : World) (request :
   pub parent : (p : ℕ) → node.parent ≡ Some p → IsOpen old.spans p
   pub held : 0 < holders node
   pub bits : node.bits ≡ admission_set rules node.target node.level
+  pub other : gives_back request ≡ false
   pub spans : new.spans ≡ with_node old.spans id node
   pub closed : closed_by answer ≡ []
   pub left : without_holder old request ≡ old.spans
@@ -59,7 +60,7 @@ pub record Frees (old : World) (request : Request) (answer : Answer) (new : Worl
 
 pub data Effect (rules : List Filter) (ids : List ℕ) (old : World) (request : Request) (answer : Answer) (new : World) : Type 0 where
   stays : new.spans ≡ old.spans → IsQuiet old request answer → Effect rules ids old request answer new
-  changes : (f : Node → Node) (id : ℕ) → IsMild f → new.spans ≡ changed f old.spans id → IsQuiet old request answer → Effect rules ids old request answer new
+  changes : (f : Node → Node) (id : ℕ) → IsMild f → gives_back request ≡ false → new.spans ≡ changed f old.spans id → IsQuiet old request answer → Effect rules ids old request answer new
   makes : Makes rules ids old request answer new → Effect rules ids old request answer new
   frees : Frees old request answer new → Effect rules ids old request answer new
 
@@ -99,15 +100,16 @@ effect rules ids old (new_span worker meta fields parent) (made id) new h =
       parent = parent_open old.spans parent h.parent_open;
       held = omega arith;
       bits = refl;
+      other = refl;
       spans = ap (λ (w : World). w.spans) h.after;
       closed = refl;
       left = refl;
       issued = refl;
     })
 effect rules ids old (clone_span worker id) cloned new h =
-    changes (with_more Handle) id one_handle_more (ap (λ (w : World). w.spans) h.after) (record { closed = refl; left = refl; issued = refl })
+    changes (with_more Handle) id one_handle_more refl (ap (λ (w : World). w.spans) h.after) (record { closed = refl; left = refl; issued = refl })
 effect rules ids old (enter worker id) (entered true) new h =
-    changes (with_more Entry) id one_entry_more (ap (λ (w : World). w.spans) h.after) (record { closed = refl; left = refl; issued = refl })
+    changes (with_more Entry) id one_entry_more refl (ap (λ (w : World). w.spans) h.after) (record { closed = refl; left = refl; issued = refl })
 effect rules ids old (enter worker id) (entered false) new h =
     stays (ap (λ (w : World). w.spans) h.after) (record { closed = refl; left = refl; issued = refl })
 effect rules ids old (exit worker id) (exited closed) new h =
@@ -138,7 +140,7 @@ effect rules ids old (try_close worker id) (released closed) new h =
       issued = refl;
     })
 effect rules ids old (record_fields worker id fields) recorded new h =
-    changes (with_fields fields) id (fields_more fields) (ap (λ (w : World). w.spans) h.after) (record { closed = refl; left = refl; issued = refl })
+    changes (with_fields fields) id (fields_more fields) refl (ap (λ (w : World). w.spans) h.after) (record { closed = refl; left = refl; issued = refl })
 effect rules ids old (event worker meta message fields) told new h =
     stays (ap (λ (w : World). w.spans) h) (record { closed = refl; left = refl; issued = refl })
 effect rules ids old _ _ new h = absurd h

@@ -23,7 +23,7 @@ use Rattle.span_registry.specs.Step.{is_wanted, closed_by_exit}
 use Rattle.span_registry.specs.History.{IsLegal, issued}
 use Rattle.span_registry.specs.History.IsLegal.{none, more}
 use Rattle.span_registry.specs.NextId.{next_id}
-use Rattle.span_registry.specs.Closing.{closed_by, closed_in, without_holder, tells_close, hears_close}
+use Rattle.span_registry.specs.Closing.{closed_by, closed_in, gives_back, without_holder, tells_close, hears_close}
 use Rattle.span_registry.specs.Lines.{PlainLine, lines_of}
 use Rattle.span_registry.specs.Core.{CoreView}
 use Rattle.span_registry.specs.Outcome.{outcome, refused, not_wanted, accepted}
@@ -106,6 +106,12 @@ exit_gives_entry_back = refl
 
 nothing_given_back : without_holder entered_alone (enter 0 2) ≡ entered_alone.spans
 nothing_given_back = refl
+
+exit_gives_back : gives_back (exit 0 2) ≡ true
+exit_gives_back = refl
+
+enter_gives_none_back : gives_back (enter 0 2) ≡ false
+enter_gives_none_back = refl
 
 exit_closes : closed_by (exited (closing_list entered_alone.spans 2 Entry)) ≡ 2 ∷ 1 ∷ []
 exit_closes = refl

@@ -244,7 +244,7 @@ pub settled_step : (rules : List Filter) (ids closed : List ℕ) (old : World) (
 settled_step rules ids closed old request answer new change w inside =
     elim (effect rules ids old request answer new change) [
       | stays same quiet ↦ settled_same rules ids _ closed _ old.spans _ (rw quiet.issued (append_nil ids)) (rw quiet.closed (append_nil closed)) same w
-      | changes f id mild same quiet ↦ settled_same rules ids _ closed _ (changed f old.spans id) _ (rw quiet.issued (append_nil ids)) (rw quiet.closed (append_nil closed)) same (settled_changed rules ids closed old.spans f id mild w)
+      | changes f id mild other same quiet ↦ settled_same rules ids _ closed _ (changed f old.spans id) _ (rw quiet.issued (append_nil ids)) (rw quiet.closed (append_nil closed)) same (settled_changed rules ids closed old.spans f id mild w)
       | makes m ↦ settled_same rules (ids ++ m.id ∷ []) _ closed _ (with_node old.spans m.id m.node) _ (rw m.issued refl) (rw m.closed (append_nil closed)) m.spans (settled_made rules ids closed old.spans m.id m.node m.fresh m.parent m.held m.bits w)
       | frees m ↦ (let known : stands_in m.id ids ≡ true = elim m.known [ inl o ↦ w.open_issued m.id o | inr k ↦ inside k.0 m.id k.1 ] in
           settled_same rules ids _ (closed ++ closing_list old.spans m.id m.holder) _ (spans_left old.spans m.id m.holder) _ (rw m.issued (append_nil ids)) (rw m.closed refl) m.spans (settled_freed rules ids closed old.spans m.id m.holder known w))

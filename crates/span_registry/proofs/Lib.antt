@@ -13,6 +13,7 @@ pub mod Outcomes
 pub mod Effects
 pub mod Legal
 pub mod Released
+pub mod Empties
 pub mod Announcing
 pub mod ToldOnce
 mod Examples

@@ -1,5 +1,5 @@
 -- Which spans a call closes, and in which order.
-use Rattle.std.proofs.Common.{◌≡◌, ◌≢◌, ℕ, true, false, List, [], Some, None, IsTrue, sym, ap, subst, ◌∙◌}
+use Rattle.std.proofs.Common.{◌≡◌, ◌≢◌, ℕ, true, false, List, [], Some, None, IsTrue, refl, sym, ap, subst, ◌∙◌}
 use Rattle.std.specs.Prelude.{◌↔◌, IsSome, AllPairs}
 use Rattle.std.proofs.lemmas.Bool.{false≢true}
 use Rattle.span_layers.specs.Filter.{Filter}
@@ -10,11 +10,11 @@ use Rattle.span_forest.proofs.Walks.{all_live}
 use Rattle.span_forest.proofs.Nodes.{changed_open}
 use Rattle.span_forest.proofs.Adds.{find-with_other}
 use Rattle.span_forest.proofs.Orders.{list_once, list_child_first}
-use Rattle.span_forest.proofs.Spared.{none_open, gone_exactly, dead_exactly, listed_open}
+use Rattle.span_forest.proofs.Spared.{none_open, gone_exactly, dead_exactly, listed_open, others_stay}
 use Rattle.span_registry.specs.World.{World, IsWorld}
 use Rattle.span_registry.specs.Request.{Request, Answer}
 use Rattle.span_registry.specs.Step.{Changes}
-use Rattle.span_registry.specs.Closing.{closed_by, without_holder}
+use Rattle.span_registry.specs.Closing.{closed_by, without_holder, gives_back}
 use Rattle.span_registry.proofs.Effects.{Makes, effect}
 use Rattle.span_registry.proofs.Effects.Effect.{stays, changes, makes, frees}
 use Rattle.span_registry.proofs.Legal.{IsSettled, AllPairs-nil}
@@ -46,7 +46,7 @@ module _ (rules : List Filter) (ids closed : List ℕ) (old : World) (request : 
   closes_exactly world id =
       elim (effect rules ids old request answer new change) [
         | stays same quiet ↦ closes_none old.spans new.spans (closed_by answer) id quiet.closed (λ o. rw same o)
-        | changes f at mild same quiet ↦ closes_none old.spans new.spans (closed_by answer) id quiet.closed (λ o. rw same (changed_open f old.spans at id o))
+        | changes f at mild other same quiet ↦ closes_none old.spans new.spans (closed_by answer) id quiet.closed (λ o. rw same (changed_open f old.spans at id o))
         | makes m ↦ closes_none old.spans new.spans (closed_by answer) id m.closed (λ o. rw m.spans (still_made m id o))
         | frees m ↦ (let listed = listed_open old.spans w.upheld.forest w.upheld.positive m.id m.holder (m.there world) id in
             let gone = gone_exactly old.spans w.upheld.forest w.upheld.positive m.id m.holder id in
@@ -58,16 +58,26 @@ module _ (rules : List Filter) (ids closed : List ℕ) (old : World) (request : 
       let live = all_live old.spans (ranked old.spans w.upheld.forest) w.upheld.positive id o in
       elim (effect rules ids old request answer new change) [
         | stays same quiet ↦ live_all old.spans (without_holder old request) (closed_by answer) id quiet.closed quiet.left live
-        | changes f at mild same quiet ↦ live_all old.spans (without_holder old request) (closed_by answer) id quiet.closed quiet.left live
+        | changes f at mild other same quiet ↦ live_all old.spans (without_holder old request) (closed_by answer) id quiet.closed quiet.left live
         | makes m ↦ live_all old.spans (without_holder old request) (closed_by answer) id m.closed m.left live
         | frees m ↦ rw (m.closed, m.left) (dead_exactly old.spans w.upheld.forest w.upheld.positive m.id m.holder id o)
+      ]
+
+  -- each other span stays as it is without the holder
+  pub closes_no_other : (id : ℕ) → gives_back request ≡ true → (stands_in id (closed_by answer) ≡ true → ⊥) → find new.spans id ≡ find (without_holder old request) id
+  closes_no_other id gives unlisted =
+      elim (effect rules ids old request answer new change) [
+        | stays same quiet ↦ rw (same, quiet.left) refl
+        | changes f at mild other same quiet ↦ absurd (false≢true (sym other ∙ gives))
+        | makes m ↦ absurd (false≢true (sym m.other ∙ gives))
+        | frees m ↦ rw (m.spans, m.left) (others_stay old.spans w.upheld.forest w.upheld.positive m.id m.holder id (rw m.closed at unlisted))
       ]
 
   pub closes_once : AllPairs (λ first later. first ≢ later) (closed_by answer)
   closes_once =
       elim (effect rules ids old request answer new change) [
         | stays same quiet ↦ rw quiet.closed (AllPairs-nil (λ first later. first ≢ later))
-        | changes f at mild same quiet ↦ rw quiet.closed (AllPairs-nil (λ first later. first ≢ later))
+        | changes f at mild other same quiet ↦ rw quiet.closed (AllPairs-nil (λ first later. first ≢ later))
         | makes m ↦ rw m.closed (AllPairs-nil (λ first later. first ≢ later))
         | frees m ↦ rw m.closed (list_once old.spans w.upheld.forest m.id m.holder)
       ]
@@ -76,7 +86,7 @@ module _ (rules : List Filter) (ids closed : List ℕ) (old : World) (request : 
   closes_child_first =
       elim (effect rules ids old request answer new change) [
         | stays same quiet ↦ rw quiet.closed (AllPairs-nil (λ first later. parent_of old.spans later ≢ Some first))
-        | changes f at mild same quiet ↦ rw quiet.closed (AllPairs-nil (λ first later. parent_of old.spans later ≢ Some first))
+        | changes f at mild other same quiet ↦ rw quiet.closed (AllPairs-nil (λ first later. parent_of old.spans later ≢ Some first))
         | makes m ↦ rw m.closed (AllPairs-nil (λ first later. parent_of old.spans later ≢ Some first))
         | frees m ↦ rw m.closed (list_child_first old.spans w.upheld.forest m.id m.holder)
       ]

@@ -31,6 +31,12 @@ without_holder old (exit worker id) = cond (stays_inside old worker id) old.span
 without_holder old (try_close worker id) = taken old.spans id Handle
 without_holder old _ = old.spans
 
+-- an exit and `try_close` give a holder back
+abbrev pub gives_back : Request → Bool
+gives_back (exit worker id) = true
+gives_back (try_close worker id) = true
+gives_back _ = false
+
 abbrev pub is_close : Kind → Bool
 is_close OnClose = true
 is_close _ = false

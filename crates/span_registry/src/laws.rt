@@ -1,20 +1,21 @@
 //! What every registry promises, in plain words: each function does nothing, and its contract is the promise.
-ghost use Rattle.std.specs.Prelude.{◌≡◌, ◌≢◌, ◌≤◌, ℕ, false, ◌&&◌, ◌↔◌, if◌then◌else◌, [], Some, None, IsTrue, AllPairs, count_by};
+ghost use Rattle.std.specs.Prelude.{◌≡◌, ◌≢◌, ◌≤◌, ℕ, false, ◌&&◌, ◌↔◌, if◌then◌else◌, [], Some, None, IsTrue, All, AllPairs, count_by};
 ghost use Rattle.span_layers.specs.Filter.{admission_set};
 ghost use Rattle.span_forest.specs.Node.{Node};
 ghost use Rattle.span_forest.specs.Spans.{find, IsOpen, parent_of};
+ghost use Rattle.span_forest.specs.declared.span.Holder.TheVariants.{Handle};
 ghost use Rattle.span_forest.specs.Count.{total_held};
+ghost use Rattle.span_forest.specs.Holders.{held_in};
 ghost use Rattle.span_forest.specs.Live.{stands_in, is_live};
 ghost use Rattle.span_registry.specs.World.{IsWorld};
 ghost use Rattle.span_registry.specs.Request.{Request, Answer};
 ghost use Rattle.span_registry.specs.Core.{CoreView, IsAccepted};
 ghost use Rattle.span_registry.specs.History.{issued};
-ghost use Rattle.span_registry.specs.Closing.{closed_by, closed_in, without_holder, tells_close, hears_close, notes_in};
+ghost use Rattle.span_registry.specs.Closing.{closed_by, closed_in, gives_back, without_holder, tells_close, hears_close, notes_in};
 
 use crate::outlet::Outlet;
 use crate::registry::Core;
 use crate::state::State;
-use span_forest::laws::empty_where_nothing_is_held as empty_forest;
 
 /// The entries of each span are the workers that are inside it, each counted once.
 pub fn entries_are_the_workers_inside<O: Outlet>(core: &Core<O>)
@@ -29,22 +30,21 @@ fn entries_agree<O: Outlet>(state: &State<O>)
     let _opened = &state.calls;
 }
 
-/// Where no span has a handle and no worker is inside one, no span is open.
+/// Where the total of handles and entries is 0, no span is open. The same where no span has a handle and no
+/// worker's stack has an entry.
 pub fn empty_where_nothing_is_held<O: Outlet>(core: &Core<O>)
-    ensures { total_held core.now.state.world.spans ≡ 0 → core.now.state.world.spans ≡ [] }
+    ensures total { total_held core.now.state.world.spans ≡ 0 → core.now.state.world.spans ≡ [] }
+    ensures stacks { ((id : ℕ) → held_in Handle (find core.now.state.world.spans id) ≡ 0) →
+        All (λ stack. stack ≡ []) core.now.state.world.stacks → core.now.state.world.spans ≡ [] }
 {
-    nothing_open(&core.state);
-}
-
-fn nothing_open<O: Outlet>(state: &State<O>)
-    ensures { total_held state.now.world.spans ≡ 0 → state.now.world.spans ≡ [] }
-{
-    empty_forest(&state.forest);
+    entries_are_the_workers_inside(core);
+    core.calls();
 }
 
 /// Whichever call is accepted next: it closes exactly the spans that its answer lists, which only an exit and
 /// a release do. They are the open spans that are not live without the holder that the call gives back: no
-/// holder is left on them or below them. No span is listed twice, and none after its parent.
+/// holder is left on them or below them. Each other span stays as it was, but for that holder. No span is listed
+/// twice, and none after its parent.
 pub fn release_closes_what_nothing_holds<O: Outlet>(core: &Core<O>)
     ensures exact { (request : Request) (answer : Answer) (new : CoreView) (id : ℕ) →
         IsAccepted core.now.state request answer new →
@@ -55,6 +55,10 @@ pub fn release_closes_what_nothing_holds<O: Outlet>(core: &Core<O>)
         IsOpen core.now.state.world.spans id →
         (IsTrue (stands_in id (closed_by answer))
         ↔ (is_live (without_holder core.now.state.world request) id ≡ false)) }
+    ensures others { (request : Request) (answer : Answer) (new : CoreView) (id : ℕ) →
+        IsAccepted core.now.state request answer new →
+        IsTrue (gives_back request) → (IsTrue (stands_in id (closed_by answer)) → ⊥) →
+        find new.world.spans id ≡ find (without_holder core.now.state.world request) id }
     ensures once { (request : Request) (answer : Answer) (new : CoreView) →
         IsAccepted core.now.state request answer new →
         AllPairs (λ first later. first ≢ later) (closed_by answer) }
