@@ -68,4 +68,6 @@ fn status_of<R: Eprint>(rt: &R, ended: Result<(), RunFault>) -> io::Result<ExitC
 }
 
 #[cfg(test)]
+mod reading_tests;
+#[cfg(test)]
 mod tests;
