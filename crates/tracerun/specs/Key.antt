@@ -1,7 +1,7 @@
 -- The keys of a script's lines.
 use Rattle.std.specs.Prelude.{ℕ, List, codes}
 use Rattle.tracerun.specs.declared.fault.Key.{Key}
-use Rattle.tracerun.specs.declared.fault.Key.TheVariants.{Slots, LastGeneration, MaxCount, Workers, Name, Target, Level, Parent, Fields, Label, Worker, Span, Old}
+use Rattle.tracerun.specs.declared.fault.Key.TheVariants.{Slots, LastGeneration, MaxCount, Workers, Form, Spans, Rule, Name, Message, Target, Level, Parent, Fields, Label, Worker, Span, Old}
 
 -- a key as it is written in a line
 abbrev pub key_text : Key → List ℕ
@@ -9,7 +9,11 @@ key_text Slots = codes "slots"
 key_text LastGeneration = codes "last_generation"
 key_text MaxCount = codes "max_count"
 key_text Workers = codes "workers"
+key_text Form = codes "form"
+key_text Spans = codes "spans"
+key_text Rule = codes "rule"
 key_text Name = codes "name"
+key_text Message = codes "message"
 key_text Target = codes "target"
 key_text Level = codes "level"
 key_text Parent = codes "parent"

@@ -1,6 +1,6 @@
 -- What a line of a script asks for: how it is read from the line's JSON value.
-use Rattle.std.specs.Prelude.{ℕ, ◌^◌, ◌&&◌, List, [], ◌∷◌, codes, Bool, nat_lt, nat_le, if◌then◌else◌, Option, Some, None, option_and_then, Result, Ok, Err, ⊤}
-use Rattle.std.specs.Option.{option_map}
+use Rattle.std.specs.Prelude.{ℕ, ◌^◌, ◌&&◌, List, [], ◌∷◌, codes, Bool, true, false, nat_lt, nat_le, if◌then◌else◌, Option, Some, None, option_and_then, Result, Ok, Err, ⊤}
+use Rattle.std.specs.Option.{option_map, option_map_or}
 use Rattle.std.specs.Str.{bytes_eq, is_utf8}
 use Rattle.serde_json.specs.Data.{Data, Items, no_items, item}
 use Rattle.serde_json.specs.Read.{read}
@@ -9,6 +9,9 @@ use Rattle.span_id.specs.declared.level.Level.{Level}
 use Rattle.span_id.specs.declared.level.Level.TheVariants.{Error, Warn, Info, Debug, Trace}
 use Rattle.span_id.specs.declared.limits.Limits.{Limits}
 use Rattle.span_id.specs.Id.{id_of, old_slot_of, old_generation_of}
+use Rattle.span_layers.specs.Rule.{Pair}
+use Rattle.span_layers.specs.declared.form.Form.{Form}
+use Rattle.span_layers.specs.declared.form.Form.TheVariants.{Compact, Json}
 use Rattle.tracerun.specs.Key.{key_text}
 use Rattle.tracerun.specs.Reason.{◌>>=◌, or_fault}
 use Rattle.tracerun.specs.declared.fault.Key.{Key}
@@ -40,10 +43,27 @@ pub record NewSpan : Type 0 where
   pub label : List ℕ
   pub worker : ℕ
 
+-- the kinds of notes on spans that a layer wants are a set of bits: new 1, enter 2, exit 4, close 8
+pub record NewLayer : Type 0 where
+  pub form : Form
+  pub spans : ℕ
+  pub rule : List Pair
+
+pub record NewEvent : Type 0 where
+  pub name : List ℕ
+  pub target : List ℕ
+  pub level : Level
+  pub message : List ℕ
+  pub fields : List (List ℕ × List ℕ)
+  pub worker : ℕ
+
 pub data Operation : Type 0 where
   set_limits : Limits → Operation
+  add_layer : NewLayer → Operation
   make : NewSpan → Operation
   on_span : SpanCall → SpanKey → ℕ → Operation
+  record_fields : SpanKey → List (List ℕ × List ℕ) → ℕ → Operation
+  tell : NewEvent → Operation
   find : SpanKey → Operation
 
 -- ---- a line as JSON: it has to be UTF-8
@@ -122,33 +142,64 @@ old_id_numbered n =
 abbrev pub old_id_in : Data → Option SpanKey
 old_id_in value = option_and_then old_id_numbered (whole_number value)
 
-abbrev pub two_texts : Option (List ℕ) → Option (List ℕ) → Option (List ℕ × List ℕ)
-two_texts (Some key) (Some value) = Some (key, value)
-two_texts (Some key) None = None
-two_texts None value = None
+abbrev pub both : {A B : Type 0} → Option A → Option B → Option (A × B)
+both (Some a) (Some b) = Some (a, b)
+both (Some a) None = None
+both None b = None
 
-abbrev pub two_items : Items → Option (List ℕ × List ℕ)
-two_items no_items = None
-two_items (item key no_items) = None
-two_items (item key (item value no_items)) = two_texts (as_str key) (as_str value)
-two_items (item key (item value (item more items))) = None
+abbrev pub two_in : Items → Option (Data × Data)
+two_in no_items = None
+two_in (item first no_items) = None
+two_in (item first (item second no_items)) = Some (first, second)
+two_in (item first (item second (item third items))) = None
 
--- a field is a list of two texts
+-- a pair is a list of two values
+abbrev pub pair_of : {A B : Type 0} → (Data → Option A) → (Data → Option B) → Data → Option (A × B)
+pair_of first second value =
+    option_and_then (λ two. both (first two.0) (second two.1)) (option_and_then two_in (as_array value))
+
+abbrev pub onto : {A : Type 0} → Option A → Option (List A) → Option (List A)
+onto (Some a) (Some more) = Some (a ∷ more)
+onto (Some a) None = None
+onto None more = None
+
+unfoldable pub all_of : {A : Type 0} → (Data → Option A) → Items → Option (List A)
+all_of reading no_items = Some []
+all_of reading (item value items) = onto (reading value) (all_of reading items)
+
+-- a list, each of whose values is of the type
+abbrev pub list_of : {A : Type 0} → (Data → Option A) → Data → Option (List A)
+list_of reading value = option_and_then (all_of reading) (as_array value)
+
+-- a field is a pair of texts
 abbrev pub field_in : Data → Option (List ℕ × List ℕ)
-field_in value = option_and_then two_items (as_array value)
+field_in value = pair_of as_str as_str value
 
-abbrev pub field_onto : Option (List ℕ × List ℕ) → Option (List (List ℕ × List ℕ)) → Option (List (List ℕ × List ℕ))
-field_onto (Some field) (Some fields) = Some (field ∷ fields)
-field_onto (Some field) None = None
-field_onto None fields = None
-
-unfoldable pub all_fields : Items → Option (List (List ℕ × List ℕ))
-all_fields no_items = Some []
-all_fields (item value items) = field_onto (field_in value) (all_fields items)
-
--- fields are a list of them
 abbrev pub fields_in : Data → Option (List (List ℕ × List ℕ))
-fields_in value = option_and_then all_fields (as_array value)
+fields_in value = list_of field_in value
+
+abbrev pub form_named : List ℕ → Option Form
+form_named text =
+    if bytes_eq text (codes "compact") then Some Compact else
+    (if bytes_eq text (codes "json") then Some Json else None)
+
+abbrev pub form_in : Data → Option Form
+form_in value = option_and_then form_named (as_str value)
+
+-- a set of the four kinds of notes on spans, as a number
+abbrev pub kinds_in : Data → Option ℕ
+kinds_in value = option_and_then (at_most 15) (whole_number value)
+
+-- a rule is a list of pairs of a prefix and the greatest level that it lets in
+abbrev pub prefix_in : Data → Option Pair
+prefix_in value = pair_of as_str level_in value
+
+abbrev pub rule_in : Data → Option (List Pair)
+rule_in value = list_of prefix_in value
+
+-- each target up to the greatest level
+abbrev pub all_targets : List Pair
+all_targets = ([], Trace) ∷ []
 
 -- ---- an operation's keys, in the order in which they are looked at
 
@@ -159,6 +210,13 @@ limits_of line = do
   max_count ← optional key.MaxCount limit_in 4294967295 line
   workers ← optional key.Workers limit_in 4 line
   Ok (set_limits (record { slots = slots; last_generation = last_generation; max_count = max_count; workers = workers; ring = 1024 }))
+
+unfoldable pub layer_of : Data → Result Operation Reason
+layer_of line = do
+  form ← optional key.Form form_in Compact line
+  spans ← optional key.Spans kinds_in 15 line
+  rule ← optional key.Rule rule_in all_targets line
+  Ok (add_layer (record { form = form; spans = spans; rule = rule }))
 
 unfoldable pub new_of : ℕ → Data → Result Operation Reason
 new_of workers line = do
@@ -176,6 +234,23 @@ on_span_of workers call line = do
   span ← required key.Span span_key_in line
   worker ← optional key.Worker (worker_in workers) 0 line
   Ok (on_span call span worker)
+
+unfoldable pub record_of : ℕ → Data → Result Operation Reason
+record_of workers line = do
+  span ← required key.Span span_key_in line
+  fields ← optional key.Fields fields_in [] line
+  worker ← optional key.Worker (worker_in workers) 0 line
+  Ok (record_fields span fields worker)
+
+-- each event has the same name
+unfoldable pub event_of : ℕ → Data → Result Operation Reason
+event_of workers line = do
+  message ← required key.Message as_str line
+  target ← optional key.Target as_str (codes "app") line
+  level ← optional key.Level level_in Info line
+  fields ← optional key.Fields fields_in [] line
+  worker ← optional key.Worker (worker_in workers) 0 line
+  Ok (tell (record { name = codes "event"; target = target; level = level; message = message; fields = fields; worker = worker }))
 
 -- a span is looked up by `span`
 abbrev pub find_by_span : Data → Option Data → Result Operation Reason
@@ -205,36 +280,80 @@ find_of line = find_by line (get (key_text key.Span) line) (get (key_text key.Ol
 
 pub data Op : Type 0 where
   limits_op : Op
+  layer_op : Op
   new_op : Op
   span_op : SpanCall → Op
+  record_op : Op
+  event_op : Op
   find_op : Op
 
 abbrev pub op_named : List ℕ → Option Op
 op_named text =
     if bytes_eq text (codes "limits") then Some limits_op else
+    (if bytes_eq text (codes "layer") then Some layer_op else
     (if bytes_eq text (codes "new") then Some new_op else
     (if bytes_eq text (codes "clone") then Some (span_op Clone) else
     (if bytes_eq text (codes "close") then Some (span_op Close) else
     (if bytes_eq text (codes "enter") then Some (span_op Enter) else
     (if bytes_eq text (codes "exit") then Some (span_op Exit) else
-    (if bytes_eq text (codes "find") then Some find_op else None))))))
+    (if bytes_eq text (codes "record") then Some record_op else
+    (if bytes_eq text (codes "event") then Some event_op else
+    (if bytes_eq text (codes "find") then Some find_op else None)))))))))
 
 abbrev pub op_in : Data → Option Op
 op_in value = option_and_then op_named (as_str value)
 
-unfoldable pub op_of : Data → Result Op Reason
-op_of line = or_fault (option_and_then op_in (get (codes "op") line)) NoSuchOp
+abbrev pub op_at : Data → Option Op
+op_at line = option_and_then op_in (get (codes "op") line)
 
--- what the line asks for with this op, where there are so many workers; `limits` has to be the first line
-abbrev pub keys_of : ℕ → Bool → Data → Op → Result Operation Reason
-keys_of workers is_first line limits_op = if is_first then limits_of line else Err LateLine
-keys_of workers is_first line new_op = new_of workers line
-keys_of workers is_first line (span_op call) = on_span_of workers call line
-keys_of workers is_first line find_op = find_of line
+unfoldable pub op_of : Data → Result Op Reason
+op_of line = or_fault (op_at line) NoSuchOp
+
+-- the operations that come before all others
+abbrev pub sets_up : Op → Bool
+sets_up limits_op = true
+sets_up layer_op = true
+sets_up new_op = false
+sets_up (span_op call) = false
+sets_up record_op = false
+sets_up event_op = false
+sets_up find_op = false
+
+-- the line's op is one of these
+unfoldable pub is_setup : Data → Bool
+is_setup line = option_map_or sets_up (op_at line) false
+
+-- how far a script has run: no line, or lines of `limits` and `layer` alone, or another line too
+pub data Stage : Type 0 where
+  at_start : Stage
+  in_setup : Stage
+  running : Stage
+
+-- `limits` has to be the first line
+abbrev pub takes_limits : Stage → Bool
+takes_limits at_start = true
+takes_limits in_setup = false
+takes_limits running = false
+
+-- `layer` has to come before each line of another operation but `limits`
+abbrev pub takes_layers : Stage → Bool
+takes_layers at_start = true
+takes_layers in_setup = true
+takes_layers running = false
+
+-- what the line asks for with this op, where there are so many workers
+abbrev pub keys_of : ℕ → Stage → Data → Op → Result Operation Reason
+keys_of workers stage line limits_op = if takes_limits stage then limits_of line else Err LateLine
+keys_of workers stage line layer_op = if takes_layers stage then layer_of line else Err LateLine
+keys_of workers stage line new_op = new_of workers line
+keys_of workers stage line (span_op call) = on_span_of workers call line
+keys_of workers stage line record_op = record_of workers line
+keys_of workers stage line event_op = event_of workers line
+keys_of workers stage line find_op = find_of line
 
 -- what a line's value asks for
-unfoldable pub operation_of : ℕ → Bool → Data → Result Operation Reason
-operation_of workers is_first line = do
+unfoldable pub operation_of : ℕ → Stage → Data → Result Operation Reason
+operation_of workers stage line = do
   _ ← or_fault (as_object line) NotObject
   op ← op_of line
-  keys_of workers is_first line op
+  keys_of workers stage line op

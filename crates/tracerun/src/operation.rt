@@ -1,6 +1,7 @@
 //! What a line of a script can ask for.
 
 use span_id::{Field, Id, Limits, Meta};
+use span_layers::{Rule, Style};
 
 /// How a line names a span.
 #[derive(Clone, Copy, Debug)]
@@ -20,6 +21,13 @@ pub enum Parent<'v> {
     Named(SpanKey<'v>),
 }
 
+/// A layer to be added.
+#[derive(Debug, Drop)]
+pub struct NewLayer {
+    pub style: Style,
+    pub rule: Rule,
+}
+
 /// A span to be made.
 #[derive(Debug, Drop)]
 pub struct NewSpan<'v> {
@@ -28,6 +36,15 @@ pub struct NewSpan<'v> {
     pub parent: Parent<'v>,
     /// What later lines call the span.
     pub label: &'v str,
+    pub worker: usize,
+}
+
+/// An event to be told.
+#[derive(Debug, Drop)]
+pub struct NewEvent<'v> {
+    pub meta: Meta,
+    pub message: &'v str,
+    pub fields: Vec<Field>,
     pub worker: usize,
 }
 
@@ -45,6 +62,7 @@ pub enum SpanCall {
 pub enum Operation<'v> {
     /// To run with these limits, which may be out of their ranges.
     Limits(Limits),
+    Layer(NewLayer),
     New(NewSpan<'v>),
     /// A worker's call on a span.
     OnSpan {
@@ -52,5 +70,12 @@ pub enum Operation<'v> {
         span: SpanKey<'v>,
         worker: usize,
     },
+    /// To add fields to a span.
+    Record {
+        span: SpanKey<'v>,
+        fields: Vec<Field>,
+        worker: usize,
+    },
+    Event(NewEvent<'v>),
     Find(SpanKey<'v>),
 }
