@@ -109,7 +109,7 @@ pub fn release_closes_its_list(forest: &Forest)
 /// Exactly those open spans close that are no longer live: no holder is left on them or below them. Each
 /// span of the list was open, and each other span stays as it was but for the holder that was given back.
 pub fn release_closes_what_nothing_holds(forest: &Forest)
-    ensures open { (id span : ℕ) (holder : Holder) → IsHeld forest.now.spans id holder →
+    ensures was_open { (id span : ℕ) (holder : Holder) → IsHeld forest.now.spans id holder →
         IsTrue (stands_in span (closing_list forest.now.spans id holder)) → IsOpen forest.now.spans span }
     ensures not_live { (id span : ℕ) (holder : Holder) → IsHeld forest.now.spans id holder →
         IsOpen forest.now.spans span →
