@@ -1,14 +1,14 @@
 -- The count of an open span.
-use Rattle.std.proofs.Common.{◌≡◌, ℕ, ◌+◌, ◌<◌, List, Option, Some, None, refl, sym, ap, ◌∙◌, subst, arith}
+use Rattle.std.proofs.Common.{◌≡◌, ℕ, ◌+◌, ◌<◌, List, Option, Some, None, refl, sym, ap, ◌∙◌, arith}
 use Rattle.std.specs.Prelude.{is_some, IfSome, MatchOption}
 use Rattle.std.specs.Borrow.{Bor}
 use Rattle.span_forest.specs.declared.span.Span.{Span}
 use Rattle.span_forest.specs.declared.span.Holder.TheVariants.{Entry}
-use Rattle.span_forest.specs.Node.{Node, node_of}
+use Rattle.span_forest.specs.Node.{node_of}
 use Rattle.span_forest.specs.Spans.{Spans, find, IsOpen, parent_in, parent_of}
-use Rattle.span_forest.specs.Count.{written_count, holders_in, children}
+use Rattle.span_forest.specs.Count.{written_count, holders_in}
 use Rattle.span_forest.specs.Holders.{held_in}
-use Rattle.span_registry.specs.World.{World, IsWorld, IsCounted}
+use Rattle.span_registry.specs.World.{IsWorld, IsCounted}
 
 pub found_counted : (spans : Spans) (stacks : List (List ℕ)) (id : ℕ) (r : Option (Bor Span))
     → IfSome r (λ s. find spans id ≡ Some (node_of s.now)) → IfSome r (λ s. s.now.count ≡ written_count spans id)

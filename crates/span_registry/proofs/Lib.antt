@@ -4,5 +4,17 @@ pub mod StackLists
 pub mod Accepting
 pub mod Telling
 pub mod NewSpans
+pub mod Closing
 pub mod Counted
+pub mod Keeping
+pub mod Apart
+pub mod Deciding
+pub mod Outcomes
+pub mod Effects
+pub mod Legal
+pub mod Released
+pub mod Empties
+pub mod Announcing
+pub mod ToldOnce
 mod Examples
+mod KeptCases

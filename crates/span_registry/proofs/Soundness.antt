@@ -1,6 +1,6 @@
 -- The parts of a core agree at the start, and after each accepted call.
-use Rattle.std.proofs.Common.{◌≡◌, ℕ, ◌+◌, ◌<◌, ◌==◌, Bool, true, false, cond, ◌||◌, List, [], ◌∷◌, ◌++◌, length, replicate, refl, sym, ap, ◌∙◌, subst, arith, length-append}
-use Rattle.std.specs.Prelude.{slice_index, sum_by, fold, flat_map}
+use Rattle.std.proofs.Common.{◌≡◌, ℕ, ◌+◌, ◌<◌, ◌==◌, Bool, true, false, cond, ◌||◌, List, [], ◌∷◌, ◌++◌, length, replicate, refl, sym, ap, ◌∙◌, arith, length-append}
+use Rattle.std.specs.Prelude.{slice_index}
 use Rattle.std.proofs.lemmas.List.{length-replicate}
 use Rattle.std.proofs.lemmas.List.Folds.{sum_by-replicate, list_any-append}
 use Rattle.std.proofs.lemmas.List.Sums.{fold-append}
@@ -12,11 +12,10 @@ use Rattle.span_forest.specs.Spans.{Spans}
 use Rattle.span_forest.specs.Forest.{ForestView}
 use Rattle.span_forest.specs.Live.{stands_in}
 use Rattle.span_stack.specs.Stack.{has}
-use Rattle.span_registry.specs.World.{World, IsWorld, workers_inside}
-use Rattle.span_registry.specs.Request.{Answer, made, cloned, entered, exited, released, recorded, told}
+use Rattle.span_registry.specs.World.{IsWorld, workers_inside}
 use Rattle.span_registry.specs.Batch.{PlainBatch}
 use Rattle.span_registry.specs.Step.{IsStep}
-use Rattle.span_registry.specs.History.{issued, id_issued, IsLegal}
+use Rattle.span_registry.specs.History.{issued, id_issued}
 use Rattle.span_registry.specs.History.IsLegal.{none, more}
 use Rattle.span_registry.specs.NextId.{SlotsUsed, with_answer, slots_after}
 use Rattle.span_registry.specs.State.{forest_with, IsSound}

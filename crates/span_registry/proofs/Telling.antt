@@ -1,15 +1,12 @@
 -- The notes of the layers, one after another.
-use Rattle.std.proofs.Common.{◌≡◌, ℕ, zero, suc, ◌+◌, ◌/◌, ◌^◌, Bool, true, false, cond, ◌&&◌, Option, None, List, [], ◌∷◌, ◌++◌, length, map, filter, drop, get_or, refl, sym, ap, ◌∙◌, arith, append_assoc}
-use Rattle.std.specs.Prelude.{flat_map, nat_lt}
-use Rattle.std.specs.Option.{option_map_or}
-use Rattle.std.proofs.Math.Nat.{zero-div}
+use Rattle.std.proofs.Common.{◌≡◌, ℕ, zero, suc, ◌+◌, Bool, true, false, cond, List, [], ◌∷◌, ◌++◌, map, filter, refl, sym, ap, ◌∙◌, arith, append_assoc}
+use Rattle.std.specs.Prelude.{flat_map}
 use Rattle.std.specs.List.{range_with_len}
-use Rattle.std.proofs.lemmas.List.{map-append, drop_more}
+use Rattle.std.proofs.lemmas.List.{map-append}
 use Rattle.std.proofs.lemmas.List.Elements.{filter-append}
 use Rattle.span_layers.specs.Note.{PlainNote, KeyValue}
-use Rattle.span_layers.specs.Filter.{Filter, layer_wants}
-use Rattle.span_forest.specs.Node.{Node}
-use Rattle.span_forest.specs.Spans.{Spans, find}
+use Rattle.span_layers.specs.Filter.{Filter}
+use Rattle.span_forest.specs.Spans.{Spans}
 use Rattle.span_registry.specs.Happening.{Happening, is_told, note_of, notes_of, notes_of_all, close_of, event_at}
 use Rattle.span_registry.specs.Request.{PlainMeta}
 
@@ -42,30 +39,6 @@ told_more rules what worker layer first before after so_far more =
     ∙ append_assoc first _ _
     ∙ ap (λ xs. first ++ xs) (sym (told_next (note_of worker what) (is_told rules what) layer))
 
-filter_none : {X : Type 0} (p : X → Bool) → ((x : X) → p x ≡ false) → (xs : List X) → filter p xs ≡ []
-filter_none p fails [] = refl
-filter_none p fails (x ∷ xs) = rw (fails x) (filter_none p fails xs)
-
-and_false : (b c : Bool) → ((b && false) && c) ≡ false
-and_false true c = refl
-and_false false c = refl
-
--- a happening that no layer admits is told to none
-pub nobody_told : (rules : List Filter) (worker : ℕ) (what : Happening) → what.admitted ≡ 0 → notes_of rules worker what ≡ []
-nobody_told rules worker what none =
-    ap (map (note_of worker what)) (filter_none (is_told rules what) no_bit (range_with_len 0 (length rules)))
-  where
-    no_bit : (layer : ℕ) → is_told rules what layer ≡ false
-    no_bit layer = let z : 0 / 2 ^ layer ≡ 0 = zero-div (2 ^ layer) in rw (none, z) (and_false (nat_lt layer 64) (layer_wants rules layer what.kind))
-
-pub closed_none : (rules : List Filter) (worker : ℕ) (spans : Spans) (id : ℕ) (notes : List PlainNote) → find spans id ≡ None → notes ≡ notes ++ notes_of rules worker (close_of spans id)
-closed_none rules worker spans id notes gone =
-    sym (ap (λ xs. notes ++ xs) (nobody_told rules worker (close_of spans id) (ap (λ (o : Option Node). option_map_or (λ node. node.bits) o 0) gone)) ∙ append_nil notes)
-  where
-    append_nil : (xs : List PlainNote) → xs ++ [] ≡ xs
-    append_nil [] = refl
-    append_nil (x ∷ xs) = ap (λ ys. x ∷ ys) (append_nil xs)
-
 -- the notes of a call with one happening
 pub one_happening : (rules : List Filter) (worker : ℕ) (what : Happening) (first notes : List PlainNote) → first ≡ [] → notes ≡ first ++ notes_of rules worker what → notes ≡ notes_of_all rules worker (what ∷ [])
 one_happening rules worker what first notes none are =
@@ -83,20 +56,18 @@ closes_told rules worker spans listed closed first notes none same are =
     ∙ ap (λ ids. flat_map (notes_of rules worker) (map (close_of spans) ids)) same
 
 -- the notes of an event
-pub event_notes : (rules : List Filter) (worker : ℕ) (spans : Spans) (stack seen : List ℕ) (bits admitted : ℕ) (meta : PlainMeta) (message : List ℕ) (fields : List KeyValue) (first notes : List PlainNote)
-    → first ≡ [] → seen ≡ stack → bits ≡ admitted
-    → notes ≡ first ++ notes_of rules worker (event_at spans seen bits meta.level message fields)
+pub event_notes : (rules : List Filter) (worker : ℕ) (spans : Spans) (stack seen : List ℕ) (bits admitted : ℕ) (meta : PlainMeta) (message : List ℕ) (fields : List KeyValue) (notes : List PlainNote)
+    → seen ≡ stack → bits ≡ admitted
+    → notes ≡ notes_of rules worker (event_at spans seen bits meta.level message fields)
     → notes ≡ notes_of_all rules worker (event_at spans stack admitted meta.level message fields ∷ [])
-event_notes rules worker spans stack seen bits admitted meta message fields first notes none same bits_are are =
-    one_happening rules worker (event_at spans stack admitted meta.level message fields) first notes none
-    (are ∙ (λ j. first ++ notes_of rules worker (event_at spans (same j) (bits_are j) meta.level message fields)))
+event_notes rules worker spans stack seen bits admitted meta message fields notes same bits_are are =
+    one_happening rules worker (event_at spans stack admitted meta.level message fields) [] notes refl
+    (are ∙ (λ j. notes_of rules worker (event_at spans (same j) (bits_are j) meta.level message fields)))
 
 -- a turn of a loop over the layers
-pub pushed_more : (f : ℕ → PlainNote) (p : ℕ → Bool) (layer : ℕ) (first before after : List PlainNote)
-    → before ≡ first ++ map f (filter p (range_with_len 0 layer))
+pub layer_more : (f : ℕ → PlainNote) (p : ℕ → Bool) (layer : ℕ) (before after : List PlainNote)
+    → before ≡ map f (filter p (range_with_len 0 layer))
     → after ≡ before ++ cond (p layer) (f layer ∷ []) []
-    → after ≡ first ++ map f (filter p (range_with_len 0 (layer + 1)))
-pushed_more f p layer first before after so_far more =
-    more ∙ ap (λ xs. xs ++ cond (p layer) (f layer ∷ []) []) so_far
-    ∙ append_assoc first _ _
-    ∙ ap (λ xs. first ++ xs) (sym (told_next f p layer))
+    → after ≡ map f (filter p (range_with_len 0 (layer + 1)))
+layer_more f p layer before after so_far more =
+    more ∙ ap (λ xs. xs ++ cond (p layer) (f layer ∷ []) []) so_far ∙ sym (told_next f p layer)

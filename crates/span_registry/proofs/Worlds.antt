@@ -1,13 +1,12 @@
 -- The entries of the spans and the workers' stacks agree after each change of the world.
 use Rattle.std.proofs.Common.{◌≡◌, ℕ, zero, suc, ◌+◌, ◌-◌, ◌<◌, ◌==◌, Bool, true, false, cond, not, ◌||◌, ◌&&◌, List, [], ◌∷◌, ◌++◌, length, filter, get_or, set, Option, Some, None, refl, sym, ap, ◌∙◌, arith, inl, inr}
-use Rattle.std.specs.Prelude.{nat_lt, sum_by, IsSome}
 use Rattle.std.specs.List.{list_any}
-use Rattle.std.proofs.lemmas.Bool.{cases_Bool, eqb-true, eq-eqb, false≢true}
+use Rattle.std.proofs.lemmas.Bool.{cases_Bool, eq-eqb, false≢true}
 use Rattle.std.proofs.lemmas.Bool.Decides.{nat_tests}
 use Rattle.std.proofs.lemmas.List.Folds.{list_any-append}
 use Rattle.std.proofs.lemmas.List.Sums.{sum_by-set}
 use Rattle.span_forest.specs.declared.span.Holder.TheVariants.{Handle, Entry}
-use Rattle.span_forest.specs.Node.{Node, with_fields}
+use Rattle.span_forest.specs.Node.{Node}
 use Rattle.span_forest.specs.Spans.{Spans, find, changed}
 use Rattle.span_forest.specs.Walk.{walk}
 use Rattle.span_forest.specs.Count.{is_held}
@@ -16,7 +15,7 @@ use Rattle.span_forest.specs.Holders.{held_in, held_by, with_more, with_less}
 use Rattle.span_forest.specs.Keep.{kept}
 use Rattle.span_forest.specs.Release.{taken, released}
 use Rattle.span_stack.specs.Stack.{has, without_last}
-use Rattle.span_registry.specs.World.{World, IsWorld, workers_inside}
+use Rattle.span_registry.specs.World.{IsWorld, workers_inside}
 
 other_key : (a id j : ℕ) → (a == j) ≡ true → (id == j) ≡ false → (a == id) ≡ false
 other_key a id j here other = grind (arith, nat_tests)

@@ -1,5 +1,5 @@
 -- What contracts see of a core, and what a call does to it: it is accepted as one step, or refused and changes nothing.
-use Rattle.std.specs.Prelude.{◌≡◌, ℕ, ◌+◌, ◌-◌, ◌^◌, ◌<◌, ◌==◌, Bool, true, false, cond, List, [], ◌∷◌, ◌++◌, length, All, Option, Some, None, IsSome, MatchOption}
+use Rattle.std.specs.Prelude.{◌≡◌, ℕ, ◌+◌, ◌-◌, ◌^◌, ◌<◌, ◌==◌, Bool, true, false, cond, List, [], ◌∷◌, ◌++◌, length, All, IsSome, MatchOption}
 use Rattle.span_id.specs.declared.fault.Fault.{Fault}
 use Rattle.span_id.specs.declared.fault.Fault.TheVariants.{Unknown, CountFull, Full, NotEntered, TooManyLayers, BadName, Backlog, BadLimits, Memory}
 use Rattle.span_id.specs.declared.limits.Limits.{Limits}
@@ -13,7 +13,7 @@ use Rattle.span_forest.specs.Count.{written_count}
 use Rattle.span_forest.specs.Holders.{IsHeld}
 use Rattle.span_stack.specs.Stack.{has}
 use Rattle.span_registry.specs.World.{World, stack_of}
-use Rattle.span_registry.specs.Request.{PlainMeta, Request, new_span, clone_span, enter, exit, try_close, record_fields, event, Answer}
+use Rattle.span_registry.specs.Request.{Request, new_span, clone_span, enter, exit, try_close, record_fields, event, Answer}
 use Rattle.span_registry.specs.Batch.{PlainBatch}
 use Rattle.span_registry.specs.Step.{IsStep, is_wanted, ParentIsOpen}
 use Rattle.span_registry.specs.History.{issued}

@@ -12,7 +12,7 @@ use Rattle.span_forest.specs.Spans.{Spans, find}
 use Rattle.span_forest.specs.Path.{path}
 use Rattle.span_stack.specs.Stack.{walk}
 use Rattle.span_registry.specs.World.{World, stack_of}
-use Rattle.span_registry.specs.Request.{PlainMeta, Request, new_span, clone_span, enter, exit, try_close, record_fields, event, Answer, made, cloned, entered, exited, released, recorded, told}
+use Rattle.span_registry.specs.Request.{PlainMeta, Request, new_span, enter, exit, try_close, record_fields, event, Answer, made, exited, released}
 
 -- the admission set of an open span, and its fields as they stand
 abbrev pub bits_in : Spans → ℕ → ℕ

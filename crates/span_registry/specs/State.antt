@@ -1,5 +1,5 @@
 -- What is always true of a core's parts, for the functions inside this crate.
-use Rattle.std.specs.Prelude.{◌≡◌, ℕ, ◌<◌, ◌+◌, Bool, true, ◌&&◌, List, [], ◌∷◌, ◌++◌, length, slice_index, Option, None}
+use Rattle.std.specs.Prelude.{◌≡◌, ℕ, ◌<◌, Bool, true, ◌&&◌, List, [], ◌∷◌, ◌++◌, length, slice_index, Option, None}
 use Rattle.span_id.specs.declared.limits.Limits.{Limits}
 use Rattle.span_id.specs.declared.fault.Fault.{Fault}
 use Rattle.span_id.specs.declared.fault.Fault.TheVariants.{Backlog, Memory}
@@ -11,7 +11,7 @@ use Rattle.span_layers.specs.Filter.{Filter, layer_wants}
 use Rattle.span_forest.specs.Spans.{Spans}
 use Rattle.span_forest.specs.Forest.{ForestView}
 use Rattle.span_forest.specs.Live.{stands_in}
-use Rattle.span_registry.specs.World.{World, IsWorld}
+use Rattle.span_registry.specs.World.{IsWorld}
 use Rattle.span_registry.specs.Happening.{path_at}
 use Rattle.span_registry.specs.Batch.{PlainBatch}
 use Rattle.span_registry.specs.History.{issued, IsLegal}

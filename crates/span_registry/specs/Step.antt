@@ -1,5 +1,5 @@
 -- One accepted call, as a step from a world to the next.
-use Rattle.std.specs.Prelude.{◌≡◌, ℕ, ◌==◌, Bool, true, false, ◌||◌, not, cond, nat_lt, List, [], ◌∷◌, ◌++◌, length, Option, Some, None, MatchOption}
+use Rattle.std.specs.Prelude.{◌≡◌, ℕ, ◌==◌, Bool, true, false, ◌||◌, not, cond, List, [], ◌∷◌, ◌++◌, length, Option, MatchOption}
 use Rattle.span_id.specs.Id.{IsId}
 use Rattle.span_layers.specs.Note.{KeyValue, PlainNote}
 use Rattle.span_layers.specs.Filter.{Filter, admission_set}

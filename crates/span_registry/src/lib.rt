@@ -2,13 +2,18 @@
 #![tactic(auto)]
 
 mod batch;
+mod closes;
 mod copies;
 mod entries;
 mod events;
 mod handles;
 mod held;
+mod kept;
+mod line;
+pub mod laws;
 mod names;
 mod notes;
+pub mod outcome;
 mod outlet;
 mod registry;
 mod spans;
@@ -18,6 +23,8 @@ mod state;
 mod tests;
 
 pub use batch::{Batch, Call, ParentOf, Reply};
+pub use kept::Kept;
+pub use line::Line;
 pub use outlet::Outlet;
 pub use registry::Core;
 pub use state::State;

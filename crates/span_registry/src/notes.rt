@@ -1,9 +1,12 @@
 //! The notes that the layers are told of what happens to spans.
 ghost use Rattle.std.specs.Prelude.{◌≡◌, ◌<◌, ◌++◌, ◌∷◌, [], if◌then◌else◌, map, flat_map, length, IfOk, OnOk, IfErr};
+ghost use Rattle.span_layers.specs.declared.note.Kind.TheVariants.{OnExit};
 ghost use Rattle.span_layers.specs.Note.{plain_note};
+ghost use Rattle.span_registry.specs.Closes.{IsChain};
 ghost use Rattle.span_registry.specs.Request.{plain_fields};
-ghost use Rattle.span_registry.specs.Happening.{at_span, close_of, bits_in, is_told, note_of, notes_of};
+ghost use Rattle.span_registry.specs.Happening.{at_span, close_of, bits_in, is_told, note_of, notes_of, notes_of_all};
 
+use crate::closes::push_closes;
 use crate::copies::copy_fields;
 use span_forest::Forest;
 use span_id::{Bits, Fault, Field, Id};
@@ -94,47 +97,23 @@ pub(crate) fn push_notes(
     Ok(())
 }
 
-// Appends the notes of a span that closes, with all its fields.
-fn push_close(
+// The notes of an exit: those of the exit itself, then those of the spans that it closes.
+pub(crate) fn exit_notes(
     alloc: Global,
-    notes: &mut Vec<Note>,
     rules: &Rules,
     forest: &Forest,
-    worker: u32,
-    id: Id,
-) -> Result<(), Fault>
-    ensures notes { OnOk result (map plain_note notes.new.items ≡ map plain_note notes.old.items
-        ++ notes_of rules.now worker (close_of forest.now.spans id)) }
+    exit: &Happening,
+    closing: &[Id],
+) -> Result<Vec<Note>, Fault>
+    requires kind { exit.now.kind ≡ OnExit }
+    requires chain { IsChain forest.now.spans closing.now }
+    requires bits { exit.now.bits.0 ≡ bits_in forest.now.spans exit.now.id }
+    ensures notes { IfOk result (λ notes. map plain_note notes.items
+        ≡ notes_of_all rules.now exit.now.worker (at_span forest.now.spans OnExit exit.now.id [] ∷ map (close_of forest.now.spans) closing.now)) }
     ensures memory { IfErr result (λ fault. fault ≡ Fault.Memory) }
 {
-    let Some(span) = forest.find(id) else {
-        // No layer admits a span that isn't open.
-        return Ok(());
-    };
-    let what = Happening {
-        worker,
-        kind: Kind::OnClose,
-        id,
-        bits: span.bits,
-    };
-    push_notes(alloc, notes, rules, forest, &what, span.fields.as_slice())
-}
-
-// Appends the notes of spans that close, one span after the other.
-pub(crate) fn push_closes(
-    alloc: Global,
-    notes: &mut Vec<Note>,
-    rules: &Rules,
-    forest: &Forest,
-    worker: u32,
-    closed: &[Id],
-) -> Result<(), Fault>
-    ensures notes { OnOk result (map plain_note notes.new.items ≡ map plain_note notes.old.items
-        ++ flat_map (notes_of rules.now worker) (map (close_of forest.now.spans) closed.now)) }
-    ensures memory { IfErr result (λ fault. fault ≡ Fault.Memory) }
-{
-    for id in closed {
-        push_close(alloc, notes, rules, forest, worker, *id)?;
-    }
-    Ok(())
+    let mut notes = Vec::new(alloc);
+    push_notes(alloc, &mut notes, rules, forest, exit, &[])?;
+    push_closes(alloc, &mut notes, rules, forest, exit.worker, closing)?;
+    Ok(notes)
 }

@@ -7,11 +7,14 @@ mod counted;
 mod device;
 mod fault;
 mod fields;
+mod keys;
 mod labels;
 mod lines;
 mod operation;
 mod orders;
+mod pairs;
 mod reading;
+mod rules;
 mod runner;
 mod script;
 mod spans;
@@ -64,5 +67,7 @@ fn status_of<R: Eprint>(rt: &R, ended: Result<(), RunFault>) -> io::Result<ExitC
     }
 }
 
+#[cfg(test)]
+mod reading_tests;
 #[cfg(test)]
 mod tests;

@@ -12,6 +12,7 @@ use crate::fault::Reason;
 use crate::labels::Labels;
 use crate::operation::{NewSpan, Operation, Parent, SpanCall, SpanKey};
 use crate::reading;
+use crate::reading::{Op, Stage};
 use crate::spans::Spans;
 use crate::stop::Stop;
 use span_id::{Fault, Id, Limits};
@@ -22,7 +23,7 @@ use std::alloc::Global;
 pub struct Script {
     pub spans: Spans,
     pub labels: Labels,
-    is_first: bool,
+    stage: Stage,
 }
 
 impl Script {
@@ -37,7 +38,7 @@ impl Script {
             Ok(spans) => Ok(Script {
                 spans,
                 labels: Labels::new(alloc),
-                is_first: true,
+                stage: Stage::AtStart,
             }),
             Err(_) => Err(Stop::Memory),
         }
@@ -47,13 +48,17 @@ impl Script {
     pub fn run_line(&mut self, alloc: Global, line: &[u8], text: &mut String) -> Result<(), Stop>
         ensures answer { OnOk result (AddsAnswer (string_bytes text.old) (string_bytes text.new)) }
     {
-        let value = reading::json(alloc, line)?;
+        let value = reading::json_value(alloc, line)?;
+        // Scripts have no layers, records and events yet.
+        if let Ok(Op::Layer | Op::Record | Op::Event) = reading::op_in(&value) {
+            return Err(Stop::Refused(Reason::NoSuchOp));
+        }
         let workers = self.spans.workers();
-        let operation = match reading::operation(alloc, &value, workers, self.is_first) {
+        let operation = match reading::operation(alloc, &value, workers, self.stage) {
             Ok(operation) => operation,
             Err(stop) => return Err(stop),
         };
-        self.is_first = false;
+        self.stage = Stage::Running;
         self.run(alloc, &operation, text)
     }
 
@@ -72,7 +77,9 @@ impl Script {
             Operation::New(new) => self.make(alloc, new, text),
             Operation::OnSpan { call, span, worker } => self.call(*call, span, *worker, text),
             Operation::Find(span) => self.find(span, text),
-            _ => Err(Stop::Refused(Reason::NoSuchOp)),
+            Operation::Layer(_) | Operation::Record { .. } | Operation::Event(_) => {
+                Err(Stop::Refused(Reason::NoSuchOp))
+            }
         }
     }
 

@@ -1,4 +1,4 @@
-use Rattle.std.proofs.Common.{◌≡◌, ◌∙◌, ◌<◌, List, [], not, length, get_or, sym, ap, map, arith}
+use Rattle.std.proofs.Common.{◌∙◌, ◌<◌, List, [], not, length, get_or, ap, map, arith}
 use Rattle.span_layers.specs.declared.note.Kind.TheVariants.{OnEnter}
 use Rattle.span_layers.specs.Note.{plain_note}
 use Rattle.span_stack.specs.Stack.{Stack, has, ids_of_each}

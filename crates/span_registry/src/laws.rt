@@ -1,0 +1,111 @@
+//! What every registry promises, in plain words: each function does nothing, and its contract is the promise.
+ghost use Rattle.std.specs.Prelude.{◌≡◌, ◌≢◌, ◌≤◌, ℕ, false, ◌&&◌, ◌↔◌, if◌then◌else◌, [], Some, None, IsTrue, All, AllPairs, count_by};
+ghost use Rattle.span_layers.specs.Filter.{admission_set};
+ghost use Rattle.span_forest.specs.Node.{Node};
+ghost use Rattle.span_forest.specs.Spans.{find, IsOpen, parent_of};
+ghost use Rattle.span_forest.specs.declared.span.Holder.TheVariants.{Handle};
+ghost use Rattle.span_forest.specs.Count.{total_held};
+ghost use Rattle.span_forest.specs.Holders.{held_in};
+ghost use Rattle.span_forest.specs.Live.{stands_in, is_live};
+ghost use Rattle.span_registry.specs.World.{IsWorld};
+ghost use Rattle.span_registry.specs.Request.{Request, Answer};
+ghost use Rattle.span_registry.specs.Core.{CoreView, IsAccepted};
+ghost use Rattle.span_registry.specs.History.{issued};
+ghost use Rattle.span_registry.specs.Closing.{closed_by, closed_in, gives_back, without_holder, tells_close, hears_close, notes_in};
+
+use crate::outlet::Outlet;
+use crate::registry::Core;
+use crate::state::State;
+
+/// The entries of each span are the workers that are inside it, each counted once.
+pub fn entries_are_the_workers_inside<O: Outlet>(core: &Core<O>)
+    ensures { IsWorld core.now.state.world }
+{
+    entries_agree(&core.state);
+}
+
+fn entries_agree<O: Outlet>(state: &State<O>)
+    ensures { IsWorld state.now.world }
+{
+    let _opened = &state.calls;
+}
+
+/// Where the total of handles and entries is 0, no span is open. The same where no span has a handle and no
+/// worker's stack has an entry.
+pub fn empty_where_nothing_is_held<O: Outlet>(core: &Core<O>)
+    ensures total { total_held core.now.state.world.spans ≡ 0 → core.now.state.world.spans ≡ [] }
+    ensures stacks { ((id : ℕ) → held_in Handle (find core.now.state.world.spans id) ≡ 0) →
+        All (λ stack. stack ≡ []) core.now.state.world.stacks → core.now.state.world.spans ≡ [] }
+{
+    entries_are_the_workers_inside(core);
+    core.calls();
+}
+
+/// Whichever call is accepted next: it closes exactly the spans that its answer lists, which only an exit and
+/// a release do. They are the open spans that are not live without the holder that the call gives back: no
+/// holder is left on them or below them. Each other span stays as it was, but for that holder. No span is listed
+/// twice, and none after its parent.
+pub fn release_closes_what_nothing_holds<O: Outlet>(core: &Core<O>)
+    ensures exact { (request : Request) (answer : Answer) (new : CoreView) (id : ℕ) →
+        IsAccepted core.now.state request answer new →
+        (IsTrue (stands_in id (closed_by answer))
+        ↔ (IsOpen core.now.state.world.spans id × (find new.world.spans id ≡ None))) }
+    ensures not_live { (request : Request) (answer : Answer) (new : CoreView) (id : ℕ) →
+        IsAccepted core.now.state request answer new →
+        IsOpen core.now.state.world.spans id →
+        (IsTrue (stands_in id (closed_by answer))
+        ↔ (is_live (without_holder core.now.state.world request) id ≡ false)) }
+    ensures others { (request : Request) (answer : Answer) (new : CoreView) (id : ℕ) →
+        IsAccepted core.now.state request answer new →
+        IsTrue (gives_back request) → (IsTrue (stands_in id (closed_by answer)) → ⊥) →
+        find new.world.spans id ≡ find (without_holder core.now.state.world request) id }
+    ensures once { (request : Request) (answer : Answer) (new : CoreView) →
+        IsAccepted core.now.state request answer new →
+        AllPairs (λ first later. first ≢ later) (closed_by answer) }
+    ensures child_first { (request : Request) (answer : Answer) (new : CoreView) →
+        IsAccepted core.now.state request answer new →
+        AllPairs (λ first later. parent_of core.now.state.world.spans later ≢ Some first) (closed_by answer) }
+{
+    entries_are_the_workers_inside(core);
+    core.calls();
+}
+
+/// Whichever call is accepted next: each span that closes is announced once to every layer that admits the
+/// span and wants closes, and to no other layer. A span that doesn't close is announced to none.
+pub fn closes_are_announced_once<O: Outlet>(core: &Core<O>)
+    ensures { (request : Request) (answer : Answer) (new : CoreView) (layer id : ℕ) →
+        (accepted : IsAccepted core.now.state request answer new) →
+        count_by (tells_close layer id) accepted.notes
+        ≡ (if stands_in id (closed_by answer) && hears_close core.now.state.rules core.now.state.world.spans layer id
+        then 1 else 0) }
+{
+    core.calls();
+}
+
+/// In the whole history no layer is told twice that a span closed, and none is told so of a span that didn't.
+pub fn no_close_is_told_twice<O: Outlet>(core: &Core<O>)
+    ensures { (layer id : ℕ) → count_by (tells_close layer id) (notes_in core.now.state.sent)
+        ≤ (if stands_in id (closed_in core.now.state.sent) then 1 else 0) }
+{
+    core.calls();
+}
+
+/// The open spans are those whose id was issued and that didn't close. No id was issued twice. So a span that
+/// closed is never open again.
+pub fn open_spans_were_made_and_not_closed<O: Outlet>(core: &Core<O>)
+    ensures exact { (id : ℕ) → (IsOpen core.now.state.world.spans id
+        ↔ (IsTrue (stands_in id (issued core.now.state.sent)) × (IsTrue (stands_in id (closed_in core.now.state.sent)) → ⊥))) }
+    ensures once { AllPairs (λ first later. first ≢ later) (issued core.now.state.sent) }
+    ensures closed { (id : ℕ) → IsTrue (stands_in id (closed_in core.now.state.sent)) →
+        find core.now.state.world.spans id ≡ None }
+{
+    core.calls();
+}
+
+/// The layers that admit an open span are those whose rule admits its target and its level.
+pub fn layers_admit_spans_by_their_rules<O: Outlet>(core: &Core<O>)
+    ensures { (id : ℕ) (node : Node) → find core.now.state.world.spans id ≡ Some node →
+        node.bits ≡ admission_set core.now.state.rules node.target node.level }
+{
+    core.calls();
+}
