@@ -1,12 +1,16 @@
 -- The spans of the code's table by their slots.
-use Rattle.std.proofs.Common.{◌≡◌, ℕ, ◌||◌, List, [], ◌∷◌, Option, Some, None, IsSome, IsTrue, ◌==◌, refl, sym, ap, subst}
+use Rattle.std.proofs.Common.{◌≡◌, ℕ, ◌+◌, ◌<◌, true, false, ◌||◌, List, [], ◌∷◌, ◌++◌, length, set, Option, Some, None, IsSome, IfSome, IsTrue, ◌==◌, refl, sym, ap, subst, inl, inr, arith}
+use Rattle.std.specs.Prelude.{slice_index, nat_lt}
+use Rattle.std.proofs.lemmas.Bool.{cases_lt, lt-ltb}
+use Rattle.std.proofs.lemmas.Bool.Decides.{eqb_tells, nat_tests}
+use Rattle.std.proofs.lemmas.List.{get_or-set_same, get_or-set_other, get_or_append_left, get_or_past}
 use Rattle.std.specs.Option.{option_map}
 use Rattle.std.specs.List.{list_any}
 use Rattle.span_id.specs.Id.{slot_of}
-use Rattle.span_slots.specs.Table.{Table, value_at, next_id, IsFull, is_occupied, is_retired}
+use Rattle.span_slots.specs.Table.{Table, issue, value_at, next_id, IsFull, is_occupied, is_retired}
 use Rattle.span_forest.specs.declared.span.Span.{Span}
-use Rattle.span_forest.specs.Node.{node_of}
-use Rattle.span_forest.specs.Spans.{IsOpen, nodes_of}
+use Rattle.span_forest.specs.Node.{Node, node_of}
+use Rattle.span_forest.specs.Spans.{find, IsOpen, nodes_of}
 use Rattle.span_forest.specs.Forest.{table_of, next_span_id}
 use Rattle.span_forest.proofs.Nodes.{find-nodes}
 use Rattle.span_forest.proofs.Counts.{view_of}
@@ -31,3 +35,35 @@ full_nodes t max h = (
   λ e slot low. subst (λ b. IsTrue (b || is_retired t slot)) (sym (occupied_nodes t max slot)) (h.0 e slot low),
   λ full. h.1 (λ slot low. subst (λ b. IsTrue (b || is_retired t slot)) (occupied_nodes t max slot) (full slot low)),
 )
+
+absent : (o : Option Node) → (IsSome o → ⊥) → o ≡ None
+absent None h = refl
+absent (Some node) h = absurd (h refl)
+
+-- an id that was never issued isn't open, where each open one was issued
+pub never_open : (next : Option ℕ) (es : List (ℕ × Span)) (Issued : ℕ → Type 0) → IfSome next (λ id. Issued id → ⊥) → ((id : ℕ) → IsSome (value_at es id) → Issued id) → IfSome next (λ id. find (nodes_of es) id ≡ None)
+never_open None es Issued fresh issued = tt
+never_open (Some id) es Issued fresh issued = absent (find (nodes_of es) id) (λ o. fresh (issued id (open_value es id o)))
+
+-- one id more of a slot takes none away
+pub issue_more : (given : List ℕ) (slot k n : ℕ) → n < slice_index given k → n < slice_index (issue given slot) k
+issue_more given slot k n before =
+    elim (cases_lt slot (length given)) [
+      | inl h ↦ (let t : nat_lt slot (length given) ≡ true = lt-ltb slot (length given) h in rw t (at h))
+      | inr h ↦ (let t : nat_lt slot (length given) ≡ false = grind (arith, nat_tests) in rw t past)
+    ]
+  where
+    at : slot < length given → n < slice_index (set given slot (slice_index given slot + 1)) k
+    at h =
+        elim (eqb_tells k slot) [
+          | inl t ↦ (let same : slice_index (set given slot (slice_index given slot + 1)) slot ≡ slice_index given slot + 1 = get_or-set_same given slot (slice_index given slot + 1) 0 h in
+              subst (λ (i : ℕ). n < slice_index (set given slot (slice_index given slot + 1)) i) (sym t.1) (let b : n < slice_index given slot = subst (λ (i : ℕ). n < slice_index given i) t.1 before in omega (arith, same, b)))
+          | inr t ↦ (let other : slice_index (set given slot (slice_index given slot + 1)) k ≡ slice_index given k = get_or-set_other given slot k (slice_index given slot + 1) 0 t.1 in omega (arith, other, before))
+        ]
+
+    past : n < slice_index (given ++ 1 ∷ []) k
+    past =
+        elim (cases_lt k (length given)) [
+          | inl h ↦ (let same : slice_index (given ++ 1 ∷ []) k ≡ slice_index given k = get_or_append_left given (1 ∷ []) 0 k h in omega (arith, same, before))
+          | inr h ↦ (let none : slice_index given k ≡ 0 = get_or_past given k 0 h in absurd (omega (arith, none, before)))
+        ]

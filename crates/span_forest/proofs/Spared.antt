@@ -2,19 +2,19 @@
 use Rattle.std.proofs.Common.{◌≡◌, ℕ, zero, suc, ◌<◌, Bool, true, false, not, List, [], ◌∷◌, length, filter, take, Option, Some, None, IsSome, IsTrue, refl, sym, ap, ◌∙◌, inl, inr, arith}
 use Rattle.std.proofs.lemmas.Bool.Decides.{nat_tests, eqb_tells}
 use Rattle.std.proofs.lemmas.Bool.{cases_Bool, false≢true}
-use Rattle.span_forest.specs.declared.span.Span.{Span}
 use Rattle.span_forest.specs.declared.span.Holder.{Holder}
 use Rattle.span_forest.specs.Node.{Node}
-use Rattle.span_forest.specs.Spans.{Spans, find, IsOpen, parent_of, nodes_of, changed}
+use Rattle.span_forest.specs.Spans.{Spans, find, IsOpen, parent_of, changed}
 use Rattle.span_forest.specs.Walk.{walk_within, walk}
-use Rattle.span_forest.specs.Count.{holders, is_held, holders_in}
+use Rattle.span_forest.specs.Count.{holders, is_held, holders_in, written_count}
 use Rattle.span_forest.specs.Live.{stands_in, is_live, live_part}
-use Rattle.span_forest.specs.Holders.{IsHeld, with_less}
+use Rattle.span_forest.specs.Holders.{with_less}
 use Rattle.span_forest.specs.Release.{taken, closing_list, released}
-use Rattle.span_forest.specs.Invariant.{IsSettled}
+use Rattle.span_forest.specs.Forest.{IsForest}
+use Rattle.span_forest.proofs.Finds.{open_from_node}
 use Rattle.span_forest.proofs.Ranks.{IsRanked, ranked}
-use Rattle.span_forest.proofs.Walks.{OnWalk, OnWalk-up, Live-from_is_live, is_live-from_Live, all_live, stands-from_OnWalk, Ends-from_ranks, here, above}
-use Rattle.span_forest.proofs.Nodes.{with_less-parent, find-changed_other, parent_of-changed, IsForest-changed, changed_open, held_open}
+use Rattle.span_forest.proofs.Walks.{OnWalk, OnWalk-up, Live-from_is_live, is_live-from_Live, all_live, OnWalk-from_stands, stands-from_OnWalk, Ends-from_ranks, here, above}
+use Rattle.span_forest.proofs.Nodes.{with_less-parent, find-changed_other, parent_of-changed, IsForest-changed, changed_open, IsOpen-changed}
 use Rattle.span_forest.proofs.Totals.{length-changed}
 
 filtered : (p : ℕ → Bool) (s : ℕ) (xs : List ℕ) → stands_in s (filter p xs) ≡ true → p s ≡ true
@@ -37,8 +37,19 @@ stands_filtered p s (x ∷ xs) h k =
           elim (cases_Bool (p x)) [ inl t ↦ rw (t, q.0) r | inr t ↦ rw t r ])
     ]
 
+stands_unfiltered : (p : ℕ → Bool) (s : ℕ) (xs : List ℕ) → stands_in s (filter p xs) ≡ true → stands_in s xs ≡ true
+stands_unfiltered p s [] h = cc
+stands_unfiltered p s (x ∷ xs) h =
+    elim (eqb_tells x s) [
+      | inl q ↦ rw q.0 refl
+      | inr q ↦ elim (cases_Bool (p x)) [
+        | inl t ↦ (let r = stands_unfiltered p s xs (rw (t, q.0) at h) in rw q.0 r)
+        | inr t ↦ (let r = stands_unfiltered p s xs (rw t at h) in rw q.0 r)
+      ]
+    ]
+
 -- a span of a filtered map passes the test
-kept_passes : (f : ℕ → Bool) (spans : Spans) (s : ℕ) → IsSome (find (filter (λ e. f e.0) spans) s) → f s ≡ true
+pub kept_passes : (f : ℕ → Bool) (spans : Spans) (s : ℕ) → IsSome (find (filter (λ e. f e.0) spans) s) → f s ≡ true
 kept_passes f [] s o = cc
 kept_passes f (e ∷ es) s o =
     elim (cases_Bool (f e.0)) [
@@ -49,7 +60,7 @@ kept_passes f (e ∷ es) s o =
       | inr t ↦ kept_passes f es s (rw t at o)
     ]
 
-passing_kept : (f : ℕ → Bool) (spans : Spans) (s : ℕ) → f s ≡ true → find (filter (λ e. f e.0) spans) s ≡ find spans s
+pub passing_kept : (f : ℕ → Bool) (spans : Spans) (s : ℕ) → f s ≡ true → find (filter (λ e. f e.0) spans) s ≡ find spans s
 passing_kept f [] s h = refl
 passing_kept f (e ∷ es) s h =
     let r = passing_kept f es s h in
@@ -87,10 +98,15 @@ held_live spans s w h = held_at (find spans s) refl h where
   held_at (Some node) e k = is_live-from_Live spans s w (record { holder = s; node = node; found = e; held = held_node node k; on_walk = here })
 
 -- the parent of a live span is live
-parent_live : (spans : Spans) (c p : ℕ) → IsRanked spans → parent_of spans c ≡ Some p → is_live spans c ≡ true → is_live spans p ≡ true
+pub parent_live : (spans : Spans) (c p : ℕ) → IsRanked spans → parent_of spans c ≡ Some p → is_live spans c ≡ true → is_live spans p ≡ true
 parent_live spans c p w e h =
     let v = Live-from_is_live spans c w h in
     is_live-from_Live spans p w (record { holder = v.holder; node = v.node; found = v.found; held = v.held; on_walk = OnWalk-up spans v.holder c p v.on_walk e })
+
+-- all spans of an open span's walk are open
+on_walk_open : (spans : Spans) → IsRanked spans → (u s : ℕ) → OnWalk spans u s → IsOpen spans u → IsOpen spans s
+on_walk_open spans w u s here o = o
+on_walk_open spans w u s (above p e r) o = on_walk_open spans w p s r (w.parents_open u p e)
 
 OnWalk-changed : (f : Node → Node) → ((n : Node) → (f n).parent ≡ n.parent) → (spans : Spans) (id u s : ℕ) → OnWalk spans u s → OnWalk (changed f spans id) u s
 OnWalk-changed f k spans id u s here = here
@@ -122,60 +138,82 @@ filter_first q spans up (suc n) (Some i) =
 dead_parent : (spans : Spans) → IsRanked spans → (c p : ℕ) → parent_of spans c ≡ Some p → not (is_live spans c) ≡ false → not (is_live spans p) ≡ false
 dead_parent spans w c p e h = rw (parent_live spans c p w e (not_false (is_live spans c) h)) refl
 
-module _ (es : List (ℕ × Span)) (w : IsSettled es) (id : ℕ) (holder : Holder) (held : IsHeld (nodes_of es) id holder) where
-  left_ranked : IsRanked (taken (nodes_of es) id holder)
-  left_ranked = ranked (taken (nodes_of es) id holder) (IsForest-changed (with_less holder) (with_less-parent holder) (nodes_of es) id w.forest)
+module _ (spans : Spans) (forest : IsForest spans) (positive : (j : ℕ) → IsOpen spans j → 0 < written_count spans j) (id : ℕ) (holder : Holder) where
+  left_ranked : IsRanked (taken spans id holder)
+  left_ranked = ranked (taken spans id holder) (IsForest-changed (with_less holder) (with_less-parent holder) spans id forest)
 
-  listed_dead : (s : ℕ) → stands_in s (closing_list (nodes_of es) id holder) ≡ true → is_live (taken (nodes_of es) id holder) s ≡ false
-  listed_dead s h = not_true (is_live (taken (nodes_of es) id holder) s) (filtered (λ x. not (is_live (taken (nodes_of es) id holder) x)) s (walk (taken (nodes_of es) id holder) id) h)
+  listed_dead : (s : ℕ) → stands_in s (closing_list spans id holder) ≡ true → is_live (taken spans id holder) s ≡ false
+  listed_dead s h = not_true (is_live (taken spans id holder) s) (filtered (λ x. not (is_live (taken spans id holder) x)) s (walk (taken spans id holder) id) h)
 
   -- a span that keeps a holder isn't listed
-  pub holder_spared : (s : ℕ) → 0 < holders_in (find (taken (nodes_of es) id holder) s) → IsTrue (stands_in s (closing_list (nodes_of es) id holder)) → ⊥
-  holder_spared s h t = both _ (held_live (taken (nodes_of es) id holder) s left_ranked h) (listed_dead s t)
+  pub holder_spared : (s : ℕ) → 0 < holders_in (find (taken spans id holder) s) → IsTrue (stands_in s (closing_list spans id holder)) → ⊥
+  holder_spared s h t = both _ (held_live (taken spans id holder) s left_ranked h) (listed_dead s t)
 
   -- nor is one with a child that stays open
-  pub child_spared : (child parent : ℕ) → parent_of (nodes_of es) child ≡ Some parent → IsOpen (released (nodes_of es) id holder) child → IsTrue (stands_in parent (closing_list (nodes_of es) id holder)) → ⊥
+  pub child_spared : (child parent : ℕ) → parent_of spans child ≡ Some parent → IsOpen (released spans id holder) child → IsTrue (stands_in parent (closing_list spans id holder)) → ⊥
   child_spared child parent e o t =
-      let m = taken (nodes_of es) id holder in
-      let e2 : parent_of m child ≡ Some parent = parent_of-changed (with_less holder) (with_less-parent holder) (nodes_of es) id child ∙ e in
+      let m = taken spans id holder in
+      let e2 : parent_of m child ≡ Some parent = parent_of-changed (with_less holder) (with_less-parent holder) spans id child ∙ e in
       both _ (parent_live m child parent left_ranked e2 (kept_passes (is_live m) m child o)) (listed_dead parent t)
 
-  listed_gone : (s : ℕ) → IsTrue (stands_in s (closing_list (nodes_of es) id holder)) → find (released (nodes_of es) id holder) s ≡ None
+  listed_gone : (s : ℕ) → IsTrue (stands_in s (closing_list spans id holder)) → find (released spans id holder) s ≡ None
   listed_gone s t =
-      let m = taken (nodes_of es) id holder in
+      let m = taken spans id holder in
       not_some (find (live_part m) s) (λ o. both _ (kept_passes (is_live m) m s o) (listed_dead s t))
 
-  gone_dead : (s : ℕ) → IsOpen (nodes_of es) s → find (released (nodes_of es) id holder) s ≡ None → is_live (taken (nodes_of es) id holder) s ≡ false
+  gone_dead : (s : ℕ) → IsOpen spans s → find (released spans id holder) s ≡ None → is_live (taken spans id holder) s ≡ false
   gone_dead s o h =
-      let m = taken (nodes_of es) id holder in
+      let m = taken spans id holder in
       elim (cases_Bool (is_live m s)) [
-        | inl t ↦ absurd (none_open (find m s) (sym (passing_kept (is_live m) m s t) ∙ h) (changed_open (with_less holder) (nodes_of es) id s o))
+        | inl t ↦ absurd (none_open (find m s) (sym (passing_kept (is_live m) m s t) ∙ h) (changed_open (with_less holder) spans id s o))
         | inr t ↦ t
       ]
 
-  gone_listed : (s : ℕ) → IsOpen (nodes_of es) s → find (released (nodes_of es) id holder) s ≡ None → IsTrue (stands_in s (closing_list (nodes_of es) id holder))
-  gone_listed s o h =
-      let spans = nodes_of es in
+  -- an open span that is dead without the holder is listed
+  dead_listed : (s : ℕ) → IsOpen spans s → is_live (taken spans id holder) s ≡ false → IsTrue (stands_in s (closing_list spans id holder))
+  dead_listed s o dead =
       let m = taken spans id holder in
-      let r = ranked spans w.forest in
-      let dead = gone_dead s o h in
-      let v = Live-from_is_live spans s r (all_live spans r w.positive s o) in
+      let r = ranked spans forest in
+      let v = Live-from_is_live spans s r (all_live spans r positive s o) in
       let on_walk = OnWalk-changed (with_less holder) (with_less-parent holder) spans id v.holder s v.on_walk in
       elim (eqb_tells v.holder id) [
         | inl q ↦ (let here_walk : OnWalk m id s = rw q.1 at on_walk in
-            let stands = stands-from_OnWalk m id s here_walk (length m) (Ends-from_ranks m left_ranked id (changed_open (with_less holder) spans id id (held_open spans id holder held))) in
+            let here_open : IsOpen spans id = rw q.1 at (open_from_node spans v.holder v.node v.found) in
+            let stands = stands-from_OnWalk m id s here_walk (length m) (Ends-from_ranks m left_ranked id (changed_open (with_less holder) spans id id here_open)) in
             stands_filtered (λ x. not (is_live m x)) s (walk m id) stands (rw dead refl))
         | inr q ↦ absurd (both _ (is_live-from_Live m s left_ranked (record { holder = v.holder; node = v.node; found = find-changed_other (with_less holder) spans id v.holder q.1 ∙ v.found; held = v.held; on_walk = on_walk })) dead)
       ]
 
   -- exactly the listed spans are gone
-  pub gone_exactly : (s : ℕ) → IsOpen (nodes_of es) s → (IsTrue (stands_in s (closing_list (nodes_of es) id holder)) → find (released (nodes_of es) id holder) s ≡ None) × (find (released (nodes_of es) id holder) s ≡ None → IsTrue (stands_in s (closing_list (nodes_of es) id holder)))
-  gone_exactly s o = (listed_gone s, gone_listed s o)
+  pub gone_exactly : (s : ℕ) → IsOpen spans s → (IsTrue (stands_in s (closing_list spans id holder)) → find (released spans id holder) s ≡ None) × (find (released spans id holder) s ≡ None → IsTrue (stands_in s (closing_list spans id holder)))
+  gone_exactly s o = (listed_gone s, λ h. dead_listed s o (gone_dead s o h))
+
+  -- which are those that are no longer live
+  pub dead_exactly : (s : ℕ) → IsOpen spans s → (IsTrue (stands_in s (closing_list spans id holder)) → is_live (taken spans id holder) s ≡ false) × (is_live (taken spans id holder) s ≡ false → IsTrue (stands_in s (closing_list spans id holder)))
+  dead_exactly s o = (listed_dead s, dead_listed s o)
+
+  -- each of them was open
+  pub listed_open : IsOpen spans id → (s : ℕ) → IsTrue (stands_in s (closing_list spans id holder)) → IsOpen spans s
+  listed_open o s t =
+      let m = taken spans id holder in
+      let stands = stands_unfiltered (λ x. not (is_live m x)) s (walk m id) t in
+      let k = OnWalk-from_stands m s (length m) (Some id) stands in
+      let same : k.0 ≡ id = (let q = k.1 in cc) in
+      IsOpen-changed (with_less holder) spans id s (on_walk_open m left_ranked k.0 s k.2 (rw same (changed_open (with_less holder) spans id id o)))
+
+  -- and each other span stays as it is without the holder
+  pub others_stay : (s : ℕ) → (IsTrue (stands_in s (closing_list spans id holder)) → ⊥) → find (released spans id holder) s ≡ find (taken spans id holder) s
+  others_stay s unlisted =
+      let m = taken spans id holder in
+      elim (cases_Bool (is_live m s)) [
+        | inl t ↦ passing_kept (is_live m) m s t
+        | inr t ↦ not_some (find (live_part m) s) (λ o. both _ (kept_passes (is_live m) m s o) t)
+            ∙ sym (not_some (find m s) (λ o. unlisted (dead_listed s (IsOpen-changed (with_less holder) spans id s o) t)))
+      ]
 
   -- and the list is the first part of the walk
-  pub list_first : closing_list (nodes_of es) id holder ≡ take (length (closing_list (nodes_of es) id holder)) (walk (nodes_of es) id)
+  pub list_first : closing_list spans id holder ≡ take (length (closing_list spans id holder)) (walk spans id)
   list_first =
-      let spans = nodes_of es in
       let m = taken spans id holder in
       filter_first (λ x. not (is_live m x)) m (dead_parent m left_ranked) (length m) (Some id)
       ∙ ap (take (length (closing_list spans id holder))) (ap (λ n. walk_within n m (Some id)) (length-changed (with_less holder) spans id) ∙ walk_same (with_less holder) (with_less-parent holder) spans id (length spans) (Some id))

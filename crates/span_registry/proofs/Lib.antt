@@ -5,4 +5,7 @@ pub mod Accepting
 pub mod Telling
 pub mod NewSpans
 pub mod Counted
+pub mod Keeping
+pub mod Deciding
+pub mod Outcomes
 mod Examples

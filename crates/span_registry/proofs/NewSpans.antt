@@ -1,15 +1,15 @@
 -- A new span: its path and its notes, as they can be said before it is there.
 use Rattle.std.proofs.Common.{◌≡◌, ◌≢◌, ℕ, zero, suc, ◌+◌, ◌<◌, ◌==◌, Bool, true, false, cond, ◌&&◌, ◌||◌, List, [], ◌∷◌, ◌++◌, length, map, filter, reverse, get_or, set, Option, Some, None, refl, sym, ap, ◌∙◌, subst, inl, inr, arith}
-use Rattle.std.specs.Prelude.{is_some, MatchOption, slice_index, drop, nat_lt}
+use Rattle.std.specs.Prelude.{is_some, MatchOption, IfSome, slice_index, drop, nat_lt}
 use Rattle.std.specs.Option.{option_map_or}
 use Rattle.std.specs.List.{range_with_len}
-use Rattle.std.proofs.lemmas.Bool.{cases_Bool, cases_lt, lt-ltb, false≢true}
-use Rattle.std.proofs.lemmas.Bool.Decides.{eqb_tells, nat_tests}
-use Rattle.std.proofs.lemmas.List.{reverse-append, get_or-set_same, get_or-set_other, get_or_append_left, get_or_past}
+use Rattle.std.proofs.lemmas.Bool.{cases_Bool, false≢true}
+use Rattle.std.proofs.lemmas.Bool.Decides.{eqb_tells}
+use Rattle.std.proofs.lemmas.List.{reverse-append}
 use Rattle.span_id.specs.Bits.{has_bit}
 use Rattle.span_id.specs.Id.{slot_of, generation_of, IsId}
 use Rattle.span_id.specs.declared.limits.Limits.{Limits}
-use Rattle.span_slots.specs.Table.{issue}
+use Rattle.span_slots.specs.Table.{issue, IsIssued}
 use Rattle.span_layers.specs.declared.note.Kind.TheVariants.{OnNew}
 use Rattle.span_layers.specs.Note.{PlainNote, KeyValue}
 use Rattle.span_layers.specs.Filter.{Filter, layer_wants}
@@ -17,18 +17,19 @@ use Rattle.span_forest.specs.Node.{Node}
 use Rattle.span_forest.specs.Spans.{Spans, find, IsOpen, with_node, parent_in, parent_of}
 use Rattle.span_forest.specs.declared.span.Holder.TheVariants.{Entry}
 use Rattle.span_forest.specs.Holders.{held_in}
-use Rattle.span_forest.specs.Forest.{ForestView}
+use Rattle.span_forest.specs.Forest.{ForestView, table_of, next_span_id}
 use Rattle.span_forest.specs.Live.{stands_in}
 use Rattle.span_forest.specs.Add.{added}
-use Rattle.span_forest.specs.Walk.{walk, walk_within}
+use Rattle.span_forest.specs.Walk.{walk_within}
 use Rattle.span_forest.specs.Path.{path, names_for, name_for}
 use Rattle.span_forest.proofs.Adds.{find-with_same, find-with_other}
-use Rattle.span_registry.specs.World.{World, IsWorld}
-use Rattle.span_registry.specs.Request.{PlainMeta, new_span, made}
+use Rattle.span_forest.proofs.Slotted.{issue_more}
+use Rattle.span_registry.specs.World.{IsWorld}
+use Rattle.span_registry.specs.Request.{PlainMeta, Request, new_span, made}
 use Rattle.span_registry.specs.Batch.{PlainBatch}
 use Rattle.span_registry.specs.Step.{ParentIsOpen, IsStep, is_wanted, made_node}
 use Rattle.span_registry.specs.History.{issued}
-use Rattle.span_registry.specs.NextId.{with_answer, slots_after}
+use Rattle.span_registry.specs.NextId.{with_answer, slots_after, next_id}
 use Rattle.span_registry.specs.Happening.{Happening, at_span, is_told, note_of, notes_of, notes_of_all, path_at}
 use Rattle.span_registry.specs.State.{first_note, is_told_new, IsSound, forest_with}
 use Rattle.span_registry.proofs.Soundness.{sound_more}
@@ -97,14 +98,13 @@ and_first true b h = refl
 and_first false b h = h
 
 -- the notes of a new span
-pub new_notes : (rules : List Filter) (worker id : ℕ) (spans new_spans : Spans) (node : Node) (fields : List KeyValue) (first notes : List PlainNote)
+pub new_notes : (rules : List Filter) (worker id : ℕ) (spans new_spans : Spans) (node : Node) (fields : List KeyValue) (notes : List PlainNote)
     → find spans id ≡ None → ParentsOpen spans → ParentIsOpen spans node.parent → new_spans ≡ with_node spans id node
-    → first ≡ []
-    → notes ≡ first ++ map (first_note spans worker id node.parent node.name fields) (filter (is_told_new rules node.bits) (range_with_len 0 (length rules)))
+    → notes ≡ map (first_note spans worker id node.parent node.name fields) (filter (is_told_new rules node.bits) (range_with_len 0 (length rules)))
     → notes ≡ notes_of_all rules worker (at_span new_spans OnNew id fields ∷ [])
-new_notes rules worker id spans new_spans node fields first notes gone whole there are none told =
-    one_happening rules worker (at_span new_spans OnNew id fields) first notes none
-    (told ∙ ap (λ xs. first ++ xs) (all ∙ ap (λ s. notes_of rules worker (at_span s OnNew id fields)) (sym are)))
+new_notes rules worker id spans new_spans node fields notes gone whole there are told =
+    one_happening rules worker (at_span new_spans OnNew id fields) [] notes refl
+    (told ∙ all ∙ ap (λ s. notes_of rules worker (at_span s OnNew id fields)) (sym are))
   where
     here : find (with_node spans id node) id ≡ Some node
     here = find-with_same spans id node gone
@@ -128,29 +128,6 @@ not_open spans id Issued issued never = by_case (find spans id) refl
     by_case : (o : Option Node) → find spans id ≡ o → o ≡ None
     by_case None is = refl
     by_case (Some node) is = absurd (never (issued (ap is_some is)))
-
--- one id more of a slot takes none away
-pub issue_more : (given : List ℕ) (slot k n : ℕ) → n < slice_index given k → n < slice_index (issue given slot) k
-issue_more given slot k n before =
-    elim (cases_lt slot (length given)) [
-      | inl h ↦ (let t : nat_lt slot (length given) ≡ true = lt-ltb slot (length given) h in rw t (at h))
-      | inr h ↦ (let t : nat_lt slot (length given) ≡ false = grind (arith, nat_tests) in rw t past)
-    ]
-  where
-    at : slot < length given → n < slice_index (set given slot (slice_index given slot + 1)) k
-    at h =
-        elim (eqb_tells k slot) [
-          | inl t ↦ (let same : slice_index (set given slot (slice_index given slot + 1)) slot ≡ slice_index given slot + 1 = get_or-set_same given slot (slice_index given slot + 1) 0 h in
-              subst (λ (i : ℕ). n < slice_index (set given slot (slice_index given slot + 1)) i) (sym t.1) (let b : n < slice_index given slot = subst (λ (i : ℕ). n < slice_index given i) t.1 before in omega (arith, same, b)))
-          | inr t ↦ (let other : slice_index (set given slot (slice_index given slot + 1)) k ≡ slice_index given k = get_or-set_other given slot k (slice_index given slot + 1) 0 t.1 in omega (arith, other, before))
-        ]
-
-    past : n < slice_index (given ++ 1 ∷ []) k
-    past =
-        elim (cases_lt k (length given)) [
-          | inl h ↦ (let same : slice_index (given ++ 1 ∷ []) k ≡ slice_index given k = get_or_append_left given (1 ∷ []) 0 k h in omega (arith, same, before))
-          | inr h ↦ (let none : slice_index given k ≡ 0 = get_or_past given k 0 h in absurd (omega (arith, none, before)))
-        ]
 
 pub world_new : (spans : Spans) (id : ℕ) (node : Node) (stacks : List (List ℕ)) → find spans id ≡ None → node.entries ≡ 0 → IsWorld (record { spans = spans; stacks = stacks }) → IsWorld (record { spans = with_node spans id node; stacks = stacks })
 world_new spans id node stacks gone none whole = record { entered = λ j. same j ∙ whole.entered j }
@@ -193,7 +170,18 @@ pub not_in_history : (limits : Limits) (rules : List Filter) (forest : ForestVie
 not_in_history limits rules forest stacks calls sent id sound never =
     elim (cases_Bool (stands_in id (issued sent))) [ inl t ↦ absurd (never (sound.counted id t)) | inr t ↦ t ]
 
-pub sound_new : (limits : Limits) (rules : List Filter) (forest new_forest : ForestView) (stacks : List (List ℕ)) (calls : ℕ) (old mid new : List PlainBatch) (worker id : ℕ) (meta written_meta : PlainMeta) (fields written : List KeyValue) (parent : Option ℕ) (notes : List PlainNote)
+-- the next id of sound parts is new: it is the forest's, of which that is known
+pub next_is_new : (limits : Limits) (rules : List Filter) (forest : ForestView) (stacks : List (List ℕ)) (calls : ℕ) (sent : List PlainBatch) → IsSound limits forest stacks rules calls sent
+    → IfSome (next_span_id forest) IsId → IfSome (next_span_id forest) (λ id. IsIssued (table_of forest) id → ⊥)
+    → IfSome (next_id limits.slots limits.last_generation sent) (λ id. IsId id × (stands_in id (issued sent) ≡ false))
+next_is_new limits rules forest stacks calls sent sound in_layout never =
+    subst (λ (o : Option ℕ). IfSome o (λ id. IsId id × (stands_in id (issued sent) ≡ false))) (ap next_span_id sound.forest_is) (by_case (next_span_id forest) in_layout never)
+  where
+    by_case : (o : Option ℕ) → IfSome o IsId → IfSome o (λ id. IsIssued (table_of forest) id → ⊥) → IfSome o (λ id. IsId id × (stands_in id (issued sent) ≡ false))
+    by_case None there unissued = tt
+    by_case (Some id) there unissued = (there, not_in_history limits rules forest stacks calls sent id sound unissued)
+
+pub sound_new : (limits : Limits) (rules : List Filter) (forest new_forest : ForestView) (stacks : List (List ℕ)) (calls : ℕ) (old mid new : List PlainBatch) (worker id : ℕ) (meta : PlainMeta) (fields : List KeyValue) (parent : Option ℕ) (written : Request) (notes : List PlainNote)
     → IsSound limits forest stacks rules calls old
     → IsId id
     → (generation_of id < slice_index forest.given (slot_of id) → ⊥)
@@ -203,10 +191,10 @@ pub sound_new : (limits : Limits) (rules : List Filter) (forest new_forest : For
     → find forest.spans id ≡ None
     → new_forest ≡ added forest id (made_node rules meta fields parent)
     → notes ≡ notes_of_all rules worker (at_span new_forest.spans OnNew id fields ∷ [])
-    → written_meta ≡ meta → written ≡ fields
-    → mid ≡ old → new ≡ mid ++ (record { request = new_span worker written_meta written parent; answer = made id; notes = notes }) ∷ []
+    → written ≡ new_span worker meta fields parent
+    → mid ≡ old → new ≡ mid ++ (record { request = written; answer = made id; notes = notes }) ∷ []
     → IsSound limits new_forest stacks rules (calls + 1) new
-sound_new limits rules forest new_forest stacks calls old mid new worker id meta written_meta fields written parent notes sound in_layout never now_issued wanted there gone forest_is notes_are meta_is fields_are same sent =
+sound_new limits rules forest new_forest stacks calls old mid new worker id meta fields parent written notes sound in_layout never now_issued wanted there gone forest_is notes_are written_is same sent =
     let node = made_node rules meta fields parent in
     let spans_are = ap (λ f. f.spans) forest_is in
     let given_is : new_forest.given ≡ issue forest.given (slot_of id) = ap (λ f. f.given) forest_is in
@@ -218,4 +206,4 @@ sound_new limits rules forest new_forest stacks calls old mid new worker id meta
     refl
     (subst (λ (spans : Spans). IsWorld (record { spans = spans; stacks = stacks })) (sym spans_are) (world_new forest.spans id node stacks gone refl sound.world))
     (step_new rules (issued old) forest.spans new_forest.spans stacks worker id meta fields parent notes in_layout (not_in_history limits rules forest stacks calls old id sound never) wanted there spans_are notes_are)
-    same (sent ∙ (λ j. mid ++ (record { request = new_span worker (meta_is j) (fields_are j) parent; answer = made id; notes = notes }) ∷ []))
+    same (sent ∙ ap (λ (request : Request). mid ++ (record { request = request; answer = made id; notes = notes }) ∷ []) written_is)

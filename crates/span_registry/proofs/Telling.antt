@@ -83,20 +83,18 @@ closes_told rules worker spans listed closed first notes none same are =
     ∙ ap (λ ids. flat_map (notes_of rules worker) (map (close_of spans) ids)) same
 
 -- the notes of an event
-pub event_notes : (rules : List Filter) (worker : ℕ) (spans : Spans) (stack seen : List ℕ) (bits admitted : ℕ) (meta : PlainMeta) (message : List ℕ) (fields : List KeyValue) (first notes : List PlainNote)
-    → first ≡ [] → seen ≡ stack → bits ≡ admitted
-    → notes ≡ first ++ notes_of rules worker (event_at spans seen bits meta.level message fields)
+pub event_notes : (rules : List Filter) (worker : ℕ) (spans : Spans) (stack seen : List ℕ) (bits admitted : ℕ) (meta : PlainMeta) (message : List ℕ) (fields : List KeyValue) (notes : List PlainNote)
+    → seen ≡ stack → bits ≡ admitted
+    → notes ≡ notes_of rules worker (event_at spans seen bits meta.level message fields)
     → notes ≡ notes_of_all rules worker (event_at spans stack admitted meta.level message fields ∷ [])
-event_notes rules worker spans stack seen bits admitted meta message fields first notes none same bits_are are =
-    one_happening rules worker (event_at spans stack admitted meta.level message fields) first notes none
-    (are ∙ (λ j. first ++ notes_of rules worker (event_at spans (same j) (bits_are j) meta.level message fields)))
+event_notes rules worker spans stack seen bits admitted meta message fields notes same bits_are are =
+    one_happening rules worker (event_at spans stack admitted meta.level message fields) [] notes refl
+    (are ∙ (λ j. notes_of rules worker (event_at spans (same j) (bits_are j) meta.level message fields)))
 
 -- a turn of a loop over the layers
-pub pushed_more : (f : ℕ → PlainNote) (p : ℕ → Bool) (layer : ℕ) (first before after : List PlainNote)
-    → before ≡ first ++ map f (filter p (range_with_len 0 layer))
+pub layer_more : (f : ℕ → PlainNote) (p : ℕ → Bool) (layer : ℕ) (before after : List PlainNote)
+    → before ≡ map f (filter p (range_with_len 0 layer))
     → after ≡ before ++ cond (p layer) (f layer ∷ []) []
-    → after ≡ first ++ map f (filter p (range_with_len 0 (layer + 1)))
-pushed_more f p layer first before after so_far more =
-    more ∙ ap (λ xs. xs ++ cond (p layer) (f layer ∷ []) []) so_far
-    ∙ append_assoc first _ _
-    ∙ ap (λ xs. first ++ xs) (sym (told_next f p layer))
+    → after ≡ map f (filter p (range_with_len 0 (layer + 1)))
+layer_more f p layer before after so_far more =
+    more ∙ ap (λ xs. xs ++ cond (p layer) (f layer ∷ []) []) so_far ∙ sym (told_next f p layer)

@@ -5,8 +5,9 @@ ghost use Rattle.span_id.specs.Bits.{has_bit};
 ghost use Rattle.span_layers.specs.Note.{plain_note};
 ghost use Rattle.span_layers.specs.Filter.{admission_set};
 ghost use Rattle.span_stack.specs.Stack.{walk, ids_of_each};
-ghost use Rattle.span_registry.specs.Request.{event, told, plain_meta, plain_fields};
-ghost use Rattle.span_registry.specs.Happening.{bits_in, event_at, id_at, path_at, is_told, note_of, notes_of};
+ghost use Rattle.span_registry.specs.Request.{event, told, plain_meta, plain_fields, request_of};
+ghost use Rattle.span_registry.specs.Happening.{bits_in, id_at, path_at, is_told, note_of, notes_of};
+ghost use Rattle.span_registry.specs.Lent.{event_request, event_seen};
 ghost use Rattle.span_registry.specs.Core.{IsAccepted, IsRefused};
 
 use crate::batch::{Batch, Call, Reply};
@@ -19,6 +20,16 @@ use span_id::{Bits, Fault, Field, Id, Meta};
 use span_layers::{Admitters, Kind, Note, Rules};
 use span_stack::SpanStack;
 use std::alloc::Global;
+
+/// An event: which worker tells it, the layers that admit it, and what the caller lent.
+#[derive(Clone, Copy)]
+pub(crate) struct Event<'a> {
+    worker: u32,
+    bits: Bits,
+    meta: &'a Meta,
+    message: &'a str,
+    fields: &'a [Field],
+}
 
 impl<O: Outlet> State<O> {
     pub(crate) fn event(
@@ -40,36 +51,41 @@ impl<O: Outlet> State<O> {
             return Err(Fault::CountFull);
         }
         ask(&mut self.outlet)?;
-        let bits = self.rules.bits(admitters, meta);
-        let mut notes = Vec::new(self.alloc);
-        push_event(
-            self.alloc,
-            &mut notes,
-            &self.rules,
-            &self.forest,
-            self.stacks.as_slice(),
+        let event = Event {
             worker,
-            bits,
+            bits: self.rules.bits(admitters, meta),
             meta,
             message,
             fields,
-        )?;
-        let copied = copy_meta(self.alloc, meta)?;
-        let text = copy_text(self.alloc, message)?;
-        let copies = copy_fields(self.alloc, fields)?;
+        };
+        let stacks = self.stacks.as_slice();
+        let notes = event_notes(self.alloc, &self.rules, &self.forest, stacks, &event)?;
+        let call = event_call(self.alloc, &event)?;
         self.calls += 1;
         self.outlet.put(Batch {
-            call: Call::Event {
-                worker,
-                meta: copied,
-                message: text,
-                fields: copies,
-            },
+            call,
             reply: Reply::Told,
             notes,
         });
         Ok(())
     }
+}
+
+// The call that tells an event, with copies of what the caller lent.
+fn event_call(alloc: Global, event: &Event<'_>) -> Result<Call, Fault>
+    ensures call { IfOk result (λ call. request_of call
+        ≡ event_request event.now) }
+    ensures memory { IfErr result (λ fault. fault ≡ Fault.Memory) }
+{
+    let meta = copy_meta(alloc, event.meta)?;
+    let message = copy_text(alloc, event.message)?;
+    let fields = copy_fields(alloc, event.fields)?;
+    Ok(Call::Event {
+        worker: event.worker,
+        meta,
+        message,
+        fields,
+    })
 }
 
 // Where a layer sees an event: the topmost entry, duplicates skipped, that the layer admits.
@@ -87,37 +103,6 @@ fn admits(forest: &Forest, id: Id, layer: u32) -> bool
         Some(span) => span.bits.has(layer),
         None => false,
     }
-}
-
-// The note that a layer is told of an event.
-fn event_note(
-    alloc: Global,
-    forest: &Forest,
-    stack: &SpanStack,
-    worker: u32,
-    bits: Bits,
-    meta: &Meta,
-    message: &str,
-    fields: &[Field],
-    layer: u32,
-) -> Result<Note, Fault>
-    ensures note { IfOk result (λ note. plain_note note
-        ≡ note_of worker (event_at forest.now.spans stack.now.ids bits.0 meta.now.level message.now (plain_fields fields.now)) layer) }
-    ensures memory { IfErr result (λ fault. fault ≡ Fault.Memory) }
-{
-    let place = contextual_span(forest, stack, layer);
-    let (id, path) = id_and_path(alloc, forest, layer, place)?;
-    let text = copy_text(alloc, message)?;
-    let fields = copy_fields(alloc, fields)?;
-    Ok(Note {
-        layer,
-        kind: Kind::OnEvent,
-        worker,
-        id,
-        path,
-        fields,
-        tail: Some((meta.level, text)),
-    })
 }
 
 // The number of a span's id, and the path of a layer at it; without a span 0 and the empty path.
@@ -140,6 +125,33 @@ fn id_and_path(
     }
 }
 
+// The note that a layer is told of an event.
+fn event_note(
+    alloc: Global,
+    forest: &Forest,
+    stack: &SpanStack,
+    event: &Event<'_>,
+    layer: u32,
+) -> Result<Note, Fault>
+    ensures note { IfOk result (λ note. plain_note note
+        ≡ note_of event.now.worker (event_seen forest.now.spans stack.now.ids event.now) layer) }
+    ensures memory { IfErr result (λ fault. fault ≡ Fault.Memory) }
+{
+    let place = contextual_span(forest, stack, layer);
+    let (id, path) = id_and_path(alloc, forest, layer, place)?;
+    let text = copy_text(alloc, event.message)?;
+    let fields = copy_fields(alloc, event.fields)?;
+    Ok(Note {
+        layer,
+        kind: Kind::OnEvent,
+        worker: event.worker,
+        id,
+        path,
+        fields,
+        tail: Some((event.meta.level, text)),
+    })
+}
+
 // Appends the note of one layer, if it is told.
 fn push_event_note(
     alloc: Global,
@@ -147,87 +159,43 @@ fn push_event_note(
     rules: &Rules,
     forest: &Forest,
     stack: &SpanStack,
-    worker: u32,
-    bits: Bits,
-    meta: &Meta,
-    message: &str,
-    fields: &[Field],
+    event: &Event<'_>,
     layer: u32,
 ) -> Result<(), Fault>
     requires there { layer < length rules.now }
     ensures notes { OnOk result (map plain_note notes.new.items ≡ map plain_note notes.old.items
-        ++ (if is_told rules.now (event_at forest.now.spans stack.now.ids bits.0 meta.now.level message.now (plain_fields fields.now)) layer
-        then note_of worker (event_at forest.now.spans stack.now.ids bits.0 meta.now.level message.now (plain_fields fields.now)) layer ∷ []
+        ++ (if is_told rules.now (event_seen forest.now.spans stack.now.ids event.now) layer
+        then note_of event.now.worker (event_seen forest.now.spans stack.now.ids event.now) layer ∷ []
         else [])) }
     ensures memory { IfErr result (λ fault. fault ≡ Fault.Memory) }
 {
-    if !(bits.has(layer) && rules.want(layer, Kind::OnEvent)) {
+    if !(event.bits.has(layer) && rules.want(layer, Kind::OnEvent)) {
         return Ok(());
     }
-    let note = event_note(
-        alloc, forest, stack, worker, bits, meta, message, fields, layer,
-    )?;
+    let note = event_note(alloc, forest, stack, event, layer)?;
     match notes.push(note) {
         Ok(()) => Ok(()),
         Err(_) => Err(Fault::Memory),
     }
 }
 
-// Appends the notes of an event that a worker tells.
-fn push_event(
+// The notes of an event: one for each layer that admits it.
+fn event_notes(
     alloc: Global,
-    notes: &mut Vec<Note>,
     rules: &Rules,
     forest: &Forest,
     stacks: &[SpanStack],
-    worker: u32,
-    bits: Bits,
-    meta: &Meta,
-    message: &str,
-    fields: &[Field],
-) -> Result<(), Fault>
-    requires { worker < length stacks.now }
-    ensures notes { OnOk result (map plain_note notes.new.items ≡ map plain_note notes.old.items
-        ++ notes_of rules.now worker (event_at forest.now.spans (slice_index_or (ids_of_each stacks.now) worker []) bits.0 meta.now.level message.now (plain_fields fields.now))) }
+    event: &Event<'_>,
+) -> Result<Vec<Note>, Fault>
+    requires { event.now.worker < length stacks.now }
+    ensures notes { IfOk result (λ notes. map plain_note notes.items
+        ≡ notes_of rules.now event.now.worker (event_seen forest.now.spans (slice_index_or (ids_of_each stacks.now) event.now.worker []) event.now)) }
     ensures memory { IfErr result (λ fault. fault ≡ Fault.Memory) }
 {
-    let stack = &stacks[worker as usize];
-    push_event_notes(
-        alloc, notes, rules, forest, stack, worker, bits, meta, message, fields,
-    )
-}
-
-// Appends the notes of an event: one for each layer that admits it.
-fn push_event_notes(
-    alloc: Global,
-    notes: &mut Vec<Note>,
-    rules: &Rules,
-    forest: &Forest,
-    stack: &SpanStack,
-    worker: u32,
-    bits: Bits,
-    meta: &Meta,
-    message: &str,
-    fields: &[Field],
-) -> Result<(), Fault>
-    ensures notes { OnOk result (map plain_note notes.new.items ≡ map plain_note notes.old.items
-        ++ notes_of rules.now worker (event_at forest.now.spans stack.now.ids bits.0 meta.now.level message.now (plain_fields fields.now))) }
-    ensures memory { IfErr result (λ fault. fault ≡ Fault.Memory) }
-{
+    let stack = &stacks[event.worker as usize];
+    let mut notes = Vec::new(alloc);
     for layer in 0..rules.len() {
-        push_event_note(
-            alloc,
-            notes,
-            rules,
-            forest,
-            stack,
-            worker,
-            bits,
-            meta,
-            message,
-            fields,
-            layer as u32,
-        )?;
+        push_event_note(alloc, &mut notes, rules, forest, stack, event, layer as u32)?;
     }
-    Ok(())
+    Ok(notes)
 }

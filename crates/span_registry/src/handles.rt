@@ -2,7 +2,7 @@
 ghost use Rattle.std.specs.Prelude.{◌≡◌, nat_lt, length, OnOk, IfOk, IfErr};
 ghost use Rattle.span_forest.specs.declared.span.Holder.TheVariants.{Handle};
 ghost use Rattle.span_forest.specs.Release.{closing_list};
-ghost use Rattle.span_registry.specs.Request.{clone_span, cloned, record_fields, recorded, try_close, released, plain_fields};
+ghost use Rattle.span_registry.specs.Request.{clone_span, cloned, record_fields, recorded, try_close, released, plain_fields, request_of};
 ghost use Rattle.span_registry.specs.Core.{IsAccepted, IsRefused};
 
 use crate::batch::{Batch, Call, Reply};
@@ -15,6 +15,7 @@ use crate::state::State;
 use span_forest::Holder;
 use span_id::{Fault, Field, Id};
 use span_layers::Kind;
+use std::alloc::Global;
 
 impl<O: Outlet> State<O> {
     pub(crate) fn clone_span(&mut self, worker: u32, id: Id) -> Result<(), Fault>
@@ -69,17 +70,13 @@ impl<O: Outlet> State<O> {
             &what,
             fields,
         )?;
-        let copies = copy_fields(self.alloc, fields)?;
+        let call = record_call(self.alloc, worker, id, fields)?;
         let Ok(()) = self.forest.write_fields(id, fields) else {
             return Err(Fault::Memory);
         };
         self.calls += 1;
         self.outlet.put(Batch {
-            call: Call::RecordFields {
-                worker,
-                id,
-                fields: copies,
-            },
+            call,
             reply: Reply::Recorded,
             notes,
         });
@@ -121,4 +118,13 @@ impl<O: Outlet> State<O> {
         });
         Ok(!closing.is_empty())
     }
+}
+
+// The call that appends fields, with copies of what the caller lent.
+fn record_call(alloc: Global, worker: u32, id: Id, fields: &[Field]) -> Result<Call, Fault>
+    ensures call { IfOk result (λ call. request_of call ≡ record_fields worker id (plain_fields fields.now)) }
+    ensures memory { IfErr result (λ fault. fault ≡ Fault.Memory) }
+{
+    let fields = copy_fields(alloc, fields)?;
+    Ok(Call::RecordFields { worker, id, fields })
 }

@@ -2,14 +2,16 @@
 ghost use Rattle.std.specs.Prelude.{◌≡◌, ◌<◌, ◌++◌, ◌∷◌, [], ℕ, true, false, if◌then◌else◌, map, filter, length, string_bytes, IfOk, OnOk, IfErr, IfSome, IfNone, OnSome, MatchOption, Some, None};
 ghost use Rattle.std.specs.List.{range_with_len};
 ghost use Rattle.span_layers.specs.Note.{plain_note};
+ghost use Rattle.span_layers.specs.Filter.{admission_set};
 ghost use Rattle.span_forest.specs.Count.{written_count};
-ghost use Rattle.span_registry.specs.Request.{new_span, made, plain_meta, plain_fields};
+ghost use Rattle.span_registry.specs.Request.{new_span, made, plain_meta, plain_fields, request_of};
 ghost use Rattle.span_registry.specs.Parent.{parent_found};
 ghost use Rattle.span_registry.specs.Happening.{path_at};
 ghost use Rattle.span_registry.specs.Step.{ParentIsOpen};
 ghost use Rattle.span_registry.specs.NextId.{next_id};
-ghost use Rattle.span_registry.specs.State.{first_note, is_told_new};
-ghost use Rattle.span_registry.specs.Core.{IsAccepted, IsRefused, IsNotWanted};
+ghost use Rattle.span_registry.specs.State.{is_told_new};
+ghost use Rattle.span_registry.specs.Lent.{span_request, first_note_of};
+ghost use Rattle.span_registry.specs.Core.{IsDue, IsAccepted, IsRefused, IsNotWanted};
 
 use crate::batch::{Batch, Call, ParentOf, Reply};
 use crate::copies::{copy_fields, copy_meta, copy_text};
@@ -21,6 +23,17 @@ use span_forest::laws::{each_slot_has_one_open_id, next_id_is_new, open_spans_ar
 use span_id::{Bits, Fault, Field, Id, Meta};
 use span_layers::{Admitters, Kind, Note, Rules};
 use std::alloc::Global;
+
+/// A new span: which worker makes it, the id that it gets, the layers that admit it, its parent, and what the caller lent.
+#[derive(Clone, Copy)]
+pub(crate) struct NewSpan<'a> {
+    worker: u32,
+    id: Id,
+    bits: Bits,
+    parent: Option<Id>,
+    meta: &'a Meta,
+    fields: &'a [Field],
+}
 
 impl<O: Outlet> State<O> {
     // The parent that a caller means.
@@ -61,54 +74,60 @@ impl<O: Outlet> State<O> {
         if full || self.calls == u64::MAX {
             return Err(Fault::CountFull);
         }
-        let Some(next) = self.forest.next_id() else {
+        let Some(id) = self.forest.next_id() else {
             return Err(Fault::Full);
         };
+        self.make(&NewSpan {
+            worker,
+            id,
+            bits,
+            parent,
+            meta,
+            fields,
+        })?;
+        Ok(Some(id))
+    }
+
+    // Makes a span that nothing but the outlet or memory can stand against.
+    fn make(&mut self, new: &NewSpan<'_>) -> Result<(), Fault>
+        requires due { IsDue self.old (span_request new.now) }
+        requires bits { new.now.bits.0 ≡ admission_set self.old.rules (string_bytes new.now.meta.now.target) new.now.meta.now.level }
+        requires next { next_id self.old.limits.slots self.old.limits.last_generation self.old.sent ≡ Some new.now.id }
+        ensures made { OnOk result (IsAccepted self.old (span_request new.now) (made new.now.id) self.new) }
+        ensures refused { IfErr result (λ fault. IsRefused self.old (span_request new.now) fault self.new) }
+    {
         ask(&mut self.outlet)?;
         next_id_is_new(&self.forest);
         each_slot_has_one_open_id(&self.forest);
         open_spans_are_counted(&self.forest);
-        let mut notes = Vec::new(self.alloc);
-        push_new(
-            self.alloc,
-            &mut notes,
-            &self.rules,
-            &self.forest,
-            worker,
-            next,
-            bits,
-            &parent,
-            meta,
-            fields,
-        )?;
-        let copied = copy_meta(self.alloc, meta)?;
-        let copies = copy_fields(self.alloc, fields)?;
-        let found = copy_id(&parent);
-        let Ok(id) = self.forest.add(meta, fields, parent, bits) else {
+        let notes = new_notes(self.alloc, &self.rules, &self.forest, new)?;
+        let call = new_call(self.alloc, new)?;
+        let Ok(id) = self.forest.add(new.meta, new.fields, new.parent, new.bits) else {
             return Err(Fault::Memory);
         };
         self.calls += 1;
         self.outlet.put(Batch {
-            call: Call::NewSpan {
-                worker,
-                meta: copied,
-                fields: copies,
-                parent: found,
-            },
+            call,
             reply: Reply::Made(id),
             notes,
         });
-        Ok(Some(id))
+        Ok(())
     }
 }
 
-fn copy_id(id: &Option<Id>) -> Option<Id>
-    ensures { result ≡ id.now }
+// The call that makes a span, with copies of what the caller lent.
+fn new_call(alloc: Global, new: &NewSpan<'_>) -> Result<Call, Fault>
+    ensures call { IfOk result (λ call. request_of call ≡ span_request new.now) }
+    ensures memory { IfErr result (λ fault. fault ≡ Fault.Memory) }
 {
-    match id {
-        Some(id) => Some(*id),
-        None => None,
-    }
+    let meta = copy_meta(alloc, new.meta)?;
+    let fields = copy_fields(alloc, new.fields)?;
+    Ok(Call::NewSpan {
+        worker: new.worker,
+        meta,
+        fields,
+        parent: new.parent,
+    })
 }
 
 // Whether the count of a parent is at its greatest; none where the parent isn't open.
@@ -152,79 +171,65 @@ fn new_path(
     }
 }
 
+// The note that a layer is told of a new span.
+fn new_note(alloc: Global, forest: &Forest, new: &NewSpan<'_>, layer: u32) -> Result<Note, Fault>
+    ensures note { IfOk result (λ note. plain_note note ≡ first_note_of forest.now.spans new.now layer) }
+    ensures memory { IfErr result (λ fault. fault ≡ Fault.Memory) }
+{
+    let path = new_path(alloc, forest, layer, &new.parent, new.meta.name.as_str())?;
+    let fields = copy_fields(alloc, new.fields)?;
+    Ok(Note {
+        layer,
+        kind: Kind::OnNew,
+        worker: new.worker,
+        id: new.id.get(),
+        path,
+        fields,
+        tail: None,
+    })
+}
+
 // Appends the note of one layer, if it is told.
 fn push_new_note(
     alloc: Global,
     notes: &mut Vec<Note>,
     rules: &Rules,
     forest: &Forest,
-    worker: u32,
-    id: Id,
-    bits: Bits,
-    parent: &Option<Id>,
-    meta: &Meta,
-    fields: &[Field],
+    new: &NewSpan<'_>,
     layer: u32,
 ) -> Result<(), Fault>
     requires there { layer < length rules.now }
     ensures notes { OnOk result (map plain_note notes.new.items ≡ map plain_note notes.old.items
-        ++ (if is_told_new rules.now bits.0 layer
-        then first_note forest.now.spans worker id parent.now (string_bytes meta.now.name) (plain_fields fields.now) layer ∷ []
+        ++ (if is_told_new rules.now new.now.bits.0 layer
+        then first_note_of forest.now.spans new.now layer ∷ []
         else [])) }
     ensures memory { IfErr result (λ fault. fault ≡ Fault.Memory) }
 {
-    if !(bits.has(layer) && rules.want(layer, Kind::OnNew)) {
+    if !(new.bits.has(layer) && rules.want(layer, Kind::OnNew)) {
         return Ok(());
     }
-    let path = new_path(alloc, forest, layer, parent, meta.name.as_str())?;
-    let fields = copy_fields(alloc, fields)?;
-    let note = Note {
-        layer,
-        kind: Kind::OnNew,
-        worker,
-        id: id.get(),
-        path,
-        fields,
-        tail: None,
-    };
+    let note = new_note(alloc, forest, new, layer)?;
     match notes.push(note) {
         Ok(()) => Ok(()),
         Err(_) => Err(Fault::Memory),
     }
 }
 
-// Appends the notes of a new span, before it is there: one for each layer that admits it and wants new spans.
-fn push_new(
+// The notes of a new span, before it is there: one for each layer that admits it and wants new spans.
+fn new_notes(
     alloc: Global,
-    notes: &mut Vec<Note>,
     rules: &Rules,
     forest: &Forest,
-    worker: u32,
-    id: Id,
-    bits: Bits,
-    parent: &Option<Id>,
-    meta: &Meta,
-    fields: &[Field],
-) -> Result<(), Fault>
-    ensures notes { OnOk result (map plain_note notes.new.items ≡ map plain_note notes.old.items
-        ++ map (first_note forest.now.spans worker id parent.now (string_bytes meta.now.name) (plain_fields fields.now))
-        (filter (is_told_new rules.now bits.0) (range_with_len 0 (length rules.now)))) }
+    new: &NewSpan<'_>,
+) -> Result<Vec<Note>, Fault>
+    ensures notes { IfOk result (λ notes. map plain_note notes.items
+        ≡ map (first_note_of forest.now.spans new.now)
+        (filter (is_told_new rules.now new.now.bits.0) (range_with_len 0 (length rules.now)))) }
     ensures memory { IfErr result (λ fault. fault ≡ Fault.Memory) }
 {
+    let mut notes = Vec::new(alloc);
     for layer in 0..rules.len() {
-        push_new_note(
-            alloc,
-            notes,
-            rules,
-            forest,
-            worker,
-            id,
-            bits,
-            parent,
-            meta,
-            fields,
-            layer as u32,
-        )?;
+        push_new_note(alloc, &mut notes, rules, forest, new, layer as u32)?;
     }
-    Ok(())
+    Ok(notes)
 }

@@ -1,13 +1,15 @@
 //! What every forest promises, in plain words: each function does nothing, and its contract is the promise.
-ghost use Rattle.std.specs.Prelude.{◌≡◌, ℕ, ◌<◌, ◌≤◌, ◌↔◌, Some, None, IfSome, IsTrue, length, take};
+ghost use Rattle.std.specs.Prelude.{◌≡◌, ◌≢◌, ℕ, ◌<◌, ◌≤◌, ◌↔◌, [], false, Some, None, IfSome, IsTrue, AllPairs, length, take};
 ghost use Rattle.span_id.specs.Id.{slot_of, IsId};
 ghost use Rattle.span_slots.specs.Table.{IsIssued, IsFull};
 ghost use Rattle.span_forest.specs.declared.span.Holder.{Holder};
+ghost use Rattle.span_forest.specs.Node.{Node};
+ghost use Rattle.span_forest.specs.Add.{added};
 ghost use Rattle.span_forest.specs.Spans.{find, IsOpen, parent_of};
 ghost use Rattle.span_forest.specs.Walk.{walk, Ends};
-ghost use Rattle.span_forest.specs.Count.{holders_in, written_count};
-ghost use Rattle.span_forest.specs.Live.{stands_in};
-ghost use Rattle.span_forest.specs.Forest.{next_span_id, table_of};
+ghost use Rattle.span_forest.specs.Count.{holders_in, written_count, total_held};
+ghost use Rattle.span_forest.specs.Live.{stands_in, is_live};
+ghost use Rattle.span_forest.specs.Forest.{IsForest, next_span_id, table_of};
 ghost use Rattle.span_forest.specs.Holders.{IsHeld};
 ghost use Rattle.span_forest.specs.Release.{taken, closing_list, released};
 
@@ -21,6 +23,20 @@ use span_slots::laws::{
 pub fn walks_end(forest: &Forest)
     ensures { (id : ℕ) → IsOpen forest.now.spans id →
         Ends (length forest.now.spans) forest.now.spans (Some id) }
+{
+    let _opened = &forest.slots;
+}
+
+/// No id is open twice, each parent is open, and each walk ends at a root.
+pub fn spans_are_a_forest(forest: &Forest)
+    ensures { IsForest forest.now.spans }
+{
+    let _opened = &forest.slots;
+}
+
+/// No walk has an id twice.
+pub fn walks_have_no_id_twice(forest: &Forest)
+    ensures { (id : ℕ) → AllPairs (λ first later. first ≢ later) (walk forest.now.spans id) }
 {
     let _opened = &forest.slots;
 }
@@ -50,13 +66,28 @@ pub fn each_slot_has_one_open_id(forest: &Forest)
     each_slot_has_one_id(&forest.slots);
 }
 
-/// The id that the next span gets is in the layout, and was never issued before.
+/// Where no span has a handle or an entry, no span is open.
+pub fn empty_where_nothing_is_held(forest: &Forest)
+    ensures { total_held forest.now.spans ≡ 0 → forest.now.spans ≡ [] }
+{
+    let _opened = &forest.slots;
+}
+
+/// The id that the next span gets is in the layout, and was never issued before, so it isn't open.
 pub fn next_id_is_new(forest: &Forest)
     ensures in_layout { IfSome (next_span_id forest.now) IsId }
     ensures never_issued { IfSome (next_span_id forest.now) (λ id. IsIssued (table_of forest.now) id → ⊥) }
+    ensures not_open { IfSome (next_span_id forest.now) (λ id. find forest.now.spans id ≡ None) }
 {
+    each_slot_has_one_id(&forest.slots);
     next_id_was_never_issued(&forest.slots);
 }
+
+/// An id that was issued stays issued where a span is added. A release issues no id and takes none back.
+pub fn issued_ids_stay_issued(forest: &Forest)
+    ensures { (id issued : ℕ) (node : Node) → IsIssued (table_of forest.now) issued →
+        IsIssued (table_of (added forest.now id node)) issued }
+{}
 
 /// No span can be added exactly where each slot is occupied or has given its last id.
 pub fn full_where_each_slot_is_used_up(forest: &Forest)
@@ -71,6 +102,32 @@ pub fn release_closes_its_list(forest: &Forest)
         IsOpen forest.now.spans span →
         (IsTrue (stands_in span (closing_list forest.now.spans id holder))
         ↔ (find (released forest.now.spans id holder) span ≡ None)) }
+{
+    let _opened = &forest.slots;
+}
+
+/// Exactly those open spans close that are no longer live: no holder is left on them or below them. Each
+/// span of the list was open, and each other span stays as it was but for the holder that was given back.
+pub fn release_closes_what_nothing_holds(forest: &Forest)
+    ensures open { (id span : ℕ) (holder : Holder) → IsHeld forest.now.spans id holder →
+        IsTrue (stands_in span (closing_list forest.now.spans id holder)) → IsOpen forest.now.spans span }
+    ensures not_live { (id span : ℕ) (holder : Holder) → IsHeld forest.now.spans id holder →
+        IsOpen forest.now.spans span →
+        (IsTrue (stands_in span (closing_list forest.now.spans id holder))
+        ↔ (is_live (taken forest.now.spans id holder) span ≡ false)) }
+    ensures others { (id span : ℕ) (holder : Holder) → IsHeld forest.now.spans id holder →
+        (IsTrue (stands_in span (closing_list forest.now.spans id holder)) → ⊥) →
+        find (released forest.now.spans id holder) span ≡ find (taken forest.now.spans id holder) span }
+{
+    let _opened = &forest.slots;
+}
+
+/// No closing list has an id twice, and none has a span after its parent.
+pub fn children_close_before_parents(forest: &Forest)
+    ensures once { (id : ℕ) (holder : Holder) →
+        AllPairs (λ first later. first ≢ later) (closing_list forest.now.spans id holder) }
+    ensures child_first { (id : ℕ) (holder : Holder) →
+        AllPairs (λ first later. parent_of forest.now.spans later ≢ Some first) (closing_list forest.now.spans id holder) }
 {
     let _opened = &forest.slots;
 }

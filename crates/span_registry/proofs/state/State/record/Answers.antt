@@ -11,4 +11,4 @@ pub invariant_of-self-2 : goal.invariant_of-self-2
 invariant_of-self-2 g c =
     let fields = plain_fields c.args.fields.now in
     let told = one_happening c.self.inside.rules c.args.worker (at_span c.self.inside.forest.spans OnRecord c.args.id fields) _ _ (ap (map plain_note) c.new-notes.ensures.items) c.in_ok-push_notes.ensures.notes in
-    sound_record _ _ _ _ _ _ _ _ _ c.args.worker c.args.id fields _ _ c.self.invariant c.in-Some.ensures.held c.in-Ok.ensures.forest told c.in_ok-copies.ensures.fields c.in_ok-ask.ensures.sent c.put.ensures.sent
+    sound_record _ _ _ _ _ _ _ _ _ c.args.worker c.args.id fields _ _ c.self.invariant c.in-Some.ensures.held c.in-Ok.ensures.forest told c.in_ok-call.ensures.call c.in_ok-ask.ensures.sent c.put.ensures.sent
