@@ -8,4 +8,9 @@ pub mod Counted
 pub mod Keeping
 pub mod Deciding
 pub mod Outcomes
+pub mod UsedSlots
+pub mod Holds
+pub mod Steady
+pub mod Weights
+pub mod OutcomeCases
 mod Examples
