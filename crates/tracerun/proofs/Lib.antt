@@ -5,4 +5,11 @@ pub mod Named
 pub mod Limited
 pub mod Written
 pub mod Stages
+pub mod Bindings
+pub mod Tracked
+pub mod Exits
+pub mod Closes
+pub mod Fits
+pub mod Turns
+pub mod Left
 pub mod Examples
