@@ -5,4 +5,5 @@ pub mod Accepting
 pub mod Telling
 pub mod NewSpans
 pub mod Counted
+pub mod Outcomes
 mod Examples

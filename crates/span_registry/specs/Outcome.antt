@@ -1,9 +1,10 @@
 -- What a call does to a core, as a function: the call's faults in their order, else its step. For each core
 -- and each request there is one outcome. (That memory or the outlet may have no place is not in it.)
-use Rattle.std.specs.Prelude.{ℕ, ◌-◌, ◌^◌, Bool, true, ◌&&◌, ◌||◌, not, if◌then◌else◌, nat_lt, nat_le, List, [], ◌∷◌, ◌++◌, length, Option, Some, None, is_some}
+use Rattle.std.specs.Prelude.{◌≡◌, ℕ, ◌-◌, ◌^◌, Bool, true, false, ◌&&◌, ◌||◌, not, if◌then◌else◌, nat_lt, nat_le, List, [], ◌∷◌, ◌++◌, length, Option, Some, None, is_some}
 use Rattle.std.specs.List.{list_all}
 use Rattle.span_id.specs.declared.fault.Fault.{Fault}
 use Rattle.span_id.specs.declared.fault.Fault.TheVariants.{Unknown, CountFull, Full, NotEntered, BadName}
+use Rattle.span_id.specs.Id.{IsId}
 use Rattle.span_id.specs.Name.{is_name_byte}
 use Rattle.span_layers.specs.Note.{KeyValue, PlainNote}
 use Rattle.span_layers.specs.Filter.{Filter}
@@ -11,13 +12,14 @@ use Rattle.span_forest.specs.declared.span.Holder.TheVariants.{Handle}
 use Rattle.span_forest.specs.Spans.{find}
 use Rattle.span_forest.specs.Count.{written_count}
 use Rattle.span_forest.specs.Holders.{held_in}
+use Rattle.span_forest.specs.Live.{stands_in}
 use Rattle.span_forest.specs.Release.{closing_list}
 use Rattle.span_stack.specs.Stack.{has}
 use Rattle.span_registry.specs.World.{World, stack_of}
 use Rattle.span_registry.specs.Request.{Request, new_span, clone_span, enter, exit, try_close, record_fields, event, Answer, made, cloned, entered, exited, released, recorded, told, worker_of}
 use Rattle.span_registry.specs.Happening.{happenings, notes_of_all, id_at}
 use Rattle.span_registry.specs.Step.{world_made, world_cloned, world_entered, world_exited, closed_by_exit, world_released, world_recorded}
-use Rattle.span_registry.specs.Batch.{PlainBatch}
+use Rattle.span_registry.specs.History.{issued}
 use Rattle.span_registry.specs.NextId.{next_id}
 use Rattle.span_registry.specs.Core.{CoreView, is_wanted_call}
 
@@ -89,15 +91,15 @@ is_inside core _ = true
 
 -- ---- the step
 
--- what an accepted call answers
-abbrev pub answer_to : CoreView → Request → Answer
-answer_to core (new_span worker meta fields parent) = made (id_at (id_after core))
-answer_to core (clone_span worker id) = cloned
-answer_to core (enter worker id) = entered (not (has (stack_of core.world worker) id))
-answer_to core (exit worker id) = exited (closed_by_exit core.world worker id)
-answer_to core (try_close worker id) = released (closing_list core.world.spans id Handle)
-answer_to core (record_fields worker id fields) = recorded
-answer_to core (event worker meta message fields) = told
+-- what an accepted call answers, where a new span gets this id
+abbrev pub answer_to : World → ℕ → Request → Answer
+answer_to old id (new_span worker meta fields parent) = made id
+answer_to old id (clone_span worker held) = cloned
+answer_to old id (enter worker held) = entered (not (has (stack_of old worker) held))
+answer_to old id (exit worker left) = exited (closed_by_exit old worker left)
+answer_to old id (try_close worker held) = released (closing_list old.spans held Handle)
+answer_to old id (record_fields worker held fields) = recorded
+answer_to old id (event worker meta message fields) = told
 
 -- the world after a call with this answer
 abbrev pub world_after : List Filter → World → Request → Answer → World
@@ -109,20 +111,29 @@ world_after rules old (try_close worker id) answer = world_released old id
 world_after rules old (record_fields worker id fields) answer = world_recorded old id fields
 world_after rules old _ answer = old
 
--- the core after a call with this answer, these notes and this world: one batch more was sent
+-- the notes of a call with this answer that leaves this world
+abbrev pub notes_after : List Filter → World → Request → Answer → World → List PlainNote
+notes_after rules old request answer new = notes_of_all rules (worker_of request) (happenings rules old request answer new)
+
+-- the core after a call with this answer and these notes, which leaves this world: one batch more was sent
 abbrev pub core_after : CoreView → Request → Answer → List PlainNote → World → CoreView
-core_after core request answer notes world = record core {
-  world = world;
+core_after core request answer notes new = record core {
+  world = new;
   sent = core.sent ++ (record { request = request; answer = answer; notes = notes }) ∷ [];
 }
 
+abbrev pub noted : CoreView → Request → Answer → World → List PlainNote → Outcome
+noted core request answer new notes = accepted answer notes (core_after core request answer notes new)
+
 abbrev pub stepped : CoreView → Request → Answer → World → Outcome
-stepped core request answer world =
-    accepted answer (notes_of_all core.rules (worker_of request) (happenings core.rules core.world request answer world))
-    (core_after core request answer (notes_of_all core.rules (worker_of request) (happenings core.rules core.world request answer world)) world)
+stepped core request answer new = noted core request answer new (notes_after core.rules core.world request answer new)
 
 abbrev pub answered : CoreView → Request → Answer → Outcome
 answered core request answer = stepped core request answer (world_after core.rules core.world request answer)
+
+-- what a call does against which nothing stands: one step, and a new span gets the next id
+abbrev pub done : CoreView → Request → Outcome
+done core request = answered core request (answer_to core.world (id_at (id_after core)) request)
 
 -- what a call does: the first fault that applies, or that no layer wants the span, or one step
 abbrev pub outcome : CoreView → Request → Outcome
@@ -133,4 +144,16 @@ outcome core request =
     (if not (may_count core request && may_send core) then refused CountFull else
     (if not (has_slot core request) then refused Full else
     (if not (is_inside core request) then refused NotEntered else
-    answered core request (answer_to core request))))))
+    done core request)))))
+
+-- ---- what the calls' contracts say beside a step
+
+-- a new span's id is the next one
+abbrev pub TakesNextId : CoreView → Answer → Type 0
+TakesNextId core (made id) = id_after core ≡ Some id
+TakesNextId core _ = Unit {0}
+
+-- a new span's id is in the layout, and the history didn't issue it
+abbrev pub TakesNewId : CoreView → Answer → Type 0
+TakesNewId core (made id) = IsId id × (stands_in id (issued core.sent) ≡ false)
+TakesNewId core _ = Unit {0}
