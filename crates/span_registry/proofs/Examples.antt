@@ -2,6 +2,7 @@
 use Rattle.std.proofs.Common.{◌≡◌, ℕ, Bool, true, false, List, [], ◌∷◌, ◌++◌, map, Option, Some, None, refl, arith}
 use Rattle.std.specs.Prelude.{codes}
 use Rattle.span_id.specs.declared.level.Level.TheVariants.{Info, Trace}
+use Rattle.span_id.specs.declared.fault.Fault.TheVariants.{Unknown, CountFull, Full, NotEntered, BadName}
 use Rattle.span_layers.specs.declared.form.Form.TheVariants.{Compact}
 use Rattle.span_layers.specs.declared.note.Kind.TheVariants.{OnNew, OnEvent, OnEnter, OnExit, OnClose}
 use Rattle.span_layers.specs.Note.{PlainNote}
@@ -23,6 +24,8 @@ use Rattle.span_registry.specs.History.{IsLegal, issued}
 use Rattle.span_registry.specs.History.IsLegal.{none, more}
 use Rattle.span_registry.specs.NextId.{next_id}
 use Rattle.span_registry.specs.Lines.{PlainLine, lines_of}
+use Rattle.span_registry.specs.Core.{CoreView}
+use Rattle.span_registry.specs.Outcome.{outcome, refused, not_wanted, accepted}
 
 -- two layers: one lets everything in and wants all kinds, one lets in what begins with `app` up to INFO and wants new spans alone
 abbrev everything : Filter
@@ -149,3 +152,107 @@ line_of_a = refl
 -- a layer without a form has no line
 no_line : lines_of [] (record { request = new_span 0 (meta (codes "a") (codes "app")) [] None; answer = made 1; notes = told_of_a ∷ [] } ∷ []) ≡ []
 no_line = refl
+
+-- ---- what a call does, as a function
+
+-- 3 slots of 2 generations each: `a` and `b` under it were made, and both ids of the third slot were given and closed
+abbrev two_made : List PlainBatch
+two_made =
+    batch (new_span 0 (meta (codes "a") (codes "app")) [] None) (made 1)
+    ∷ batch (new_span 0 (meta (codes "b") (codes "app")) [] (Some 1)) (made 2)
+    ∷ []
+
+abbrev used_up : List PlainBatch
+used_up =
+    two_made
+    ++ batch (new_span 0 (meta (codes "c") (codes "app")) [] None) (made 3)
+    ∷ batch (try_close 0 3) (released (3 ∷ []))
+    ∷ batch (new_span 0 (meta (codes "c") (codes "app")) [] None) (made 16777219)
+    ∷ batch (try_close 0 16777219) (released (16777219 ∷ []))
+    ∷ []
+
+-- `a` has a handle, a worker inside and a child, which is its greatest count; `b` has a worker inside and no handle
+abbrev parent_and_child : Spans
+parent_and_child = (1, span (codes "a") 1 None 1 1) ∷ (2, span (codes "b") 1 (Some 1) 0 1) ∷ []
+
+-- worker 0 has entered `a`, `b` and `a` again
+abbrev core_of : List PlainBatch → CoreView
+core_of sent = record {
+  limits = record { slots = 3; last_generation = 1; max_count = 3; workers = 2; ring = 1 };
+  rules = only_app ∷ [];
+  world = record { spans = parent_and_child; stacks = (1 ∷ 2 ∷ 1 ∷ []) ∷ [] ∷ [] };
+  sent = sent;
+  times_full = 0;
+  forms = [];
+}
+
+-- one batch more, and this world
+abbrev one_more : CoreView → Spans → List (List ℕ) → PlainBatch → CoreView
+one_more core spans stacks last = record core { world = record { spans = spans; stacks = stacks }; sent = core.sent ++ last ∷ [] }
+
+-- each refusal comes before the next: a name, a span that no layer wants, a parent, the count of the parent, a slot
+bad_name : outcome (core_of used_up) (new_span 0 (meta (codes "") (codes "lib")) [] (Some 9)) ≡ refused BadName
+bad_name = refl
+
+bad_key : outcome (core_of used_up) (new_span 0 (meta (codes "x") (codes "lib")) ((codes "k y", codes "v") ∷ []) (Some 9)) ≡ refused BadName
+bad_key = refl
+
+no_layer : outcome (core_of used_up) (new_span 0 (meta (codes "x") (codes "lib")) [] (Some 9)) ≡ not_wanted
+unfolding is_admitted
+no_layer = refl
+
+no_parent : outcome (core_of used_up) (new_span 0 (meta (codes "x") (codes "app")) [] (Some 9)) ≡ refused Unknown
+unfolding is_admitted
+no_parent = refl
+
+full_parent : outcome (core_of used_up) (new_span 0 (meta (codes "x") (codes "app")) [] (Some 1)) ≡ refused CountFull
+unfolding is_admitted
+full_parent = refl
+
+no_slot : outcome (core_of used_up) (new_span 0 (meta (codes "x") (codes "app")) [] (Some 2)) ≡ refused Full
+unfolding is_admitted
+no_slot = refl
+
+-- where a slot is free, the span is made under the next id, and the layer is told
+new_of_x : PlainNote
+new_of_x = record { layer = 0; kind = OnNew; worker = 0; id = 3; path = codes "a" ∷ codes "b" ∷ codes "x" ∷ []; fields = []; tail = None }
+
+made_under_b :
+    outcome (core_of two_made) (new_span 0 (meta (codes "x") (codes "app")) [] (Some 2))
+    ≡ accepted (made 3) (new_of_x ∷ [])
+    (one_more (core_of two_made) (parent_and_child ++ (3, span (codes "x") 1 (Some 2) 1 0) ∷ []) ((1 ∷ 2 ∷ 1 ∷ []) ∷ [] ∷ [])
+    (record { request = new_span 0 (meta (codes "x") (codes "app")) [] (Some 2); answer = made 3; notes = new_of_x ∷ [] }))
+unfolding is_admitted new_of_x
+made_under_b = refl
+
+-- a span without a handle can't be entered, also by the worker that is inside it
+no_handle : outcome (core_of used_up) (enter 0 2) ≡ refused Unknown
+no_handle = refl
+
+-- at the greatest count another worker can't enter, but the one that is inside can enter again
+full_count : outcome (core_of used_up) (enter 1 1) ≡ refused CountFull
+full_count = refl
+
+enters_again :
+    outcome (core_of used_up) (enter 0 1)
+    ≡ accepted (entered false) [] (one_more (core_of used_up) parent_and_child ((1 ∷ 2 ∷ 1 ∷ 1 ∷ []) ∷ [] ∷ []) (batch (enter 0 1) (entered false)))
+enters_again = refl
+
+-- an exit of a closed span, and of one that the worker didn't enter
+exit_of_closed : outcome (core_of used_up) (exit 1 9) ≡ refused Unknown
+exit_of_closed = refl
+
+exit_of_not_entered : outcome (core_of used_up) (exit 1 2) ≡ refused NotEntered
+exit_of_not_entered = refl
+
+-- an exit after which the worker is still inside takes the topmost place out, and releases nothing
+stays :
+    outcome (core_of used_up) (exit 0 1)
+    ≡ accepted (exited []) [] (one_more (core_of used_up) parent_and_child ((1 ∷ 2 ∷ []) ∷ [] ∷ []) (batch (exit 0 1) (exited [])))
+stays = refl
+
+-- an exit that releases the last holder closes the span
+closes :
+    outcome (core_of used_up) (exit 0 2)
+    ≡ accepted (exited (2 ∷ [])) [] (one_more (core_of used_up) ((1, span (codes "a") 1 None 1 1) ∷ []) ((1 ∷ 1 ∷ []) ∷ [] ∷ []) (batch (exit 0 2) (exited (2 ∷ []))))
+closes = refl

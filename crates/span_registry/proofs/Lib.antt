@@ -5,5 +5,6 @@ pub mod Accepting
 pub mod Telling
 pub mod NewSpans
 pub mod Counted
+pub mod Deciding
 pub mod Outcomes
 mod Examples

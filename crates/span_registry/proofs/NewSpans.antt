@@ -1,6 +1,6 @@
 -- A new span: its path and its notes, as they can be said before it is there.
 use Rattle.std.proofs.Common.{◌≡◌, ◌≢◌, ℕ, zero, suc, ◌+◌, ◌<◌, ◌==◌, Bool, true, false, cond, ◌&&◌, ◌||◌, List, [], ◌∷◌, ◌++◌, length, map, filter, reverse, get_or, set, Option, Some, None, refl, sym, ap, ◌∙◌, subst, inl, inr, arith}
-use Rattle.std.specs.Prelude.{is_some, MatchOption, slice_index, drop, nat_lt}
+use Rattle.std.specs.Prelude.{is_some, MatchOption, IfSome, slice_index, drop, nat_lt}
 use Rattle.std.specs.Option.{option_map_or}
 use Rattle.std.specs.List.{range_with_len}
 use Rattle.std.proofs.lemmas.Bool.{cases_Bool, cases_lt, lt-ltb, false≢true}
@@ -9,7 +9,7 @@ use Rattle.std.proofs.lemmas.List.{reverse-append, get_or-set_same, get_or-set_o
 use Rattle.span_id.specs.Bits.{has_bit}
 use Rattle.span_id.specs.Id.{slot_of, generation_of, IsId}
 use Rattle.span_id.specs.declared.limits.Limits.{Limits}
-use Rattle.span_slots.specs.Table.{issue}
+use Rattle.span_slots.specs.Table.{issue, IsIssued}
 use Rattle.span_layers.specs.declared.note.Kind.TheVariants.{OnNew}
 use Rattle.span_layers.specs.Note.{PlainNote, KeyValue}
 use Rattle.span_layers.specs.Filter.{Filter, layer_wants}
@@ -17,7 +17,7 @@ use Rattle.span_forest.specs.Node.{Node}
 use Rattle.span_forest.specs.Spans.{Spans, find, IsOpen, with_node, parent_in, parent_of}
 use Rattle.span_forest.specs.declared.span.Holder.TheVariants.{Entry}
 use Rattle.span_forest.specs.Holders.{held_in}
-use Rattle.span_forest.specs.Forest.{ForestView}
+use Rattle.span_forest.specs.Forest.{ForestView, table_of, next_span_id}
 use Rattle.span_forest.specs.Live.{stands_in}
 use Rattle.span_forest.specs.Add.{added}
 use Rattle.span_forest.specs.Walk.{walk, walk_within}
@@ -28,7 +28,7 @@ use Rattle.span_registry.specs.Request.{PlainMeta, new_span, made}
 use Rattle.span_registry.specs.Batch.{PlainBatch}
 use Rattle.span_registry.specs.Step.{ParentIsOpen, IsStep, is_wanted, made_node}
 use Rattle.span_registry.specs.History.{issued}
-use Rattle.span_registry.specs.NextId.{with_answer, slots_after}
+use Rattle.span_registry.specs.NextId.{with_answer, slots_after, next_id}
 use Rattle.span_registry.specs.Happening.{Happening, at_span, is_told, note_of, notes_of, notes_of_all, path_at}
 use Rattle.span_registry.specs.State.{first_note, is_told_new, IsSound, forest_with}
 use Rattle.span_registry.proofs.Soundness.{sound_more}
@@ -192,6 +192,17 @@ pub not_in_history : (limits : Limits) (rules : List Filter) (forest : ForestVie
     → (generation_of id < slice_index forest.given (slot_of id) → ⊥) → stands_in id (issued sent) ≡ false
 not_in_history limits rules forest stacks calls sent id sound never =
     elim (cases_Bool (stands_in id (issued sent))) [ inl t ↦ absurd (never (sound.counted id t)) | inr t ↦ t ]
+
+-- the next id of sound parts is new: it is the forest's, of which that is known
+pub next_is_new : (limits : Limits) (rules : List Filter) (forest : ForestView) (stacks : List (List ℕ)) (calls : ℕ) (sent : List PlainBatch) → IsSound limits forest stacks rules calls sent
+    → IfSome (next_span_id forest) IsId → IfSome (next_span_id forest) (λ id. IsIssued (table_of forest) id → ⊥)
+    → IfSome (next_id limits.slots limits.last_generation sent) (λ id. IsId id × (stands_in id (issued sent) ≡ false))
+next_is_new limits rules forest stacks calls sent sound in_layout never =
+    subst (λ (o : Option ℕ). IfSome o (λ id. IsId id × (stands_in id (issued sent) ≡ false))) (ap next_span_id sound.forest_is) (by_case (next_span_id forest) in_layout never)
+  where
+    by_case : (o : Option ℕ) → IfSome o IsId → IfSome o (λ id. IsIssued (table_of forest) id → ⊥) → IfSome o (λ id. IsId id × (stands_in id (issued sent) ≡ false))
+    by_case None there unissued = tt
+    by_case (Some id) there unissued = (there, not_in_history limits rules forest stacks calls sent id sound unissued)
 
 pub sound_new : (limits : Limits) (rules : List Filter) (forest new_forest : ForestView) (stacks : List (List ℕ)) (calls : ℕ) (old mid new : List PlainBatch) (worker id : ℕ) (meta written_meta : PlainMeta) (fields written : List KeyValue) (parent : Option ℕ) (notes : List PlainNote)
     → IsSound limits forest stacks rules calls old

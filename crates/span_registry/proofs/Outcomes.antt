@@ -1,129 +1,22 @@
 -- The relations that the calls' contracts state leave no choice: what they allow is the outcome.
-use Rattle.std.proofs.Common.{◌≡◌, ℕ, ◌<◌, ◌≤◌, Bool, true, false, not, ◌||◌, ◌&&◌, if◌then◌else◌, List, length, All, Option, Some, None, Decides, refl, sym, ap, ◌∙◌}
-use Rattle.std.specs.Prelude.{nat_lt, nat_le, is_some, IsTrue, MatchOption, slice_index}
-use Rattle.std.specs.List.{list_all}
-use Rattle.std.proofs.lemmas.Bool.{leb-true, le-leb, true≢false}
-use Rattle.std.proofs.lemmas.Bool.Decides.{Decides-ltb, Decides-and, Decides-by_and}
+use Rattle.std.proofs.Common.{◌≡◌, ℕ, Bool, true, false, not, ◌&&◌, if◌then◌else◌, List, Option, Some, None, Decides, refl, sym, ap, ◌∙◌}
+use Rattle.std.specs.Prelude.{is_some, IfSome, slice_index}
+use Rattle.std.proofs.lemmas.Bool.{true≢false, false_from_ne_true}
 use Rattle.span_id.specs.declared.fault.Fault.{Fault}
 use Rattle.span_id.specs.declared.fault.Fault.TheVariants.{Unknown, CountFull, Full, NotEntered, TooManyLayers, BadName, Backlog, BadLimits, Memory}
-use Rattle.span_id.specs.Name.{is_name_byte, IsName}
-use Rattle.span_layers.specs.Note.{KeyValue, PlainNote}
+use Rattle.span_id.specs.Id.{IsId}
+use Rattle.span_layers.specs.Note.{PlainNote}
 use Rattle.span_layers.specs.Filter.{Filter}
-use Rattle.span_forest.specs.declared.span.Holder.TheVariants.{Handle}
-use Rattle.span_forest.specs.Spans.{find}
-use Rattle.span_forest.specs.Holders.{IsHeld, held_in}
-use Rattle.span_forest.specs.Count.{written_count}
-use Rattle.span_stack.specs.Stack.{has}
-use Rattle.span_registry.specs.World.{World, stack_of}
+use Rattle.span_forest.specs.Live.{stands_in}
+use Rattle.span_registry.specs.World.{World}
 use Rattle.span_registry.specs.Request.{Request, new_span, clone_span, enter, exit, try_close, record_fields, event, Answer, made, cloned, entered, exited, released, recorded, told}
 use Rattle.span_registry.specs.Happening.{id_at}
-use Rattle.span_registry.specs.Step.{Changes, IsStep, ParentIsOpen}
+use Rattle.span_registry.specs.Step.{Changes, IsStep}
 use Rattle.span_registry.specs.History.{issued, id_issued}
-use Rattle.span_registry.specs.Core.{CoreView, AreKeys, AreNamed, is_wanted_call, IsKnown, IsBelowMax, MayCount, MaySend, HasSlot, IsInside, IsDue, WhyRefused, times_after, IsRefused, IsAccepted, IsNotWanted}
+use Rattle.span_registry.specs.Core.{CoreView, AreNamed, is_wanted_call, IsKnown, MayCount, MaySend, HasSlot, IsInside, IsDue, WhyRefused, times_after, IsRefused, IsAccepted, IsNotWanted}
 use Rattle.span_registry.specs.State.{IsLate}
-use Rattle.span_registry.specs.Outcome.{Outcome, refused, not_wanted, accepted, is_name, are_keys, is_named, is_known, has_handle, is_below_max, is_open_parent, is_parent_below_max, may_count, may_send, id_after, has_slot, is_inside, answer_to, world_after, notes_after, core_after, noted, stepped, answered, done, outcome, TakesNextId}
-
--- ---- the tests decide the conditions
-
-same : (b : Bool) → Decides b (b ≡ true)
-same b = (λ e. e, λ e. e)
-
-nothing : Decides true (Unit {0})
-nothing = (λ e. tt, λ t. refl)
-
-decides_name : (bytes : List ℕ) → Decides (is_name bytes) (IsName bytes)
-decides_name bytes = (yes, no)
-  where
-    first : Decides (nat_lt 0 (length bytes)) (0 < length bytes)
-    first = Decides-ltb 0 (length bytes)
-
-    second : Decides (nat_le (length bytes) 64) (length bytes ≤ 64)
-    second = (leb-true (length bytes) 64, le-leb (length bytes) 64)
-
-    third : Decides (list_all is_name_byte bytes) (All (λ byte. IsTrue (is_name_byte byte)) bytes)
-    third = Decides-by_and is_name_byte (λ byte. IsTrue (is_name_byte byte)) (list_all is_name_byte) (λ byte. same (is_name_byte byte)) refl (λ x xs. refl) bytes
-
-    rest : Decides (nat_le (length bytes) 64 && list_all is_name_byte bytes) ((length bytes ≤ 64) × All (λ byte. IsTrue (is_name_byte byte)) bytes)
-    rest = Decides-and (nat_le (length bytes) 64) (list_all is_name_byte bytes) second third
-
-    all : Decides (is_name bytes) ((0 < length bytes) × ((length bytes ≤ 64) × All (λ byte. IsTrue (is_name_byte byte)) bytes))
-    all = Decides-and (nat_lt 0 (length bytes)) (nat_le (length bytes) 64 && list_all is_name_byte bytes) first rest
-
-    yes : is_name bytes ≡ true → IsName bytes
-    yes e = let h = all.0 e in (h.0, h.1.0, h.1.1)
-
-    no : IsName bytes → is_name bytes ≡ true
-    no h = all.1 (h.0, (h.1, h.2))
-
-decides_keys : (fields : List KeyValue) → Decides (are_keys fields) (AreKeys fields)
-decides_keys fields =
-    Decides-by_and (λ (field : KeyValue). is_name field.0) (λ (field : KeyValue). IsName field.0) are_keys (λ field. decides_name field.0) refl (λ x xs. refl) fields
-
-decides_named : (request : Request) → Decides (is_named request) (AreNamed request)
-decides_named (new_span worker meta fields parent) = Decides-and (is_name meta.name) (are_keys fields) (decides_name meta.name) (decides_keys fields)
-decides_named (clone_span worker id) = nothing
-decides_named (enter worker id) = nothing
-decides_named (exit worker id) = nothing
-decides_named (try_close worker id) = nothing
-decides_named (record_fields worker id fields) = decides_keys fields
-decides_named (event worker meta message fields) = Decides-and (is_name meta.name) (are_keys fields) (decides_name meta.name) (decides_keys fields)
-
-decides_held : (core : CoreView) (id : ℕ) → Decides (has_handle core id) (IsHeld core.world.spans id Handle)
-decides_held core id = Decides-ltb 0 (held_in Handle (find core.world.spans id))
-
-decides_known : (core : CoreView) (request : Request) → Decides (is_known core request) (IsKnown core request)
-decides_known core (new_span worker meta fields parent) = by_parent parent
-  where
-    by_parent : (parent : Option ℕ) → Decides (is_open_parent core parent) (ParentIsOpen core.world.spans parent)
-    by_parent None = nothing
-    by_parent (Some id) = same (is_some (find core.world.spans id))
-decides_known core (clone_span worker id) = decides_held core id
-decides_known core (enter worker id) = decides_held core id
-decides_known core (exit worker id) = same (is_some (find core.world.spans id))
-decides_known core (try_close worker id) = decides_held core id
-decides_known core (record_fields worker id fields) = decides_held core id
-decides_known core (event worker meta message fields) = nothing
-
-decides_below : (core : CoreView) (id : ℕ) → Decides (is_below_max core id) (IsBelowMax core id)
-decides_below core id = Decides-ltb (written_count core.world.spans id) core.limits.max_count
-
-unless : (a b : Bool) (P : Type 0) → Decides b P → Decides (a || b) (a ≡ false → P)
-unless true b P d = (λ e apart. absurd (true≢false apart), λ h. refl)
-unless false b P d = (λ e apart. d.0 e, λ h. d.1 (h refl))
-
-decides_count : (core : CoreView) (request : Request) → Decides (may_count core request) (MayCount core request)
-decides_count core (new_span worker meta fields parent) = by_parent parent
-  where
-    by_parent : (parent : Option ℕ) → Decides (is_parent_below_max core parent) (MatchOption parent (Unit {0}) (λ id. IsBelowMax core id))
-    by_parent None = nothing
-    by_parent (Some id) = decides_below core id
-decides_count core (clone_span worker id) = decides_below core id
-decides_count core (enter worker id) = unless (has (stack_of core.world worker) id) (is_below_max core id) (IsBelowMax core id) (decides_below core id)
-decides_count core (exit worker id) = nothing
-decides_count core (try_close worker id) = nothing
-decides_count core (record_fields worker id fields) = nothing
-decides_count core (event worker meta message fields) = nothing
-
-decides_counts : (core : CoreView) (request : Request) → Decides (may_count core request && may_send core) (MayCount core request × MaySend core)
-decides_counts core request = Decides-and (may_count core request) (may_send core) (decides_count core request) (Decides-ltb _ _)
-
-decides_slot : (core : CoreView) (request : Request) → Decides (has_slot core request) (HasSlot core request)
-decides_slot core (new_span worker meta fields parent) = same (is_some (id_after core))
-decides_slot core (clone_span worker id) = nothing
-decides_slot core (enter worker id) = nothing
-decides_slot core (exit worker id) = nothing
-decides_slot core (try_close worker id) = nothing
-decides_slot core (record_fields worker id fields) = nothing
-decides_slot core (event worker meta message fields) = nothing
-
-decides_inside : (core : CoreView) (request : Request) → Decides (is_inside core request) (IsInside core request)
-decides_inside core (new_span worker meta fields parent) = nothing
-decides_inside core (clone_span worker id) = nothing
-decides_inside core (enter worker id) = nothing
-decides_inside core (exit worker id) = same (has (stack_of core.world worker) id)
-decides_inside core (try_close worker id) = nothing
-decides_inside core (record_fields worker id fields) = nothing
-decides_inside core (event worker meta message fields) = nothing
+use Rattle.span_registry.specs.Outcome.{Outcome, refused, not_wanted, accepted, is_named, is_known, may_count, may_send, id_after, has_slot, is_inside, answer_to, world_after, notes_after, core_after, done, outcome, TakesNextId, IsNextIdNew, IsAllowed}
+use Rattle.span_registry.proofs.Deciding.{same, decides_named, decides_known, decides_counts, decides_slot, decides_inside}
 
 -- ---- the conditions in their order
 
@@ -134,6 +27,16 @@ passes false d h x y = absurd (true≢false (sym (d.1 h)))
 fails : (b : Bool) {P : Type 0} → Decides b P → (P → ⊥) → (x y : Outcome) → (if not b then x else y) ≡ x
 fails true d h x y = absurd (h (d.0 refl))
 fails false d h x y = refl
+
+-- what is done, from the answer on, from the next world on, and from the notes on
+abbrev noted : CoreView → Request → Answer → World → List PlainNote → Outcome
+noted core request answer new notes = accepted answer notes (core_after core request answer notes new)
+
+abbrev stepped : CoreView → Request → Answer → World → Outcome
+stepped core request answer new = noted core request answer new (notes_after core.rules core.world request answer new)
+
+abbrev answered : CoreView → Request → Answer → Outcome
+answered core request answer = stepped core request answer (world_after core.rules core.world request answer)
 
 -- what is left to judge, once the first conditions hold
 abbrev when_slot : CoreView → Request → Outcome
@@ -300,3 +203,75 @@ late_outcome old request fault new call late = by_fault fault call.why late
 pub not_wanted_outcome : (old : CoreView) (request : Request) (new : CoreView) → IsNotWanted old request new → (outcome old request ≡ not_wanted) × (new ≡ old)
 not_wanted_outcome old request new call =
     (past_named old request call.named ∙ fails (is_wanted_call old request) (same (is_wanted_call old request)) (λ yes. true≢false (sym yes ∙ call.not_wanted)) not_wanted (when_wanted old request), call.same)
+
+-- ---- the relations allow the outcome
+
+allowed_by : (b : Bool) {P : Type 0} (core : CoreView) (request : Request) → Decides b P → (x y : Outcome) → ((P → ⊥) → IsAllowed core request x) → (P → IsAllowed core request y) → IsAllowed core request (if not b then x else y)
+allowed_by true core request d x y failing holding = holding (d.0 refl)
+allowed_by false core request d x y failing holding = failing (λ h. true≢false (sym (d.1 h)))
+
+at_some : (Q : ℕ → Type 0) (o : Option ℕ) → is_some o ≡ true → IfSome o Q → Q (id_at o)
+at_some Q None some h = absurd (true≢false (sym some))
+at_some Q (Some id) some h = h
+
+is_at_some : (o : Option ℕ) → is_some o ≡ true → o ≡ Some (id_at o)
+is_at_some None some = absurd (true≢false (sym some))
+is_at_some (Some id) some = refl
+
+-- what is done is a step
+done_changes : (core : CoreView) (request : Request) → IsDue core request → IsNextIdNew core
+    → Changes core.rules (issued core.sent) core.world request (answer_to core.world (id_at (id_after core)) request) (world_after core.rules core.world request (answer_to core.world (id_at (id_after core)) request))
+done_changes core (new_span worker meta fields parent) due new =
+    let id_is = at_some (λ id. IsId id × (stands_in id (issued core.sent) ≡ false)) (id_after core) due.slot new in
+    record { in_layout = id_is.0; not_issued = id_is.1; wanted = due.wanted; parent_open = due.known; after = refl }
+done_changes core (clone_span worker id) due new = record { held = due.known; after = refl }
+done_changes core (enter worker id) due new = record { held = due.known; first_is = refl; after = refl }
+done_changes core (exit worker id) due new = record { inside = due.inside; closed_are = refl; after = refl }
+done_changes core (try_close worker id) due new = record { held = due.known; closed_are = refl; after = refl }
+done_changes core (record_fields worker id fields) due new = record { held = due.known; after = refl }
+done_changes core (event worker meta message fields) due new = refl
+
+done_takes : (core : CoreView) (request : Request) → IsDue core request → TakesNextId core (answer_to core.world (id_at (id_after core)) request)
+done_takes core (new_span worker meta fields parent) due = is_at_some (id_after core) due.slot
+done_takes core (clone_span worker id) due = tt
+done_takes core (enter worker id) due = tt
+done_takes core (exit worker id) due = tt
+done_takes core (try_close worker id) due = tt
+done_takes core (record_fields worker id fields) due = tt
+done_takes core (event worker meta message fields) due = tt
+
+done_allowed : (core : CoreView) (request : Request) → IsDue core request → IsNextIdNew core → IsAllowed core request (done core request)
+done_allowed core request due new = (
+  record {
+    due = due;
+    limits = refl;
+    rules = refl;
+    notes = notes_after core.rules core.world request answer (world_after core.rules core.world request answer);
+    step = record { changes = done_changes core request due new; notes_are = refl };
+    sent = refl;
+    times_full = refl;
+    forms = refl;
+  },
+  refl,
+  done_takes core request due,
+)
+  where
+    answer : Answer
+    answer = answer_to core.world (id_at (id_after core)) request
+
+-- the relations that the contracts state allow the outcome, where the next id is new, as it is in every sound core
+pub outcome_allowed : (core : CoreView) (request : Request) → IsNextIdNew core → IsAllowed core request (outcome core request)
+outcome_allowed core request new =
+    allowed_by (is_named request) core request (decides_named request) (refused BadName) (when_named core request)
+    (λ unnamed. record { why = unnamed; unchanged = refl })
+    (λ named. allowed_by (is_wanted_call core request) core request (same (is_wanted_call core request)) not_wanted (when_wanted core request)
+    (λ unwanted. record { named = named; not_wanted = false_from_ne_true (is_wanted_call core request) unwanted; same = refl })
+    (λ wanted. allowed_by (is_known core request) core request (decides_known core request) (refused Unknown) (when_known core request)
+    (λ unknown. record { why = (named, wanted, unknown); unchanged = refl })
+    (λ known. allowed_by (may_count core request && may_send core) core request (decides_counts core request) (refused CountFull) (when_counts core request)
+    (λ full. record { why = (named, wanted, known, full); unchanged = refl })
+    (λ counts. allowed_by (has_slot core request) core request (decides_slot core request) (refused Full) (when_slot core request)
+    (λ none. record { why = (named, wanted, known, counts, none); unchanged = refl })
+    (λ slot. allowed_by (is_inside core request) core request (decides_inside core request) (refused NotEntered) (done core request)
+    (λ outside. record { why = (named, known, counts, outside); unchanged = refl })
+    (λ inside. done_allowed core request (record { named = named; wanted = wanted; known = known; counts = counts; slot = slot; inside = inside }) new))))))

@@ -9,6 +9,7 @@ mod handles;
 mod held;
 mod names;
 mod notes;
+pub mod outcome;
 mod outlet;
 mod registry;
 mod spans;
