@@ -13,15 +13,15 @@ use Rattle.span_forest.specs.Forest.{ForestView}
 use Rattle.span_forest.specs.Holders.{IsHeld, held_in}
 use Rattle.span_forest.specs.Keep.{kept}
 use Rattle.span_forest.specs.Release.{closing_list, released as spans_left, freed_after}
-use Rattle.span_stack.specs.Stack.{has}
+use Rattle.span_stack.specs.Stack.{has, without_last}
 use Rattle.span_registry.specs.World.{World, IsWorld}
-use Rattle.span_registry.specs.Request.{PlainMeta, event, told, enter, entered, clone_span, cloned, record_fields, recorded, try_close, released}
+use Rattle.span_registry.specs.Request.{PlainMeta, event, told, enter, entered, exit, exited, clone_span, cloned, record_fields, recorded, try_close, released}
 use Rattle.span_registry.specs.Batch.{PlainBatch}
 use Rattle.span_registry.specs.Happening.{notes_of_all, happenings, close_of, at_span, event_at}
 use Rattle.span_registry.specs.NextId.{SlotsUsed, with_closed, slots_after}
 use Rattle.span_registry.specs.State.{IsSound, forest_with}
 use Rattle.span_registry.proofs.Soundness.{sound_quiet, sound_more, same_but_spans}
-use Rattle.span_registry.proofs.Worlds.{world_kept_handle, world_changed, world_released_handle, world_entered}
+use Rattle.span_registry.proofs.Worlds.{world_kept_handle, world_changed, world_released_handle, world_entered, world_left, world_left_still, inside-set}
 
 pub sound_clone : (limits : Limits) (rules : List Filter) (forest new_forest : ForestView) (stacks : List (List ℕ)) (calls : ℕ) (old mid new : List PlainBatch) (worker id : ℕ) (notes : List PlainNote)
     → IsSound limits forest stacks rules calls old
@@ -124,6 +124,57 @@ sound_enter limits rules forest new_forest stacks new_stacks calls old mid new w
     entered_world)
     (record {
       changes = record { held = held; first_is = first_is; after = λ j. record { spans = spans_are j; stacks = stacks_are j } };
+      notes_are = notes_are;
+    })
+    same sent
+
+-- a span that stands in a worker's stack is held by an entry
+pub inside_held : (spans : Spans) (stacks : List (List ℕ)) (worker id : ℕ) → IsWorld (record { spans = spans; stacks = stacks })
+    → worker < length stacks → has (get_or stacks worker []) id ≡ true → IsHeld spans id Entry
+inside_held spans stacks worker id whole within stands =
+    let emptied = inside-set stacks worker (get_or stacks worker []) [] id within refl in
+    let counted = rw stands at emptied in
+    omega (arith, counted, whole.entered id)
+
+-- the world once a worker has left a span
+world_after_exit : (spans : Spans) (stacks : List (List ℕ)) (worker id : ℕ) (stays : Bool) → worker < length stacks → has (get_or stacks worker []) id ≡ true
+    → has (without_last (get_or stacks worker []) id) id ≡ stays → IsWorld (record { spans = spans; stacks = stacks })
+    → IsWorld (record { spans = cond stays spans (spans_left spans id Entry); stacks = set stacks worker (without_last (get_or stacks worker []) id) })
+world_after_exit spans stacks worker id true within stands stays whole =
+    world_left_still spans stacks worker id (get_or stacks worker []) within refl stands stays whole
+world_after_exit spans stacks worker id false within stands stays whole =
+    let there = held_open spans id Entry (inside_held spans stacks worker id whole within stands) in
+    world_left spans stacks worker id (get_or stacks worker []) there.0 within refl stands stays there.1 whole
+
+pub sound_exit : (limits : Limits) (rules : List Filter) (forest new_forest : ForestView) (stacks new_stacks : List (List ℕ)) (calls : ℕ) (old mid new : List PlainBatch) (worker id : ℕ) (stays : Bool) (closed : List ℕ) (notes : List PlainNote)
+    → IsSound limits forest stacks rules calls old
+    → worker < length stacks
+    → has (get_or stacks worker []) id ≡ true
+    → stays ≡ has (without_last (get_or stacks worker []) id) id
+    → closed ≡ cond stays [] (closing_list forest.spans id Entry)
+    → new_forest ≡ record forest { spans = cond stays forest.spans (spans_left forest.spans id Entry); freed = freed_after forest.last_generation forest.given forest.freed (cond stays [] (closing_list forest.spans id Entry)) }
+    → new_stacks ≡ set stacks worker (without_last (get_or stacks worker []) id)
+    → notes ≡ notes_of_all rules worker (at_span forest.spans OnExit id [] ∷ map (close_of forest.spans) closed)
+    → mid ≡ old → new ≡ mid ++ (record { request = exit worker id; answer = exited closed; notes = notes }) ∷ []
+    → IsSound limits new_forest new_stacks rules (calls + 1) new
+sound_exit limits rules forest new_forest stacks new_stacks calls old mid new worker id stays closed notes sound within stands stays_is closed_are forest_is stacks_are notes_are same sent =
+    let spans_are = ap (λ f. f.spans) forest_is in
+    let given_is : new_forest.given ≡ forest.given = ap (λ f. f.given) forest_is in
+    let closing : List ℕ = cond stays [] (closing_list forest.spans id Entry) in
+    sound_more limits rules forest new_forest stacks new_stacks calls old mid new (record { request = exit worker id; answer = exited closed; notes = notes }) sound
+    (freed_in limits forest new_forest _ (slots_after limits.last_generation old) closing sound.forest_is forest_is
+    ∙ ap (λ ids. forest_with limits new_forest.spans (with_closed limits.last_generation (slots_after limits.last_generation old) ids)) (sym closed_are))
+    (λ x there. cc)
+    (λ x before. rw given_is before)
+    (ap length stacks_are ∙ length-set stacks worker _)
+    (subst (λ (w : World). IsWorld w) (λ j. record { spans = (sym spans_are) j; stacks = (sym stacks_are) j })
+    (world_after_exit forest.spans stacks worker id stays within stands (sym stays_is) sound.world))
+    (record {
+      changes = record {
+        inside = stands;
+        closed_are = closed_are ∙ ap (λ b. cond b [] (closing_list forest.spans id Entry)) stays_is;
+        after = λ j. record { spans = (spans_are ∙ ap (λ b. cond b forest.spans (spans_left forest.spans id Entry)) stays_is) j; stacks = stacks_are j };
+      };
       notes_are = notes_are;
     })
     same sent

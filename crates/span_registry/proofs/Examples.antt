@@ -19,7 +19,7 @@ use Rattle.span_registry.specs.World.{World, empty_world, stack_of, workers_insi
 use Rattle.span_registry.specs.Request.{PlainMeta, Request, new_span, enter, exit, try_close, event, Answer, made, entered, exited, released, told}
 use Rattle.span_registry.specs.Batch.{PlainBatch}
 use Rattle.span_registry.specs.Happening.{contextual_span, event_told, happenings, notes_of_all}
-use Rattle.span_registry.specs.Step.{is_wanted}
+use Rattle.span_registry.specs.Step.{is_wanted, closed_by_exit}
 use Rattle.span_registry.specs.History.{IsLegal, issued}
 use Rattle.span_registry.specs.History.IsLegal.{none, more}
 use Rattle.span_registry.specs.NextId.{next_id}
@@ -89,6 +89,16 @@ exit_before_closes :
     ≡ note_at true 2 (codes "a" ∷ codes "b" ∷ []) ∷ note_at false 2 (codes "a" ∷ codes "b" ∷ []) ∷ note_at false 1 (codes "a" ∷ []) ∷ []
 exit_before_closes =
     refl
+
+-- an exit closes nothing while the span still stands in the worker's stack; the last one closes what nothing holds any longer
+abbrev entered_twice : World
+entered_twice = record entered_alone { stacks = (2 ∷ 2 ∷ []) ∷ [] }
+
+exit_stays : closed_by_exit entered_twice 0 2 ≡ []
+exit_stays = refl
+
+exit_leaves : closed_by_exit entered_alone 0 2 ≡ 2 ∷ 1 ∷ []
+exit_leaves = refl
 
 -- after entering a, b and a again the current span is b, and each span has one worker inside
 entered_again : current (1 ∷ 2 ∷ 1 ∷ []) ≡ Some 2

@@ -4,7 +4,7 @@ use Rattle.std.specs.Prelude.{OnOk, OnErr}
 use Rattle.std.proofs.lemmas.List.{get_or-map, map-set, get_or_default}
 use Rattle.std.proofs.Math.Seq.{map-set_same}
 use Rattle.span_id.specs.declared.fault.Fault.{Fault}
-use Rattle.span_stack.specs.Stack.{Stack, ids_of_each}
+use Rattle.span_stack.specs.Stack.{Stack, without_last, ids_of_each}
 
 abbrev empty : Stack
 empty = record { ids = []; room = 0 }
@@ -24,3 +24,8 @@ pub unpushed_at : (r : Result (Unit {0}) Fault) (stacks : List Stack) (w : ℕ) 
 unpushed_at (Ok u) stacks w old new within at same = tt
 unpushed_at (Err e) stacks w old new within at same =
     map-set_same (λ (s : Stack). s.ids) stacks w new old (same ∙ ap (λ (s : Stack). s.ids) at)
+
+pub popped_at : (stacks : List Stack) (w id : ℕ) (old new : Stack) → w < length stacks → old ≡ get_or stacks w old → new.ids ≡ without_last old.ids id
+    → ids_of_each (set stacks w new) ≡ set (ids_of_each stacks) w (without_last (get_or (ids_of_each stacks) w []) id)
+popped_at stacks w id old new within at popped =
+    map-set (λ (s : Stack). s.ids) stacks w new ∙ ap (λ ids. set (ids_of_each stacks) w ids) (popped ∙ ap (λ ids. without_last ids id) (sym (ids_at stacks w old within at)))

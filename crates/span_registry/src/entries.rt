@@ -1,21 +1,24 @@
 //! The calls that change a worker's stack.
-ghost use Rattle.std.specs.Prelude.{◌≡◌, ◌≢◌, ◌<◌, true, if◌then◌else◌, IfOk, IfErr};
+ghost use Rattle.std.specs.Prelude.{◌≡◌, ◌≢◌, ◌<◌, true, false, if◌then◌else◌, [], nat_lt, length, IfOk, IfErr, OnOk, OnErr};
 ghost use Rattle.span_forest.specs.declared.span.Holder.TheVariants.{Handle, Entry};
 ghost use Rattle.span_forest.specs.Count.{written_count};
 ghost use Rattle.span_forest.specs.Holders.{IsHeld};
 ghost use Rattle.span_forest.specs.Keep.{kept};
-ghost use Rattle.span_registry.specs.Request.{enter, entered};
+ghost use Rattle.span_forest.specs.Release.{closing_list, released as spans_left, freed_after};
+ghost use Rattle.span_registry.specs.Request.{enter, entered, exit, exited};
+ghost use Rattle.span_registry.specs.Step.{closed_by_exit};
 ghost use Rattle.span_registry.specs.Core.{IsAccepted, IsRefused};
 
 use crate::batch::{Batch, Call, Reply};
-use crate::held::held_span;
-use crate::notes::{Happening, push_notes};
+use crate::held::{held_span, open_bits};
+use crate::notes::{Happening, exit_notes, push_notes};
 use crate::outlet::{Outlet, ask};
-use crate::stacks::{is_inside, push_at};
+use crate::stacks::{is_inside, pop_at, push_at, stays_inside};
 use crate::state::State;
 use span_forest::{Forest, Holder};
 use span_id::{Fault, Id};
 use span_layers::Kind;
+use std::alloc::Global;
 
 impl<O: Outlet> State<O> {
     pub(crate) fn enter(&mut self, worker: u32, id: Id) -> Result<bool, Fault>
@@ -57,6 +60,48 @@ impl<O: Outlet> State<O> {
         });
         Ok(first)
     }
+
+    pub(crate) fn exit(&mut self, worker: u32, id: Id) -> Result<bool, Fault>
+        requires { worker < self.old.limits.workers }
+        ensures accepted { OnOk result (IsAccepted self.old (exit worker id) (exited (closed_by_exit self.old.world worker id)) self.new) }
+        ensures closed { IfOk result (λ closed. closed ≡ nat_lt 0 (length (closed_by_exit self.old.world worker id))) }
+        ensures refused { IfErr result (λ fault. IsRefused self.old (exit worker id) fault self.new) }
+    {
+        let Some(bits) = open_bits(&self.forest, id) else {
+            return Err(Fault::Unknown);
+        };
+        if self.calls == u64::MAX {
+            return Err(Fault::CountFull);
+        }
+        if !is_inside(self.stacks.as_slice(), worker, id) {
+            return Err(Fault::NotEntered);
+        }
+        let stays = stays_inside(self.stacks.as_slice(), worker, id);
+        ask(&mut self.outlet)?;
+        let closing = closing_on_exit(self.alloc, &self.forest, stays, id)?;
+        let what = Happening {
+            worker,
+            kind: Kind::OnExit,
+            id,
+            bits,
+        };
+        let notes = exit_notes(
+            self.alloc,
+            &self.rules,
+            &self.forest,
+            &what,
+            closing.as_slice(),
+        )?;
+        let closed = release_on_exit(self.alloc, &mut self.forest, stays, id)?;
+        pop_at(&mut self.stacks, worker, id);
+        self.calls += 1;
+        self.outlet.put(Batch {
+            call: Call::Exit { worker, id },
+            reply: Reply::Exited(closed),
+            notes,
+        });
+        Ok(!closing.is_empty())
+    }
 }
 
 // Writes the entry down, where it is the worker's first of the span.
@@ -69,5 +114,46 @@ fn keep_first(forest: &mut Forest, first: bool, id: Id)
         let Ok(()) = forest.keep(id, Holder::Entry) else {
             unreachable!();
         };
+    }
+}
+
+// The spans that close where a worker leaves a span: none where the span stays in its stack.
+fn closing_on_exit(alloc: Global, forest: &Forest, stays: bool, id: Id) -> Result<Vec<Id>, Fault>
+    requires held { stays ≡ false → IsHeld forest.now.spans id Entry }
+    ensures list { IfOk result (λ ids. ids.items ≡ if stays then [] else closing_list forest.now.spans id Entry) }
+    ensures memory { IfErr result (λ fault. fault ≡ Fault.Memory) }
+{
+    if stays {
+        return Ok(Vec::new(alloc));
+    }
+    match forest.closing(id, Holder::Entry) {
+        Ok(closing) => Ok(closing),
+        Err(_) => Err(Fault::Memory),
+    }
+}
+
+// Gives the entry back, unless the span stays in the worker's stack, and answers the spans that closed.
+fn release_on_exit(
+    alloc: Global,
+    forest: &mut Forest,
+    stays: bool,
+    id: Id,
+) -> Result<Vec<Id>, Fault>
+    requires held { stays ≡ false → IsHeld forest.old.spans id Entry }
+    ensures list { IfOk result (λ ids. ids.items ≡ if stays then [] else closing_list forest.old.spans id Entry) }
+    ensures forest { OnOk result (forest.new ≡ record forest.old {
+      spans = if stays then forest.old.spans else spans_left forest.old.spans id Entry;
+      freed = freed_after forest.old.last_generation forest.old.given forest.old.freed
+          (if stays then [] else closing_list forest.old.spans id Entry);
+    }) }
+    ensures unchanged { OnErr result (forest.new ≡ forest.old) }
+    ensures memory { IfErr result (λ fault. fault ≡ Fault.Memory) }
+{
+    if stays {
+        return Ok(Vec::new(alloc));
+    }
+    match forest.release(id, Holder::Entry) {
+        Ok(closed) => Ok(closed),
+        Err(_) => Err(Fault::Memory),
     }
 }

@@ -1,5 +1,6 @@
 ghost use Rattle.std.specs.Prelude.{◌≡◌, IfSome, IfNone, OnSome};
 ghost use Rattle.span_forest.specs.declared.span.Holder.TheVariants.{Handle};
+ghost use Rattle.span_forest.specs.Spans.{IsOpen};
 ghost use Rattle.span_forest.specs.Count.{written_count};
 ghost use Rattle.span_forest.specs.Holders.{IsHeld};
 ghost use Rattle.span_registry.specs.Happening.{bits_in};
@@ -29,4 +30,14 @@ pub(crate) fn held_span(forest: &Forest, id: Id) -> Option<Held>
         count: span.count,
         bits: span.bits,
     })
+}
+
+// The layers that admit a span, if it is open.
+pub(crate) fn open_bits(forest: &Forest, id: Id) -> Option<Bits>
+    ensures open { OnSome result (IsOpen forest.now.spans id) }
+    ensures bits { IfSome result (λ bits. bits.0 ≡ bits_in forest.now.spans id) }
+    ensures not_open { IfNone result (IsOpen forest.now.spans id → ⊥) }
+{
+    let span = forest.find(id)?;
+    Some(span.bits)
 }

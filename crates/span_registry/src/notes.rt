@@ -1,8 +1,9 @@
 //! The notes that the layers are told of what happens to spans.
 ghost use Rattle.std.specs.Prelude.{◌≡◌, ◌<◌, ◌++◌, ◌∷◌, [], if◌then◌else◌, map, flat_map, length, IfOk, OnOk, IfErr};
+ghost use Rattle.span_layers.specs.declared.note.Kind.TheVariants.{OnExit};
 ghost use Rattle.span_layers.specs.Note.{plain_note};
 ghost use Rattle.span_registry.specs.Request.{plain_fields};
-ghost use Rattle.span_registry.specs.Happening.{at_span, close_of, bits_in, is_told, note_of, notes_of};
+ghost use Rattle.span_registry.specs.Happening.{at_span, close_of, bits_in, is_told, note_of, notes_of, notes_of_all};
 
 use crate::copies::copy_fields;
 use span_forest::Forest;
@@ -137,4 +138,24 @@ pub(crate) fn push_closes(
         push_close(alloc, notes, rules, forest, worker, *id)?;
     }
     Ok(())
+}
+
+// The notes of an exit: those of the exit itself, then those of the spans that it closes.
+pub(crate) fn exit_notes(
+    alloc: Global,
+    rules: &Rules,
+    forest: &Forest,
+    exit: &Happening,
+    closing: &[Id],
+) -> Result<Vec<Note>, Fault>
+    requires kind { exit.now.kind ≡ OnExit }
+    requires bits { exit.now.bits.0 ≡ bits_in forest.now.spans exit.now.id }
+    ensures notes { IfOk result (λ notes. map plain_note notes.items
+        ≡ notes_of_all rules.now exit.now.worker (at_span forest.now.spans OnExit exit.now.id [] ∷ map (close_of forest.now.spans) closing.now)) }
+    ensures memory { IfErr result (λ fault. fault ≡ Fault.Memory) }
+{
+    let mut notes = Vec::new(alloc);
+    push_notes(alloc, &mut notes, rules, forest, exit, &[])?;
+    push_closes(alloc, &mut notes, rules, forest, exit.worker, closing)?;
+    Ok(notes)
 }

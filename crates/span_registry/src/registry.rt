@@ -5,7 +5,8 @@ ghost use Rattle.span_forest.specs.Spans.{find};
 ghost use Rattle.span_forest.specs.Count.{total_held};
 ghost use Rattle.span_forest.specs.Release.{closing_list};
 ghost use Rattle.span_registry.specs.World.{empty_world, stack_of, IsCounted};
-ghost use Rattle.span_registry.specs.Request.{new_span, made, clone_span, cloned, record_fields, recorded, try_close, released, enter, entered, event, told, plain_meta, plain_fields};
+ghost use Rattle.span_registry.specs.Request.{new_span, made, clone_span, cloned, record_fields, recorded, try_close, released, enter, entered, exit, exited, event, told, plain_meta, plain_fields};
+ghost use Rattle.span_registry.specs.Step.{closed_by_exit};
 ghost use Rattle.span_registry.specs.History.{IsLegal};
 ghost use Rattle.span_registry.specs.Core.{IsAccepted, IsRefused, IsNotWanted};
 ghost use Rattle.span_registry.specs.Parent.{parent_found};
@@ -161,6 +162,20 @@ impl<O: Outlet> Core<O> {
         ensures refused { IfErr result (λ fault. IsRefused self.old.state (enter worker id) fault self.new.state) }
     {
         self.state.enter(worker, id)
+    }
+
+    /// A worker leaves a span: the topmost entry of it is taken out of the worker's stack. Where the span stands there no
+    /// longer, the entry is given back. It answers whether the span closed.
+    ///
+    /// Refused in this order: `Unknown` where the span isn't open, `CountFull` where the number of accepted calls is at
+    /// its greatest, `NotEntered` where the span doesn't stand in the worker's stack, `Backlog`, `Memory`.
+    pub fn exit(&mut self, worker: u32, id: Id) -> Result<bool, Fault>
+        requires { worker < self.old.state.limits.workers }
+        ensures accepted { OnOk result (IsAccepted self.old.state (exit worker id) (exited (closed_by_exit self.old.state.world worker id)) self.new.state) }
+        ensures closed { IfOk result (λ closed. closed ≡ nat_lt 0 (length (closed_by_exit self.old.state.world worker id))) }
+        ensures refused { IfErr result (λ fault. IsRefused self.old.state (exit worker id) fault self.new.state) }
+    {
+        self.state.exit(worker, id)
     }
 
     /// Gives a handle of a span back, and answers whether the span closed.

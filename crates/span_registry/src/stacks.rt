@@ -1,5 +1,5 @@
-ghost use Rattle.std.specs.Prelude.{◌≡◌, ◌<◌, ◌++◌, ◌∷◌, [], length, replicate, slice_index_or, slice_set, IfOk, IfErr, OnOk, OnErr};
-ghost use Rattle.span_stack.specs.Stack.{has, ids_of_each};
+ghost use Rattle.std.specs.Prelude.{◌≡◌, ◌<◌, ◌++◌, ◌∷◌, [], true, length, replicate, slice_index_or, slice_set, IfOk, IfErr, OnOk, OnErr};
+ghost use Rattle.span_stack.specs.Stack.{has, without_last, ids_of_each};
 
 use span_id::{Fault, Id};
 use span_stack::SpanStack;
@@ -47,4 +47,29 @@ pub(crate) fn is_inside(stacks: &[SpanStack], worker: u32, id: Id) -> bool
     ensures { result ≡ has (slice_index_or (ids_of_each stacks.now) worker []) id }
 {
     stacks[worker as usize].has(id)
+}
+
+// Whether a span that stands in a worker's stack still stands there once its topmost place is taken out.
+pub(crate) fn stays_inside(stacks: &[SpanStack], worker: u32, id: Id) -> bool
+    requires within { worker < length stacks.now }
+    requires inside { has (slice_index_or (ids_of_each stacks.now) worker []) id ≡ true }
+    ensures { result ≡ has (without_last (slice_index_or (ids_of_each stacks.now) worker []) id) id }
+{
+    !stacks[worker as usize].stands_once(id)
+}
+
+// Takes the topmost place of a span out of a worker's stack.
+pub(crate) fn pop_at(stacks: &mut Vec<SpanStack>, worker: u32, id: Id)
+    requires { worker < length stacks.old.items }
+    ensures { ids_of_each stacks.new.items
+        ≡ slice_set (ids_of_each stacks.old.items) worker (without_last (slice_index_or (ids_of_each stacks.old.items) worker []) id) }
+{
+    let stack = &mut stacks[worker as usize];
+    pop_one(stack, id);
+}
+
+fn pop_one(stack: &mut SpanStack, id: Id)
+    ensures { stack.new.ids ≡ without_last stack.old.ids id }
+{
+    stack.pop(id);
 }

@@ -175,3 +175,45 @@ fn inside_a_span(rt: HostRuntime) -> Result<(), Fail> {
     assert_eq!(&rt; lines.as_slice(), expected);
     Ok(())
 }
+
+#[test]
+fn leaving_spans(rt: HostRuntime) -> Result<(), Fail> {
+    let alloc = rt.alloc();
+    let limits = Limits {
+        slots: 2,
+        last_generation: 0,
+        max_count: 4,
+        workers: 2,
+        ring: 1,
+    };
+    let checked = limits.check()?;
+    let outlet = Sent {
+        batches: Vec::new(alloc),
+        ready: false,
+    };
+    let mut core = Core::new(alloc, &checked, one_layer(alloc)?, outlet)?;
+    let a = meta(alloc, "a")?;
+    let b = meta(alloc, "b")?;
+    let made = core.new_span(0, &a, &[], ParentOf::Root)?;
+    let parent = made.expect(&rt, "the layer admits the span");
+    let made = core.new_span(0, &b, &[], ParentOf::Of(parent))?;
+    let id = made.expect(&rt, "the layer admits the span");
+    assert_eq!(&rt; core.exit(0, id), Err(Fault::NotEntered));
+    assert_eq!(&rt; core.enter(0, id), Ok(true));
+    assert_eq!(&rt; core.enter(0, id), Ok(false));
+    assert_eq!(&rt; core.try_close(0, parent), Ok(false));
+    assert_eq!(&rt; core.try_close(0, id), Ok(false));
+    assert_eq!(&rt; core.exit(1, id), Err(Fault::NotEntered));
+    assert_eq!(&rt; core.exit(0, id), Ok(false));
+    assert_eq!(&rt; core.total(), 1);
+    assert_eq!(&rt; core.exit(0, id), Ok(true));
+    assert_eq!(&rt; core.exit(0, id), Err(Fault::Unknown));
+    assert_eq!(&rt; core.len(), 0);
+    assert!(&rt; core.stack(0).is_empty());
+    assert_eq!(&rt; core.calls(), 8);
+    let lines = told(alloc, core.outlet())?;
+    let expected: &[u8] =
+        b"new 1 w0 a\nnew 2 w0 a:b\nenter 2 w0 a:b\nenter 2 w0 a:b\nexit 2 w0 a:b\nexit 2 w0 a:b\nclose 2 w0 a:b\nclose 1 w0 a\n";
+    assert_eq!(&rt; lines.as_slice(), expected);
+    Ok(())
+}

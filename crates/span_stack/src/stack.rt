@@ -1,4 +1,4 @@
-ghost use Rattle.std.specs.Prelude.{◌≡◌, ℕ, ◌+◌, ◌^◌, ◌<◌, ◌≤◌, ◌==◌, true, false, not, [], ◌∷◌, ◌++◌, length, IsOk, IfErr, OnOk, OnErr, IfSome, IfNone, OnSome, MatchOption, is_some};
+ghost use Rattle.std.specs.Prelude.{◌≡◌, ℕ, ◌+◌, ◌^◌, ◌<◌, ◌≤◌, ◌==◌, ◌&&◌, true, false, not, [], ◌∷◌, ◌++◌, length, IsOk, IfErr, OnOk, OnErr, IfSome, IfNone, OnSome, MatchOption, is_some};
 ghost use Rattle.std.specs.Iterator.{YieldsFirst};
 ghost use Rattle.std.specs.Iterator.Runs.{YieldsInOrder};
 ghost use Rattle.span_stack.specs.Entry.{ids_of, IsLastPlace};
@@ -123,6 +123,19 @@ impl SpanStack {
         ensures { result ≡ words.has self.now.ids id }
     {
         self.entries.as_slice().iter().any(|entry| entry.id == id)
+    }
+
+    /// Whether the span stands in the stack at one place alone, so that `pop` would take it out of the stack.
+    ///
+    /// It looks at each entry at most once, and takes no memory.
+    pub fn stands_once(&self, id: Id) -> bool
+        ensures { result ≡ (words.has self.now.ids id && not (words.has (words.without_last self.now.ids id) id)) }
+    {
+        let entries = self.entries.as_slice();
+        match last_place(entries, id) {
+            Some(place) => !entries[place].duplicate,
+            None => false,
+        }
     }
 
     /// The number of entries, duplicates too.

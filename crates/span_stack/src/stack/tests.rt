@@ -19,6 +19,8 @@ fn counts_a_span_that_is_entered_again_once(rt: HostRuntime) -> Result<(), Fail>
     assert_eq!(rt; stack.len(), 3);
     assert_eq!(rt; stack.current(), Some(two));
     assert_eq!(rt; stack.top(), Some(one));
+    assert!(rt; !stack.stands_once(one));
+    assert!(rt; stack.stands_once(two));
     assert_eq!(rt;
         stack.walk().collect::<Vec<Id>>(alloc)?,
         vec![in alloc; two, one]?
@@ -26,8 +28,10 @@ fn counts_a_span_that_is_entered_again_once(rt: HostRuntime) -> Result<(), Fail>
     assert_eq!(rt; stack.pop(two), Some(true));
     assert_eq!(rt; stack.current(), Some(one));
     assert!(rt; !stack.has(two));
+    assert!(rt; !stack.stands_once(two));
     assert_eq!(rt; stack.pop(two), None);
     assert_eq!(rt; stack.pop(one), Some(false));
+    assert!(rt; stack.stands_once(one));
     assert_eq!(rt; stack.pop(one), Some(true));
     assert_eq!(rt; stack.pop(one), None);
     assert_eq!(rt; stack.current(), None);

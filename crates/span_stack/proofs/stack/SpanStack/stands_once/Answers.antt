@@ -1,0 +1,13 @@
+use Rattle.std.proofs.Common.{not, ◌&&◌, ap, subst, sym, ◌∙◌}
+use Rattle.span_stack.specs.Stack.{has, without_last}
+use Rattle.span_stack.specs.Entry.{IsLastPlace}
+use Rattle.span_stack.proofs.Removals.{once-last}
+use Rattle.span_stack.proofs.stack.SpanStack.stands_once.Goals as goal
+
+pub returns-in-Some : goal.returns-in-Some
+returns-in-Some c =
+    let old = c.self.inside.entries in
+    let at : IsLastPlace old.items c.args.id c.in-Some.place = subst (λ l. IsLastPlace l c.args.id c.in-Some.place) c.as_slice-entries.ensures c.in-Some.ensures in
+    ap (λ e. not e.duplicate) (sym c.index-entries-place.is)
+    ∙ once-last old.items c.args.id c.in-Some.place at c.self.invariant.flagged c.index-entries-place.result (rw (← c.as_slice-entries.ensures) c.index-entries-place.is)
+    ∙ ap (λ s. has s.ids c.args.id && not (has (without_last s.ids c.args.id) c.args.id)) c.self.view_is
