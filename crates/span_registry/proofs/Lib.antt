@@ -7,4 +7,7 @@ pub mod NewSpans
 pub mod Counted
 pub mod Deciding
 pub mod Outcomes
+pub mod Keeping
+pub mod Apart
 mod Examples
+mod KeptCases

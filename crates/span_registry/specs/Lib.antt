@@ -7,6 +7,7 @@ pub mod Step
 pub mod History
 pub mod NextId
 pub mod Lines
+pub mod Kept
 pub mod Core
 pub mod Outcome
 pub mod State

@@ -1,10 +1,11 @@
 -- The lines of a history.
-use Rattle.std.specs.Prelude.{◌≡◌, ℕ, List, [], ◌∷◌, ◌++◌, flat_map, Option, slice_get}
+use Rattle.std.specs.Prelude.{ℕ, List, flat_map, Option, slice_get}
 use Rattle.std.specs.List.{enumerate_from, filter_map}
 use Rattle.std.specs.Option.{option_map}
 use Rattle.span_layers.specs.declared.form.Form.{Form}
 use Rattle.span_layers.specs.Note.{PlainNote}
 use Rattle.span_layers.specs.Text.{text_of}
+use Rattle.span_registry.specs.declared.line.Line.{Line}
 use Rattle.span_registry.specs.Batch.{PlainBatch}
 
 -- the number of the batch, the place of the note in it, both from 0, the layer, and the text in that layer's form
@@ -13,6 +14,10 @@ pub record PlainLine : Type 0 where
   pub place : ℕ
   pub layer : ℕ
   pub text : List ℕ
+
+-- what the code's line stands for
+abbrev pub plain_line : Line → PlainLine
+plain_line line = record { batch = line.batch; place = line.place; layer = line.layer; text = line.text.items }
 
 -- the line of a note, where its layer has a form
 abbrev pub line_of : List Form → ℕ → ℕ × PlainNote → Option PlainLine

@@ -7,6 +7,8 @@ mod entries;
 mod events;
 mod handles;
 mod held;
+mod kept;
+mod line;
 mod names;
 mod notes;
 pub mod outcome;
@@ -19,6 +21,8 @@ mod state;
 mod tests;
 
 pub use batch::{Batch, Call, ParentOf, Reply};
+pub use kept::Kept;
+pub use line::Line;
 pub use outlet::Outlet;
 pub use registry::Core;
 pub use state::State;
