@@ -1,7 +1,7 @@
 pub mod Json
-pub mod FieldLists
+pub mod ValueLists
 pub mod Cuts
-pub mod Named
 pub mod Limited
 pub mod Written
+pub mod Stages
 pub mod Examples

@@ -3,10 +3,11 @@ ghost use Rattle.std.specs.Prelude.{◌≡◌, codes, [], IfOk, Result, map, Mat
 ghost use Rattle.std.specs.Option.{option_map};
 ghost use Rattle.serde_json.specs.View.{view, items_of, items_view};
 ghost use Rattle.tracerun.specs.Reason.{AnswersOrStops, or_fault};
-ghost use Rattle.tracerun.specs.Operation.{optional, fields_in, field_in, all_fields};
+ghost use Rattle.tracerun.specs.Operation.{optional, fields_in, field_in, all_of};
 ghost use Rattle.tracerun.specs.Views.{field_seen};
 
 use crate::fault::{Key, Reason};
+use crate::pairs::pair;
 use crate::stop::Stop;
 use serde_json::Value;
 use span_id::Field;
@@ -27,7 +28,7 @@ pub fn fields(alloc: Global, line: &Value) -> Result<Vec<Field>, Stop>
 
 /// The fields that the values of a list are.
 fn all_fields(alloc: Global, list: &[Value]) -> Result<Vec<Field>, Stop>
-    ensures { AnswersOrStops (λ fields. map field_seen fields.items) result (or_fault (all_fields (items_view list.now)) (Reason.BadKey Key.Fields)) }
+    ensures { AnswersOrStops (λ fields. map field_seen fields.items) result (or_fault (all_of field_in (items_view list.now)) (Reason.BadKey Key.Fields)) }
 {
     let mut fields = Vec::new(alloc);
     for value in list {
@@ -43,11 +44,8 @@ fn all_fields(alloc: Global, list: &[Value]) -> Result<Vec<Field>, Stop>
 fn pair_of_texts(value: &Value) -> Option<(&str, &str)>
     ensures { option_map (λ pair. (pair.0.now, pair.1.now)) result ≡ field_in (view value.now) }
 {
-    let pair = value.as_array()?;
-    if pair.len() != 2 {
-        return None;
-    }
-    Some((pair[0].as_str()?, pair[1].as_str()?))
+    let (key, value) = pair(value)?;
+    Some((key.as_str()?, value.as_str()?))
 }
 
 /// A field of these texts.

@@ -2,19 +2,22 @@
 #![tactic(auto)]
 
 mod answer;
+mod calls;
 mod command_line;
 mod counted;
 mod device;
 mod fault;
 mod fields;
+mod keys;
 mod labels;
 mod lines;
 mod operation;
 mod orders;
+mod pairs;
 mod reading;
+mod rules;
 mod runner;
 mod script;
-mod spans;
 mod stop;
 
 use crate::counted::Counted;
