@@ -8,9 +8,6 @@ pub mod Operation
 pub mod Views
 pub mod Answer
 pub mod Labels
-pub mod Names
-pub mod Refusals
-pub mod Spans
 pub mod Faults
 pub mod Output
 pub mod State
@@ -18,3 +15,5 @@ pub mod Written
 pub mod Requests
 pub mod Meaning
 pub mod Replayed
+pub mod Calls
+pub mod Running

@@ -2,6 +2,7 @@
 #![tactic(auto)]
 
 mod answer;
+mod calls;
 mod command_line;
 mod counted;
 mod device;
@@ -17,7 +18,6 @@ mod reading;
 mod rules;
 mod runner;
 mod script;
-mod spans;
 mod stop;
 
 use crate::counted::Counted;

@@ -4,6 +4,7 @@ ghost use Rattle.tracerun.specs.declared.stop.Stop.TheVariants.{Memory, Refused}
 
 use crate::fault::Reason;
 use std::alloc::{AllocError, AllocFailed};
+use std::io;
 
 /// Why a line has no answer.
 #[derive(Clone, Copy, Debug, PartialEq, Eq)]
@@ -34,6 +35,15 @@ impl<T: Drop> From<AllocFailed<T>> for Stop {
     ghost from_gives = { λ _ stop. stop ≡ Memory };
 
     fn from(_error: AllocFailed<T>) -> Stop {
+        Stop::Memory
+    }
+}
+
+// What a `Vec` answers that is written to and has no memory.
+impl From<io::Error> for Stop {
+    ghost from_gives = { λ _ stop. stop ≡ Memory };
+
+    fn from(_error: io::Error) -> Stop {
         Stop::Memory
     }
 }
