@@ -137,7 +137,7 @@ inside_held spans stacks worker id whole within stands =
     omega (arith, counted, whole.entered id)
 
 -- the world once a worker has left a span
-world_after_exit : (spans : Spans) (stacks : List (List ℕ)) (worker id : ℕ) (stays : Bool) → worker < length stacks → has (get_or stacks worker []) id ≡ true
+pub world_after_exit : (spans : Spans) (stacks : List (List ℕ)) (worker id : ℕ) (stays : Bool) → worker < length stacks → has (get_or stacks worker []) id ≡ true
     → has (without_last (get_or stacks worker []) id) id ≡ stays → IsWorld (record { spans = spans; stacks = stacks })
     → IsWorld (record { spans = cond stays spans (spans_left spans id Entry); stacks = set stacks worker (without_last (get_or stacks worker []) id) })
 world_after_exit spans stacks worker id true within stands stays whole =

@@ -16,5 +16,10 @@ pub mod Released
 pub mod Empties
 pub mod Announcing
 pub mod ToldOnce
+pub mod UsedSlots
+pub mod Holds
+pub mod Steady
+pub mod Weights
+pub mod OutcomeCases
 mod Examples
 mod KeptCases

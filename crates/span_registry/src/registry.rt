@@ -2,7 +2,7 @@ ghost use Rattle.std.specs.Prelude.{◌≡◌, ◌<◌, [], nat_lt, length, IfOk
 ghost use Rattle.span_forest.specs.declared.span.Holder.TheVariants.{Handle};
 ghost use Rattle.span_forest.specs.Node.{node_of};
 ghost use Rattle.span_forest.specs.Spans.{find};
-ghost use Rattle.span_forest.specs.Count.{total_held};
+ghost use Rattle.span_forest.specs.Count.{total_held, written_count};
 ghost use Rattle.span_forest.specs.Release.{closing_list};
 ghost use Rattle.span_registry.specs.World.{empty_world, stack_of, IsCounted};
 ghost use Rattle.span_registry.specs.Request.{new_span, made, clone_span, cloned, record_fields, recorded, try_close, released, enter, entered, exit, exited, event, told, plain_meta, plain_fields};
@@ -67,6 +67,7 @@ impl<O: Outlet> Core<O> {
         ensures absent { IfNone result (find self.now.state.world.spans id ≡ None) }
         ensures found { IfSome result (λ span. find self.now.state.world.spans id ≡ Some (node_of span.now)) }
         ensures counted { IfSome result (λ span. IsCounted self.now.state.world id span.now) }
+        ensures written { IfSome result (λ span. span.now.count ≡ written_count self.now.state.world.spans id) }
     {
         self.state.find(id)
     }

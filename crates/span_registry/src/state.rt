@@ -1,7 +1,7 @@
 ghost use Rattle.std.specs.Prelude.{◌≡◌, ◌<◌, [], length, IfOk, IfErr, IfSome, IfNone, Some, None};
 ghost use Rattle.span_forest.specs.Node.{node_of};
 ghost use Rattle.span_forest.specs.Spans.{find};
-ghost use Rattle.span_forest.specs.Count.{total_held};
+ghost use Rattle.span_forest.specs.Count.{total_held, written_count};
 ghost use Rattle.span_registry.specs.World.{empty_world, stack_of, IsCounted};
 ghost use Rattle.span_registry.specs.History.{IsLegal};
 
@@ -87,6 +87,7 @@ impl<O: Outlet> State<O> {
         ensures absent { IfNone result (find self.now.world.spans id ≡ None) }
         ensures found { IfSome result (λ span. find self.now.world.spans id ≡ Some (node_of span.now)) }
         ensures counted { IfSome result (λ span. IsCounted self.now.world id span.now) }
+        ensures written { IfSome result (λ span. span.now.count ≡ written_count self.now.world.spans id) }
     {
         open_spans_are_counted(&self.forest);
         self.forest.find(id)
