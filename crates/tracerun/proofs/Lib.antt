@@ -4,4 +4,7 @@ pub mod Cuts
 pub mod Limited
 pub mod Written
 pub mod Stages
+pub mod BoundLabels
+pub mod CallLemmas
+pub mod WrittenCalls
 pub mod Examples
