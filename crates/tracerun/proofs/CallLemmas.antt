@@ -55,6 +55,10 @@ pub same_new : (world : World) (worker number : ℕ) (meta : PlainMeta) (fields 
 same_new world worker number meta fields others parent result same fields_are is =
     λ i. call.new_span (sym same i) meta (fields_are i) (found_parent world worker parent result is i)
 
+pub same_event : (worker number : ℕ) (meta : PlainMeta) (message : List ℕ) (fields others : List KeyValue) → number ≡ worker → fields ≡ others
+    → call.event worker meta message fields ≡ call.event number meta message others
+same_event worker number meta message fields others same fields_are = λ i. call.event (sym same i) meta message (fields_are i)
+
 pub made_some : (result : Option ℕ) (id : ℕ) (old : CoreView) (request : call.Request) (new : CoreView) → result ≡ Some id
     → IfSome result (λ id. IsAccepted old request (call.made id) new) → IfSome result (λ id. TakesNextId old (call.made id))
     → IsMade old request (Made id) new
