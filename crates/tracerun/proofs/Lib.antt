@@ -11,4 +11,7 @@ pub mod Closes
 pub mod Fits
 pub mod Turns
 pub mod Left
+pub mod BoundLabels
+pub mod CallLemmas
+pub mod WrittenCalls
 pub mod Examples

@@ -183,12 +183,13 @@ impl<V: Say> Script<V> {
         ensures written { OnOk result (IsWritten self.new) }
         ensures workers { self.new.workers ≡ self.old.workers }
     {
-        let parent = self.parent(new.worker, &new.parent)?;
+        let worker = worker_number(new.worker, self.workers);
+        let parent = self.parent(worker, &new.parent)?;
         if self.is_taken(new.label) {
             return Err(Stop::Refused(Reason::LabelTaken));
         }
-        let answer = calls::new_span(&mut self.core, new, new.worker as u32, parent)?;
-        give_label(&mut self.labels, alloc, new.label, answer)?;
+        let answer = calls::new_span(&mut self.core, new, worker, parent)?;
+        self.give_label(alloc, new.label, &answer)?;
         self.answer(answer, text)
     }
 
@@ -208,7 +209,8 @@ impl<V: Say> Script<V> {
         ensures workers { self.new.workers ≡ self.old.workers }
     {
         let id = id_of(&self.labels, span)?;
-        let answer = calls::call(&mut self.core, call, worker as u32, id)?;
+        let worker = worker_number(worker, self.workers);
+        let answer = calls::call(&mut self.core, call, worker, id)?;
         self.answer(answer, text)
     }
 
@@ -228,7 +230,8 @@ impl<V: Say> Script<V> {
         ensures workers { self.new.workers ≡ self.old.workers }
     {
         let id = id_of(&self.labels, span)?;
-        let answer = calls::record(&mut self.core, worker as u32, id, fields)?;
+        let worker = worker_number(worker, self.workers);
+        let answer = calls::record(&mut self.core, worker, id, fields)?;
         self.answer(answer, text)
     }
 
@@ -241,7 +244,8 @@ impl<V: Say> Script<V> {
         ensures written { OnOk result (IsWritten self.new) }
         ensures workers { self.new.workers ≡ self.old.workers }
     {
-        let answer = calls::event(&mut self.core, event, event.worker as u32)?;
+        let worker = worker_number(event.worker, self.workers);
+        let answer = calls::event(&mut self.core, event, worker)?;
         self.answer(answer, text)
     }
 
@@ -257,14 +261,27 @@ impl<V: Say> Script<V> {
         }
     }
 
+    // Binds the label of a span, where it was made.
+    fn give_label(&mut self, alloc: Global, label: &str, answer: &Answer) -> Result<(), AllocError>
+        ensures labels { OnOk result (labels_in self.new ≡ labels_given (labels_in self.old) label.now answer.now) }
+        ensures core { core_in self.new ≡ core_in self.old }
+        ensures written { self.new.written ≡ self.old.written }
+        ensures workers { self.new.workers ≡ self.old.workers }
+    {
+        match answer {
+            Answer::Made(id) => self.labels.bind(alloc, label, *id),
+            _ => Ok(()),
+        }
+    }
+
     // The parent that is meant for a new span of this worker.
-    fn parent(&self, worker: usize, parent: &Parent<'_>) -> Result<Option<Id>, Reason>
+    fn parent(&self, worker: u32, parent: &Parent<'_>) -> Result<Option<Id>, Reason>
         requires worker { worker < self.now.workers }
         requires written { IsWritten self.now }
         ensures { Answers (λ id. id) result (parent_of_key (labels_in self.now) (current (stack_of (core_in self.now).world worker)) (parent_seen parent.now)) }
     {
         match parent {
-            Parent::Current => Ok(self.core.stack(worker as u32).current()),
+            Parent::Current => Ok(self.core.stack(worker).current()),
             Parent::Root => Ok(None),
             Parent::Named(key) => match id_of(&self.labels, key) {
                 Ok(id) => Ok(Some(id)),
@@ -300,6 +317,14 @@ impl<V: Say> Script<V> {
     }
 }
 
+// The number of a worker, of which there are so many.
+fn worker_number(worker: usize, workers: u32) -> u32
+    requires { worker < workers }
+    ensures { result ≡ worker }
+{
+    worker as u32
+}
+
 // Writes the lines of the outlet from this number on, and answers how many it has. The only error is `Memory`, also where
 // the outlet had none.
 fn write_notes<V: Say>(kept: &Kept<V>, from: usize, text: &mut Vec<u8>) -> Result<usize, Stop>
@@ -332,21 +357,6 @@ fn found(span: &Span) -> Found<'_>
         handles: span.handles,
         entries: span.entries,
         count: span.count,
-    }
-}
-
-// Binds the label of a span that was made.
-fn give_label(
-    labels: &mut Labels,
-    alloc: Global,
-    label: &str,
-    answer: Answer,
-) -> Result<(), AllocError>
-    ensures given { OnOk result (labels.new ≡ labels_given labels.old label.now answer) }
-{
-    match answer {
-        Answer::Made(id) => labels.bind(alloc, label, id),
-        _ => Ok(()),
     }
 }
 
