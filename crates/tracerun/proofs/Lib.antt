@@ -4,4 +4,5 @@ pub mod Cuts
 pub mod Limited
 pub mod Written
 pub mod Stages
+pub mod Setups
 pub mod Examples
