@@ -5,4 +5,5 @@ pub mod Limited
 pub mod Written
 pub mod Stages
 pub mod Setups
+pub mod Tidied
 pub mod Examples

@@ -13,7 +13,7 @@ use Rattle.tracerun.specs.Operation.{Operation, Stage, set_limits, add_layer, op
 use Rattle.tracerun.specs.Reason.{◌>>=◌}
 use Rattle.tracerun.specs.Script.{lines_of}
 use Rattle.tracerun.specs.State.{State}
-use Rattle.tracerun.specs.Written.{Written}
+use Rattle.tracerun.specs.Written.{Written, written_after}
 use Rattle.tracerun.specs.declared.fault.Reason.{Reason}
 use Rattle.tracerun.specs.declared.fault.RunFault.{RunFault}
 use Rattle.tracerun.specs.declared.fault.RunFault.TheVariants.{Script, Memory, Device}
@@ -78,3 +78,9 @@ abbrev pub TextFails : List ℕ → Option (List ℕ) → Option (List ℕ) → 
 TextFails text old new (Script line reason) = ⊥
 TextFails text old new Memory = AppendsFront old new text
 TextFails text old new (Device side) = AppendsFront old new text
+
+-- a text was written, and it is that of the calls as a whole, before those that are still to be made
+pub record ArePartlyMade (old new : Option (List ℕ)) (whole more : Written) : Type 0 where
+  pub text : List ℕ
+  pub taken : Appends old new text
+  pub is : whole ≡ written_after text more

@@ -59,7 +59,10 @@ impl Setup {
         ensures hooks { OnOk result (hooks_in self.new ≡ hooks_in self.old) }
     {
         let workers = self.checked.limits().workers as usize;
-        let operation = operation(alloc, line, workers, self.stage)?;
+        let operation = match operation(alloc, line, workers, self.stage) {
+            Ok(operation) => operation,
+            Err(stop) => return Err(stop),
+        };
         let answer = self.obey(operation)?;
         self.stage = Stage::InSetup;
         text.clear();
