@@ -14,4 +14,6 @@ pub mod Left
 pub mod BoundLabels
 pub mod CallLemmas
 pub mod WrittenCalls
+pub mod Setups
+pub mod Tidied
 pub mod Examples

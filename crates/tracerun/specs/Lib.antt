@@ -9,7 +9,9 @@ pub mod Views
 pub mod Answer
 pub mod Labels
 pub mod Faults
-pub mod Output
+pub mod Turns
+pub mod Setup
+pub mod Ended
 pub mod State
 pub mod Written
 pub mod Requests

@@ -11,18 +11,25 @@ mod fields;
 mod keys;
 mod labels;
 mod lines;
+mod opening;
 mod operation;
 mod orders;
 mod pairs;
 mod reading;
 mod rules;
 mod runner;
+mod running;
 mod script;
+mod setup;
 mod stop;
+mod tidying;
 
 use crate::counted::Counted;
 use crate::fault::RunFault;
 use crate::orders::Order;
+use span_id::Meta;
+use span_layers::{Form, Hooks, MAX_LAYERS, Note, Rule, admits, text};
+use std::alloc::Global;
 use std::io;
 use std::io::BufWriter;
 use std::process::ExitCode;
@@ -43,14 +50,31 @@ fn main(rt: HostRuntime) -> io::Result<ExitCode> {
     }
 }
 
-/// Runs the script of standard input. What it answers goes to standard output through a buffer.
+/// Runs the script of standard input. What it answers goes to standard output through a buffer. Each layer applies rules
+/// by `admits` and writes notes by `text`.
 fn replay(rt: &HostRuntime) -> Result<(), RunFault> {
-    let Ok(buffer) = BufWriter::new(rt.alloc(), rt.stdout()) else {
+    let alloc = rt.alloc();
+    let Ok(buffer) = BufWriter::new(alloc, rt.stdout()) else {
         return Err(RunFault::Memory);
     };
+    let mut hooks = Vec::new(alloc);
+    for _ in 0..MAX_LAYERS {
+        let Ok(admit) = Box::new(alloc, |rule: &Rule, meta: &Meta| admits(rule, meta)) else {
+            return Err(RunFault::Memory);
+        };
+        let Ok(say) = Box::new(
+            alloc,
+            |alloc: Global, form: Form, note: &Note| text(alloc, form, note),
+        ) else {
+            return Err(RunFault::Memory);
+        };
+        if hooks.push(Hooks::new(admit, say)).is_err() {
+            return Err(RunFault::Memory);
+        }
+    }
     let mut input = Counted::new(rt.stdin());
     let mut output = Counted::new(buffer);
-    match runner::replay(rt.alloc(), &mut input, &mut output) {
+    match runner::replay(alloc, &mut input, &mut output, hooks) {
         Ok(_) => Ok(()),
         Err(fault) => Err(fault),
     }
@@ -69,5 +93,3 @@ fn status_of<R: Eprint>(rt: &R, ended: Result<(), RunFault>) -> io::Result<ExitC
 
 #[cfg(test)]
 mod reading_tests;
-#[cfg(test)]
-mod tests;

@@ -1,5 +1,5 @@
 //! A script as far as its calls have run: the registry, the labels, and how many lines of notes were written.
-ghost use Rattle.std.specs.Prelude.{◌≡◌, ◌<◌, ◌≤◌, ◌++◌, [], ℕ, IfOk, IfErr, OnOk, length, flat_map, drop, map, string_bytes};
+ghost use Rattle.std.specs.Prelude.{slice_get, ◌≡◌, ◌<◌, ◌≤◌, ◌++◌, [], ℕ, IfOk, IfErr, OnOk, length, flat_map, drop, map, string_bytes};
 ghost use Rattle.span_registry.specs.Happening.{id_at};
 ghost use Rattle.span_registry.specs.Lines.{lines_of};
 ghost use Rattle.tracerun.specs.Faults.{id_of_key};
@@ -146,6 +146,15 @@ impl<V: Say> Script<V> {
         ensures { result ≡ top (stack_of (core_in self.now).world worker) }
     {
         self.core.stack(worker).top()
+    }
+
+    /// The entry of the worker's stack at this place, counted from the lowest.
+    pub fn entry(&self, worker: u32, place: usize) -> Option<Id>
+        requires worker { worker < self.now.workers }
+        requires written { IsWritten self.now }
+        ensures { result ≡ slice_get (stack_of (core_in self.now).world worker) place }
+    {
+        self.core.stack(worker).get(place)
     }
 
     /// How many entries the worker's stack has.

@@ -1,8 +1,9 @@
 //! Why a line has no answer.
 ghost use Rattle.std.specs.Prelude.{◌≡◌};
 ghost use Rattle.tracerun.specs.declared.stop.Stop.TheVariants.{Memory, Refused};
+ghost use Rattle.tracerun.specs.Ended.{fault_at};
 
-use crate::fault::Reason;
+use crate::fault::{Reason, RunFault};
 use std::alloc::{AllocError, AllocFailed};
 use std::io;
 
@@ -45,5 +46,15 @@ impl From<io::Error> for Stop {
 
     fn from(_error: io::Error) -> Stop {
         Stop::Memory
+    }
+}
+
+/// The fault with which a run ends where the line of this number has no answer.
+pub fn at_line(number: u64, stop: Stop) -> RunFault
+    ensures { result ≡ fault_at number stop }
+{
+    match stop {
+        Stop::Memory => RunFault::Memory,
+        Stop::Refused(reason) => RunFault::Script(number, reason),
     }
 }
