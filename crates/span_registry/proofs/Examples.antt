@@ -100,6 +100,7 @@ exit_stays = refl
 
 exit_leaves : closed_by_exit entered_alone 0 2 ≡ 2 ∷ 1 ∷ []
 exit_leaves = refl
+
 -- the exit gives the one entry back; b and a close by it, and only the first layer wants to be told, once of each
 exit_gives_entry_back : without_holder entered_alone (exit 0 2) ≡ (1, span (codes "a") 3 None 0 0) ∷ (2, span (codes "b") 3 (Some 1) 0 0) ∷ []
 exit_gives_entry_back = refl
@@ -183,8 +184,8 @@ legal : IsLegal [] 1 (made_a ∷ batch (try_close 0 1) (released (1 ∷ [])) ∷
 legal =
     more (batch (try_close 0 1) (released (1 ∷ [])))
     (more made_a none
-    (record { changes = record { in_layout = (omega arith, omega arith); not_issued = refl; wanted = refl; parent_open = tt; after = refl }; notes_are = refl }) refl)
-    (record { changes = record { held = omega arith; closed_are = refl; after = refl }; notes_are = refl })
+    (record { within = omega arith; changes = record { in_layout = (omega arith, omega arith); not_issued = refl; wanted = refl; parent_open = tt; after = refl }; notes_are = refl }) refl)
+    (record { within = omega arith; changes = record { held = omega arith; closed_are = refl; after = refl }; notes_are = refl })
     refl
 
 -- the lines of a history: the number of the batch, the place in it, the layer, and the text
