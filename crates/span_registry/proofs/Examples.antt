@@ -1,5 +1,5 @@
 -- Worked cases of the definitions, by computation.
-use Rattle.std.proofs.Common.{◌≡◌, ℕ, Bool, true, false, List, [], ◌∷◌, ◌++◌, map, Option, Some, None, refl, arith}
+use Rattle.std.proofs.Common.{◌≡◌, ℕ, Bool, true, false, List, [], ◌∷◌, ◌++◌, Option, Some, None, refl, arith}
 use Rattle.std.specs.Prelude.{codes, count_by}
 use Rattle.span_id.specs.declared.level.Level.TheVariants.{Info, Trace}
 use Rattle.span_id.specs.declared.fault.Fault.TheVariants.{Unknown, CountFull, Full, NotEntered, BadName}
@@ -24,7 +24,7 @@ use Rattle.span_registry.specs.History.{IsLegal, issued}
 use Rattle.span_registry.specs.History.IsLegal.{none, more}
 use Rattle.span_registry.specs.NextId.{next_id}
 use Rattle.span_registry.specs.Closing.{closed_by, closed_in, gives_back, without_holder, tells_close, hears_close}
-use Rattle.span_registry.specs.Lines.{PlainLine, lines_of}
+use Rattle.span_registry.specs.Lines.{lines_of}
 use Rattle.span_registry.specs.Core.{CoreView}
 use Rattle.span_registry.specs.Outcome.{outcome, refused, not_wanted, accepted}
 

@@ -1,5 +1,5 @@
 -- What a legal history keeps of the stacks: each worker has one, and the entries of a span are the workers inside it.
-use Rattle.std.proofs.Common.{◌≡◌, ℕ, ◌<◌, not, cond, List, [], ◌∷◌, ◌++◌, length, get_or, set, replicate, refl, sym, ap, ◌∙◌, subst}
+use Rattle.std.proofs.Common.{◌≡◌, ℕ, ◌<◌, cond, List, [], ◌∷◌, ◌++◌, length, get_or, set, refl, sym, ap, ◌∙◌, subst}
 use Rattle.std.proofs.lemmas.Bool.{false≢true}
 use Rattle.std.proofs.lemmas.List.{length-set, length-replicate}
 use Rattle.span_layers.specs.Filter.{Filter}

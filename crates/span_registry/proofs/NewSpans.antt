@@ -1,6 +1,6 @@
 -- A new span: its path and its notes, as they can be said before it is there.
-use Rattle.std.proofs.Common.{◌≡◌, ◌≢◌, ℕ, zero, suc, ◌+◌, ◌<◌, ◌==◌, Bool, true, false, cond, ◌&&◌, ◌||◌, List, [], ◌∷◌, ◌++◌, length, map, filter, reverse, get_or, set, Option, Some, None, refl, sym, ap, ◌∙◌, subst, inl, inr, arith}
-use Rattle.std.specs.Prelude.{is_some, MatchOption, IfSome, slice_index, drop, nat_lt}
+use Rattle.std.proofs.Common.{◌≡◌, ◌≢◌, ℕ, zero, suc, ◌+◌, ◌<◌, ◌==◌, Bool, true, false, cond, ◌&&◌, ◌||◌, List, [], ◌∷◌, ◌++◌, length, map, filter, reverse, Option, Some, None, refl, sym, ap, ◌∙◌, subst, inl, inr}
+use Rattle.std.specs.Prelude.{is_some, IfSome, slice_index, nat_lt}
 use Rattle.std.specs.Option.{option_map_or}
 use Rattle.std.specs.List.{range_with_len}
 use Rattle.std.proofs.lemmas.Bool.{cases_Bool, false≢true}
@@ -30,7 +30,7 @@ use Rattle.span_registry.specs.Batch.{PlainBatch}
 use Rattle.span_registry.specs.Step.{ParentIsOpen, IsStep, is_wanted, made_node}
 use Rattle.span_registry.specs.History.{issued}
 use Rattle.span_registry.specs.NextId.{with_answer, slots_after, next_id}
-use Rattle.span_registry.specs.Happening.{Happening, at_span, is_told, note_of, notes_of, notes_of_all, path_at}
+use Rattle.span_registry.specs.Happening.{at_span, is_told, note_of, notes_of, notes_of_all, path_at}
 use Rattle.span_registry.specs.State.{first_note, is_told_new, IsSound, forest_with}
 use Rattle.span_registry.proofs.Soundness.{sound_more}
 use Rattle.span_registry.proofs.Worlds.{same_key}
