@@ -25,17 +25,19 @@ use Rattle.span_registry.proofs.Worlds.{world_kept_handle, world_changed, world_
 
 pub sound_clone : (limits : Limits) (rules : List Filter) (forest new_forest : ForestView) (stacks : List (List ℕ)) (calls : ℕ) (old mid new : List PlainBatch) (worker id : ℕ) (notes : List PlainNote)
     → IsSound limits forest stacks rules calls old
+    → worker < length stacks
     → IsHeld forest.spans id Handle
     → new_forest ≡ record forest { spans = kept forest.spans id Handle }
     → notes ≡ []
     → mid ≡ old → new ≡ mid ++ (record { request = clone_span worker id; answer = cloned; notes = notes }) ∷ []
     → IsSound limits new_forest stacks rules (calls + 1) new
-sound_clone limits rules forest new_forest stacks calls old mid new worker id notes sound held forest_is none same sent =
+sound_clone limits rules forest new_forest stacks calls old mid new worker id notes sound within held forest_is none same sent =
     let spans_are = ap (λ f. f.spans) forest_is in
     sound_quiet limits rules forest new_forest stacks stacks calls old mid new (record { request = clone_span worker id; answer = cloned; notes = notes }) sound refl refl
     (same_but_spans forest new_forest _ forest_is) refl
     (subst (λ (spans : Spans). IsWorld (record { spans = spans; stacks = stacks })) (sym spans_are) (world_kept_handle forest.spans id stacks sound.world))
     (record {
+      within = within;
       changes = record { held = held; after = λ j. record { spans = spans_are j; stacks = stacks } };
       notes_are = none;
     })
@@ -43,18 +45,20 @@ sound_clone limits rules forest new_forest stacks calls old mid new worker id no
 
 pub sound_record : (limits : Limits) (rules : List Filter) (forest new_forest : ForestView) (stacks : List (List ℕ)) (calls : ℕ) (old mid new : List PlainBatch) (worker id : ℕ) (fields : List KeyValue) (written : Request) (notes : List PlainNote)
     → IsSound limits forest stacks rules calls old
+    → worker < length stacks
     → IsHeld forest.spans id Handle
     → new_forest ≡ record forest { spans = changed (with_fields fields) forest.spans id }
     → notes ≡ notes_of_all rules worker (at_span forest.spans OnRecord id fields ∷ [])
     → written ≡ record_fields worker id fields
     → mid ≡ old → new ≡ mid ++ (record { request = written; answer = recorded; notes = notes }) ∷ []
     → IsSound limits new_forest stacks rules (calls + 1) new
-sound_record limits rules forest new_forest stacks calls old mid new worker id fields written notes sound held forest_is notes_are written_is same sent =
+sound_record limits rules forest new_forest stacks calls old mid new worker id fields written notes sound within held forest_is notes_are written_is same sent =
     let spans_are = ap (λ f. f.spans) forest_is in
     sound_quiet limits rules forest new_forest stacks stacks calls old mid new (record { request = record_fields worker id fields; answer = recorded; notes = notes }) sound refl refl
     (same_but_spans forest new_forest _ forest_is) refl
     (subst (λ (spans : Spans). IsWorld (record { spans = spans; stacks = stacks })) (sym spans_are) (world_changed (with_fields fields) (λ node. refl) forest.spans id stacks sound.world))
     (record {
+      within = within;
       changes = record { held = held; after = λ j. record { spans = spans_are j; stacks = stacks } };
       notes_are = notes_are;
     })
@@ -72,13 +76,14 @@ freed_in limits forest new_forest spans used closed forest_is new_is =
 
 pub sound_close : (limits : Limits) (rules : List Filter) (forest new_forest : ForestView) (stacks : List (List ℕ)) (calls : ℕ) (old mid new : List PlainBatch) (worker id : ℕ) (closed : List ℕ) (notes : List PlainNote)
     → IsSound limits forest stacks rules calls old
+    → worker < length stacks
     → IsHeld forest.spans id Handle
     → closed ≡ closing_list forest.spans id Handle
     → new_forest ≡ record forest { spans = spans_left forest.spans id Handle; freed = freed_after forest.last_generation forest.given forest.freed (closing_list forest.spans id Handle) }
     → notes ≡ notes_of_all rules worker (map (close_of forest.spans) closed)
     → mid ≡ old → new ≡ mid ++ (record { request = try_close worker id; answer = released closed; notes = notes }) ∷ []
     → IsSound limits new_forest stacks rules (calls + 1) new
-sound_close limits rules forest new_forest stacks calls old mid new worker id closed notes sound held closed_are forest_is notes_are same sent =
+sound_close limits rules forest new_forest stacks calls old mid new worker id closed notes sound within held closed_are forest_is notes_are same sent =
     let spans_are = ap (λ f. f.spans) forest_is in
     let given_is : new_forest.given ≡ forest.given = ap (λ f. f.given) forest_is in
     sound_more limits rules forest new_forest stacks stacks calls old mid new (record { request = try_close worker id; answer = released closed; notes = notes }) sound
@@ -89,6 +94,7 @@ sound_close limits rules forest new_forest stacks calls old mid new worker id cl
     refl
     (subst (λ (spans : Spans). IsWorld (record { spans = spans; stacks = stacks })) (sym spans_are) (world_released_handle forest.spans id stacks sound.world))
     (record {
+      within = within;
       changes = record { held = held; closed_are = closed_are; after = λ j. record { spans = spans_are j; stacks = stacks } };
       notes_are = notes_are;
     })
@@ -123,6 +129,7 @@ sound_enter limits rules forest new_forest stacks new_stacks calls old mid new w
     (λ j. record { spans = (ap (λ b. cond b (kept forest.spans id Entry) forest.spans) (sym first_is) ∙ sym spans_are) j; stacks = (sym stacks_are) j })
     entered_world)
     (record {
+      within = within;
       changes = record { held = held; first_is = first_is; after = λ j. record { spans = spans_are j; stacks = stacks_are j } };
       notes_are = notes_are;
     })
@@ -170,6 +177,7 @@ sound_exit limits rules forest new_forest stacks new_stacks calls old mid new wo
     (subst (λ (w : World). IsWorld w) (λ j. record { spans = (sym spans_are) j; stacks = (sym stacks_are) j })
     (world_after_exit forest.spans stacks worker id stays within stands (sym stays_is) sound.world))
     (record {
+      within = within;
       changes = record {
         inside = stands;
         closed_are = closed_are ∙ ap (λ b. cond b [] (closing_list forest.spans id Entry)) stays_is;
@@ -181,13 +189,14 @@ sound_exit limits rules forest new_forest stacks new_stacks calls old mid new wo
 
 pub sound_event : (limits : Limits) (rules : List Filter) (forest : ForestView) (stacks : List (List ℕ)) (calls : ℕ) (old mid new : List PlainBatch) (worker : ℕ) (meta : PlainMeta) (message : List ℕ) (fields : List KeyValue) (written : Request) (notes : List PlainNote)
     → IsSound limits forest stacks rules calls old
+    → worker < length stacks
     → notes ≡ notes_of_all rules worker (event_at forest.spans (get_or stacks worker []) (admission_set rules meta.target meta.level) meta.level message fields ∷ [])
     → written ≡ event worker meta message fields
     → mid ≡ old → new ≡ mid ++ (record { request = written; answer = told; notes = notes }) ∷ []
     → IsSound limits forest stacks rules (calls + 1) new
-sound_event limits rules forest stacks calls old mid new worker meta message fields written notes sound notes_are written_is same sent =
+sound_event limits rules forest stacks calls old mid new worker meta message fields written notes sound within notes_are written_is same sent =
     sound_quiet limits rules forest forest stacks stacks calls old mid new (record { request = event worker meta message fields; answer = told; notes = notes }) sound refl refl
     refl refl sound.world
-    (record { changes = refl; notes_are = notes_are })
+    (record { within = within; changes = refl; notes_are = notes_are })
     same
     (sent ∙ ap (λ (request : Request). mid ++ (record { request = request; answer = told; notes = notes }) ∷ []) written_is)

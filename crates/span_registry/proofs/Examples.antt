@@ -1,5 +1,5 @@
 -- Worked cases of the definitions, by computation.
-use Rattle.std.proofs.Common.{◌≡◌, ℕ, Bool, true, false, List, [], ◌∷◌, ◌++◌, map, Option, Some, None, refl, arith}
+use Rattle.std.proofs.Common.{◌≡◌, ℕ, Bool, true, false, List, [], ◌∷◌, ◌++◌, Option, Some, None, refl, arith}
 use Rattle.std.specs.Prelude.{codes, count_by}
 use Rattle.span_id.specs.declared.level.Level.TheVariants.{Info, Trace}
 use Rattle.span_id.specs.declared.fault.Fault.TheVariants.{Unknown, CountFull, Full, NotEntered, BadName}
@@ -24,7 +24,7 @@ use Rattle.span_registry.specs.History.{IsLegal, issued}
 use Rattle.span_registry.specs.History.IsLegal.{none, more}
 use Rattle.span_registry.specs.NextId.{next_id}
 use Rattle.span_registry.specs.Closing.{closed_by, closed_in, gives_back, without_holder, tells_close, hears_close}
-use Rattle.span_registry.specs.Lines.{PlainLine, lines_of}
+use Rattle.span_registry.specs.Lines.{lines_of}
 use Rattle.span_registry.specs.Core.{CoreView}
 use Rattle.span_registry.specs.Outcome.{outcome, refused, not_wanted, accepted}
 
@@ -100,6 +100,7 @@ exit_stays = refl
 
 exit_leaves : closed_by_exit entered_alone 0 2 ≡ 2 ∷ 1 ∷ []
 exit_leaves = refl
+
 -- the exit gives the one entry back; b and a close by it, and only the first layer wants to be told, once of each
 exit_gives_entry_back : without_holder entered_alone (exit 0 2) ≡ (1, span (codes "a") 3 None 0 0) ∷ (2, span (codes "b") 3 (Some 1) 0 0) ∷ []
 exit_gives_entry_back = refl
@@ -183,8 +184,8 @@ legal : IsLegal [] 1 (made_a ∷ batch (try_close 0 1) (released (1 ∷ [])) ∷
 legal =
     more (batch (try_close 0 1) (released (1 ∷ [])))
     (more made_a none
-    (record { changes = record { in_layout = (omega arith, omega arith); not_issued = refl; wanted = refl; parent_open = tt; after = refl }; notes_are = refl }) refl)
-    (record { changes = record { held = omega arith; closed_are = refl; after = refl }; notes_are = refl })
+    (record { within = omega arith; changes = record { in_layout = (omega arith, omega arith); not_issued = refl; wanted = refl; parent_open = tt; after = refl }; notes_are = refl }) refl)
+    (record { within = omega arith; changes = record { held = omega arith; closed_are = refl; after = refl }; notes_are = refl })
     refl
 
 -- the lines of a history: the number of the batch, the place in it, the layer, and the text

@@ -12,7 +12,7 @@ use Rattle.span_registry.specs.declared.batch.Batch.{Batch}
 use Rattle.span_registry.specs.Batch.{PlainBatch, plain_batch}
 use Rattle.span_registry.specs.declared.line.Line.{Line}
 use Rattle.span_registry.specs.Lines.{PlainLine, plain_line, line_of, lines_of_batch, lines_of}
-use Rattle.span_registry.specs.Kept.{NumberedNote, numbered_in, numbered, AreTold, AreKept}
+use Rattle.span_registry.specs.Kept.{NumberedNote, numbered_in, numbered, AreTold, AreKept, GainsLines}
 use Rattle.span_registry.specs.Kept.AreTold.{none, told, missed}
 
 -- ---- notes, and then others
@@ -23,24 +23,52 @@ told_append forms none more = more
 told_append forms (told note line says rest) more = told note line says (told_append forms rest more)
 told_append forms (missed note rest) more = missed note (told_append forms rest more)
 
+-- no note more
+pub gains_none : (forms : List Form) (lines : List PlainLine) (refused : ℕ) → refused ≤ 2 ^ 64 - 1 → GainsLines forms [] lines refused lines refused
+gains_none forms lines refused low = record { added = []; missed = []; each = none; lines_are = sym (append-nil lines); counted = omega (arith, low) }
+
 -- a note more was told
-pub kept_told : (forms : List Form) (before : List NumberedNote) (lines after : List Line) (refused : ℕ) (note : NumberedNote) (line : Line)
-    → line_of forms note.batch (note.place, note.note) ≡ Some (plain_line line) → after ≡ lines ++ line ∷ []
-    → AreKept forms before (map plain_line lines) refused → AreKept forms (before ++ note ∷ []) (map plain_line after) refused
-kept_told forms before lines after refused note line says is kept = record {
-  missed = kept.missed ++ [];
-  each = subst (λ ls. AreTold forms (before ++ note ∷ []) ls (kept.missed ++ [])) (sym (ap (map plain_line) is ∙ map-append plain_line lines (line ∷ []))) (told_append forms kept.each (told note (plain_line line) says none));
-  counted = kept.counted ∙ ap (λ xs. min (2 ^ 64 - 1) (length xs)) (sym (append-nil kept.missed));
+pub gains_told : (forms : List Form) (lines after : List Line) (refused : ℕ) (note : NumberedNote) (line : Line)
+    → line_of forms note.batch (note.place, note.note) ≡ Some (plain_line line) → after ≡ lines ++ line ∷ [] → refused ≤ 2 ^ 64 - 1
+    → GainsLines forms (note ∷ []) (map plain_line lines) refused (map plain_line after) refused
+gains_told forms lines after refused note line says is low = record {
+  added = plain_line line ∷ [];
+  missed = [];
+  each = told note (plain_line line) says none;
+  lines_are = ap (map plain_line) is ∙ map-append plain_line lines (line ∷ []);
+  counted = omega (arith, low);
 }
 
 -- a note more was missed
-pub kept_missed : (forms : List Form) (before : List NumberedNote) (lines after : List Line) (refused more : ℕ) (note : NumberedNote)
+pub gains_missed : (forms : List Form) (lines after : List Line) (refused more : ℕ) (note : NumberedNote)
     → after ≡ lines → more ≡ min (2 ^ 64 - 1) (refused + 1)
-    → AreKept forms before (map plain_line lines) refused → AreKept forms (before ++ note ∷ []) (map plain_line after) more
-kept_missed forms before lines after refused more note same is kept = record {
-  missed = kept.missed ++ note ∷ [];
-  each = subst (λ ls. AreTold forms (before ++ note ∷ []) ls (kept.missed ++ note ∷ [])) (append-nil (map plain_line lines) ∙ ap (map plain_line) (sym same)) (told_append forms kept.each (missed note none));
-  counted = (let counted = kept.counted in let len = length-append kept.missed (note ∷ []) in omega (arith, is, counted, len));
+    → GainsLines forms (note ∷ []) (map plain_line lines) refused (map plain_line after) more
+gains_missed forms lines after refused more note same is = record {
+  added = [];
+  missed = note ∷ [];
+  each = missed note none;
+  lines_are = ap (map plain_line) same ∙ sym (append-nil (map plain_line lines));
+  counted = is;
+}
+
+-- notes, and then others
+gains_more : (forms : List Form) (first notes : List NumberedNote) (lines between after : List PlainLine) (refused some more : ℕ)
+    → GainsLines forms first lines refused between some → GainsLines forms notes between some after more → GainsLines forms (first ++ notes) lines refused after more
+gains_more forms first notes lines between after refused some more a b = record {
+  added = a.added ++ b.added;
+  missed = a.missed ++ b.missed;
+  each = told_append forms a.each b.each;
+  lines_are = b.lines_are ∙ ap (λ ls. ls ++ b.added) a.lines_are ∙ append_assoc lines a.added b.added;
+  counted = (let before = a.counted in let now = b.counted in let len = length-append a.missed b.missed in omega (arith, before, now, len));
+}
+
+-- what was kept, and notes more
+pub kept_more : (forms : List Form) (before notes : List NumberedNote) (lines after : List PlainLine) (refused more : ℕ)
+    → AreKept forms before lines refused → GainsLines forms notes lines refused after more → AreKept forms (before ++ notes) after more
+kept_more forms before notes lines after refused more kept gains = record {
+  missed = kept.missed ++ gains.missed;
+  each = subst (λ ls. AreTold forms (before ++ notes) ls (kept.missed ++ gains.missed)) (sym gains.lines_are) (told_append forms kept.each gains.each);
+  counted = (let before = kept.counted in let now = gains.counted in let len = length-append kept.missed gains.missed in omega (arith, before, now, len));
 }
 
 -- ---- the notes of a batch
@@ -54,15 +82,14 @@ enumerated_more {X} n (y ∷ ys) x =
 abbrev pub numbered_first : ℕ → List PlainNote → List NumberedNote
 numbered_first batch notes = map (λ note. record { batch = batch; place = note.0; note = note.1 }) (enumerate_from 0 notes)
 
-pub first_more : (before : List NumberedNote) (batch place : ℕ) (notes : List PlainNote) (note : PlainNote) → place < length notes → get_or notes place note ≡ note
-    → before ++ numbered_first batch (take (place + 1) notes) ≡ (before ++ numbered_first batch (take place notes)) ++ (record { batch = batch; place = place; note = note }) ∷ []
-first_more before batch place notes note within at =
+first_more : (batch place : ℕ) (notes : List PlainNote) (note : PlainNote) → place < length notes → get_or notes place note ≡ note
+    → numbered_first batch (take (place + 1) notes) ≡ numbered_first batch (take place notes) ++ (record { batch = batch; place = place; note = note }) ∷ []
+first_more batch place notes note within at =
     let len : length (take place notes) ≡ place = length-take-le place notes (omega arith) in
     let next : take (place + 1) notes ≡ take place notes ++ note ∷ [] = take_more notes place note within ∙ ap (λ n. take place notes ++ n ∷ []) at in
-    ap (λ ns. before ++ numbered_first batch ns) next
-    ∙ ap (λ ns. before ++ map (λ n. record { batch = batch; place = n.0; note = n.1 }) ns) (enumerated_more 0 (take place notes) note ∙ ap {B = List (ℕ × PlainNote)} (λ k. enumerate_from 0 (take place notes) ++ (k, note) ∷ []) (omega (arith, len)))
-    ∙ ap (λ ns. before ++ ns) (map-append (λ n. record { batch = batch; place = n.0; note = n.1 }) (enumerate_from 0 (take place notes)) ((place, note) ∷ []))
-    ∙ sym (append_assoc before _ _)
+    ap (λ ns. numbered_first batch ns) next
+    ∙ ap (λ ns. map (λ n. record { batch = batch; place = n.0; note = n.1 }) ns) (enumerated_more 0 (take place notes) note ∙ ap {B = List (ℕ × PlainNote)} (λ k. enumerate_from 0 (take place notes) ++ (k, note) ∷ []) (omega (arith, len)))
+    ∙ map-append (λ n. record { batch = batch; place = n.0; note = n.1 }) (enumerate_from 0 (take place notes)) ((place, note) ∷ [])
 
 -- ---- a history
 
@@ -75,24 +102,23 @@ numbered_more history batch =
 -- ---- a loop over the notes of a batch
 
 -- a turn
-pub next_kept : (forms same : List Form) (before : List NumberedNote) (batch place : ℕ) (notes : List Note) (note : Note) (lines after : List PlainLine) (refused more : ℕ)
+pub next_gains : (forms same : List Form) (batch place : ℕ) (notes : List Note) (note : Note) (lines between after : List PlainLine) (refused some more : ℕ)
     → same ≡ forms → place < length notes → get_or notes place note ≡ note
-    → AreKept forms (before ++ numbered_first batch (take place (map plain_note notes))) lines refused
-    → ((first : List NumberedNote) → AreKept same first lines refused → AreKept same (first ++ (record { batch = batch; place = place; note = plain_note note }) ∷ []) after more)
-    → AreKept forms (before ++ numbered_first batch (take (place + 1) (map plain_note notes))) after more
-next_kept forms same before batch place notes note lines after refused more is within at kept tells =
+    → GainsLines forms (numbered_first batch (take place (map plain_note notes))) lines refused between some
+    → GainsLines same ((record { batch = batch; place = place; note = plain_note note }) ∷ []) between some after more
+    → GainsLines forms (numbered_first batch (take (place + 1) (map plain_note notes))) lines refused after more
+next_gains forms same batch place notes note lines between after refused some more is within at gains gained =
     let inside : place < length (map plain_note notes) = rw (length-map notes plain_note) within in
     let here : get_or (map plain_note notes) place (plain_note note) ≡ plain_note note = get_or-map plain_note notes place note (plain_note note) within ∙ ap plain_note at in
-    subst (λ fs. AreKept fs (before ++ numbered_first batch (take (place + 1) (map plain_note notes))) after more) is
-    (subst (λ ns. AreKept same ns after more) (sym (first_more before batch place (map plain_note notes) (plain_note note) inside here))
-    (tells (before ++ numbered_first batch (take place (map plain_note notes)))
-    (subst (λ fs. AreKept fs (before ++ numbered_first batch (take place (map plain_note notes))) lines refused) (sym is) kept)))
+    subst (λ ns. GainsLines forms ns lines refused after more) (sym (first_more batch place (map plain_note notes) (plain_note note) inside here))
+    (gains_more forms _ _ lines between after refused some more gains
+    (subst (λ fs. GainsLines fs ((record { batch = batch; place = place; note = plain_note note }) ∷ []) between some after more) is gained))
 
 -- the end
-pub all_kept : (forms : List Form) (before : List NumberedNote) (batch place : ℕ) (notes : List Note) (lines : List PlainLine) (refused : ℕ) → length notes ≤ place
-    → AreKept forms (before ++ numbered_first batch (take place (map plain_note notes))) lines refused → AreKept forms (before ++ numbered_first batch (map plain_note notes)) lines refused
-all_kept forms before batch place notes lines refused ends kept =
-    subst (λ ns. AreKept forms (before ++ numbered_first batch ns) lines refused) (take_all place (map plain_note notes) (rw (length-map notes plain_note) ends)) kept
+pub all_gained : (forms : List Form) (batch place : ℕ) (notes : List Note) (lines after : List PlainLine) (refused more : ℕ) → length notes ≤ place
+    → GainsLines forms (numbered_first batch (take place (map plain_note notes))) lines refused after more → GainsLines forms (numbered_first batch (map plain_note notes)) lines refused after more
+all_gained forms batch place notes lines after refused more ends gains =
+    subst (λ ns. GainsLines forms (numbered_first batch ns) lines refused after more) (take_all place (map plain_note notes) (rw (length-map notes plain_note) ends)) gains
 
 -- nothing was sent yet
 pub nothing_kept : (forms : List Form) (sent : List Batch) (lines : List Line) → sent ≡ [] → lines ≡ [] → AreKept forms (numbered (map plain_batch sent)) (map plain_line lines) 0

@@ -10,7 +10,7 @@ use Rattle.span_layers.specs.Text.{text_of}
 use Rattle.span_registry.specs.Request.{enter, entered, clone_span, cloned}
 use Rattle.span_registry.specs.Batch.{PlainBatch}
 use Rattle.span_registry.specs.Lines.{PlainLine}
-use Rattle.span_registry.specs.Kept.{NumberedNote, numbered, AreKept}
+use Rattle.span_registry.specs.Kept.{NumberedNote, numbered, numbered_in, AreKept, GainsLines}
 use Rattle.span_registry.specs.Kept.AreTold.{none, told, missed}
 
 -- worker 0 entered span 1, whose name is `a`
@@ -62,5 +62,16 @@ unfolding text_of digits
 formless = record {
   missed = at 1 1 1 ∷ at 1 2 2 ∷ [];
   each = told (at 1 0 0) (line 1 0 0) refl (missed (at 1 1 1) (missed (at 1 2 2) none));
+  counted = refl;
+}
+
+-- a batch with the number 2: its second note is missed and counted, and its lines come after the line so far
+gained : GainsLines forms (numbered_in (2, record { request = enter 0 1; answer = entered true; notes = note 0 ∷ note 1 ∷ note 2 ∷ [] })) (line 1 0 0 ∷ []) 5 (line 1 0 0 ∷ line 2 0 0 ∷ line 2 2 2 ∷ []) 6
+unfolding text_of digits
+gained = record {
+  added = line 2 0 0 ∷ line 2 2 2 ∷ [];
+  missed = at 2 1 1 ∷ [];
+  each = told (at 2 0 0) (line 2 0 0) refl (missed (at 2 1 1) (told (at 2 2 2) (line 2 2 2) refl none));
+  lines_are = refl;
   counted = refl;
 }

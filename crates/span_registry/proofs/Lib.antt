@@ -12,6 +12,7 @@ pub mod Deciding
 pub mod Outcomes
 pub mod Effects
 pub mod Legal
+pub mod LegalWorlds
 pub mod Released
 pub mod Empties
 pub mod Announcing

@@ -1,6 +1,6 @@
 -- A new span: its path and its notes, as they can be said before it is there.
-use Rattle.std.proofs.Common.{◌≡◌, ◌≢◌, ℕ, zero, suc, ◌+◌, ◌<◌, ◌==◌, Bool, true, false, cond, ◌&&◌, ◌||◌, List, [], ◌∷◌, ◌++◌, length, map, filter, reverse, get_or, set, Option, Some, None, refl, sym, ap, ◌∙◌, subst, inl, inr, arith}
-use Rattle.std.specs.Prelude.{is_some, MatchOption, IfSome, slice_index, drop, nat_lt}
+use Rattle.std.proofs.Common.{◌≡◌, ◌≢◌, ℕ, zero, suc, ◌+◌, ◌<◌, ◌==◌, Bool, true, false, cond, ◌&&◌, ◌||◌, List, [], ◌∷◌, ◌++◌, length, map, filter, reverse, Option, Some, None, refl, sym, ap, ◌∙◌, subst, inl, inr}
+use Rattle.std.specs.Prelude.{is_some, IfSome, slice_index, nat_lt}
 use Rattle.std.specs.Option.{option_map_or}
 use Rattle.std.specs.List.{range_with_len}
 use Rattle.std.proofs.lemmas.Bool.{cases_Bool, false≢true}
@@ -30,7 +30,7 @@ use Rattle.span_registry.specs.Batch.{PlainBatch}
 use Rattle.span_registry.specs.Step.{ParentIsOpen, IsStep, is_wanted, made_node}
 use Rattle.span_registry.specs.History.{issued}
 use Rattle.span_registry.specs.NextId.{with_answer, slots_after, next_id}
-use Rattle.span_registry.specs.Happening.{Happening, at_span, is_told, note_of, notes_of, notes_of_all, path_at}
+use Rattle.span_registry.specs.Happening.{at_span, is_told, note_of, notes_of, notes_of_all, path_at}
 use Rattle.span_registry.specs.State.{first_note, is_told_new, IsSound, forest_with}
 use Rattle.span_registry.proofs.Soundness.{sound_more}
 use Rattle.span_registry.proofs.Worlds.{same_key}
@@ -148,12 +148,13 @@ only_one id x h = same_key id x (sym (or_none (id == x)) ∙ h)
     or_none false = refl
 
 pub step_new : (rules : List Filter) (ids : List ℕ) (spans new_spans : Spans) (stacks : List (List ℕ)) (worker id : ℕ) (meta : PlainMeta) (fields : List KeyValue) (parent : Option ℕ) (notes : List PlainNote)
-    → IsId id → stands_in id ids ≡ false → is_wanted rules meta ≡ true → ParentIsOpen spans parent
+    → worker < length stacks → IsId id → stands_in id ids ≡ false → is_wanted rules meta ≡ true → ParentIsOpen spans parent
     → new_spans ≡ with_node spans id (made_node rules meta fields parent)
     → notes ≡ notes_of_all rules worker (at_span new_spans OnNew id fields ∷ [])
     → IsStep rules ids (record { spans = spans; stacks = stacks }) (new_span worker meta fields parent) (made id) notes (record { spans = new_spans; stacks = stacks })
-step_new rules ids spans new_spans stacks worker id meta fields parent notes in_layout not_issued wanted there spans_are notes_are =
+step_new rules ids spans new_spans stacks worker id meta fields parent notes within in_layout not_issued wanted there spans_are notes_are =
     record {
+      within = within;
       changes = record {
         in_layout = in_layout;
         not_issued = not_issued;
@@ -183,6 +184,7 @@ next_is_new limits rules forest stacks calls sent sound in_layout never =
 
 pub sound_new : (limits : Limits) (rules : List Filter) (forest new_forest : ForestView) (stacks : List (List ℕ)) (calls : ℕ) (old mid new : List PlainBatch) (worker id : ℕ) (meta : PlainMeta) (fields : List KeyValue) (parent : Option ℕ) (written : Request) (notes : List PlainNote)
     → IsSound limits forest stacks rules calls old
+    → worker < length stacks
     → IsId id
     → (generation_of id < slice_index forest.given (slot_of id) → ⊥)
     → generation_of id < slice_index new_forest.given (slot_of id)
@@ -194,7 +196,7 @@ pub sound_new : (limits : Limits) (rules : List Filter) (forest new_forest : For
     → written ≡ new_span worker meta fields parent
     → mid ≡ old → new ≡ mid ++ (record { request = written; answer = made id; notes = notes }) ∷ []
     → IsSound limits new_forest stacks rules (calls + 1) new
-sound_new limits rules forest new_forest stacks calls old mid new worker id meta fields parent written notes sound in_layout never now_issued wanted there gone forest_is notes_are written_is same sent =
+sound_new limits rules forest new_forest stacks calls old mid new worker id meta fields parent written notes sound within in_layout never now_issued wanted there gone forest_is notes_are written_is same sent =
     let node = made_node rules meta fields parent in
     let spans_are = ap (λ f. f.spans) forest_is in
     let given_is : new_forest.given ≡ issue forest.given (slot_of id) = ap (λ f. f.given) forest_is in
@@ -205,5 +207,5 @@ sound_new limits rules forest new_forest stacks calls old mid new worker id meta
     (λ x before. rw given_is (issue_more forest.given (slot_of id) (slot_of x) (generation_of x) before))
     refl
     (subst (λ (spans : Spans). IsWorld (record { spans = spans; stacks = stacks })) (sym spans_are) (world_new forest.spans id node stacks gone refl sound.world))
-    (step_new rules (issued old) forest.spans new_forest.spans stacks worker id meta fields parent notes in_layout (not_in_history limits rules forest stacks calls old id sound never) wanted there spans_are notes_are)
+    (step_new rules (issued old) forest.spans new_forest.spans stacks worker id meta fields parent notes within in_layout (not_in_history limits rules forest stacks calls old id sound never) wanted there spans_are notes_are)
     same (sent ∙ ap (λ (request : Request). mid ++ (record { request = request; answer = made id; notes = notes }) ∷ []) written_is)

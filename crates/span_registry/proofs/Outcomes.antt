@@ -1,5 +1,5 @@
 -- The relations that the calls' contracts state leave no choice: what they allow is the outcome.
-use Rattle.std.proofs.Common.{◌≡◌, ℕ, Bool, true, false, not, ◌&&◌, if◌then◌else◌, List, Option, Some, None, Decides, refl, sym, ap, ◌∙◌}
+use Rattle.std.proofs.Common.{◌≡◌, ℕ, ◌<◌, Bool, true, false, not, ◌&&◌, if◌then◌else◌, List, length, Option, Some, None, Decides, refl, sym, ap, ◌∙◌}
 use Rattle.std.specs.Prelude.{is_some, IfSome, slice_index}
 use Rattle.std.proofs.lemmas.Bool.{true≢false, false_from_ne_true}
 use Rattle.span_id.specs.declared.fault.Fault.{Fault}
@@ -9,7 +9,7 @@ use Rattle.span_layers.specs.Note.{PlainNote}
 use Rattle.span_layers.specs.Filter.{Filter}
 use Rattle.span_forest.specs.Live.{stands_in}
 use Rattle.span_registry.specs.World.{World}
-use Rattle.span_registry.specs.Request.{Request, new_span, clone_span, enter, exit, try_close, record_fields, event, Answer, made, cloned, entered, exited, released, recorded, told}
+use Rattle.span_registry.specs.Request.{Request, new_span, clone_span, enter, exit, try_close, record_fields, event, Answer, made, cloned, entered, exited, released, recorded, told, worker_of}
 use Rattle.span_registry.specs.Happening.{id_at}
 use Rattle.span_registry.specs.Step.{Changes, IsStep}
 use Rattle.span_registry.specs.History.{issued, id_issued}
@@ -240,14 +240,14 @@ done_takes core (try_close worker id) due = tt
 done_takes core (record_fields worker id fields) due = tt
 done_takes core (event worker meta message fields) due = tt
 
-done_allowed : (core : CoreView) (request : Request) → IsDue core request → IsNextIdNew core → IsAllowed core request (done core request)
-done_allowed core request due new = (
+done_allowed : (core : CoreView) (request : Request) → worker_of request < length core.world.stacks → IsDue core request → IsNextIdNew core → IsAllowed core request (done core request)
+done_allowed core request within due new = (
   record {
     due = due;
     limits = refl;
     rules = refl;
     notes = notes_after core.rules core.world request answer (world_after core.rules core.world request answer);
-    step = record { changes = done_changes core request due new; notes_are = refl };
+    step = record { within = within; changes = done_changes core request due new; notes_are = refl };
     sent = refl;
     times_full = refl;
     forms = refl;
@@ -259,9 +259,10 @@ done_allowed core request due new = (
     answer : Answer
     answer = answer_to core.world (id_at (id_after core)) request
 
--- the relations that the contracts state allow the outcome, where the next id is new, as it is in every sound core
-pub outcome_allowed : (core : CoreView) (request : Request) → IsNextIdNew core → IsAllowed core request (outcome core request)
-outcome_allowed core request new =
+-- the relations that the contracts state allow the outcome of a call by one of the workers, where the next id is new,
+-- as it is in every sound core
+pub outcome_allowed : (core : CoreView) (request : Request) → worker_of request < length core.world.stacks → IsNextIdNew core → IsAllowed core request (outcome core request)
+outcome_allowed core request within new =
     allowed_by (is_named request) core request (decides_named request) (refused BadName) (when_named core request)
     (λ unnamed. record { why = unnamed; unchanged = refl })
     (λ named. allowed_by (is_wanted_call core request) core request (same (is_wanted_call core request)) not_wanted (when_wanted core request)
@@ -274,4 +275,4 @@ outcome_allowed core request new =
     (λ none. record { why = (named, wanted, known, counts, none); unchanged = refl })
     (λ slot. allowed_by (is_inside core request) core request (decides_inside core request) (refused NotEntered) (done core request)
     (λ outside. record { why = (named, known, counts, outside); unchanged = refl })
-    (λ inside. done_allowed core request (record { named = named; wanted = wanted; known = known; counts = counts; slot = slot; inside = inside }) new))))))
+    (λ inside. done_allowed core request within (record { named = named; wanted = wanted; known = known; counts = counts; slot = slot; inside = inside }) new))))))

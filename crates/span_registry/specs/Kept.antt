@@ -1,5 +1,5 @@
 -- What the outlet that keeps lines has of a history.
-use Rattle.std.specs.Prelude.{◌≡◌, ℕ, ◌-◌, ◌^◌, Bool, List, [], ◌∷◌, map, flat_map, length, min, All, Some}
+use Rattle.std.specs.Prelude.{◌≡◌, ℕ, ◌+◌, ◌-◌, ◌^◌, Bool, List, [], ◌∷◌, ◌++◌, map, flat_map, length, min, All, Some}
 use Rattle.std.specs.List.{enumerate_from}
 use Rattle.span_layers.specs.declared.form.Form.{Form}
 use Rattle.span_layers.specs.Note.{PlainNote}
@@ -41,6 +41,15 @@ pub record AreKept (forms : List Form) (notes : List NumberedNote) (lines : List
   pub missed : List NumberedNote
   pub each : AreTold forms notes lines missed
   pub counted : refused ≡ min (2 ^ 64 - 1) (length missed)
+
+-- More notes: after the lines so far stand those of these notes, but for the ones that were missed, which are
+-- counted; the count stays at the greatest `u64`.
+pub record GainsLines (forms : List Form) (notes : List NumberedNote) (lines : List PlainLine) (refused : ℕ) (new_lines : List PlainLine) (new_refused : ℕ) : Type 0 where
+  pub added : List PlainLine
+  pub missed : List NumberedNote
+  pub each : AreTold forms notes added missed
+  pub lines_are : new_lines ≡ lines ++ added
+  pub counted : new_refused ≡ min (2 ^ 64 - 1) (refused + length missed)
 
 -- no line has the batch and the place of the note
 abbrev pub HasNoLine : List PlainLine → NumberedNote → Type 0

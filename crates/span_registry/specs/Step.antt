@@ -1,5 +1,5 @@
 -- One accepted call, as a step from a world to the next.
-use Rattle.std.specs.Prelude.{◌≡◌, ℕ, ◌==◌, Bool, true, false, ◌||◌, not, cond, List, [], ◌∷◌, ◌++◌, length, Option, MatchOption}
+use Rattle.std.specs.Prelude.{◌≡◌, ℕ, ◌<◌, ◌==◌, Bool, true, false, ◌||◌, not, cond, List, [], ◌∷◌, ◌++◌, length, Option, MatchOption}
 use Rattle.span_id.specs.Id.{IsId}
 use Rattle.span_layers.specs.Note.{KeyValue, PlainNote}
 use Rattle.span_layers.specs.Filter.{Filter, admission_set}
@@ -126,7 +126,9 @@ Changes rules issued old (record_fields worker id fields) recorded new = Records
 Changes rules issued old (event worker meta message fields) told new = new ≡ old
 Changes rules issued old _ _ new = ⊥
 
--- one accepted call: the world changes as the call says, and the notes are those of the call's happenings
+-- one accepted call: the caller is one of the workers, the world changes as the call says, and the notes are
+-- those of the call's happenings
 pub record IsStep (rules : List Filter) (issued : List ℕ) (old : World) (request : Request) (answer : Answer) (notes : List PlainNote) (new : World) : Type 0 where
+  pub within : worker_of request < length old.stacks
   pub changes : Changes rules issued old request answer new
   pub notes_are : notes ≡ notes_of_all rules (worker_of request) (happenings rules old request answer new)

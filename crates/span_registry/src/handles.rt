@@ -1,5 +1,5 @@
 //! The calls on a handle that enter no stack: one more handle, fields appended, a handle given back.
-ghost use Rattle.std.specs.Prelude.{◌≡◌, nat_lt, length, OnOk, IfOk, IfErr};
+ghost use Rattle.std.specs.Prelude.{◌≡◌, ◌<◌, nat_lt, length, OnOk, IfOk, IfErr};
 ghost use Rattle.span_forest.specs.declared.span.Holder.TheVariants.{Handle};
 ghost use Rattle.span_forest.specs.Release.{closing_list};
 ghost use Rattle.span_registry.specs.Request.{clone_span, cloned, record_fields, recorded, try_close, released, plain_fields, request_of};
@@ -20,6 +20,7 @@ use std::alloc::Global;
 
 impl<O: Outlet> State<O> {
     pub(crate) fn clone_span(&mut self, worker: u32, id: Id) -> Result<(), Fault>
+        requires { worker < self.old.limits.workers }
         ensures accepted { OnOk result (IsAccepted self.old (clone_span worker id) cloned self.new) }
         ensures refused { IfErr result (λ fault. IsRefused self.old (clone_span worker id) fault self.new) }
     {
@@ -43,6 +44,7 @@ impl<O: Outlet> State<O> {
     }
 
     pub(crate) fn record(&mut self, worker: u32, id: Id, fields: &[Field]) -> Result<(), Fault>
+        requires { worker < self.old.limits.workers }
         ensures accepted { OnOk result (IsAccepted self.old (record_fields worker id (plain_fields fields.now)) recorded self.new) }
         ensures refused { IfErr result (λ fault. IsRefused self.old (record_fields worker id (plain_fields fields.now)) fault self.new) }
     {
@@ -85,6 +87,7 @@ impl<O: Outlet> State<O> {
     }
 
     pub(crate) fn try_close(&mut self, worker: u32, id: Id) -> Result<bool, Fault>
+        requires { worker < self.old.limits.workers }
         ensures accepted { OnOk result (IsAccepted self.old (try_close worker id) (released (closing_list self.old.world.spans id Handle)) self.new) }
         ensures closed { IfOk result (λ closed. closed ≡ nat_lt 0 (length (closing_list self.old.world.spans id Handle))) }
         ensures refused { IfErr result (λ fault. IsRefused self.old (try_close worker id) fault self.new) }

@@ -1,9 +1,9 @@
 //! The outlet that keeps the batches and writes their notes at once.
-ghost use Rattle.std.specs.Prelude.{◌≡◌, ◌+◌, ◌-◌, ◌^◌, ◌++◌, ◌∷◌, [], List, false, Some, IfSome, map, min, All};
+ghost use Rattle.std.specs.Prelude.{◌≡◌, ◌+◌, ◌-◌, ◌^◌, ◌<◌, ◌≤◌, ◌++◌, ◌∷◌, [], List, true, false, Some, IfSome, IfOk, OnErr, map, length, min, All};
 ghost use Rattle.span_layers.specs.Note.{plain_note};
 ghost use Rattle.span_registry.specs.Batch.{plain_batch};
 ghost use Rattle.span_registry.specs.Lines.{lines_of, line_of, plain_line};
-ghost use Rattle.span_registry.specs.Kept.{AreKept, AreTold, HasNoLine, NumberedNote, numbered, numbered_in};
+ghost use Rattle.span_registry.specs.Kept.{AreKept, AreTold, GainsLines, HasNoLine, NumberedNote, numbered, numbered_in};
 
 use crate::batch::Batch;
 use crate::line::Line;
@@ -19,6 +19,7 @@ struct Told {
     lines: Vec<Line>,
     // Stays at its greatest value.
     refused: u64,
+    ghost in_range: { refused ≤ 2 ^ 64 - 1 },
 }
 
 // The line of a note, if its layer has a form, its place fits and there is memory for its text.
@@ -55,8 +56,8 @@ impl Told {
     // Tells a note: its line is appended, or it is missed and counted.
     fn tell<V: Say>(&mut self, formatters: &V, batch: u64, place: usize, note: &Note)
         ensures forms { self.new.forms ≡ self.old.forms }
-        ensures kept { (before : List NumberedNote) → AreKept self.old.forms before (map plain_line self.old.lines.items) self.old.refused
-            → AreKept self.old.forms (before ++ (record { batch = batch; place = place; note = plain_note note.now }) ∷ []) (map plain_line self.new.lines.items) self.new.refused }
+        ensures told { GainsLines self.old.forms ((record { batch = batch; place = place; note = plain_note note.now }) ∷ [])
+            (map plain_line self.old.lines.items) self.old.refused (map plain_line self.new.lines.items) self.new.refused }
     {
         let Some(line) = line_of_note(&self.forms, formatters, batch, place, note) else {
             self.miss();
@@ -70,8 +71,8 @@ impl Told {
     // Tells the notes of the batch of this number, in order.
     fn tell_all<V: Say>(&mut self, formatters: &V, number: u64, batch: &Batch)
         ensures forms { self.new.forms ≡ self.old.forms }
-        ensures kept { (before : List NumberedNote) → AreKept self.old.forms before (map plain_line self.old.lines.items) self.old.refused
-            → AreKept self.old.forms (before ++ numbered_in (number, plain_batch batch.now)) (map plain_line self.new.lines.items) self.new.refused }
+        ensures told { GainsLines self.old.forms (numbered_in (number, plain_batch batch.now))
+            (map plain_line self.old.lines.items) self.old.refused (map plain_line self.new.lines.items) self.new.refused }
     {
         for (place, note) in batch.notes.iter().enumerate() {
             self.tell(formatters, number, place, note);
@@ -169,14 +170,29 @@ impl<V: Say> Outlet for Kept<V> {
 
     ghost forms = { λ k. k.forms };
 
-    fn room(&mut self) -> Result<bool, AllocError> {
+    /// There is always a place for one more batch, unless memory is refused. No line comes or goes.
+    fn room(&mut self) -> Result<bool, AllocError>
+        ensures same { self.new ≡ record self.old { ready = self.new.ready } }
+        ensures ready { IfOk result (λ yes. (yes ≡ true) × (self.new.ready ≡ true)) }
+        ensures not_ready { OnErr result (self.new.ready ≡ false) }
+    {
         self.ready = false;
         self.batches.try_reserve(1)?;
         self.ready = true;
         Ok(true)
     }
 
-    fn put(&mut self, batch: Batch) {
+    /// The lines gain those of the notes of the batch, at the end and in order, but for the notes that are missed, which
+    /// are counted.
+    fn put(&mut self, batch: Batch)
+        requires ready { self.old.ready ≡ true }
+        requires countable { length self.old.sent < 2 ^ 64 - 1 }
+        ensures sent { self.new.sent ≡ self.old.sent ++ plain_batch batch ∷ [] }
+        ensures forms { self.new.forms ≡ self.old.forms }
+        ensures ready { self.new.ready ≡ false }
+        ensures told { GainsLines self.old.forms (numbered_in (length self.old.sent, plain_batch batch))
+            self.old.lines self.old.refused self.new.lines self.new.refused }
+    {
         let Kept {
             batches,
             told,

@@ -1,5 +1,5 @@
 //! What every registry promises, in plain words: each function does nothing, and its contract is the promise.
-ghost use Rattle.std.specs.Prelude.{◌≡◌, ◌≢◌, ◌≤◌, ℕ, false, ◌&&◌, ◌↔◌, if◌then◌else◌, [], Some, None, IsTrue, All, AllPairs, count_by};
+ghost use Rattle.std.specs.Prelude.{◌≡◌, ◌≢◌, ◌≤◌, ℕ, true, false, ◌&&◌, ◌↔◌, if◌then◌else◌, [], Some, None, IsTrue, All, AllPairs, count_by};
 ghost use Rattle.span_layers.specs.Filter.{admission_set};
 ghost use Rattle.span_forest.specs.Node.{Node};
 ghost use Rattle.span_forest.specs.Spans.{find, IsOpen, parent_of};
@@ -7,6 +7,7 @@ ghost use Rattle.span_forest.specs.declared.span.Holder.TheVariants.{Handle};
 ghost use Rattle.span_forest.specs.Count.{total_held};
 ghost use Rattle.span_forest.specs.Holders.{held_in};
 ghost use Rattle.span_forest.specs.Live.{stands_in, is_live};
+ghost use Rattle.span_forest.specs.Forest.{IsForest};
 ghost use Rattle.span_registry.specs.World.{IsWorld};
 ghost use Rattle.span_registry.specs.Request.{Request, Answer};
 ghost use Rattle.span_registry.specs.Core.{CoreView, IsAccepted};
@@ -16,6 +17,15 @@ ghost use Rattle.span_registry.specs.Closing.{closed_by, closed_in, gives_back, 
 use crate::outlet::Outlet;
 use crate::registry::Core;
 use crate::state::State;
+
+/// The open spans are a forest: each parent is open, and each walk ends at a root. Each open span is live: it stands on
+/// the walk of a span that has a holder.
+pub fn open_spans_are_a_live_forest<O: Outlet>(core: &Core<O>)
+    ensures forest { IsForest core.now.state.world.spans }
+    ensures live { (id : ℕ) → IsOpen core.now.state.world.spans id → is_live core.now.state.world.spans id ≡ true }
+{
+    core.calls();
+}
 
 /// The entries of each span are the workers that are inside it, each counted once.
 pub fn entries_are_the_workers_inside<O: Outlet>(core: &Core<O>)

@@ -3,12 +3,12 @@
 //!
 //! `outcome` is that function. What the calls of `Core` promise (a request is accepted, refused or not wanted)
 //! leaves no other choice; only that the outlet has no place, or that memory is refused, is not in it.
-ghost use Rattle.std.specs.Prelude.{◌≡◌, ℕ, List};
+ghost use Rattle.std.specs.Prelude.{◌≡◌, ◌<◌, ℕ, List};
 ghost use Rattle.span_id.specs.declared.fault.Fault.{Fault};
 ghost use Rattle.span_layers.specs.Note.{PlainNote};
 ghost use Rattle.span_layers.specs.Filter.{Filter};
 ghost use Rattle.span_registry.specs.World.{World};
-ghost use Rattle.span_registry.specs.Request.{Request, Answer};
+ghost use Rattle.span_registry.specs.Request.{Request, Answer, worker_of};
 ghost use Rattle.span_registry.specs.Step.{IsStep};
 ghost use Rattle.span_registry.specs.History.{id_issued};
 ghost use Rattle.span_registry.specs.Core.{CoreView, IsAccepted, IsRefused, IsNotWanted};
@@ -47,12 +47,14 @@ pub fn unwanted_spans_are_the_outcome<O: Outlet>(core: &Core<O>)
 {}
 
 /// The outcome is allowed: where it is a refusal the contracts give that fault, and where it is an answer they give one
-/// step with these notes. So there is an outcome for each request, and no other.
+/// step with these notes. So there is an outcome for each request of one of the workers, and no other.
 pub fn outcome_is_allowed<O: Outlet>(core: &Core<O>)
     ensures new_id { IsNextIdNew core.now.state }
-    ensures allowed { (request : Request) → IsAllowed core.now.state request (outcome core.now.state request) }
+    ensures allowed { (request : Request) → worker_of request < core.now.state.limits.workers →
+        IsAllowed core.now.state request (outcome core.now.state request) }
 {
     next_id_is_new_here(&core.state);
+    core.calls();
 }
 
 /// Two steps from one world for one request have the same answer, notes and next world, if the ids that they issue are

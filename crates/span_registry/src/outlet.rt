@@ -13,7 +13,7 @@ pub trait Outlet {
     /// The batches sent so far.
     ghost sent: { Self → List PlainBatch };
 
-    /// Whether `room` answered true since the last `put`.
+    /// Whether the last `room` answered true, and no `put` came since.
     ghost ready: { Self → Bool };
 
     /// How often `room` answered false. An outlet stores it as a `u64`, which stays at its greatest value.
@@ -29,6 +29,7 @@ pub trait Outlet {
         ensures forms { forms self.new ≡ forms self.old }
         ensures ready { IfOk result (λ yes. ready self.new ≡ yes) }
         ensures counted { IfOk result (λ yes. times_full self.new ≡ (if yes then times_full self.old else one_more (times_full self.old))) }
+        ensures not_ready { OnErr result (ready self.new ≡ false) }
         ensures err { OnErr result (times_full self.new ≡ times_full self.old) };
 
     /// Sends a batch. It cannot fail: the place for it was made by `room`.

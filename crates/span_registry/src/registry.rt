@@ -24,7 +24,8 @@ use std::alloc::Global;
 /// The registry of spans without a lock.
 ///
 /// Each call that changes something is exactly one step of a legal history, and sends exactly its batch to the
-/// outlet; or it is refused, for the first reason that applies, and changes nothing.
+/// outlet; or it is refused, for the first reason that applies, and changes nothing. The number of the worker that
+/// calls needs to be below `workers` of the limits.
 #[derive(Drop)]
 pub struct Core<O: Outlet> {
     /// All but the closures. Contracts see it as a `CoreView`.
@@ -112,7 +113,7 @@ impl<O: Outlet> Core<O> {
     }
 
     /// Makes a span with copies of the meta and the fields, under no parent, under the worker's current span or under a
-    /// named one. It has one handle. The layers that admit it are those whose rule admits the meta.
+    /// named one. The number of the worker needs to be below `workers`. The span has one handle. The layers that admit it are those whose rule admits the meta.
     ///
     /// The answer is its id: the one that the history so far gives, which was never issued before. It is `None`, and
     /// nothing changes, where there are layers and none admits the meta.
@@ -142,18 +143,19 @@ impl<O: Outlet> Core<O> {
             .new_span(&self.admitters, worker, meta, fields, parent)
     }
 
-    /// One more handle of a span that has a handle.
+    /// One more handle of a span that has a handle. The number of the worker that calls needs to be below `workers`.
     ///
     /// Refused in this order: `Unknown` where the span has no handle, `CountFull` where its count or the number of
     /// accepted calls is at its greatest, `Backlog`, `Memory`.
     pub fn clone_span(&mut self, worker: u32, id: Id) -> Result<(), Fault>
+        requires { worker < self.old.state.limits.workers }
         ensures accepted { OnOk result (IsAccepted self.old.state (clone_span worker id) cloned self.new.state) }
         ensures refused { IfErr result (λ fault. IsRefused self.old.state (clone_span worker id) fault self.new.state) }
     {
         self.state.clone_span(worker, id)
     }
 
-    /// A worker enters a span that has a handle. It answers whether the entry is no duplicate: only then it holds the span.
+    /// A worker, whose number needs to be below `workers`, enters a span that has a handle. It answers whether the entry is no duplicate: only then it holds the span.
     ///
     /// Refused in this order: `Unknown` where the span has no handle, `CountFull` where the entry is no duplicate and
     /// the span's count is at its greatest or the number of accepted calls is, `Backlog`, `Memory`.
@@ -165,7 +167,7 @@ impl<O: Outlet> Core<O> {
         self.state.enter(worker, id)
     }
 
-    /// A worker leaves a span: the topmost entry of it is taken out of the worker's stack. Where the span stands there no
+    /// A worker, whose number needs to be below `workers`, leaves a span: the topmost entry of it is taken out of the worker's stack. Where the span stands there no
     /// longer, the entry is given back. It answers whether the span closed.
     ///
     /// Refused in this order: `Unknown` where the span isn't open, `CountFull` where the number of accepted calls is at
@@ -179,11 +181,13 @@ impl<O: Outlet> Core<O> {
         self.state.exit(worker, id)
     }
 
-    /// Gives a handle of a span back, and answers whether the span closed.
+    /// Gives a handle of a span back, and answers whether the span closed. The number of the worker that calls needs to be
+    /// below `workers`.
     ///
     /// Refused in this order: `Unknown` where the span has no handle, `CountFull` where the number of accepted calls is
     /// at its greatest, `Backlog`, `Memory`.
     pub fn try_close(&mut self, worker: u32, id: Id) -> Result<bool, Fault>
+        requires { worker < self.old.state.limits.workers }
         ensures accepted { OnOk result (IsAccepted self.old.state (try_close worker id) (released (closing_list self.old.state.world.spans id Handle)) self.new.state) }
         ensures closed { IfOk result (λ closed. closed ≡ nat_lt 0 (length (closing_list self.old.state.world.spans id Handle))) }
         ensures refused { IfErr result (λ fault. IsRefused self.old.state (try_close worker id) fault self.new.state) }
@@ -191,18 +195,19 @@ impl<O: Outlet> Core<O> {
         self.state.try_close(worker, id)
     }
 
-    /// Appends fields to those of a span that has a handle.
+    /// Appends fields to those of a span that has a handle. The number of the worker that calls needs to be below `workers`.
     ///
     /// Refused in this order: `BadName` where a key is no name, `Unknown` where the span has no handle, `CountFull`
     /// where the number of accepted calls is at its greatest, `Backlog`, `Memory`.
     pub fn record(&mut self, worker: u32, id: Id, fields: &[Field]) -> Result<(), Fault>
+        requires { worker < self.old.state.limits.workers }
         ensures accepted { OnOk result (IsAccepted self.old.state (record_fields worker id (plain_fields fields.now)) recorded self.new.state) }
         ensures refused { IfErr result (λ fault. IsRefused self.old.state (record_fields worker id (plain_fields fields.now)) fault self.new.state) }
     {
         self.state.record(worker, id, fields)
     }
 
-    /// Tells an event. The world stays as it is; an event that no layer admits is accepted and has no notes.
+    /// Tells an event. The number of the worker that tells it needs to be below `workers`. The world stays as it is; an event that no layer admits is accepted and has no notes.
     ///
     /// Refused in this order: `BadName` where the name or a key is no name, `CountFull` where the number of accepted
     /// calls is at its greatest, `Backlog`, `Memory`.

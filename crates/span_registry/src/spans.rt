@@ -56,6 +56,7 @@ impl<O: Outlet> State<O> {
         fields: &[Field],
         parent: Option<Id>,
     ) -> Result<Option<Id>, Fault>
+        requires { worker < self.old.limits.workers }
         ensures made { IfOk result (λ made_id. IfSome made_id (λ id. IsAccepted self.old (new_span worker (plain_meta meta.now) (plain_fields fields.now) parent) (made id) self.new)) }
         ensures next { IfOk result (λ made_id. IfSome made_id (λ id. next_id self.old.limits.slots self.old.limits.last_generation self.old.sent ≡ Some id)) }
         ensures not_wanted { IfOk result (λ made_id. IfNone made_id (IsNotWanted self.old (new_span worker (plain_meta meta.now) (plain_fields fields.now) parent) self.new)) }
@@ -90,6 +91,7 @@ impl<O: Outlet> State<O> {
 
     // Makes a span that nothing but the outlet or memory can stand against.
     fn make(&mut self, new: &NewSpan<'_>) -> Result<(), Fault>
+        requires within { new.now.worker < self.old.limits.workers }
         requires due { IsDue self.old (span_request new.now) }
         requires bits { new.now.bits.0 ≡ admission_set self.old.rules (string_bytes new.now.meta.now.target) new.now.meta.now.level }
         requires next { next_id self.old.limits.slots self.old.limits.last_generation self.old.sent ≡ Some new.now.id }

@@ -1,17 +1,16 @@
 use Rattle.std.proofs.Common.{rules, ◌≡◌, ◌++◌, ◌∷◌, []}
-use Rattle.span_registry.proofs.Keeping.{kept_told, kept_missed}
+use Rattle.span_registry.proofs.Keeping.{gains_told, gains_missed}
 use Rattle.span_registry.proofs.kept.Told.tell.Goals as goal
 
-pub returns-in_default-clause-kept : goal.returns-in_default-clause-kept
-returns-in_default-clause-kept g c =
-    λ before kept. kept_missed _ before _ _ _ _ _ (search rules) c.miss.ensures.refused kept
+pub returns-in_default-clause-told : goal.returns-in_default-clause-told
+returns-in_default-clause-told g c = gains_missed _ _ _ _ _ _ (search rules) c.miss.ensures.refused
 
-pub returns-then-is_err-clause-kept : goal.returns-then-is_err-clause-kept
-returns-then-is_err-clause-kept g c =
+pub returns-then-is_err-clause-told : goal.returns-then-is_err-clause-told
+returns-then-is_err-clause-told g c =
     let same : c.miss-then-is_err.new.self.lines.items ≡ c.args.self.now.lines.items = search rules in
-    λ before kept. kept_missed _ before _ _ _ _ _ same c.miss-then-is_err.ensures.refused kept
+    gains_missed _ _ _ _ _ _ same c.miss-then-is_err.ensures.refused
 
-pub returns-else-is_err-clause-kept : goal.returns-else-is_err-clause-kept
-returns-else-is_err-clause-kept g c =
+pub returns-else-is_err-clause-told : goal.returns-else-is_err-clause-told
+returns-else-is_err-clause-told g c =
     let pushed : c.push.new.self.items ≡ c.args.self.now.lines.items ++ c.in-Some.line ∷ [] = search rules in
-    λ before kept. kept_told _ before _ _ _ _ c.in-Some.line c.in-Some.ensures pushed kept
+    gains_told _ _ _ _ _ c.in-Some.line c.in-Some.ensures pushed c.args.self.now.in_range

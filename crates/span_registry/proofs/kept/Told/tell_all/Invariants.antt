@@ -1,7 +1,7 @@
-use Rattle.std.proofs.Common.{◌≡◌, ◌++◌, List, map, take}
+use Rattle.std.proofs.Common.{◌≡◌, map, take}
 use Rattle.span_layers.specs.Note.{plain_note}
 use Rattle.span_registry.specs.Lines.{plain_line}
-use Rattle.span_registry.specs.Kept.{AreKept, NumberedNote}
+use Rattle.span_registry.specs.Kept.{GainsLines}
 use Rattle.span_registry.proofs.Keeping.{numbered_first}
 use Rattle.span_registry.proofs.kept.Told.tell_all.Given as goal
 
@@ -9,6 +9,6 @@ use Rattle.span_registry.proofs.kept.Told.tell_all.Given as goal
 abbrev pub invariant-loop-place : goal.invariant-loop-place
 invariant-loop-place g l = record {
   forms : l.self.forms ≡ l.initial.self.forms;
-  so_far : (before : List NumberedNote) → AreKept l.initial.self.forms before (map plain_line l.initial.self.lines.items) l.initial.self.refused
-      → AreKept l.initial.self.forms (before ++ numbered_first l.number (take l.place (map plain_note l.batch.notes.items))) (map plain_line l.self.lines.items) l.self.refused;
+  so_far : GainsLines l.initial.self.forms (numbered_first l.number (take l.place (map plain_note l.batch.notes.items)))
+      (map plain_line l.initial.self.lines.items) l.initial.self.refused (map plain_line l.self.lines.items) l.self.refused;
 }

@@ -1,4 +1,4 @@
-use Rattle.std.proofs.Common.{rules, ◌≡◌, ◌∙◌, List, [], ◌∷◌, ◌++◌, get_or, ap, map}
+use Rattle.std.proofs.Common.{rules, ◌≡◌, ◌∙◌, ◌<◌, List, [], ◌∷◌, ◌++◌, length, get_or, ap, map, subst, arith}
 use Rattle.span_layers.specs.Note.{plain_note}
 use Rattle.span_stack.specs.Stack.{Stack, ids_of_each}
 use Rattle.span_registry.specs.Request.{event, told, plain_meta, plain_fields}
@@ -15,9 +15,12 @@ notes_told g c =
     event_notes c.self.inside.rules c.args.worker c.self.inside.forest.spans _ _ _ _ (plain_meta c.args.meta.now) c.args.message.now (plain_fields c.args.fields.now) _
     (ap (λ (ss : List Stack). get_or (ids_of_each ss) c.args.worker []) c.as_slice-stacks.ensures.value) c.bits.ensures.value c.in_ok-notes.ensures.notes
 
+within : (g : given.Over) (c : After-put g) → c.args.worker < length (ids_of_each c.self.inside.stacks.items)
+within g c = omega (arith, c.requires, ap (λ (v : CoreView). v.limits.workers) c.self.view_is, c.self.invariant.stacks_are)
+
 pub invariant_of-self-2 : goal.invariant_of-self-2
 invariant_of-self-2 g c =
-    sound_event _ _ _ _ _ _ _ _ c.args.worker (plain_meta c.args.meta.now) c.args.message.now (plain_fields c.args.fields.now) _ _ c.self.invariant (notes_told g c)
+    sound_event _ _ _ _ _ _ _ _ c.args.worker (plain_meta c.args.meta.now) c.args.message.now (plain_fields c.args.fields.now) _ _ c.self.invariant (within g c) (notes_told g c)
     c.in_ok-call.ensures.call c.in_ok-ask.ensures.sent c.put.ensures.sent
 
 pub returns-clause-accepted : goal.returns-clause-accepted
@@ -31,6 +34,7 @@ returns-clause-accepted g c =
       rules = ap (λ (v : CoreView). v.rules) c.self.view_is;
       notes = map plain_note c.in_ok-notes.notes.items;
       step = record {
+        within = subst (λ (v : CoreView). c.args.worker < length v.world.stacks) c.self.view_is (within g c);
         changes = ap (λ (v : CoreView). v.world) c.self.view_is;
         notes_are = notes_told g c ∙ ap (λ (v : CoreView). notes_of_all v.rules c.args.worker (event_told v.rules v.world c.args.worker (plain_meta c.args.meta.now) c.args.message.now (plain_fields c.args.fields.now) ∷ [])) c.self.view_is;
       };

@@ -1,4 +1,4 @@
-use Rattle.std.proofs.Common.{◌≡◌, ◌∙◌, ◌<◌, ℕ, true, [], ◌∷◌, ◌++◌, map, filter, length, Option, Some, None, ap, sym, refl, subst, inr}
+use Rattle.std.proofs.Common.{◌≡◌, ◌∙◌, ◌<◌, ℕ, true, [], ◌∷◌, ◌++◌, map, filter, length, Option, Some, None, ap, sym, refl, subst, inr, arith}
 use Rattle.std.specs.Prelude.{string_bytes, IfSome, slice_index}
 use Rattle.std.specs.List.{range_with_len}
 use Rattle.span_id.specs.Id.{IsId, slot_of, generation_of}
@@ -34,6 +34,9 @@ parent_open g c = subst (λ (v : CoreView). ParentIsOpen v.world.spans c.args.ne
 bits_are : (g : given.Over) (c : After-put g) → c.args.new.now.bits.0 ≡ admission_set c.self.inside.rules (string_bytes c.args.new.now.meta.now.target) c.args.new.now.meta.now.level
 bits_are g c = subst (λ (v : CoreView). c.args.new.now.bits.0 ≡ admission_set v.rules (string_bytes c.args.new.now.meta.now.target) c.args.new.now.meta.now.level) (sym c.self.view_is) c.requires.bits
 
+within : (g : given.Over) (c : After-put g) → c.args.new.now.worker < length (ids_of_each c.self.inside.stacks.items)
+within g c = omega (arith, c.requires.within, ap (λ (v : CoreView). v.limits.workers) c.self.view_is, c.self.invariant.stacks_are)
+
 -- the id that the forest gives is the one that the history gives
 same_id : (g : given.Over) (c : After-put g) → c.args.new.now.id ≡ c.in-Ok.id
 same_id g c =
@@ -68,7 +71,7 @@ told g c =
 pub invariant_of-self-2 : goal.invariant_of-self-2
 invariant_of-self-2 g c =
     sound_new _ _ _ _ _ _ _ _ _ c.args.new.now.worker c.in-Ok.id (plain_meta c.args.new.now.meta.now) (plain_fields c.args.new.now.fields.now) c.args.new.now.parent _ _
-    c.self.invariant (in_layout g c) c.in-Ok.ensures.never_issued (now_issued g c) (wanted g c) (parent_open g c) (gone g c) (forest_is g c) (told g c)
+    c.self.invariant (within g c) (in_layout g c) c.in-Ok.ensures.never_issued (now_issued g c) (wanted g c) (parent_open g c) (gone g c) (forest_is g c) (told g c)
     c.in_ok-call.ensures.call c.in_ok-ask.ensures.sent c.put.ensures.sent
 
 pub returns-clause-made : goal.returns-clause-made
@@ -78,7 +81,7 @@ returns-clause-made g c =
     let sent_is : g.O.Outlet.sent c.ask.new.outlet ≡ c.args.self.now.sent = c.in_ok-ask.ensures.sent ∙ ap (λ (v : CoreView). v.sent) c.self.view_is in
     let step : IsStep c.self.inside.rules (issued (g.O.Outlet.sent c.self.inside.outlet)) (record { spans = c.self.inside.forest.spans; stacks = ids_of_each c.self.inside.stacks.items }) request (made c.in-Ok.id) (map plain_note c.in_ok-notes.notes.items) (record { spans = c.add.new.self.spans; stacks = ids_of_each c.self.inside.stacks.items }) =
     step_new c.self.inside.rules (issued (g.O.Outlet.sent c.self.inside.outlet)) c.self.inside.forest.spans c.add.new.self.spans (ids_of_each c.self.inside.stacks.items) c.args.new.now.worker c.in-Ok.id (plain_meta c.args.new.now.meta.now) (plain_fields c.args.new.now.fields.now) c.args.new.now.parent _
-    (in_layout g c) (not_in_history _ _ _ _ _ _ c.in-Ok.id c.self.invariant c.in-Ok.ensures.never_issued) (wanted g c) (parent_open g c) (ap (λ f. f.spans) (forest_is g c)) (told g c) in
+    (within g c) (in_layout g c) (not_in_history _ _ _ _ _ _ c.in-Ok.id c.self.invariant c.in-Ok.ensures.never_issued) (wanted g c) (parent_open g c) (ap (λ f. f.spans) (forest_is g c)) (told g c) in
     let same = sym (same_id g c) in
     record {
       due = c.requires.due;
