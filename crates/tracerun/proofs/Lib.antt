@@ -6,4 +6,5 @@ pub mod Written
 pub mod Stages
 pub mod Setups
 pub mod Tidied
+pub mod LineTurns
 pub mod Examples

@@ -149,7 +149,7 @@ turned number (Ok turn) more = after turn.text (more turn.state)
 turned number (Err reason) more = record { text = []; ending = faulty number reason }
 
 -- the lines from this number on
-pub run : ℕ → ℕ → State → List (List ℕ) → Transcript
+unfoldable pub run : ℕ → ℕ → State → List (List ℕ) → Transcript
 run hooks number state [] = last_part state
 run hooks number state (line ∷ lines) = turned number (line_turn hooks state line) (λ new. run hooks (number + 1) new lines)
 

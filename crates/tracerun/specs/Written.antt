@@ -64,7 +64,7 @@ abbrev pub written_after : List ℕ → Written → Written
 written_after text written = record { text = text ++ written.text; core = written.core }
 
 -- calls one after another
-pub calls_written : CoreView → List call.Request → Written
+unfoldable pub calls_written : CoreView → List call.Request → Written
 calls_written core [] = record { text = []; core = core }
 calls_written core (request ∷ requests) = written_after (call_written core request).text (calls_written (call_written core request).core requests)
 
@@ -89,7 +89,7 @@ abbrev pub closes : CoreView → ℕ → List call.Request
 closes core id = replicate (held_in Handle (find core.world.spans id)) (call.try_close 0 id)
 
 -- for each of some numbers in turn the calls that the core then gives for it
-pub each_written : (CoreView → ℕ → List call.Request) → CoreView → List ℕ → Written
+unfoldable pub each_written : (CoreView → ℕ → List call.Request) → CoreView → List ℕ → Written
 each_written calls core [] = record { text = []; core = core }
 each_written calls core (n ∷ ns) =
     written_after (calls_written core (calls core n)).text (each_written calls (calls_written core (calls core n)).core ns)
