@@ -16,4 +16,5 @@ pub mod CallLemmas
 pub mod WrittenCalls
 pub mod Setups
 pub mod Tidied
+pub mod LineTurns
 pub mod Examples

@@ -12,7 +12,6 @@ use Rattle.tracerun.specs.Reason.{◌>>=◌, StopsFor, or_fault}
 use Rattle.tracerun.specs.State.{State}
 use Rattle.tracerun.specs.Turns.{SetsUp, value_turn}
 use Rattle.tracerun.specs.declared.fault.Reason.{Reason}
-use Rattle.std.specs.Prelude.{⊤}
 use Rattle.tracerun.specs.declared.fault.Reason.TheVariants.{NotObject, NoSuchOp}
 use Rattle.tracerun.specs.declared.fault.Key.TheVariants as key
 use Rattle.tracerun.specs.declared.stop.Stop.{Stop}
@@ -74,7 +73,7 @@ unfolding is_setup
 setup_found line at e = rw e refl
 
 -- a line whose op is `limits` or `layer` asks for no other operation
-in_object : (workers : ℕ) (stage : Stage) (line : Data) (op : Operation) (a : Result ⊤ Reason) (b : Result Op Reason) → is_setup line ≡ true → op_of line ≡ b → (a >>= λ _. b >>= keys_of workers stage line) ≡ Ok op → SetsUp op
+in_object : {A : Type 0} → (workers : ℕ) (stage : Stage) (line : Data) (op : Operation) (a : Result A Reason) (b : Result Op Reason) → is_setup line ≡ true → op_of line ≡ b → (a >>= λ _. b >>= keys_of workers stage line) ≡ Ok op → SetsUp op
 in_object workers stage line op (Ok a) (Ok at) h is e = keys_set_up workers stage line op at (sym (setup_found line at (op_found line at is)) ∙ h) e
 in_object workers stage line op (Ok a) (Err r) h is e = let bad : ⊥ = cc in absurd bad
 in_object workers stage line op (Err r) b h is e = let bad : ⊥ = cc in absurd bad
