@@ -19,6 +19,7 @@ struct Told {
     lines: Vec<Line>,
     // Stays at its greatest value.
     refused: u64,
+    // The range of a `u64`, known where it isn't read.
     ghost in_range: { refused ≤ 2 ^ 64 - 1 },
 }
 
