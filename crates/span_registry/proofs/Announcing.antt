@@ -103,7 +103,7 @@ told_once : (rules : List Filter) (worker layer id : ℕ) (spans : Spans) → he
 told_once rules worker layer id spans hears =
     same_span worker layer id spans id itself (filter (is_told rules (close_of spans id)) (range_with_len 0 (length rules)))
     ∙ passing_counted (is_told rules (close_of spans id)) layer hears (range_with_len 0 (length rules))
-    ∙ in_range layer 0 (length rules) (omega arith) (let low = past_layers rules layer (both_true _ _ hears) in omega (arith, low))
+    ∙ in_range layer 0 (length rules) (omega arith) (let low : layer < length rules = past_layers rules layer (both_true _ _ hears) in omega (arith, low))
   where
     itself : (id == id) ≡ true
     itself = elim (eqb_tells id id) [ inl t ↦ t.0 | inr t ↦ absurd (t.1 refl) ]

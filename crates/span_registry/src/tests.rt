@@ -1,6 +1,5 @@
 //! What no clause says: the calls run, with their answers and the lines of their notes.
 mod acts;
-mod calls;
 mod chain;
 mod layers;
 mod missed;
