@@ -1,5 +1,5 @@
 //! A script as far as its calls have run: the registry, the labels, and how many lines of notes were written.
-ghost use Rattle.std.specs.Prelude.{slice_get, ◌≡◌, ◌<◌, ◌≤◌, ◌++◌, [], ℕ, IfOk, IfErr, OnOk, length, flat_map, drop, map, string_bytes};
+ghost use Rattle.std.specs.Prelude.{◌≡◌, ◌<◌, ◌≤◌, ◌++◌, [], ℕ, IfOk, IfErr, OnOk, length, flat_map, drop, map, reverse, string_bytes};
 ghost use Rattle.span_registry.specs.Happening.{id_at};
 ghost use Rattle.span_registry.specs.Lines.{lines_of};
 ghost use Rattle.tracerun.specs.Faults.{id_of_key};
@@ -18,6 +18,7 @@ use span_forest::Span;
 use span_id::{Checked, Fault, Field, Id};
 use span_layers::{Filters, Say};
 use span_registry::{Core, Kept};
+use span_stack::SpanStack;
 use std::alloc::{AllocError, Global};
 
 /// A script as far as its calls have run.
@@ -37,7 +38,7 @@ impl<V: Say> Script<V> {
     ghost use Rattle.span_forest.specs.declared.span.Holder.TheVariants.{Handle};
     ghost use Rattle.span_forest.specs.Holders.{held_in};
     ghost use Rattle.span_forest.specs.Spans.{find};
-    ghost use Rattle.span_stack.specs.Stack.{top, current};
+    ghost use Rattle.span_stack.specs.Stack.{current};
     ghost use Rattle.span_registry.specs.Request.{try_close, exit};
     ghost use Rattle.span_registry.specs.World.{stack_of, empty_world};
     ghost use Rattle.tracerun.specs.Answer.{answer_text};
@@ -139,31 +140,14 @@ impl<V: Say> Script<V> {
         self.answer(answer, text)
     }
 
-    /// The worker's topmost entry.
-    pub fn top(&self, worker: u32) -> Option<Id>
+    /// The ids of the worker's entries, the topmost first. The only error is `Memory`.
+    pub fn entered(&self, alloc: Global, worker: u32) -> Result<Vec<Id>, Stop>
         requires worker { worker < self.now.workers }
         requires written { IsWritten self.now }
-        ensures { result ≡ top (stack_of (core_in self.now).world worker) }
+        ensures ids { IfOk result (λ ids. ids.items ≡ reverse (stack_of (core_in self.now).world worker)) }
+        ensures memory { IfErr result (λ stop. stop ≡ Stop.Memory) }
     {
-        self.core.stack(worker).top()
-    }
-
-    /// The entry of the worker's stack at this place, counted from the lowest.
-    pub fn entry(&self, worker: u32, place: usize) -> Option<Id>
-        requires worker { worker < self.now.workers }
-        requires written { IsWritten self.now }
-        ensures { result ≡ slice_get (stack_of (core_in self.now).world worker) place }
-    {
-        self.core.stack(worker).get(place)
-    }
-
-    /// How many entries the worker's stack has.
-    pub fn entries(&self, worker: u32) -> usize
-        requires worker { worker < self.now.workers }
-        requires written { IsWritten self.now }
-        ensures { result ≡ length (stack_of (core_in self.now).world worker) }
-    {
-        self.core.stack(worker).len()
+        topmost_first(alloc, self.core.stack(worker))
     }
 
     /// How many handles the span has: none where it isn't open.
@@ -380,4 +364,21 @@ fn id_of(labels: &Labels, key: &SpanKey<'_>) -> Result<Id, Reason>
         },
         SpanKey::Id(id) => Ok(*id),
     }
+}
+
+// The ids of a stack's entries, the topmost first. The only error is `Memory`.
+fn topmost_first(alloc: Global, stack: &SpanStack) -> Result<Vec<Id>, Stop>
+    ensures ids { IfOk result (λ ids. ids.items ≡ reverse stack.now.ids) }
+    ensures memory { IfErr result (λ stop. stop ≡ Stop.Memory) }
+{
+    let mut ids = Vec::new(alloc);
+    let mut below = stack.len();
+    while below > 0 {
+        below -= 1;
+        let Some(id) = stack.get(below) else {
+            unreachable!()
+        };
+        ids.push(id)?;
+    }
+    Ok(ids)
 }

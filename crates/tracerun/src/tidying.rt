@@ -39,7 +39,7 @@ pub fn tidy<V: Say, W: Write>(
     ensures runs { (stage : Stage) → Runs (last_part (state_at script stage)) (W.contents (inner_of output.old)) (W.contents (inner_of output.new)) result }
     ensures counts { EndsAsCounted 0 0 (failed_of output.old) (failed_of output.new) result }
 {
-    if let Err(fault) = leave_all(&mut script, text, output) {
+    if let Err(fault) = leave_all(alloc, &mut script, text, output) {
         return Err(fault);
     }
     let labels = mem::replace(&mut script.labels, Labels::new(alloc));
@@ -51,6 +51,7 @@ pub fn tidy<V: Say, W: Write>(
 
 /// Leaves what the workers have entered, worker by worker.
 fn leave_all<V: Say, W: Write>(
+    alloc: Global,
     script: &mut Script<V>,
     text: &mut Vec<u8>,
     output: &mut Counted<W>,
@@ -67,7 +68,7 @@ fn leave_all<V: Say, W: Write>(
     ensures counts { EndsAsCounted 0 0 (failed_of output.old) (failed_of output.new) result }
 {
     for worker in 0..script.workers {
-        if let Err(fault) = leave(worker, script, text, output) {
+        if let Err(fault) = leave(alloc, worker, script, text, output) {
             return Err(fault);
         }
     }
@@ -76,6 +77,7 @@ fn leave_all<V: Say, W: Write>(
 
 /// Leaves what a worker has entered, the last entry first.
 fn leave<V: Say, W: Write>(
+    alloc: Global,
     worker: u32,
     script: &mut Script<V>,
     text: &mut Vec<u8>,
@@ -93,13 +95,11 @@ fn leave<V: Say, W: Write>(
         (W.contents (inner_of output.old)) (W.contents (inner_of output.new))) }
     ensures counts { EndsAsCounted 0 0 (failed_of output.old) (failed_of output.new) result }
 {
-    let mut below = script.entries(worker);
-    while below > 0 {
-        below -= 1;
-        let Some(id) = script.entry(worker, below) else {
-            unreachable!()
-        };
-        if let Err(fault) = leave_one(worker, id, script, text, output) {
+    let Ok(ids) = script.entered(alloc, worker) else {
+        return Err(RunFault::Memory);
+    };
+    for id in &ids {
+        if let Err(fault) = leave_one(worker, *id, script, text, output) {
             return Err(fault);
         }
     }
