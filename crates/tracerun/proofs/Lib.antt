@@ -17,4 +17,5 @@ pub mod WrittenCalls
 pub mod Setups
 pub mod Tidied
 pub mod LineTurns
+pub mod LineRuns
 pub mod Examples
