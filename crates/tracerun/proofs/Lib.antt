@@ -18,4 +18,7 @@ pub mod Setups
 pub mod Tidied
 pub mod LineTurns
 pub mod Openings
+pub mod LineRuns
+pub mod Callings
+pub mod Resumed
 pub mod Examples
