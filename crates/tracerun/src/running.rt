@@ -17,7 +17,7 @@ use crate::device::write_text;
 use crate::fault::RunFault;
 use crate::lines::{cut_line, is_skipped};
 use crate::opening::Rest;
-use crate::reading::{Stage, json_value, operation};
+use crate::reading::{self, json_value, operation};
 use crate::script::Script;
 use crate::stop::{Stop, at_line};
 use crate::tidying::tidy;
@@ -184,7 +184,7 @@ fn call<V: Say>(
     ensures err { IfErr result (λ stop. (hooks : ℕ) → StopsFor (value_turn hooks (state_at script.old running) (view line.now)) stop) }
 {
     text.clear();
-    let operation = match operation(alloc, line, script.workers as usize, Stage::Running) {
+    let operation = match operation(alloc, line, script.workers as usize, reading::Stage::Running) {
         Ok(operation) => operation,
         Err(stop) => return Err(stop),
     };
