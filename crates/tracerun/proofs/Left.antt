@@ -4,12 +4,13 @@
 -- (Exits), and each span that a label names is closed as often as it has handles (Closes), nothing is held, and a
 -- forest in which nothing is held is empty. Each of these calls is accepted: what it needs is there, and the calls
 -- so far are too few for `CountFull`.
-use Rattle.std.proofs.Common.{◌≡◌, ℕ, ◌+◌, ◌-◌, ◌*◌, ◌^◌, ◌<◌, ◌≤◌, Bool, true, false, if◌then◌else◌, List, [], ◌∷◌, length, Result, Ok, Err, refl, sym, ap, ◌∙◌, inl, inr, arith}
+use Rattle.std.proofs.Common.{◌≡◌, ℕ, ◌+◌, ◌-◌, ◌*◌, ◌^◌, ◌<◌, ◌≤◌, Bool, true, false, if◌then◌else◌, List, [], ◌∷◌, length, Result, Ok, Err, refl, sym, ap, ◌∙◌, inl, inr, arith, Option, Some, None, IfSome}
 use Rattle.std.specs.Prelude.{nat_le, ◌==◌}
 use Rattle.std.proofs.lemmas.Bool.{cases_Bool, leb-true}
 use Rattle.span_registry.proofs.Weights.{weight}
 use Rattle.tracerun.specs.State.{State, first_state}
 use Rattle.tracerun.specs.Script.{onto_line, lines_of, most_bytes}
+use Rattle.tracerun.specs.Replayed.{Runs}
 use Rattle.tracerun.specs.Meaning.{Turn, Ending, finished, faulty, Transcript, line_turn, turned, run, meaning}
 use Rattle.tracerun.specs.declared.fault.Reason.{Reason}
 use Rattle.tracerun.specs.declared.fault.Reason.TheVariants.{TooLong}
@@ -62,3 +63,12 @@ left_nothing hooks bytes n is = by_case (nat_le (length bytes) most_bytes) refl 
         let lines = length-lines_of bytes in
         run_left (lines_of bytes) hooks 1 first_state n good_start (omega (arith, few, lines, light_start)) ends
     by_case false fits ends = cc
+
+-- where the bytes that are read are known
+pub nothing_left : (hooks : ℕ) (i a b : Option (List ℕ)) (left : ℕ) → IfSome i (λ bytes. Runs (meaning hooks bytes) a b (Ok left)) → IfSome i (λ bytes. left ≡ 0)
+nothing_left hooks None a b left p = tt
+nothing_left hooks (Some bytes) a b left p = left_nothing hooks bytes left p.0
+
+pub none_claimed : (i : Option (List ℕ)) → IfSome i (λ bytes. Unit {0})
+none_claimed None = tt
+none_claimed (Some bytes) = tt
