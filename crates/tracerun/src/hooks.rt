@@ -10,7 +10,7 @@ pub fn default_hooks(alloc: Global, count: usize) -> Result<Vec<Hooks>, AllocErr
     ensures { IfOk result (λ hooks. vec_len hooks ≡ count) }
 {
     let mut hooks = Vec::new(alloc);
-    while hooks.len() < count {
+    for _ in 0..count {
         let admit = Box::new(alloc, |rule: &Rule, meta: &Meta| admits(rule, meta))?;
         let say = Box::new(
             alloc,
