@@ -8,6 +8,7 @@ mod counted;
 mod device;
 mod fault;
 mod fields;
+mod hooks;
 mod keys;
 mod labels;
 mod lines;
@@ -26,10 +27,9 @@ mod tidying;
 
 use crate::counted::Counted;
 use crate::fault::RunFault;
+use crate::hooks::default_hooks;
 use crate::orders::Order;
-use span_id::Meta;
-use span_layers::{Form, Hooks, MAX_LAYERS, Note, Rule, admits, text};
-use std::alloc::Global;
+use span_layers::MAX_LAYERS;
 use std::io;
 use std::io::BufWriter;
 use std::process::ExitCode;
@@ -50,28 +50,15 @@ fn main(rt: HostRuntime) -> io::Result<ExitCode> {
     }
 }
 
-/// Runs the script of standard input. What it answers goes to standard output through a buffer. Each layer applies rules
-/// by `admits` and writes notes by `text`.
+/// Runs the script of standard input. What it answers goes to standard output through a buffer.
 fn replay(rt: &HostRuntime) -> Result<(), RunFault> {
     let alloc = rt.alloc();
     let Ok(buffer) = BufWriter::new(alloc, rt.stdout()) else {
         return Err(RunFault::Memory);
     };
-    let mut hooks = Vec::new(alloc);
-    for _ in 0..MAX_LAYERS {
-        let Ok(admit) = Box::new(alloc, |rule: &Rule, meta: &Meta| admits(rule, meta)) else {
-            return Err(RunFault::Memory);
-        };
-        let Ok(say) = Box::new(
-            alloc,
-            |alloc: Global, form: Form, note: &Note| text(alloc, form, note),
-        ) else {
-            return Err(RunFault::Memory);
-        };
-        if hooks.push(Hooks::new(admit, say)).is_err() {
-            return Err(RunFault::Memory);
-        }
-    }
+    let Ok(hooks) = default_hooks(alloc, MAX_LAYERS) else {
+        return Err(RunFault::Memory);
+    };
     let mut input = Counted::new(rt.stdin());
     let mut output = Counted::new(buffer);
     match runner::replay(alloc, &mut input, &mut output, hooks) {
@@ -93,3 +80,5 @@ fn status_of<R: Eprint>(rt: &R, ended: Result<(), RunFault>) -> io::Result<ExitC
 
 #[cfg(test)]
 mod reading_tests;
+#[cfg(test)]
+mod tests;
