@@ -92,14 +92,13 @@ each_fails calls a b c whole core all more n e s is p =
 pub each_ends : (calls : CoreView → ℕ → List call.Request) (a b : Known) (whole : Written) (core : CoreView) (all : List ℕ) → ArePartlyMade a b whole (each_written calls core all) → all ≡ [] → AreMade whole core a b
 each_ends calls a b whole core all s e = part_ends a b whole core (subst (ArePartlyMade a b whole) (ap (each_written calls core) e ∙ each_none calls core) s)
 
--- ---- handles
-
-pub one_handle : (n : ℕ) (request : call.Request) → 0 < n → replicate n request ≡ request ∷ replicate (n - 1) request
-one_handle zero request h = absurd (omega arith)
-one_handle (suc n) request h = refl
+-- ---- workers
 
 pub one_worker : (i n : ℕ) → i < n → range_with_len i (n - i) ≡ i ∷ range_with_len (i + 1) (n - (i + 1))
-one_worker i n h = let left : n - i ≡ (n - (i + 1)) + 1 = omega (arith, h) in rw left refl
+one_worker i n h = let left : n - i ≡ suc (n - (i + 1)) = omega (arith, h) in rw left refl
+
+pub no_worker : (i n : ℕ) → n ≤ i → range_with_len i (n - i) ≡ []
+no_worker i n h = let left : n - i ≡ zero = omega (arith, h) in rw left refl
 
 -- ---- a call's text and the buffer
 

@@ -1,71 +1,48 @@
-use Rattle.std.proofs.Common.{rules, ◌≡◌, ◌^◌, ◌<◌, ℕ, map, IfOk, IfErr, OnOk, ◌+◌, ◌-◌, ◌*◌, ◌≤◌, length, ◌/◌, ◌%◌, Bool, true, false, nat_eq, nat_lt, List, [], ◌∷◌, ◌++◌, slice_index_or, slice_set, bit_and, bit_or, Fits, w8, w32, w64, Bor, MutBor}
-use Rattle.std.specs.List.{range_with_len}
-use Rattle.std.specs.Io.KnownBytes.{Appends}
-use Rattle.span_registry.specs.Request.{exit, try_close}
-use Rattle.tracerun.specs.Answer.{left_text}
-use Rattle.tracerun.specs.Counted.{inner_of, failed_of}
-use Rattle.tracerun.specs.Meaning.{last_part}
-use Rattle.tracerun.specs.Operation.{Stage}
-use Rattle.tracerun.specs.Replayed.{Runs}
-use Rattle.tracerun.specs.RunFault.{EndsAsCounted}
-use Rattle.tracerun.specs.Running.{IsWritten, core_in, labels_in, state_at}
-use Rattle.tracerun.specs.Turns.{TextFails, AreMade}
-use Rattle.tracerun.specs.Written.{call_written, calls_written, closes, each_written, exits}
-use Rattle.tracerun.specs.declared.fault.RunFault.TheVariants.{Memory}
+use Rattle.std.proofs.Common.{◌≡◌, ◌+◌, ◌<◌, ◌≤◌, ◌∙◌, ℕ, List, [], ◌∷◌, length, map, drop, get_or, reverse, refl, ap, sym, subst}
+use Rattle.std.proofs.Common.{drop_of_length-le}
+use Rattle.std.proofs.lemmas.List.{drop_more}
+use Rattle.span_registry.specs.Core.{CoreView}
+use Rattle.span_registry.specs.Request.{Request, exit}
+use Rattle.span_registry.specs.World.{stack_of}
+use Rattle.tracerun.specs.Turns.{ArePartlyMade}
+use Rattle.tracerun.specs.Written.{calls_written, exits}
+use Rattle.tracerun.proofs.Written.{Known}
+use Rattle.tracerun.proofs.Tidied.{part_none, one_made, one_fails, none_left}
 use Rattle.tracerun.proofs.tidying.leave.Goals as goal
 
--- src/tidying.rt:101:5
+none_left_yet : (a : Known) (core : CoreView) (worker : ℕ) (ids : List ℕ) → ids ≡ reverse (stack_of core.world worker)
+    → ArePartlyMade a a (calls_written core (exits core worker)) (calls_written core (map (exit worker) (drop 0 ids)))
+none_left_yet a core worker ids e =
+    subst (λ (xs : List ℕ). ArePartlyMade a a (calls_written core (exits core worker)) (calls_written core (map (exit worker) xs))) (sym e) (part_none a (calls_written core (exits core worker)))
+
+next_exit : (worker i id : ℕ) (ids : List ℕ) → i < length ids → id ≡ get_or ids i id → map (exit worker) (drop i ids) ≡ exit worker id ∷ map (exit worker) (drop (i + 1) ids)
+next_exit worker i id ids h e =
+    ap (map (exit worker)) (drop_more ids i id h) ∙ ap (λ x. exit worker x ∷ map (exit worker) (drop (i + 1) ids)) (sym e)
+
+no_exit : (worker i : ℕ) (ids : List ℕ) → length ids ≤ i → map (exit worker) (drop i ids) ≡ []
+no_exit worker i ids h = ap (map (exit worker)) (drop_of_length-le ids h)
+
 pub loop-id-init : goal.loop-id-init
-loop-id-init g c = ?
+loop-id-init g c = record {
+  made = none_left_yet _ _ _ _ (c.deref-id-items.ensures.value ∙ c.in-Ok.ensures.ids);
+  written = c.requires.written;
+  labels = refl;
+  workers = refl;
+  failed = refl;
+}
 
--- src/tidying.rt:102:29
-pub leave_one-requires-clause-worker : goal.leave_one-requires-clause-worker
-leave_one-requires-clause-worker g c = ?
-
--- src/tidying.rt:102:29
-pub leave_one-requires-clause-failed : goal.leave_one-requires-clause-failed
-leave_one-requires-clause-failed g c = ?
-
--- src/tidying.rt:102:29
-pub leave_one-requires-clause-written : goal.leave_one-requires-clause-written
-leave_one-requires-clause-written g c = ?
-
--- src/tidying.rt:103:13
-pub returns-in-Err-clause-labels : goal.returns-in-Err-clause-labels
-returns-in-Err-clause-labels g c = ?
-
--- src/tidying.rt:103:13
-pub returns-in-Err-clause-workers : goal.returns-in-Err-clause-workers
-returns-in-Err-clause-workers g c = ?
-
--- src/tidying.rt:103:13
 pub returns-in-Err-clause-err : goal.returns-in-Err-clause-err
-returns-in-Err-clause-err g c = ?
+returns-in-Err-clause-err g c =
+    one_fails _ _ _ _ _ _ _ _ _ c.loop-id.invariant.made (next_exit _ _ _ _ c.loop-id-test.true c.id-item.is) c.in-Err.ensures.err
 
--- src/tidying.rt:103:13
-pub returns-in-Err-clause-counts : goal.returns-in-Err-clause-counts
-returns-in-Err-clause-counts g c = ?
-
--- src/tidying.rt:101:5
 pub loop-id-preserved : goal.loop-id-preserved
-loop-id-preserved g c = ?
+loop-id-preserved g c = record {
+  made = one_made _ _ _ _ _ _ _ _ _ c.loop-id.invariant.made (next_exit _ _ _ _ c.loop-id-test.true c.id-item.is) c.in_default-leave_one.ensures.made;
+  written = c.in_default-leave_one.ensures.written;
+  labels = c.in_default-leave_one.ensures.labels ∙ c.loop-id.invariant.labels;
+  workers = c.in_default-leave_one.ensures.workers ∙ c.loop-id.invariant.workers;
+  failed = c.in_default-leave_one.ensures.counts.1 ∙ c.loop-id.invariant.failed;
+}
 
--- src/tidying.rt:79:1
 pub returns-clause-made : goal.returns-clause-made
-returns-clause-made g c = ?
-
--- src/tidying.rt:79:1
-pub returns-clause-written : goal.returns-clause-written
-returns-clause-written g c = ?
-
--- src/tidying.rt:79:1
-pub returns-clause-labels : goal.returns-clause-labels
-returns-clause-labels g c = ?
-
--- src/tidying.rt:79:1
-pub returns-clause-workers : goal.returns-clause-workers
-returns-clause-workers g c = ?
-
--- src/tidying.rt:79:1
-pub returns-clause-counts : goal.returns-clause-counts
-returns-clause-counts g c = ?
+returns-clause-made g c = none_left _ _ _ _ _ c.loop-id.invariant.made (no_exit _ _ _ c.loop-id-test.false)

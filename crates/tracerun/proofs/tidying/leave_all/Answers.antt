@@ -1,71 +1,41 @@
-use Rattle.std.proofs.Common.{rules, ◌≡◌, ◌^◌, ◌<◌, ℕ, map, IfOk, IfErr, OnOk, ◌+◌, ◌-◌, ◌*◌, ◌≤◌, length, ◌/◌, ◌%◌, Bool, true, false, nat_eq, nat_lt, List, [], ◌∷◌, ◌++◌, slice_index_or, slice_set, bit_and, bit_or, Fits, w8, w32, w64, Bor, MutBor}
+use Rattle.std.proofs.Common.{◌≡◌, ◌-◌, ◌∙◌, ◌<◌, ◌≤◌, ℕ, List, refl, sym, subst, arith}
 use Rattle.std.specs.List.{range_with_len}
-use Rattle.std.specs.Io.KnownBytes.{Appends}
-use Rattle.span_registry.specs.Request.{exit, try_close}
-use Rattle.tracerun.specs.Answer.{left_text}
-use Rattle.tracerun.specs.Counted.{inner_of, failed_of}
-use Rattle.tracerun.specs.Meaning.{last_part}
-use Rattle.tracerun.specs.Operation.{Stage}
-use Rattle.tracerun.specs.Replayed.{Runs}
-use Rattle.tracerun.specs.RunFault.{EndsAsCounted}
-use Rattle.tracerun.specs.Running.{IsWritten, core_in, labels_in, state_at}
-use Rattle.tracerun.specs.Turns.{TextFails, AreMade}
-use Rattle.tracerun.specs.Written.{call_written, calls_written, closes, each_written, exits}
-use Rattle.tracerun.specs.declared.fault.RunFault.TheVariants.{Memory}
+use Rattle.span_registry.specs.Core.{CoreView}
+use Rattle.tracerun.specs.Turns.{ArePartlyMade}
+use Rattle.tracerun.specs.Written.{exits, each_written}
+use Rattle.tracerun.proofs.Written.{Known}
+use Rattle.tracerun.proofs.Tidied.{part_none, each_made, each_fails, each_ends, one_worker, no_worker}
 use Rattle.tracerun.proofs.tidying.leave_all.Goals as goal
 
--- src/tidying.rt:70:5
+none_left_yet : (a : Known) (core : CoreView) (workers : ℕ) → ArePartlyMade a a (each_written exits core (range_with_len 0 workers)) (each_written exits core (range_with_len 0 (workers - 0)))
+none_left_yet a core workers = let e : workers - 0 ≡ workers = omega arith in rw e (part_none a (each_written exits core (range_with_len 0 workers)))
+
+within : (i w w' : ℕ) → w ≡ w' → i < w → i < w'
+within i w w' e h = subst (λ n. i < n) e h
+
+past : (i w w' : ℕ) → w ≡ w' → w ≤ i → w' ≤ i
+past i w w' e h = subst (λ n. n ≤ i) e h
+
 pub loop-worker-init : goal.loop-worker-init
-loop-worker-init g c = ?
+loop-worker-init g c = record {
+  made = none_left_yet _ _ _;
+  written = c.requires.written;
+  labels = refl;
+  workers = refl;
+  failed = refl;
+}
 
--- src/tidying.rt:71:29
-pub leave-requires-clause-worker : goal.leave-requires-clause-worker
-leave-requires-clause-worker g c = ?
-
--- src/tidying.rt:71:29
-pub leave-requires-clause-failed : goal.leave-requires-clause-failed
-leave-requires-clause-failed g c = ?
-
--- src/tidying.rt:71:29
-pub leave-requires-clause-written : goal.leave-requires-clause-written
-leave-requires-clause-written g c = ?
-
--- src/tidying.rt:72:13
-pub returns-in-Err-clause-labels : goal.returns-in-Err-clause-labels
-returns-in-Err-clause-labels g c = ?
-
--- src/tidying.rt:72:13
-pub returns-in-Err-clause-workers : goal.returns-in-Err-clause-workers
-returns-in-Err-clause-workers g c = ?
-
--- src/tidying.rt:72:13
 pub returns-in-Err-clause-err : goal.returns-in-Err-clause-err
-returns-in-Err-clause-err g c = ?
+returns-in-Err-clause-err g c = each_fails exits _ _ _ _ _ _ _ _ _ c.loop-worker.invariant.made (one_worker _ _ c.loop-worker-test.true) c.in-Err.ensures.err
 
--- src/tidying.rt:72:13
-pub returns-in-Err-clause-counts : goal.returns-in-Err-clause-counts
-returns-in-Err-clause-counts g c = ?
-
--- src/tidying.rt:70:5
 pub loop-worker-preserved : goal.loop-worker-preserved
-loop-worker-preserved g c = ?
+loop-worker-preserved g c = record {
+  made = each_made exits _ _ _ _ _ _ _ _ _ c.loop-worker.invariant.made (one_worker _ _ c.loop-worker-test.true) c.in_default.ensures.made;
+  written = c.in_default.ensures.written;
+  labels = c.in_default.ensures.labels ∙ c.loop-worker.invariant.labels;
+  workers = c.in_default.ensures.workers ∙ c.loop-worker.invariant.workers;
+  failed = c.in_default.ensures.counts.1 ∙ c.loop-worker.invariant.failed;
+}
 
--- src/tidying.rt:53:1
 pub returns-clause-made : goal.returns-clause-made
-returns-clause-made g c = ?
-
--- src/tidying.rt:53:1
-pub returns-clause-written : goal.returns-clause-written
-returns-clause-written g c = ?
-
--- src/tidying.rt:53:1
-pub returns-clause-labels : goal.returns-clause-labels
-returns-clause-labels g c = ?
-
--- src/tidying.rt:53:1
-pub returns-clause-workers : goal.returns-clause-workers
-returns-clause-workers g c = ?
-
--- src/tidying.rt:53:1
-pub returns-clause-counts : goal.returns-clause-counts
-returns-clause-counts g c = ?
+returns-clause-made g c = each_ends exits _ _ _ _ _ c.loop-worker.invariant.made (no_worker _ _ c.loop-worker-test.false)
