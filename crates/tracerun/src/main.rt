@@ -2,27 +2,34 @@
 #![tactic(auto)]
 
 mod answer;
+mod calls;
 mod command_line;
 mod counted;
 mod device;
 mod fault;
 mod fields;
+mod hooks;
 mod keys;
 mod labels;
 mod lines;
+mod opening;
 mod operation;
 mod orders;
 mod pairs;
 mod reading;
 mod rules;
 mod runner;
+mod running;
 mod script;
-mod spans;
+mod setup;
 mod stop;
+mod tidying;
 
 use crate::counted::Counted;
 use crate::fault::RunFault;
+use crate::hooks::default_hooks;
 use crate::orders::Order;
+use span_layers::MAX_LAYERS;
 use std::io;
 use std::io::BufWriter;
 use std::process::ExitCode;
@@ -45,12 +52,16 @@ fn main(rt: HostRuntime) -> io::Result<ExitCode> {
 
 /// Runs the script of standard input. What it answers goes to standard output through a buffer.
 fn replay(rt: &HostRuntime) -> Result<(), RunFault> {
-    let Ok(buffer) = BufWriter::new(rt.alloc(), rt.stdout()) else {
+    let alloc = rt.alloc();
+    let Ok(buffer) = BufWriter::new(alloc, rt.stdout()) else {
+        return Err(RunFault::Memory);
+    };
+    let Ok(hooks) = default_hooks(alloc, MAX_LAYERS) else {
         return Err(RunFault::Memory);
     };
     let mut input = Counted::new(rt.stdin());
     let mut output = Counted::new(buffer);
-    match runner::replay(rt.alloc(), &mut input, &mut output) {
+    match runner::replay(alloc, &mut input, &mut output, hooks) {
         Ok(_) => Ok(()),
         Err(fault) => Err(fault),
     }

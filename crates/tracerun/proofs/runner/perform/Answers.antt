@@ -1,5 +1,5 @@
-use Rattle.tracerun.proofs.Written.{not_read}
+use Rattle.tracerun.proofs.Written.{read_runs, unread_runs}
 use Rattle.tracerun.proofs.runner.perform.Goals as goal
 
 pub returns-in-Err-clause-replayed : goal.returns-in-Err-clause-replayed
-returns-in-Err-clause-replayed g c = not_read _ _ _ _ c.in-Err.ensures.err
+returns-in-Err-clause-replayed g c = unread_runs _ _ _ _ _ c.in-Err.ensures.err

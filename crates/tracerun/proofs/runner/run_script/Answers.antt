@@ -1,14 +1,12 @@
-use Rattle.std.proofs.KnownBytes.{Keeps-refl}
-use Rattle.tracerun.proofs.Written.{begun_none, tidy_failed, last_written}
+use Rattle.std.proofs.Common.{rules, ◌≡◌, ◌+◌, ◌^◌, ◌<◌, ◌≤◌, IfOk, IfSome, length, vec_len, ℕ, ◌-◌, ◌*◌, ◌/◌, ◌%◌, Bool, true, false, nat_eq, nat_lt, List, [], ◌∷◌, ◌++◌, slice_index_or, slice_set, bit_and, bit_or, Fits, w8, w32, w64, Bor, MutBor}
+use Rattle.tracerun.specs.Counted.{inner_of, calls_of, failed_of}
+use Rattle.tracerun.specs.Meaning.{run}
+use Rattle.tracerun.specs.Replayed.{IsReplayed, Runs}
+use Rattle.tracerun.specs.RunFault.{EndsAsCounted}
+use Rattle.tracerun.specs.Script.{lines_of, most_bytes}
+use Rattle.tracerun.specs.State.{first_state}
 use Rattle.tracerun.proofs.runner.run_script.Goals as goal
 
-pub returns-in_default-clause-replayed : goal.returns-in_default-clause-replayed
-returns-in_default-clause-replayed g c = begun_none _ _ (Keeps-refl _)
-
-pub returns-in-Err-tidy-clause-replayed : goal.returns-in-Err-tidy-clause-replayed
-returns-in-Err-tidy-clause-replayed g c =
-    tidy_failed _ _ _ _ _ _ c.in_default-run_lines.ensures.ok c.in-Err-tidy.ensures.err
-
-pub returns-clause-replayed : goal.returns-clause-replayed
-returns-clause-replayed g c =
-    last_written c.finish.result _ _ _ _ _ _ c.requires.fits c.in_default-run_lines.ensures.ok c.in_default-tidy.ensures.ok c.finish.ensures.ok c.finish.ensures.err
+-- src/runner.rt:77:1
+pub returns-clause-runs : goal.returns-clause-runs
+returns-clause-runs g c = ?

@@ -1,0 +1,111 @@
+"""Scripts to measure `tracerun replay` with. Each is made for a size in bytes and is the same each time."""
+
+LIMITS = '{"op":"limits","slots":1048576,"workers":8}\n'
+
+
+def filled(head, block_of, size, tail=""):
+    """The head, then the blocks 0, 1, 2, .. as long as they fit in the size, then the tail."""
+    parts = [head]
+    left = size - len(head) - len(tail)
+    number = 0
+    while True:
+        block = block_of(number)
+        if len(block) > left:
+            break
+        parts.append(block)
+        left -= len(block)
+        number += 1
+    parts.append(tail)
+    return "".join(parts)
+
+
+def short_spans(size):
+    """Roots that are made and closed at once, one layer that wants all kinds of notes."""
+    return filled('{"op":"layer"}\n', lambda n: '{"op":"new","name":"a"}\n{"op":"close","span":"a"}\n', size)
+
+
+def spans_without_layers(size):
+    """Roots that are made and closed at once, with no layer: no notes."""
+    return filled("", lambda n: '{"op":"new","name":"a"}\n{"op":"close","span":"a"}\n', size)
+
+
+def chain(depth):
+    """A chain of spans, each handle given back at once but the last, which closes the whole chain."""
+    lines = ['{"op":"new","name":"p","label":"0","parent":null}\n']
+    for n in range(1, depth):
+        lines.append(f'{{"op":"new","name":"p","label":"{n}","parent":"{n - 1}"}}\n{{"op":"close","span":"{n - 1}"}}\n')
+    lines.append(f'{{"op":"close","span":"{depth - 1}"}}\n')
+    return "".join(lines)
+
+
+def deep_chains(size):
+    """Chains of 16,384 spans under a layer that wants no notes on spans."""
+    block = chain(16384)
+    return filled(LIMITS + '{"op":"layer","spans":0}\n', lambda n: block, size)
+
+
+def told_chains(size):
+    """Chains of 64 spans under a layer that wants closes: the path of each note is as long as the span is deep."""
+    block = chain(64)
+    return filled(LIMITS + '{"op":"layer","spans":8}\n', lambda n: block, size)
+
+
+RULES = (
+    '[["","TRACE"]]',
+    '[["app","INFO"]]',
+    '[["app::db","TRACE"],["app","WARN"]]',
+    '[["lib","DEBUG"]]',
+    '[["app::http","DEBUG"],["app::db","DEBUG"]]',
+    '[["","ERROR"]]',
+    '[["other","TRACE"]]',
+    '[["app","DEBUG"],["lib","WARN"]]',
+)
+
+
+def eight_layers(size):
+    """Spans of several targets and levels under 8 layers with different rules and wanted kinds."""
+    head = "".join(f'{{"op":"layer","rule":{rule},"spans":{15 - n}}}\n' for n, rule in enumerate(RULES))
+    targets, levels = ("app::db", "app::http", "lib", "app"), ("ERROR", "INFO", "DEBUG", "WARN")
+
+    def block(n):
+        target, level = targets[n % 4], levels[n // 4 % 4]
+        return (
+            f'{{"op":"new","name":"job","target":"{target}","level":"{level}"}}\n'
+            '{"op":"enter","span":"job"}\n{"op":"new","name":"step"}\n{"op":"close","span":"step"}\n'
+            '{"op":"exit","span":"job"}\n{"op":"close","span":"job"}\n'
+        )
+
+    return filled(head, block, size)
+
+
+def wide_fields(size):
+    """Spans with 32 fields each, under one layer in each form."""
+    fields = ",".join(f'["key{n}","value {n} of the field"]' for n in range(32))
+    block = f'{{"op":"new","name":"wide","fields":[{fields}]}}\n{{"op":"close","span":"wide"}}\n'
+    return filled('{"op":"layer"}\n{"op":"layer","form":"json"}\n', lambda n: block, size)
+
+
+def events(size):
+    """Events inside two entered spans, under one layer in each form."""
+    head = (
+        '{"op":"layer"}\n{"op":"layer","form":"json"}\n{"op":"new","name":"a"}\n{"op":"enter","span":"a"}\n'
+        '{"op":"new","name":"b"}\n{"op":"enter","span":"b"}\n'
+    )
+    return filled(head, lambda n: '{"op":"event","message":"the cache is cold","fields":[["n","7"]]}\n', size)
+
+
+def workers(size):
+    """Eight workers that enter and leave one span, each entry told to one layer."""
+    head = LIMITS + '{"op":"layer"}\n{"op":"new","name":"shared"}\n'
+
+    def block(n):
+        w = n % 8
+        return f'{{"op":"enter","span":"shared","w":{w}}}\n{{"op":"exit","span":"shared","w":{w}}}\n'
+
+    return filled(head, block, size)
+
+
+SCRIPTS = {
+    made.__name__: made
+    for made in (spans_without_layers, short_spans, deep_chains, told_chains, eight_layers, wide_fields, events, workers)
+}

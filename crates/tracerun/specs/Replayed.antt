@@ -1,0 +1,23 @@
+-- What a run leaves in the writer, and what it answers.
+use Rattle.std.specs.Prelude.{◌≡◌, ℕ, List, Option, Result, MatchResult}
+use Rattle.std.specs.Io.KnownBytes.{Appends}
+use Rattle.tracerun.specs.Device.{AppendsFront}
+use Rattle.tracerun.specs.Meaning.{Transcript, Ending, finished, faulty, meaning}
+use Rattle.tracerun.specs.declared.fault.RunFault.{RunFault}
+use Rattle.tracerun.specs.declared.fault.RunFault.TheVariants.{Script, Memory, Device}
+
+-- After a fault of the script the text that is meant stands, and the fault is the one that is meant. Where
+-- memory was refused or a device failed, a front of the text stands.
+abbrev pub Fails : Transcript → Option (List ℕ) → Option (List ℕ) → RunFault → Type 0
+Fails meant old new (Script number reason) = (meant.ending ≡ faulty number reason) × Appends old new meant.text
+Fails meant old new Memory = AppendsFront old new meant.text
+Fails meant old new (Device side) = AppendsFront old new meant.text
+
+-- the text that is meant was written and nothing else, and the answer is how many spans are left open; or a fault
+abbrev pub Runs : Transcript → Option (List ℕ) → Option (List ℕ) → Result ℕ RunFault → Type 0
+Runs meant old new result =
+    MatchResult result (λ left. (meant.ending ≡ finished left) × Appends old new meant.text) (Fails meant old new)
+
+-- a run of these bytes with so many hooks
+abbrev pub IsReplayed : ℕ → List ℕ → Option (List ℕ) → Option (List ℕ) → Result ℕ RunFault → Type 0
+IsReplayed hooks bytes old new result = Runs (meaning hooks bytes) old new result
