@@ -210,11 +210,14 @@ made_by calls worker meant old answer new same made = subst (λ w. IsMade old (c
 
 -- all lines are written after a call's answer
 pub still_written : {V X F g : _} (result : Result ⊤ Stop) (script : Script V X F g) (old : CoreView) (request : call.Request) (answer : Answer) (mid : CoreView) (workers : ℕ)
-    → IsMade old request answer mid → core_in script ≡ mid → workers ≡ old.limits.workers → OnOk result (script.written ≡ length (lines_in mid)) → script.workers ≡ workers
+    → IsMade old request answer mid → core_in script ≡ mid → workers ≡ old.limits.workers → 1 ≤ workers → OnOk result (script.written ≡ length (lines_in mid)) → script.workers ≡ workers
     → OnOk result (IsWritten script)
-still_written (Ok _) script old request answer mid workers made same are lines more =
-    record { lines = lines ∙ sym (ap (λ core. length (lines_in core)) same); workers = same_workers old request answer mid (core_in script) workers script.workers made same are more }
-still_written (Err stop) script old request answer mid workers made same are lines more = tt
+still_written (Ok _) script old request answer mid workers made same are some lines more = record {
+  lines = lines ∙ sym (ap (λ core. length (lines_in core)) same);
+  workers = same_workers old request answer mid (core_in script) workers script.workers made same are more;
+  some = omega (arith, some, more);
+}
+still_written (Err stop) script old request answer mid workers made same are some lines more = tt
 
 -- ---- a new span's line
 

@@ -1,5 +1,5 @@
 -- A script between two of its calls.
-use Rattle.std.specs.Prelude.{◌≡◌, ℕ, List, ◌++◌, length, Result, Ok, Err, ⊤, MatchResult}
+use Rattle.std.specs.Prelude.{◌≡◌, ◌≤◌, ℕ, List, ◌++◌, length, Result, Ok, Err, ⊤, MatchResult}
 use Rattle.span_registry.specs.Core.{CoreView}
 use Rattle.span_registry.specs.Lines.{lines_of}
 use Rattle.span_registry.specs.Request as call
@@ -24,10 +24,11 @@ labels_in script = script.labels
 abbrev pub state_at : {V X F g : _} → Script V X F g → Stage → State
 state_at script stage = record { core = core_in script; labels = labels_in script; stage = stage }
 
--- all lines of the notes were written, and there are as many workers as the limits say
+-- all lines of the notes were written, and there are as many workers as the limits say, and at least one
 pub record IsWritten {V X F g : _} (script : Script V X F g) : Type 0 where
   pub lines : script.written ≡ length (lines_of (core_in script).forms (core_in script).sent)
   pub workers : script.workers ≡ (core_in script).limits.workers
+  pub some : 1 ≤ script.workers
 
 -- the text grew by that of the turn that is meant, and the state is the one after it
 pub record IsTurn (meant : Result Turn Reason) (old new : List ℕ) (state : State) : Type 0 where

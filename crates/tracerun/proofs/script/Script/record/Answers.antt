@@ -20,4 +20,4 @@ returns-clause-turn g c = λ hooks stage.
 
 pub returns-clause-written : goal.returns-clause-written
 returns-clause-written g c =
-    still_written _ _ _ _ _ _ _ c.in_ok-answer.ensures.made c.answer.ensures.core c.requires.written.workers c.answer.ensures.written c.answer.ensures.workers
+    still_written _ _ _ _ _ _ _ c.in_ok-answer.ensures.made c.answer.ensures.core c.requires.written.workers c.requires.written.some c.answer.ensures.written c.answer.ensures.workers
