@@ -1,7 +1,7 @@
 use crate::command_line::{order, status};
 use crate::counted::Counted;
 use crate::fault::RunFault;
-use crate::hooks::default_hooks;
+use crate::hooks::replay_with_layers;
 use crate::orders::Order;
 use crate::runner::replay;
 use span_id::Meta;
@@ -68,25 +68,19 @@ fn told(alloc: Global, ended: Result<u64, RunFault>) -> Result<String, AllocErro
     }
 }
 
-/// What a run with these hooks writes, and how it ends.
-fn run(alloc: Global, script: &str, hooks: Vec<Hooks>) -> Result<(Vec<u8>, String), AllocError> {
-    let mut input = Counted::new(script.as_bytes());
-    let mut taken = Vec::new(alloc);
-    let mut output = Counted::new(&mut taken);
-    let ended = told(alloc, replay(alloc, &mut input, &mut output, hooks))?;
-    Ok((taken, ended))
-}
-
-/// Whether a run with so many hooks writes this text and ends so.
+/// Whether a run that may have so many layers writes this text and ends so.
 fn runs_so(
     alloc: Global,
     script: &str,
-    count: usize,
+    layers: usize,
     text: &str,
     end: &str,
 ) -> Result<bool, AllocError> {
-    let (taken, ended) = run(alloc, script, default_hooks(alloc, count)?)?;
-    Ok(taken.as_slice() == text.as_bytes() && ended.as_str() == end)
+    let mut input = Counted::new(script.as_bytes());
+    let mut taken = Vec::new(alloc);
+    let mut output = Counted::new(&mut taken);
+    let ended = replay_with_layers(alloc, &mut input, &mut output, layers);
+    Ok(taken.as_slice() == text.as_bytes() && told(alloc, ended)?.as_str() == end)
 }
 
 const TWO_SPANS: &str =
@@ -286,9 +280,9 @@ fn stops_reading(alloc: Global, script: &str, good_calls: u64) -> Result<bool, A
     });
     let mut taken = Vec::new(alloc);
     let mut output = Counted::new(&mut taken);
-    let hooks = default_hooks(alloc, 1)?;
-    let ended = told(alloc, replay(alloc, &mut input, &mut output, hooks))?;
-    let stopped = input.calls() == good_calls + 1 && input.failed() == 1;
+    let ended = replay_with_layers(alloc, &mut input, &mut output, 1);
+    let ended = told(alloc, ended)?;
+    let stopped = input.calls().checked_sub(1) == Some(good_calls) && input.failed() == 1;
     Ok(stopped && taken.is_empty() && ended.as_str() == "device: read failed")
 }
 
@@ -323,8 +317,8 @@ fn run_failing(
         takes_none,
         can_flush,
     });
-    let hooks = default_hooks(alloc, 1)?;
-    let ended = told(alloc, replay(alloc, &mut input, &mut output, hooks))?;
+    let ended = replay_with_layers(alloc, &mut input, &mut output, 1);
+    let ended = told(alloc, ended)?;
     Ok((taken, ended))
 }
 
