@@ -16,6 +16,7 @@ pub mod CallLemmas
 pub mod WrittenCalls
 pub mod Setups
 pub mod Tidied
+pub mod LastLines
 pub mod LineTurns
 pub mod Openings
 pub mod LineRuns
