@@ -1,15 +1,20 @@
 -- What is left of a script after the lines before the first call: the line whose value was read, the lines after it,
 -- and the tidying.
-use Rattle.std.proofs.Common.{◌≡◌, ℕ, ◌+◌, List, [], false, ap, sym, ◌∙◌, subst, Option, Some, None, Result, Ok, Err, IfSome, IfErr, OnOk}
+use Rattle.std.proofs.Common.{◌≡◌, ℕ, ◌+◌, List, [], false, sym, subst, Option, Some, None, Result, Ok, Err, IfSome, IfErr, OnOk}
 use Rattle.std.specs.Prelude.{⊤}
 use Rattle.std.specs.Option.{option_map}
 use Rattle.serde_json.specs.Data.{Data}
-use Rattle.tracerun.specs.Meaning.{Turn, Transcript, last_part, run, turned}
+use Rattle.span_id.specs.declared.limits.Limits.{Limits}
+use Rattle.span_layers.specs.Filter.{Filter}
+use Rattle.span_layers.specs.declared.form.Form.{Form}
+use Rattle.span_registry.specs.Core.{CoreView}
+use Rattle.tracerun.specs.Labels.{Bound}
+use Rattle.tracerun.specs.Meaning.{Transcript, last_part, run}
 use Rattle.tracerun.specs.Operation.{Stage, running, is_setup}
 use Rattle.tracerun.specs.Replayed.{Fails, Runs}
 use Rattle.tracerun.specs.Script.{lines_of}
 use Rattle.tracerun.specs.State.{State}
-use Rattle.tracerun.specs.Turns.{HasTurned, Sent, TurnFails, resumed, value_turn}
+use Rattle.tracerun.specs.Turns.{HasTurned, Sent, TurnFails, opened, resumed, value_turn}
 use Rattle.tracerun.specs.declared.fault.RunFault.{RunFault}
 use Rattle.tracerun.proofs.Openings.{when_some}
 use Rattle.tracerun.proofs.Resumed.{staged, value_same}
@@ -65,3 +70,25 @@ pub value_fails : {A : Type 0} (seen : A → Data) (number : ℕ) (state : State
 value_fails seen number state found value lines a b fault e h p hooks stage =
     subst (λ v. Fails (resumed hooks number (staged state stage) (option_map seen v) lines) a b fault) (sym e)
     (first_fails hooks number state stage (seen value) lines a b fault (when_some _ _ value e h) (p hooks))
+
+-- ---- a script of which no call has run
+
+at_opening : (limits : Limits) (rules : List Filter) (forms : List Form) (stage : Stage) (core : CoreView) (labels : Bound) → core ≡ (opened limits rules forms stage).core → labels ≡ []
+    → record { core = core; labels = labels; stage = stage } ≡ opened limits rules forms stage
+at_opening limits rules forms stage core labels e none = λ i. record { core = e i; labels = none i; stage = stage }
+
+-- all lines ran, and the tidying ended as it did
+pub rest_runs : (hooks number : ℕ) (limits : Limits) (rules : List Filter) (forms : List Form) (stage : Stage) (core : CoreView) (labels : Bound) (value : Option Data) (lines : List ℕ) (last : Transcript) (a b c : Known) (r : Result ℕ RunFault)
+    → core ≡ (opened limits rules forms stage).core → labels ≡ []
+    → Sent a b (resumed hooks number (record { core = core; labels = labels; stage = stage }) value lines) last → Runs last b c r
+    → Runs (resumed hooks number (opened limits rules forms stage) value lines) a c r
+rest_runs hooks number limits rules forms stage core labels value lines last a b c r e none s p =
+    runs_after a b c _ last r (subst (λ state. Sent a b (resumed hooks number state value lines) last) (at_opening limits rules forms stage core labels e none) s) p
+
+-- a line ended the run
+pub rest_stops : (hooks number : ℕ) (limits : Limits) (rules : List Filter) (forms : List Form) (stage : Stage) (core : CoreView) (labels : Bound) (value : Option Data) (lines : List ℕ) (a b : Known) (fault : RunFault)
+    → core ≡ (opened limits rules forms stage).core → labels ≡ []
+    → Fails (resumed hooks number (record { core = core; labels = labels; stage = stage }) value lines) a b fault
+    → Fails (resumed hooks number (opened limits rules forms stage) value lines) a b fault
+rest_stops hooks number limits rules forms stage core labels value lines a b fault e none p =
+    subst (λ state. Fails (resumed hooks number state value lines) a b fault) (at_opening limits rules forms stage core labels e none) p
