@@ -78,11 +78,11 @@ at_opening : (limits : Limits) (rules : List Filter) (forms : List Form) (stage 
 at_opening limits rules forms stage core labels e none = λ i. record { core = e i; labels = none i; stage = stage }
 
 -- all lines ran, and the tidying ended as it did
-pub rest_runs : (hooks number : ℕ) (limits : Limits) (rules : List Filter) (forms : List Form) (stage : Stage) (core : CoreView) (labels : Bound) (value : Option Data) (lines : List ℕ) (last : Transcript) (a b c : Known) (r : Result ℕ RunFault)
+pub rest_tidied : (hooks number : ℕ) (limits : Limits) (rules : List Filter) (forms : List Form) (stage : Stage) (core : CoreView) (labels : Bound) (value : Option Data) (lines : List ℕ) (last : Transcript) (a b c : Known) (r : Result ℕ RunFault)
     → core ≡ (opened limits rules forms stage).core → labels ≡ []
     → Sent a b (resumed hooks number (record { core = core; labels = labels; stage = stage }) value lines) last → Runs last b c r
     → Runs (resumed hooks number (opened limits rules forms stage) value lines) a c r
-rest_runs hooks number limits rules forms stage core labels value lines last a b c r e none s p =
+rest_tidied hooks number limits rules forms stage core labels value lines last a b c r e none s p =
     runs_after a b c _ last r (subst (λ state. Sent a b (resumed hooks number state value lines) last) (at_opening limits rules forms stage core labels e none) s) p
 
 -- a line ended the run
