@@ -22,4 +22,5 @@ pub mod Openings
 pub mod LineRuns
 pub mod Callings
 pub mod Resumed
+pub mod RestRuns
 pub mod Examples
