@@ -5,7 +5,7 @@ use Rattle.std.specs.List.{range_with_len}
 use Rattle.span_registry.specs.Core.{CoreView}
 use Rattle.tracerun.specs.Answer.{left_text}
 use Rattle.tracerun.specs.Labels.{Bound}
-use Rattle.tracerun.specs.Meaning.{Transcript, finished, left_by_workers, tidied, last_part}
+use Rattle.tracerun.specs.Meaning.{Transcript, finished, left_by_workers, closed_by_labels, last_part}
 use Rattle.tracerun.specs.Replayed.{Fails, Runs}
 use Rattle.tracerun.specs.State.{State}
 use Rattle.tracerun.specs.Turns.{AreMade, Sent, TextFails}

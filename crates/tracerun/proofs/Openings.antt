@@ -6,12 +6,12 @@ use Rattle.serde_json.specs.Data.{Data}
 use Rattle.span_id.specs.declared.limits.Limits.{Limits}
 use Rattle.span_layers.specs.Filter.{Filter}
 use Rattle.span_layers.specs.declared.form.Form.{Form}
-use Rattle.tracerun.specs.Meaning.{Transcript, line_turn, run, turned}
+use Rattle.tracerun.specs.Meaning.{Transcript, line_turn, run, turned, value_turn}
 use Rattle.tracerun.specs.Operation.{Stage}
 use Rattle.tracerun.specs.Replayed.{Fails, Runs}
 use Rattle.tracerun.specs.Script.{lines_of}
 use Rattle.tracerun.specs.State.{State, first_state}
-use Rattle.tracerun.specs.Turns.{HasTurned, Sent, TurnFails, opened, resumed, value_turn}
+use Rattle.tracerun.specs.Turns.{HasTurned, Sent, TurnFails, opened, resumed}
 use Rattle.tracerun.specs.declared.fault.RunFault.{RunFault}
 use Rattle.tracerun.proofs.Written.{Known, runs_after, loop_more, loop_fails}
 

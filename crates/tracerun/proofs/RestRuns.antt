@@ -9,12 +9,12 @@ use Rattle.span_layers.specs.Filter.{Filter}
 use Rattle.span_layers.specs.declared.form.Form.{Form}
 use Rattle.span_registry.specs.Core.{CoreView}
 use Rattle.tracerun.specs.Labels.{Bound}
-use Rattle.tracerun.specs.Meaning.{Transcript, last_part, run}
+use Rattle.tracerun.specs.Meaning.{Transcript, last_part, run, value_turn}
 use Rattle.tracerun.specs.Operation.{Stage, running, is_setup}
 use Rattle.tracerun.specs.Replayed.{Fails, Runs}
 use Rattle.tracerun.specs.Script.{lines_of}
 use Rattle.tracerun.specs.State.{State}
-use Rattle.tracerun.specs.Turns.{HasTurned, Sent, TurnFails, opened, resumed, value_turn}
+use Rattle.tracerun.specs.Turns.{HasTurned, Sent, TurnFails, opened, resumed}
 use Rattle.tracerun.specs.declared.fault.RunFault.{RunFault}
 use Rattle.tracerun.proofs.Openings.{when_some}
 use Rattle.tracerun.proofs.Resumed.{staged, value_same}
