@@ -16,9 +16,11 @@ pub mod CallLemmas
 pub mod WrittenCalls
 pub mod Setups
 pub mod Tidied
+pub mod LastLines
 pub mod LineTurns
 pub mod Openings
 pub mod LineRuns
 pub mod Callings
 pub mod Resumed
+pub mod RestRuns
 pub mod Examples
