@@ -51,11 +51,6 @@ opened_at_call hooks hooks' number a b c whole state new rest line tail value e 
 
 -- ---- a script from its first line
 
-pub script_fails : (hooks hooks' : ℕ) (first : State) (a b : Known) (lines : List (List ℕ)) (fault : RunFault) → hooks' ≡ hooks → first ≡ first_state → Fails (run hooks' 1 first lines) a b fault
-    → Fails (run hooks 1 first_state lines) a b fault
-script_fails hooks hooks' first a b lines fault e same p =
-    subst (λ state. Fails (run hooks 1 state lines) a b fault) same (subst (λ h. Fails (run h 1 first lines) a b fault) e p)
-
 script_runs : (hooks hooks' : ℕ) (first : State) (a b : Known) (lines : List (List ℕ)) (r : Result ℕ RunFault) → hooks' ≡ hooks → first ≡ first_state → Runs (run hooks' 1 first lines) a b r
     → Runs (run hooks 1 first_state lines) a b r
 script_runs hooks hooks' first a b lines r e same p =

@@ -1,4 +1,4 @@
-use Rattle.tracerun.proofs.Written.{read_runs, unread_runs}
+use Rattle.tracerun.proofs.Written.{unread_runs}
 use Rattle.tracerun.proofs.runner.perform.Goals as goal
 
 pub returns-in-Err-clause-replayed : goal.returns-in-Err-clause-replayed
