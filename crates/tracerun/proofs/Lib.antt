@@ -23,3 +23,4 @@ pub mod Callings
 pub mod Resumed
 pub mod RestRuns
 pub mod Examples
+pub mod Scripts
