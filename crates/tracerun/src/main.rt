@@ -31,18 +31,29 @@ use crate::hooks::replay_with_layers;
 use crate::orders::Order;
 use span_layers::MAX_LAYERS;
 use std::io;
-use std::io::BufWriter;
+use std::io::{BufWriter, ErrorKind};
 use std::process::ExitCode;
 
 fn main(rt: HostRuntime) -> io::Result<ExitCode> {
+    match obey(&rt) {
+        Ok(status) => Ok(status),
+        Err(error) => match error.kind() {
+            ErrorKind::OutOfMemory => status_of(&rt, Err(RunFault::Memory)),
+            _ => Err(error),
+        },
+    }
+}
+
+/// Does what the words of the command line ask for. The error is that of the words or of standard error.
+fn obey(rt: &HostRuntime) -> io::Result<ExitCode> {
     let alloc = rt.alloc();
-    let words: Vec<String> = std::env::args(&rt)?.collect(alloc)?;
+    let words: Vec<String> = std::env::args(rt)?.collect(alloc)?;
     let mut texts: Vec<&str> = Vec::new(alloc);
     for word in &words {
         texts.push(word.as_str())?;
     }
     match command_line::order(alloc, texts.as_slice()) {
-        Ok(Order::Replay) => status_of(&rt, replay(&rt)),
+        Ok(Order::Replay) => status_of(rt, replay(rt)),
         Err(error) => {
             rt.eprint(&error)?;
             Ok(ExitCode::from(command_line::status(&error)))
