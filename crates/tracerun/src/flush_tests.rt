@@ -4,6 +4,7 @@ ghost use Rattle.std.specs.Result.{ForOk};
 ghost use Rattle.span_layers.specs.Note.{plain_note};
 ghost use Rattle.span_layers.specs.Rule.{pairs_of, is_admitted};
 ghost use Rattle.span_layers.specs.Text.{text_of};
+ghost use Rattle.tracerun.specs.Counted.{failed_of};
 
 use crate::counted::Counted;
 use crate::fault::RunFault;
@@ -58,7 +59,9 @@ impl Read for NoReader {
 }
 
 /// A writer that was not flushed yet.
-fn writer(room: usize, can_flush: bool) -> Counted<FlushedWriter> {
+fn writer(room: usize, can_flush: bool) -> Counted<FlushedWriter>
+    ensures { failed_of result ≡ 0 }
+{
     Counted::new(FlushedWriter {
         room,
         flushes: 0,
