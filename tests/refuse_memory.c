@@ -1,10 +1,12 @@
 /* Loaded before the C library, this refuses one allocation of a program: the one whose number stands in REFUSE, from 1.
-   Where it does so it writes one byte to the descriptor 9. */
-#define _GNU_SOURCE
-#include <dlfcn.h>
-#include <errno.h>
-#include <stdlib.h>
-#include <unistd.h>
+   Where it does so it writes one byte to the descriptor 9. It names what it calls itself, so that it needs no header. */
+extern void *dlsym(void *, const char *);
+extern char *getenv(const char *);
+extern long atol(const char *);
+extern long write(int, const void *, unsigned long);
+extern void abort(void);
+
+#define NEXT ((void *)-1L)
 
 static long left = -1;
 
@@ -18,22 +20,21 @@ static int is_refused(void)
         return 0;
     if (write(9, "x", 1) < 0)
         abort();
-    errno = ENOMEM;
     return 1;
 }
 
-void *malloc(size_t size)
+void *malloc(unsigned long size)
 {
-    static void *(*next)(size_t);
+    static void *(*next)(unsigned long);
     if (!next)
-        next = (void *(*)(size_t))dlsym(RTLD_NEXT, "malloc");
-    return is_refused() ? NULL : next(size);
+        next = (void *(*)(unsigned long))dlsym(NEXT, "malloc");
+    return is_refused() ? 0 : next(size);
 }
 
-void *realloc(void *block, size_t size)
+void *realloc(void *block, unsigned long size)
 {
-    static void *(*next)(void *, size_t);
+    static void *(*next)(void *, unsigned long);
     if (!next)
-        next = (void *(*)(void *, size_t))dlsym(RTLD_NEXT, "realloc");
-    return is_refused() ? NULL : next(block, size);
+        next = (void *(*)(void *, unsigned long))dlsym(NEXT, "realloc");
+    return is_refused() ? 0 : next(block, size);
 }

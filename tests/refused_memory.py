@@ -8,6 +8,7 @@ usage: refused_memory.py [--program FILE]
 """
 import argparse
 import os
+import shutil
 import subprocess
 import sys
 import tempfile
@@ -36,6 +37,16 @@ SCRIPTS = {
     ),
     "a fault of the script": '{"op":"new","name":"a"}\n{"op":"new","name":"a"}\n',
 }
+
+
+def compiler():
+    """The C compiler: `$CC`, `cc`, or the one that the toolchain links with."""
+    doc = subprocess.run(["rt", "doc"], capture_output=True, text=True).stdout.strip() if shutil.which("rt") else ""
+    own = os.path.join(os.path.dirname(doc), "toolchain", "bin", "clang")
+    for name in (os.environ.get("CC"), "cc", own):
+        if name and shutil.which(name):
+            return name
+    sys.exit("refused_memory.py: there is no C compiler: set CC")
 
 
 def run(program, shim, script, number):
@@ -82,10 +93,8 @@ def main():
     passed = failed = 0
     with tempfile.TemporaryDirectory() as folder:
         shim = os.path.join(folder, "refuse_memory.so")
-        subprocess.run(
-            [os.environ.get("CC", "cc"), "-O1", "-shared", "-fPIC", "-o", shim, os.path.join(HERE, "refuse_memory.c"), "-ldl"],
-            check=True,
-        )
+        source = os.path.join(HERE, "refuse_memory.c")
+        subprocess.run([compiler(), "-O1", "-shared", "-fPIC", "-nostdlib", "-o", shim, source], check=True)
         for name, script in SCRIPTS.items():
             good, bad = refused_in_turn(words.program, shim, name, script)
             passed, failed = passed + good, failed + bad
