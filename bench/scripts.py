@@ -38,10 +38,14 @@ def chain(depth):
     return "".join(lines)
 
 
-def deep_chains(size):
-    """Chains of 16,384 spans under a layer that wants no notes on spans."""
-    block = chain(16384)
-    return filled(LIMITS + '{"op":"layer","spans":0}\n', lambda n: block, size)
+def deep_chain(size):
+    """One chain, as deep as fits in the size, under a layer that wants no notes on spans. Its last close closes all."""
+    head = LIMITS + '{"op":"layer","spans":0}\n{"op":"new","name":"p","label":"0","parent":null}\n'
+
+    def block(n):
+        return f'{{"op":"new","name":"p","label":"{n + 1}","parent":"{n}"}}\n{{"op":"close","span":"{n}"}}\n'
+
+    return filled(head, block, size)
 
 
 def told_chains(size):
@@ -107,5 +111,5 @@ def workers(size):
 
 SCRIPTS = {
     made.__name__: made
-    for made in (spans_without_layers, short_spans, deep_chains, told_chains, eight_layers, wide_fields, events, workers)
+    for made in (spans_without_layers, short_spans, deep_chain, told_chains, eight_layers, wide_fields, events, workers)
 }
