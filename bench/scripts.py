@@ -129,6 +129,18 @@ def entered_again(size):
     return filled(head, lambda n: '{"op":"enter","span":"p"}\n{"op":"event","message":"m"}\n', size)
 
 
+def events_far_from_the_root(size):
+    """A chain in the first half; then events at its end, under a layer that admits the last span alone: each event's
+    path has one name, and is looked for on the whole walk."""
+    links = deep_chain(size // 2).split("\n", 2)[2]
+    last = links.count("\n") // 2
+    head = (
+        MANY_SLOTS + '{"op":"layer","spans":0,"rule":[["app","TRACE"]]}\n{"op":"layer","spans":0,"rule":[["end","TRACE"]]}\n'
+        + links + f'{{"op":"new","name":"end","target":"end","parent":"{last}"}}\n{{"op":"enter","span":"end"}}\n'
+    )
+    return filled(head, lambda n: '{"op":"event","message":"m","target":"end"}\n', size)
+
+
 def sixty_four_layers(size):
     """Events under 64 layers that admit them: an output of 56 times the script."""
     return filled('{"op":"layer"}\n' * 64, lambda n: '{"op":"event","message":"m"}\n', size)
@@ -143,7 +155,7 @@ SCRIPTS = by_name(
 )
 
 # Scripts whose time or memory grows faster than the script, or far beyond it: run where they are named, at small sizes.
-COSTLY = by_name(deep_stack, entered_again, sixty_four_layers)
+COSTLY = by_name(deep_stack, entered_again, events_far_from_the_root, sixty_four_layers)
 ALL = {**SCRIPTS, **COSTLY}
 
 if __name__ == "__main__":
