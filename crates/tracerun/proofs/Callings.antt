@@ -5,12 +5,11 @@ use Rattle.serde_json.specs.Data.{Data}
 use Rattle.serde_json.specs.Find.{get, as_object, as_str}
 use Rattle.span_id.specs.declared.level.Level.TheVariants.{Info}
 use Rattle.tracerun.specs.Key.{key_text}
-use Rattle.tracerun.specs.Meaning.{at_stage, stage_after, turn_of}
+use Rattle.tracerun.specs.Meaning.{at_stage, stage_after, turn_of, value_turn}
 use Rattle.tracerun.specs.Operation.{Operation, set_limits, add_layer, make, on_span, record_fields, tell, find, running, Op, limits_op, layer_op, new_op, span_op, record_op, event_op, find_op, required, optional, worker_in, level_in, parent_in, fields_in, span_key_in, old_id_in, op_of, current, new_of, on_span_of, record_of, event_of, find_by_span, find_by, find_of, keys_of, operation_of}
 use Rattle.tracerun.specs.Reason.{◌>>=◌, StopsFor, or_fault}
 use Rattle.tracerun.specs.Running.{IsTurn, StopsAs, RunsAs}
 use Rattle.tracerun.specs.State.{State}
-use Rattle.tracerun.specs.Turns.{value_turn}
 use Rattle.tracerun.specs.Views.{operation_seen, IsCall}
 use Rattle.tracerun.specs.declared.fault.Key.TheVariants as key
 use Rattle.tracerun.specs.declared.fault.Reason.{Reason}

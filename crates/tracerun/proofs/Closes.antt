@@ -19,7 +19,7 @@ use Rattle.span_registry.proofs.Weights.{weight}
 use Rattle.tracerun.specs.Labels.{Bound}
 use Rattle.tracerun.specs.Written.{core_left, call_written, calls_written, each_written, closes}
 use Rattle.tracerun.specs.State.{State}
-use Rattle.tracerun.specs.Meaning.{left_by_workers, tidied}
+use Rattle.tracerun.specs.Meaning.{left_by_workers, closed_by_labels}
 use Rattle.tracerun.proofs.Bindings.{id_listed}
 use Rattle.tracerun.proofs.Tracked.{IsTracked, Leads, leads_nowhere, leads_on, done_leads}
 use Rattle.tracerun.proofs.Exits.{HasLeft, all_leave}
@@ -88,14 +88,14 @@ spans_close (id ∷ ids) core labels tracked low light =
     )
 
 -- after the tidying no span is open
-pub nothing_open : (state : State) → IsTracked state.core state.labels → 0 < state.core.limits.workers → weight state.core < 2 ^ 64 - 1 → (tidied state).core.world.spans ≡ []
+pub nothing_open : (state : State) → IsTracked state.core state.labels → 0 < state.core.limits.workers → weight state.core < 2 ^ 64 - 1 → (closed_by_labels state).core.world.spans ≡ []
 nothing_open state tracked low light = empty_from_no_holder last.world.spans steady.upheld (total-none last.world.spans steady.upheld.forest.ids_apart none)
   where
     mid : CoreView
     mid = (left_by_workers state).core
 
     last : CoreView
-    last = (tidied state).core
+    last = (closed_by_labels state).core
 
     left : HasLeft state.core state.labels mid
     left = all_leave state.core state.labels tracked light

@@ -1,7 +1,6 @@
 pub mod Json
 pub mod ValueLists
 pub mod Cuts
-pub mod Limited
 pub mod Written
 pub mod Stages
 pub mod Bindings
@@ -16,9 +15,12 @@ pub mod CallLemmas
 pub mod WrittenCalls
 pub mod Setups
 pub mod Tidied
+pub mod LastLines
 pub mod LineTurns
 pub mod Openings
 pub mod LineRuns
 pub mod Callings
 pub mod Resumed
+pub mod RestRuns
 pub mod Examples
+pub mod Scripts

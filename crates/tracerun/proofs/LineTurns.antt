@@ -5,12 +5,12 @@ use Rattle.std.proofs.KnownBytes.{Keeps-refl}
 use Rattle.serde_json.specs.Data.{Data}
 use Rattle.tracerun.specs.Device.{AppendsFront}
 use Rattle.tracerun.specs.Ended.{fault_at}
-use Rattle.tracerun.specs.Meaning.{Turn, line_turn, read_turn}
+use Rattle.tracerun.specs.Meaning.{Turn, line_turn, read_turn, value_turn}
 use Rattle.tracerun.specs.Operation.{json_of}
 use Rattle.tracerun.specs.Reason.{StopsFor}
 use Rattle.tracerun.specs.Script.{is_skipped}
 use Rattle.tracerun.specs.State.{State}
-use Rattle.tracerun.specs.Turns.{HasTurned, HasBegun, TurnFails, value_turn}
+use Rattle.tracerun.specs.Turns.{HasTurned, HasBegun, TurnFails}
 use Rattle.tracerun.specs.declared.fault.Reason.{Reason}
 use Rattle.tracerun.specs.declared.fault.RunFault.{RunFault}
 use Rattle.tracerun.specs.declared.fault.RunFault.TheVariants.{Device}
@@ -20,7 +20,7 @@ use Rattle.tracerun.specs.declared.stop.Stop.TheVariants.{Memory, Refused}
 use Rattle.tracerun.proofs.Written.{Known}
 
 pub read_line : (hooks : ℕ) (state : State) (line : List ℕ) (value : Data) → is_skipped line ≡ false → json_of line ≡ Ok value → line_turn hooks state line ≡ value_turn hooks state value
-unfolding read_turn value_turn
+unfolding read_turn
 read_line hooks state line value k e = rw (k, e) refl
 
 bad_line : (hooks : ℕ) (state : State) (line : List ℕ) (reason : Reason) → is_skipped line ≡ false → json_of line ≡ Err reason → line_turn hooks state line ≡ Err reason

@@ -6,12 +6,12 @@ use Rattle.serde_json.specs.Data.{Data}
 use Rattle.span_id.specs.declared.limits.Limits.{Limits}
 use Rattle.span_layers.specs.Filter.{Filter}
 use Rattle.span_layers.specs.declared.form.Form.{Form}
-use Rattle.tracerun.specs.Meaning.{Transcript, line_turn, run, turned}
+use Rattle.tracerun.specs.Meaning.{Transcript, line_turn, run, turned, value_turn}
 use Rattle.tracerun.specs.Operation.{Stage}
 use Rattle.tracerun.specs.Replayed.{Fails, Runs}
 use Rattle.tracerun.specs.Script.{lines_of}
 use Rattle.tracerun.specs.State.{State, first_state}
-use Rattle.tracerun.specs.Turns.{HasTurned, Sent, TurnFails, opened, resumed, value_turn}
+use Rattle.tracerun.specs.Turns.{HasTurned, Sent, TurnFails, opened, resumed}
 use Rattle.tracerun.specs.declared.fault.RunFault.{RunFault}
 use Rattle.tracerun.proofs.Written.{Known, runs_after, loop_more, loop_fails}
 
@@ -50,11 +50,6 @@ opened_at_call hooks hooks' number a b c whole state new rest line tail value e 
     (sent_kept a b c whole _ (subst (Sent a b whole) (with_value hooks number state rest line tail value cut is) s) k)
 
 -- ---- a script from its first line
-
-pub script_fails : (hooks hooks' : ℕ) (first : State) (a b : Known) (lines : List (List ℕ)) (fault : RunFault) → hooks' ≡ hooks → first ≡ first_state → Fails (run hooks' 1 first lines) a b fault
-    → Fails (run hooks 1 first_state lines) a b fault
-script_fails hooks hooks' first a b lines fault e same p =
-    subst (λ state. Fails (run hooks 1 state lines) a b fault) same (subst (λ h. Fails (run h 1 first lines) a b fault) e p)
 
 script_runs : (hooks hooks' : ℕ) (first : State) (a b : Known) (lines : List (List ℕ)) (r : Result ℕ RunFault) → hooks' ≡ hooks → first ≡ first_state → Runs (run hooks' 1 first lines) a b r
     → Runs (run hooks 1 first_state lines) a b r

@@ -18,7 +18,7 @@ use Rattle.tracerun.specs.Requests.{request_of_call, request_of_new, request_of_
 use Rattle.tracerun.specs.Script.{is_skipped}
 use Rattle.tracerun.specs.State.{State, default_limits, empty_core, first_state}
 use Rattle.tracerun.specs.Written.{core_left}
-use Rattle.tracerun.specs.Meaning.{Turn, are_in_range, limits_turn, layer_turn, call_turn, made_turn, new_turn, turn_of, stage_after, read_turn, line_turn}
+use Rattle.tracerun.specs.Meaning.{Turn, are_in_range, limits_turn, layer_turn, call_turn, made_turn, new_turn, turn_of, stage_after, value_turn, read_turn, line_turn}
 use Rattle.tracerun.specs.declared.fault.Reason.TheVariants.{LabelTaken}
 use Rattle.tracerun.specs.declared.operation.SpanCall.{SpanCall}
 use Rattle.tracerun.specs.declared.operation.SpanCall.TheVariants.{Clone, Close, Enter, Exit}
@@ -161,7 +161,7 @@ started (find key) is = cc
 
 -- a line that is read
 read_next : (hooks : ℕ) (state : State) (line : List ℕ) → IsGood state → WhereOk (read_turn hooks state line) (λ (turn : Turn). Next state turn.state)
-unfolding read_turn
+unfolding read_turn value_turn
 read_next hooks state line good =
     then_ok (json_of line) _ (λ value.
     then_ok_with (operation_of state.core.limits.workers state.stage value) _ (operation_fits state.core.limits.workers good.some_worker state.stage value) (λ operation fit.

@@ -1,12 +1,12 @@
 -- What goes out in a run, piece after piece.
-use Rattle.std.proofs.Common.{◌≡◌, ℕ, ◌+◌, ◌<◌, ◌≤◌, List, [], ◌∷◌, ◌++◌, length, refl, ap, sym, ◌∙◌, subst, append_assoc, append-nil, Option, Some, None, Result, Ok, Err, IfSome, arith, length-append}
+use Rattle.std.proofs.Common.{◌≡◌, ℕ, ◌+◌, ◌<◌, ◌≤◌, List, [], ◌∷◌, ◌++◌, length, refl, ap, sym, ◌∙◌, subst, append_assoc, append-nil, Option, Some, None, Result, Ok, Err, IfSome, IfErr, arith, length-append}
 use Rattle.std.specs.Io.KnownBytes.{Appends, Consumes, Keeps, IsAtEnd}
-use Rattle.std.proofs.KnownBytes.{Appends-nil, Appends-trans, Appends-kept, Consumes-whole}
+use Rattle.std.proofs.KnownBytes.{Appends-nil, Appends-trans, Appends-kept, Consumes-whole, Keeps-refl}
 use Rattle.std.proofs.lemmas.Bool.{le-leb, lt-leb}
 use Rattle.serde_json.specs.Data.{Data}
 use Rattle.tracerun.specs.Device.{AppendsFront, ReadFails}
 use Rattle.tracerun.specs.Meaning.{Turn, Transcript, Ending, finished, faulty, after, turned, run, meaning, line_turn, last_part}
-use Rattle.tracerun.specs.Replayed.{Fails, Runs}
+use Rattle.tracerun.specs.Replayed.{Fails, Runs, KeepsUnread}
 use Rattle.tracerun.specs.Script.{lines_of, most_bytes}
 use Rattle.tracerun.specs.State.{State, first_state}
 use Rattle.tracerun.specs.Turns.{HasTurned, HasBegun, TurnFails, Sent, TextFails}
@@ -15,6 +15,8 @@ use Rattle.tracerun.specs.declared.fault.RunFault.TheVariants.{Script, Memory, D
 use Rattle.tracerun.specs.declared.fault.Reason.{Reason}
 use Rattle.tracerun.specs.declared.fault.Reason.TheVariants.{TooLong}
 use Rattle.tracerun.specs.declared.fault.Side.{Side}
+use Rattle.tracerun.specs.declared.fault.Side.TheVariants.{Read, Write}
+use Rattle.tracerun.specs.RunFault.{EndsAsCounted}
 
 abbrev pub Known : Type 0
 Known = Option (List ℕ)
@@ -179,3 +181,22 @@ pub stop_unflushed : (f : List ℕ → Transcript) (i a b c : Known) (number : �
     → IfSome i (λ xs. Fails (f xs) a b stop) → IfSome i (λ xs. Fails (f xs) a c e)
 stop_unflushed f i a b c number reason stop side e was is k p =
     if_some i (λ xs h. device_fails (f xs) a b c side e is k (subst (Fails (f xs) a b) was h).1) p
+
+-- ---- where the reader failed
+
+pub unread_kept : (a : Known) (e : RunFault) → KeepsUnread a a e
+unread_kept a (Script number reason) = tt
+unread_kept a Memory = tt
+unread_kept a (Device Read) = Keeps-refl a
+unread_kept a (Device Write) = tt
+
+-- a script that was read isn't ended by the reader
+pub read_kept : (writes writes' : ℕ) (a b : Known) (r : Result ℕ RunFault) → EndsAsCounted 0 0 writes writes' r → IfErr r (KeepsUnread a b)
+read_kept writes writes' a b (Ok left) c = tt
+read_kept writes writes' a b (Err (Script number reason)) c = tt
+read_kept writes writes' a b (Err Memory) c = tt
+read_kept writes writes' a b (Err (Device Read)) c = let none = c.0 in absurd (omega (arith, none))
+read_kept writes writes' a b (Err (Device Write)) c = tt
+
+pub write_kept : (a b : Known) (e : RunFault) → e ≡ Device Write → KeepsUnread a b e
+write_kept a b e is = subst (KeepsUnread a b) (sym is) tt

@@ -1,8 +1,7 @@
 -- What is written for a call, and at the end.
-use Rattle.std.specs.Prelude.{◌≡◌, ℕ, ◌⊎◌, List, ◌++◌, codes, true, false}
+use Rattle.std.specs.Prelude.{ℕ, List, ◌++◌, codes, true, false}
 use Rattle.std.specs.Fmt.{decimal}
 use Rattle.span_id.specs.Fault.{text_of}
-use Rattle.span_id.specs.Name.{IsName}
 use Rattle.tracerun.specs.declared.answer.Answer.{Answer}
 use Rattle.tracerun.specs.declared.answer.Answer.TheVariants.{Limits, Layer, Made, NotWanted, Cloned, Closed, Entered, Recorded, Told, Refused}
 use Rattle.tracerun.specs.declared.answer.Found as found
@@ -33,12 +32,3 @@ answer_text (Refused fault) = codes "! " ++ (text_of fault ++ codes "\n")
 -- the last line: how many spans are open
 abbrev pub left_text : ℕ → List ℕ
 left_text left = codes "left " ++ (decimal left ++ codes "\n")
-
--- one line that begins with `= ` or `! `: the text of an answer, or of a span that was looked up
-abbrev pub IsAnswer : List ℕ → Type 0
-IsAnswer text =
-    ((answer : Answer) × (text ≡ answer_text answer)) ⊎ ((found : found.Found) × IsName found.name.now × (text ≡ found_text found))
-
--- a text with one answer more at its end
-abbrev pub AddsAnswer : List ℕ → List ℕ → Type 0
-AddsAnswer old new = (line : List ℕ) × IsAnswer line × (new ≡ old ++ line)

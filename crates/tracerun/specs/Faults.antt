@@ -14,6 +14,7 @@ abbrev pub id_of_key : Bound → SpanKey → Result ℕ Reason
 id_of_key labels (by_label text) = or_fault (id_in labels text) NoSuchLabel
 id_of_key labels (by_id id) = Ok id
 
+-- a span that is open has handles that were not closed
 abbrev pub has_handles : forest.Spans → Option ℕ → Bool
 has_handles spans None = false
 has_handles spans (Some id) = nat_lt 0 (held_in Handle (forest.find spans id))
@@ -22,6 +23,7 @@ has_handles spans (Some id) = nat_lt 0 (held_in Handle (forest.find spans id))
 abbrev pub is_taken : forest.Spans → Bound → List ℕ → Bool
 is_taken spans labels label = has_handles spans (id_in labels label)
 
+-- an id that was found is a parent
 abbrev pub some_id : Result ℕ Reason → Result (Option ℕ) Reason
 some_id (Ok id) = Ok (Some id)
 some_id (Err reason) = Err reason

@@ -2,8 +2,10 @@
 -- many layers there may be.
 use Rattle.std.specs.Prelude.{ℕ, ◌+◌, ◌&&◌, if◌then◌else◌, nat_lt, nat_le, Bool, List, [], ◌∷◌, ◌++◌, length, map, Option, Some, None, Result, Ok, Err, ⊤}
 use Rattle.std.specs.List.{range_with_len}
+use Rattle.serde_json.specs.Data.{Data}
 use Rattle.span_id.specs.declared.fault.Fault.TheVariants.{BadLimits, TooManyLayers}
 use Rattle.span_id.specs.declared.limits.Limits.{Limits}
+use Rattle.span_id.specs.Id.{slots_in_layout}
 use Rattle.span_layers.specs.Filter.{Filter}
 use Rattle.span_stack.specs.Stack as stack
 use Rattle.span_registry.specs.World.{empty_world, stack_of}
@@ -33,7 +35,7 @@ pub record Turn : Type 0 where
 -- each limit is in its range
 abbrev pub are_in_range : Limits → Bool
 are_in_range limits =
-    (nat_le 1 limits.slots && nat_le limits.slots 16777216)
+    (nat_le 1 limits.slots && nat_le limits.slots slots_in_layout)
     && (nat_le limits.last_generation 4294967295
     && ((nat_le 1 limits.max_count && nat_le limits.max_count 4294967295)
     && ((nat_le 1 limits.workers && nat_le limits.workers 256) && (nat_le 1 limits.ring && nat_le limits.ring 65536))))
@@ -45,18 +47,24 @@ limits_turn state limits =
     then record { text = answer_text answer.Limits; state = record state { core = record state.core { limits = limits; world = empty_world limits.workers } } }
     else record { text = answer_text (answer.Refused BadLimits); state = state }
 
+-- what a layer admits, and which of its spans' doings it is told of
 abbrev pub filter_of_layer : NewLayer → Filter
 filter_of_layer layer = record { pairs = layer.rule; spans = layer.spans }
+
+-- a core with one layer more
+abbrev pub with_layer : CoreView → NewLayer → CoreView
+with_layer core layer = record core { rules = core.rules ++ filter_of_layer layer ∷ []; forms = core.forms ++ layer.form ∷ [] }
 
 -- a layer more, of at most 64 and of at most as many as there are hooks for
 abbrev pub layer_turn : ℕ → State → NewLayer → Turn
 layer_turn hooks state layer =
     if nat_lt (length state.core.rules) 64 && nat_lt (length state.core.rules) hooks
-    then record { text = answer_text (answer.Layer (length state.core.rules)); state = record state { core = record state.core { rules = state.core.rules ++ filter_of_layer layer ∷ []; forms = state.core.forms ++ layer.form ∷ [] } } }
+    then record { text = answer_text (answer.Layer (length state.core.rules)); state = record state { core = with_layer state.core layer } }
     else record { text = answer_text (answer.Refused TooManyLayers); state = state }
 
 -- ---- calls
 
+-- what calls wrote, and the core that they leave
 abbrev pub written_turn : State → Written → Turn
 written_turn state written = record { text = written.text; state = record state { core = written.core } }
 
@@ -69,6 +77,7 @@ abbrev pub labels_after : Bound → List ℕ → Outcome → Bound
 labels_after labels label (accepted (call.made id) notes new) = bound labels label id
 labels_after labels label _ = labels
 
+-- a call that makes a span, and binds its label where it is accepted
 abbrev pub made_turn : State → List ℕ → call.Request → Turn
 made_turn state label request = record {
   text = (call_written state.core request).text;
@@ -104,11 +113,17 @@ stage_after _ = running
 abbrev pub at_stage : Stage → Result Turn Reason → Result Turn Reason
 at_stage stage turn = turn >>= λ t. Ok (record { text = t.text; state = record t.state { stage = stage } })
 
+-- what a line with this JSON value does
+unfoldable pub value_turn : ℕ → State → Data → Result Turn Reason
+value_turn hooks state value = do
+  operation ← operation_of state.core.limits.workers state.stage value
+  at_stage (stage_after operation) (turn_of hooks state operation)
+
+-- a line that isn't skipped is JSON, or the script is at fault
 unfoldable pub read_turn : ℕ → State → List ℕ → Result Turn Reason
 read_turn hooks state line = do
   value ← json_of line
-  operation ← operation_of state.core.limits.workers state.stage value
-  at_stage (stage_after operation) (turn_of hooks state operation)
+  value_turn hooks state value
 
 -- a line of blanks, tabs and carriage returns is skipped
 abbrev pub line_turn : ℕ → State → List ℕ → Result Turn Reason
@@ -126,6 +141,7 @@ pub record Transcript : Type 0 where
   pub text : List ℕ
   pub ending : Ending
 
+-- a text was written before
 abbrev pub after : List ℕ → Transcript → Transcript
 after text transcript = record { text = text ++ transcript.text; ending = transcript.ending }
 
@@ -134,16 +150,17 @@ after text transcript = record { text = text ++ transcript.text; ending = transc
 abbrev pub left_by_workers : State → Written
 left_by_workers state = each_written exits state.core (range_with_len 0 state.core.limits.workers)
 
-abbrev pub tidied : State → Written
-tidied state = each_written closes (left_by_workers state).core (map (λ entry. entry.1) state.labels)
+abbrev pub closed_by_labels : State → Written
+closed_by_labels state = each_written closes (left_by_workers state).core (map (λ entry. entry.1) state.labels)
 
 -- at the end of the lines the tidying, and how many spans are open
 abbrev pub last_part : State → Transcript
 last_part state = record {
-  text = (left_by_workers state).text ++ ((tidied state).text ++ left_text (length (tidied state).core.world.spans));
-  ending = finished (length (tidied state).core.world.spans);
+  text = (left_by_workers state).text ++ ((closed_by_labels state).text ++ left_text (length (closed_by_labels state).core.world.spans));
+  ending = finished (length (closed_by_labels state).core.world.spans);
 }
 
+-- what a line wrote, before what the further lines write; a fault ends the script
 abbrev pub turned : ℕ → Result Turn Reason → (State → Transcript) → Transcript
 turned number (Ok turn) more = after turn.text (more turn.state)
 turned number (Err reason) more = record { text = []; ending = faulty number reason }

@@ -1,10 +1,11 @@
 -- What a run leaves in the writer, and what it answers.
 use Rattle.std.specs.Prelude.{◌≡◌, ℕ, List, Option, Result, MatchResult}
-use Rattle.std.specs.Io.KnownBytes.{Appends}
+use Rattle.std.specs.Io.KnownBytes.{Appends, Keeps}
 use Rattle.tracerun.specs.Device.{AppendsFront}
 use Rattle.tracerun.specs.Meaning.{Transcript, Ending, finished, faulty, meaning}
 use Rattle.tracerun.specs.declared.fault.RunFault.{RunFault}
 use Rattle.tracerun.specs.declared.fault.RunFault.TheVariants.{Script, Memory, Device}
+use Rattle.tracerun.specs.declared.fault.Side.TheVariants.{Read, Write}
 
 -- After a fault of the script the text that is meant stands, and the fault is the one that is meant. Where
 -- memory was refused or a device failed, a front of the text stands.
@@ -21,3 +22,10 @@ Runs meant old new result =
 -- a run of these bytes with so many hooks
 abbrev pub IsReplayed : ℕ → List ℕ → Option (List ℕ) → Option (List ℕ) → Result ℕ RunFault → Type 0
 IsReplayed hooks bytes old new result = Runs (meaning hooks bytes) old new result
+
+-- where the reader failed nothing was written, since a script is read to its end before its first line is run
+abbrev pub KeepsUnread : Option (List ℕ) → Option (List ℕ) → RunFault → Type 0
+KeepsUnread old new (Script number reason) = Unit {0}
+KeepsUnread old new Memory = Unit {0}
+KeepsUnread old new (Device Read) = Keeps old new
+KeepsUnread old new (Device Write) = Unit {0}

@@ -8,9 +8,8 @@ use Rattle.span_layers.specs.declared.form.Form.{Form}
 use Rattle.span_registry.specs.Core.{CoreView}
 use Rattle.span_registry.specs.World.{empty_world}
 use Rattle.tracerun.specs.Device.{AppendsFront}
-use Rattle.tracerun.specs.Meaning.{Turn, Transcript, after, at_stage, stage_after, turn_of, turned, run}
-use Rattle.tracerun.specs.Operation.{Operation, Stage, set_limits, add_layer, operation_of}
-use Rattle.tracerun.specs.Reason.{◌>>=◌}
+use Rattle.tracerun.specs.Meaning.{Turn, Transcript, after, value_turn, turned, run}
+use Rattle.tracerun.specs.Operation.{Operation, Stage, set_limits, add_layer}
 use Rattle.tracerun.specs.Script.{lines_of}
 use Rattle.tracerun.specs.State.{State}
 use Rattle.tracerun.specs.Written.{Written, written_after}
@@ -23,12 +22,6 @@ abbrev pub SetsUp : Operation → Type 0
 SetsUp (set_limits limits) = Unit {0}
 SetsUp (add_layer layer) = Unit {0}
 SetsUp _ = ⊥
-
--- what a line with this JSON value does
-unfoldable pub value_turn : ℕ → State → Data → Result Turn Reason
-value_turn hooks state value = do
-  operation ← operation_of state.core.limits.workers state.stage value
-  at_stage (stage_after operation) (turn_of hooks state operation)
 
 -- a core of which no call was made, with these limits, layers and forms, where such lines came
 abbrev pub opened : Limits → List Filter → List Form → Stage → State

@@ -80,11 +80,12 @@ find_text core id = node_text core id (find core.world.spans id)
 
 -- ---- the tidying
 
--- a worker leaves all that it has entered, the last entry first
+-- a worker leaves all that it has entered, the last entry first: each exit takes one entry out, so these are as many
+-- as there are, and none is left
 abbrev pub exits : CoreView → ℕ → List call.Request
 exits core worker = map (call.exit worker) (reverse (stack_of core.world worker))
 
--- worker 0 closes a span as often as it has handles
+-- worker 0 closes a span as often as it has handles, so that none is left
 abbrev pub closes : CoreView → ℕ → List call.Request
 closes core id = replicate (held_in Handle (find core.world.spans id)) (call.try_close 0 id)
 

@@ -27,7 +27,7 @@ mod tidying;
 
 use crate::counted::Counted;
 use crate::fault::RunFault;
-use crate::hooks::default_hooks;
+use crate::hooks::replay_with_layers;
 use crate::orders::Order;
 use span_layers::MAX_LAYERS;
 use std::io;
@@ -56,12 +56,9 @@ fn replay(rt: &HostRuntime) -> Result<(), RunFault> {
     let Ok(buffer) = BufWriter::new(alloc, rt.stdout()) else {
         return Err(RunFault::Memory);
     };
-    let Ok(hooks) = default_hooks(alloc, MAX_LAYERS) else {
-        return Err(RunFault::Memory);
-    };
     let mut input = Counted::new(rt.stdin());
     let mut output = Counted::new(buffer);
-    match runner::replay(alloc, &mut input, &mut output, hooks) {
+    match replay_with_layers(alloc, &mut input, &mut output, MAX_LAYERS) {
         Ok(_) => Ok(()),
         Err(fault) => Err(fault),
     }

@@ -4,13 +4,13 @@ ghost use Rattle.std.specs.Option.{option_map};
 ghost use Rattle.std.specs.Io.KnownBytes.{Keeps};
 ghost use Rattle.serde_json.specs.View.{view};
 ghost use Rattle.tracerun.specs.Counted.{inner_of, failed_of};
-ghost use Rattle.tracerun.specs.Meaning.{line_turn, run};
+ghost use Rattle.tracerun.specs.Meaning.{line_turn, run, value_turn};
 ghost use Rattle.tracerun.specs.Operation.{is_setup};
 ghost use Rattle.tracerun.specs.Replayed.{Fails};
 ghost use Rattle.tracerun.specs.RunFault.{EndsAsCounted};
 ghost use Rattle.tracerun.specs.Script.{lines_of, most_bytes};
 ghost use Rattle.tracerun.specs.Setup.{hooks_in, setup_state};
-ghost use Rattle.tracerun.specs.Turns.{HasTurned, Sent, TurnFails, resumed, value_turn};
+ghost use Rattle.tracerun.specs.Turns.{HasTurned, Sent, TurnFails, resumed};
 
 use crate::counted::Counted;
 use crate::device::write_text;

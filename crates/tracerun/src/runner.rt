@@ -1,8 +1,9 @@
 //! Running a whole script: reading it, its lines, the tidying and the last line, and writing out.
-ghost use Rattle.std.specs.Prelude.{◌≡◌, ◌+◌, ◌^◌, ◌<◌, ◌≤◌, IfOk, IfSome, length, vec_len};
+ghost use Rattle.std.specs.Prelude.{◌≡◌, ◌+◌, ◌^◌, ◌<◌, ◌≤◌, IfOk, IfErr, IfSome, OnOk, length, vec_len};
+ghost use Rattle.std.specs.Io.KnownBytes.{IsAtEnd};
 ghost use Rattle.tracerun.specs.Counted.{inner_of, calls_of, failed_of};
 ghost use Rattle.tracerun.specs.Meaning.{run};
-ghost use Rattle.tracerun.specs.Replayed.{IsReplayed, Runs};
+ghost use Rattle.tracerun.specs.Replayed.{IsReplayed, KeepsUnread, Runs};
 ghost use Rattle.tracerun.specs.RunFault.{EndsAsCounted};
 ghost use Rattle.tracerun.specs.Script.{lines_of, most_bytes};
 ghost use Rattle.tracerun.specs.State.{first_state};
@@ -22,8 +23,9 @@ use std::io::{Read, Write};
 ///
 /// The input is read to its end first. Each layer takes one of the hooks, in their order. Where the result is `Ok`, what
 /// was written is the notes and the answer of each line, those of the tidying, and then how many spans are left open,
-/// which is the result, and which is 0. After a fault of the script the text of the lines before it stands. After `Memory` and `Device`
-/// a front of the text went out. The output is flushed but after these two.
+/// which is the result, and which is 0. After a fault of the script the text of the lines before it stands. After `Memory`
+/// and `Device` a front of the text went out, and nothing where it was the reader that failed. The output is flushed but
+/// after these two.
 pub fn replay<R: Read, W: Write>(
     alloc: Global,
     input: &mut Counted<R>,
@@ -35,6 +37,8 @@ pub fn replay<R: Read, W: Write>(
     requires failed { failed_of output.old < 2 ^ 63 }
     ensures replayed { IfSome (R.remaining (inner_of input.old)) (λ bytes.
         IsReplayed (vec_len hooks) bytes (W.contents (inner_of output.old)) (W.contents (inner_of output.new)) result) }
+    ensures whole { OnOk result (IsAtEnd (R.remaining (inner_of input.new))) }
+    ensures unread { IfErr result (KeepsUnread (W.contents (inner_of output.old)) (W.contents (inner_of output.new))) }
     ensures left { IfSome (R.remaining (inner_of input.old)) (λ bytes. IfOk result (λ left. left ≡ 0)) }
     ensures counts { EndsAsCounted (failed_of input.old) (failed_of input.new) (failed_of output.old) (failed_of output.new) result }
     ensures reads { calls_of input.new ≤ calls_of input.old + 16777217 }
@@ -64,6 +68,8 @@ fn perform<R: Read, W: Write>(
     requires failed { failed_of output.old < 2 ^ 63 }
     ensures replayed { IfSome (R.remaining (inner_of input.old)) (λ bytes.
         IsReplayed (vec_len hooks) bytes (W.contents (inner_of output.old)) (W.contents (inner_of output.new)) result) }
+    ensures whole { OnOk result (IsAtEnd (R.remaining (inner_of input.new))) }
+    ensures unread { IfErr result (KeepsUnread (W.contents (inner_of output.old)) (W.contents (inner_of output.new))) }
     ensures counts { EndsAsCounted (failed_of input.old) (failed_of input.new) (failed_of output.old) (failed_of output.new) result }
     ensures reads { calls_of input.new ≤ calls_of input.old + 16777217 }
 {

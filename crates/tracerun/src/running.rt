@@ -3,14 +3,14 @@ ghost use Rattle.std.specs.Prelude.{◌≡◌, ◌+◌, ◌^◌, ◌<◌, ◌≤
 ghost use Rattle.std.specs.Option.{option_map};
 ghost use Rattle.serde_json.specs.View.{view};
 ghost use Rattle.tracerun.specs.Counted.{inner_of, failed_of};
-ghost use Rattle.tracerun.specs.Meaning.{last_part, line_turn, run};
+ghost use Rattle.tracerun.specs.Meaning.{last_part, line_turn, run, value_turn};
 ghost use Rattle.tracerun.specs.Operation.{Stage, is_setup, running};
 ghost use Rattle.tracerun.specs.Reason.{StopsFor};
 ghost use Rattle.tracerun.specs.Replayed.{Fails, Runs};
 ghost use Rattle.tracerun.specs.RunFault.{EndsAsCounted};
 ghost use Rattle.tracerun.specs.Running.{IsWritten, core_in, labels_in, state_at};
 ghost use Rattle.tracerun.specs.Script.{lines_of, most_bytes};
-ghost use Rattle.tracerun.specs.Turns.{HasTurned, Sent, TurnFails, opened, resumed, value_turn};
+ghost use Rattle.tracerun.specs.Turns.{HasTurned, Sent, TurnFails, opened, resumed};
 
 use crate::counted::Counted;
 use crate::device::write_text;

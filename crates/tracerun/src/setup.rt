@@ -3,11 +3,11 @@ ghost use Rattle.std.specs.Prelude.{◌≡◌, ◌+◌, true, length, vec_len, I
 ghost use Rattle.serde_json.specs.View.{view};
 ghost use Rattle.span_layers.specs.Layers.{filters_in};
 ghost use Rattle.tracerun.specs.Answer.{answer_text};
-ghost use Rattle.tracerun.specs.Meaning.{limits_turn, layer_turn, turn_of};
+ghost use Rattle.tracerun.specs.Meaning.{limits_turn, layer_turn, turn_of, value_turn};
 ghost use Rattle.tracerun.specs.Operation.{is_setup};
 ghost use Rattle.tracerun.specs.Reason.{StopsFor};
 ghost use Rattle.tracerun.specs.State.{first_state};
-ghost use Rattle.tracerun.specs.Turns.{SetsUp, value_turn};
+ghost use Rattle.tracerun.specs.Turns.{SetsUp};
 ghost use Rattle.tracerun.specs.Views.{layer_seen, operation_seen};
 
 use crate::answer::{Answer, write_answer};

@@ -1,7 +1,13 @@
+ghost use Rattle.std.specs.Prelude.{◌≡◌, string_bytes};
+ghost use Rattle.std.specs.Result.{ForOk};
+ghost use Rattle.span_layers.specs.Note.{plain_note};
+ghost use Rattle.span_layers.specs.Rule.{pairs_of, is_admitted};
+ghost use Rattle.span_layers.specs.Text.{text_of};
+
 use crate::command_line::{order, status};
 use crate::counted::Counted;
 use crate::fault::RunFault;
-use crate::hooks::default_hooks;
+use crate::hooks::replay_with_layers;
 use crate::orders::Order;
 use crate::runner::replay;
 use span_id::Meta;
@@ -68,25 +74,19 @@ fn told(alloc: Global, ended: Result<u64, RunFault>) -> Result<String, AllocErro
     }
 }
 
-/// What a run with these hooks writes, and how it ends.
-fn run(alloc: Global, script: &str, hooks: Vec<Hooks>) -> Result<(Vec<u8>, String), AllocError> {
-    let mut input = Counted::new(script.as_bytes());
-    let mut taken = Vec::new(alloc);
-    let mut output = Counted::new(&mut taken);
-    let ended = told(alloc, replay(alloc, &mut input, &mut output, hooks))?;
-    Ok((taken, ended))
-}
-
-/// Whether a run with so many hooks writes this text and ends so.
+/// Whether a run that may have so many layers writes this text and ends so.
 fn runs_so(
     alloc: Global,
     script: &str,
-    count: usize,
+    layers: usize,
     text: &str,
     end: &str,
 ) -> Result<bool, AllocError> {
-    let (taken, ended) = run(alloc, script, default_hooks(alloc, count)?)?;
-    Ok(taken.as_slice() == text.as_bytes() && ended.as_str() == end)
+    let mut input = Counted::new(script.as_bytes());
+    let mut taken = Vec::new(alloc);
+    let mut output = Counted::new(&mut taken);
+    let ended = replay_with_layers(alloc, &mut input, &mut output, layers);
+    Ok(taken.as_slice() == text.as_bytes() && told(alloc, ended)?.as_str() == end)
 }
 
 const TWO_SPANS: &str =
@@ -98,6 +98,12 @@ const ONE_LAYER: &str =
     "{\"op\":\"layer\"}\n{\"op\":\"new\",\"name\":\"a\"}\n{\"op\":\"close\",\"span\":\"a\"}\n";
 
 const ONE_LAYER_TEXT: &str = "= layer 0\nL0 new 1 w0 a\n= 1\nL0 close 1 w0 a\n= closed\nleft 0\n";
+
+const BOTH_FORMS: &str =
+    "{\"op\":\"layer\",\"form\":\"json\"}\n{\"op\":\"layer\"}\n{\"op\":\"new\",\"name\":\"a\",\"fields\":[[\"k\",\"1\"]]}\n{\"op\":\"record\",\"span\":\"a\",\"fields\":[[\"k\",\"2\"]]}\n{\"op\":\"event\",\"level\":\"WARN\",\"message\":\"x\\ny\"}\n{\"op\":\"close\",\"span\":\"a\"}\n";
+
+const BOTH_FORMS_TEXT: &str =
+    "= layer 0\n= layer 1\nL0 {\"fields\":[[\"k\",\"1\"]],\"id\":1,\"kind\":\"new\",\"path\":\"a\",\"worker\":0}\nL1 new 1 w0 a k=1\n= 1\nL0 {\"fields\":[[\"k\",\"2\"]],\"id\":1,\"kind\":\"record\",\"path\":\"a\",\"worker\":0}\nL1 record 1 w0 a k=2\n= recorded\nL0 {\"fields\":[],\"id\":0,\"kind\":\"event\",\"level\":\"WARN\",\"message\":\"x\\ny\",\"path\":\"-\",\"worker\":0}\nL1 event 0 w0 - WARN x\\ny\n= told\nL0 {\"fields\":[[\"k\",\"1\"],[\"k\",\"2\"]],\"id\":1,\"kind\":\"close\",\"path\":\"a\",\"worker\":0}\nL1 close 1 w0 a k=1 k=2\n= closed\nleft 0\n";
 
 #[test]
 fn answers_spans(rt: HostRuntime) -> io::Result<()> {
@@ -146,6 +152,7 @@ fn answers_layers(rt: HostRuntime) -> io::Result<()> {
     let rows = [
         (ONE_LAYER, 1, ONE_LAYER_TEXT),
         (ONE_LAYER, 64, ONE_LAYER_TEXT),
+        (BOTH_FORMS, 2, BOTH_FORMS_TEXT),
         ("{\"op\":\"layer\"}", 0, "! too many layers\nleft 0\n"),
         (
             "{\"op\":\"layer\"}\n{\"op\":\"layer\"}\n{\"op\":\"new\",\"name\":\"a\"}",
@@ -286,9 +293,9 @@ fn stops_reading(alloc: Global, script: &str, good_calls: u64) -> Result<bool, A
     });
     let mut taken = Vec::new(alloc);
     let mut output = Counted::new(&mut taken);
-    let hooks = default_hooks(alloc, 1)?;
-    let ended = told(alloc, replay(alloc, &mut input, &mut output, hooks))?;
-    let stopped = input.calls() == good_calls + 1 && input.failed() == 1;
+    let ended = replay_with_layers(alloc, &mut input, &mut output, 1);
+    let ended = told(alloc, ended)?;
+    let stopped = input.calls().checked_sub(1) == Some(good_calls) && input.failed() == 1;
     Ok(stopped && taken.is_empty() && ended.as_str() == "device: read failed")
 }
 
@@ -323,8 +330,8 @@ fn run_failing(
         takes_none,
         can_flush,
     });
-    let hooks = default_hooks(alloc, 1)?;
-    let ended = told(alloc, replay(alloc, &mut input, &mut output, hooks))?;
+    let ended = replay_with_layers(alloc, &mut input, &mut output, 1);
+    let ended = told(alloc, ended)?;
     Ok((taken, ended))
 }
 
@@ -374,24 +381,28 @@ fn a_flush_that_fails_ends_the_run(rt: HostRuntime) -> io::Result<()> {
     Ok(())
 }
 
-/// Hooks of one layer, whose formatter is refused memory at each call.
-fn refused_hooks(alloc: Global) -> Result<Vec<Hooks>, AllocError> {
-    let admit = Box::new(alloc, |rule: &Rule, meta: &Meta| admits(rule, meta))?;
-    let say = Box::new(
-        alloc,
-        |_alloc: Global, _form: Form, _note: &Note| -> Result<Vec<u8>, AllocError> {
-            Err(AllocError)
-        },
-    )?;
-    let mut hooks = Vec::new(alloc);
-    hooks.push(Hooks::new(admit, say))?;
-    Ok(hooks)
-}
-
 #[test]
 fn a_formatter_without_memory_ends_the_run(rt: HostRuntime) -> io::Result<()> {
     let alloc = rt.alloc();
-    let (taken, ended) = run(alloc, ONE_LAYER, refused_hooks(alloc)?)?;
+    let admit = Box::new(
+        alloc,
+        |rule: &Rule, meta: &Meta| -> bool
+            ensures { result
+                ≡ is_admitted (pairs_of rule.now) (string_bytes meta.now.target) meta.now.level }
+        { admits(rule, meta) },
+    )?;
+    let say = Box::new(
+        alloc,
+        |_alloc: Global, form: Form, note: &Note| -> Result<Vec<u8>, AllocError>
+            ensures { ForOk result (λ text. text.items ≡ text_of form (plain_note note.now)) }
+        { Err(AllocError) },
+    )?;
+    let mut hooks = Vec::new(alloc);
+    hooks.push(Hooks::new(admit, say))?;
+    let mut input = Counted::new(ONE_LAYER.as_bytes());
+    let mut taken = Vec::new(alloc);
+    let mut output = Counted::new(&mut taken);
+    let ended = told(alloc, replay(alloc, &mut input, &mut output, hooks))?;
     assert!(rt; taken.as_slice() == "= layer 0\n".as_bytes());
     assert_eq!(rt; ended.as_str(), "out of memory");
     Ok(())
@@ -402,13 +413,13 @@ fn faults_have_their_status(rt: HostRuntime) -> io::Result<()> {
     let alloc = rt.alloc();
     let mut input = Counted::new("[1]".as_bytes());
     let mut output = Counted::new(Vec::new(alloc));
-    let ended = replay(alloc, &mut input, &mut output, default_hooks(alloc, 0)?);
+    let ended = replay_with_layers(alloc, &mut input, &mut output, 0);
     assert!(rt; matches!(&ended, Err(fault) if fault.status() == 1));
     let mut input = Counted::new(FailingReader {
         rest: [].as_slice(),
         good_calls: 0,
     });
-    let ended = replay(alloc, &mut input, &mut output, default_hooks(alloc, 0)?);
+    let ended = replay_with_layers(alloc, &mut input, &mut output, 0);
     assert!(rt; matches!(&ended, Err(fault) if fault.status() == 3));
     Ok(())
 }

@@ -1,12 +1,10 @@
-use Rattle.std.proofs.Common.{rules, ◌≡◌, ◌+◌, ◌^◌, ◌<◌, ◌≤◌, IfOk, IfSome, length, vec_len, ℕ, ◌-◌, ◌*◌, ◌/◌, ◌%◌, Bool, true, false, nat_eq, nat_lt, List, [], ◌∷◌, ◌++◌, slice_index_or, slice_set, bit_and, bit_or, Fits, w8, w32, w64, Bor, MutBor}
-use Rattle.tracerun.specs.Counted.{inner_of, calls_of, failed_of}
-use Rattle.tracerun.specs.Meaning.{run}
-use Rattle.tracerun.specs.Replayed.{IsReplayed, Runs}
-use Rattle.tracerun.specs.RunFault.{EndsAsCounted}
-use Rattle.tracerun.specs.Script.{lines_of, most_bytes}
-use Rattle.tracerun.specs.State.{first_state}
+use Rattle.std.proofs.Common.{ap, ◌∙◌}
+use Rattle.span_registry.specs.Kept.{KeptView}
+use Rattle.tracerun.proofs.Openings.{rest_runs}
 use Rattle.tracerun.proofs.runner.run_script.Goals as goal
 
--- src/runner.rt:77:1
 pub returns-clause-runs : goal.returns-clause-runs
-returns-clause-runs g c = ?
+returns-clause-runs g c =
+    let made = c.new-setup.ensures in
+    let parts = c.split-checked.ensures in
+    rest_runs _ _ _ _ _ _ _ _ _ _ _ _ _ _ _ _ _ _ made.hooks made.state parts.limits parts.rules (ap (λ (kept : KeptView). kept.forms) c.new-kept.ensures ∙ parts.forms) c.in-Ok.ensures.sent c.run_rest.ensures.runs
