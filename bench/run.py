@@ -3,7 +3,8 @@
 
 Each script has at most 16 MiB. A line of the table tells the script, its lines and megabytes (10^6 bytes), the
 output's megabytes, the least CPU seconds (user and system) and the least time on the clock of the runs, lines and
-input megabytes a second by CPU, and the peak memory. The output goes through a pipe and is thrown away.
+input megabytes a second by CPU, and the peak memory (never less than the 15 megabytes of this Python process). The
+output goes through a pipe and is thrown away.
 
 usage: run.py [--program FILE] [--mib N] [--runs N] [NAME..]      (--list tells the names)
 """
@@ -15,9 +16,10 @@ import tempfile
 import threading
 import time
 
-from scripts import SCRIPTS
+from scripts import ALL, SCRIPTS
 
-TOP = os.path.dirname(os.path.dirname(os.path.abspath(__file__)))
+HERE = os.path.dirname(os.path.abspath(__file__))
+TOP = os.path.dirname(HERE)
 PROGRAM = os.path.join(TOP, "crates", "tracerun", "out", "tracerun")
 MEBIBYTE = 1024 * 1024
 
@@ -50,32 +52,32 @@ def measured(program, path):
 
 
 def row(program, name, size, runs):
-    text = SCRIPTS[name](size).encode()
-    lines = text.count(b"\n")
     with tempfile.NamedTemporaryFile(suffix=".jsonl") as file:
-        file.write(text)
-        file.flush()
+        # By a process of its own: a child's peak memory is never less than its parent's memory.
+        subprocess.run([sys.executable, os.path.join(HERE, "scripts.py"), name, str(size)], stdout=file, check=True)
+        megabytes = os.path.getsize(file.name) / 1e6
+        with open(file.name, "rb") as script:
+            lines = sum(1 for _ in script)
         found = [measured(program, file.name) for _ in range(runs)]
     cpu, clock = min(f[0] for f in found), min(f[1] for f in found)
-    peak, out = max(f[2] for f in found) / 1000, found[0][3] / 1e6
-    megabytes = len(text) / 1e6
+    peak, out = max(f[2] for f in found) * 1024 / 1e6, found[0][3] / 1e6
     return (f"| {name} | {lines:,} | {megabytes:.1f} | {out:.1f} | {cpu:.2f} | {clock:.2f} "
             f"| {lines / cpu:,.0f} | {megabytes / cpu:.1f} | {peak:.0f} |")
 
 
 def main():
     parser = argparse.ArgumentParser(description=__doc__, formatter_class=argparse.RawDescriptionHelpFormatter)
-    parser.add_argument("names", nargs="*", metavar="NAME", help="scripts to run; none means all")
+    parser.add_argument("names", nargs="*", metavar="NAME", help="scripts to run; none means all but the costly ones")
     parser.add_argument("--program", default=PROGRAM)
     parser.add_argument("--mib", type=float, default=16, help="size of each script in MiB, at most 16")
     parser.add_argument("--runs", type=int, default=3)
     parser.add_argument("--list", action="store_true", help="tells the scripts")
     words = parser.parse_args()
     if words.list:
-        for name, made in SCRIPTS.items():
+        for name, made in ALL.items():
             print(f"{name}: {made.__doc__}")
         return
-    unknown = [name for name in words.names if name not in SCRIPTS]
+    unknown = [name for name in words.names if name not in ALL]
     if unknown or not 0 < words.mib <= 16 or words.runs < 1:
         parser.error(f"no such script: {', '.join(unknown)}" if unknown else "--mib is over 0 and at most 16, --runs at least 1")
     if not os.access(words.program, os.X_OK):

@@ -1,6 +1,10 @@
-"""Scripts to measure `tracerun replay` with. Each is made for a size in bytes and is the same each time."""
+"""Scripts to measure `tracerun replay` with. Each is made for a size in bytes and is the same each time.
 
-LIMITS = '{"op":"limits","slots":1048576,"workers":8}\n'
+usage: scripts.py NAME BYTES      writes the script
+"""
+import sys
+
+MANY_SLOTS = '{"op":"limits","slots":1048576}\n'
 
 
 def filled(head, block_of, size, tail=""):
@@ -38,16 +42,20 @@ def chain(depth):
     return "".join(lines)
 
 
-def deep_chains(size):
-    """Chains of 16,384 spans under a layer that wants no notes on spans."""
-    block = chain(16384)
-    return filled(LIMITS + '{"op":"layer","spans":0}\n', lambda n: block, size)
+def deep_chain(size):
+    """One chain, as deep as fits in the size, under a layer that wants no notes on spans. The tidying closes it whole."""
+    head = MANY_SLOTS + '{"op":"layer","spans":0}\n{"op":"new","name":"p","label":"0","parent":null}\n'
+
+    def block(n):
+        return f'{{"op":"new","name":"p","label":"{n + 1}","parent":"{n}"}}\n{{"op":"close","span":"{n}"}}\n'
+
+    return filled(head, block, size)
 
 
 def told_chains(size):
     """Chains of 64 spans under a layer that wants closes: the path of each note is as long as the span is deep."""
     block = chain(64)
-    return filled(LIMITS + '{"op":"layer","spans":8}\n', lambda n: block, size)
+    return filled('{"op":"layer","spans":8}\n', lambda n: block, size)
 
 
 RULES = (
@@ -96,7 +104,7 @@ def events(size):
 
 def workers(size):
     """Eight workers that enter and leave one span, each entry told to one layer."""
-    head = LIMITS + '{"op":"layer"}\n{"op":"new","name":"shared"}\n'
+    head = '{"op":"limits","workers":8}\n{"op":"layer"}\n{"op":"new","name":"shared"}\n'
 
     def block(n):
         w = n % 8
@@ -105,7 +113,50 @@ def workers(size):
     return filled(head, block, size)
 
 
-SCRIPTS = {
-    made.__name__: made
-    for made in (spans_without_layers, short_spans, deep_chains, told_chains, eight_layers, wide_fields, events, workers)
-}
+def deep_stack(size):
+    """Spans that one worker enters and doesn't leave: each enter looks through the worker's stack."""
+    head = MANY_SLOTS + '{"op":"layer","spans":0}\n'
+
+    def block(n):
+        return f'{{"op":"new","name":"p","label":"{n}","parent":null}}\n{{"op":"enter","span":"{n}"}}\n'
+
+    return filled(head, block, size)
+
+
+def entered_again(size):
+    """One span entered again and again, with an event each time, which looks below the duplicates."""
+    head = '{"op":"layer","spans":0}\n{"op":"new","name":"p"}\n'
+    return filled(head, lambda n: '{"op":"enter","span":"p"}\n{"op":"event","message":"m"}\n', size)
+
+
+def events_far_from_the_root(size):
+    """A chain in the first half; then events at its end, under a layer that admits the last span alone: each event's
+    path has one name, and is looked for on the whole walk."""
+    links = deep_chain(size // 2).split("\n", 2)[2]
+    last = links.count("\n") // 2
+    head = (
+        MANY_SLOTS + '{"op":"layer","spans":0,"rule":[["app","TRACE"]]}\n{"op":"layer","spans":0,"rule":[["end","TRACE"]]}\n'
+        + links + f'{{"op":"new","name":"end","target":"end","parent":"{last}"}}\n{{"op":"enter","span":"end"}}\n'
+    )
+    return filled(head, lambda n: '{"op":"event","message":"m","target":"end"}\n', size)
+
+
+def sixty_four_layers(size):
+    """Events under 64 layers that admit them: an output of 56 times the script."""
+    return filled('{"op":"layer"}\n' * 64, lambda n: '{"op":"event","message":"m"}\n', size)
+
+
+def by_name(*made):
+    return {it.__name__: it for it in made}
+
+
+SCRIPTS = by_name(
+    spans_without_layers, short_spans, deep_chain, told_chains, eight_layers, wide_fields, events, workers
+)
+
+# Scripts whose time or memory grows faster than the script, or far beyond it: run where they are named, at small sizes.
+COSTLY = by_name(deep_stack, entered_again, events_far_from_the_root, sixty_four_layers)
+ALL = {**SCRIPTS, **COSTLY}
+
+if __name__ == "__main__":
+    sys.stdout.write(ALL[sys.argv[1]](int(sys.argv[2])))

@@ -1,20 +1,18 @@
 -- What goes out in a run, piece after piece.
 use Rattle.std.proofs.Common.{◌≡◌, ℕ, ◌+◌, ◌<◌, ◌≤◌, List, [], ◌∷◌, ◌++◌, length, refl, ap, sym, ◌∙◌, subst, append_assoc, append-nil, Option, Some, None, Result, Ok, Err, IfSome, IfErr, arith, length-append}
-use Rattle.std.specs.Io.KnownBytes.{Appends, Consumes, Keeps, IsAtEnd}
-use Rattle.std.proofs.KnownBytes.{Appends-nil, Appends-trans, Appends-kept, Consumes-whole, Keeps-refl}
+use Rattle.std.specs.Io.KnownBytes.{Appends, Consumes, Keeps}
+use Rattle.std.proofs.KnownBytes.{Appends-nil, Appends-trans, Appends-kept, Keeps-refl}
 use Rattle.std.proofs.lemmas.Bool.{le-leb, lt-leb}
-use Rattle.serde_json.specs.Data.{Data}
 use Rattle.tracerun.specs.Device.{AppendsFront, ReadFails}
-use Rattle.tracerun.specs.Meaning.{Turn, Transcript, Ending, finished, faulty, after, turned, run, meaning, line_turn, last_part}
+use Rattle.tracerun.specs.Meaning.{Turn, Transcript, faulty, after, turned, run, meaning, line_turn, last_part}
 use Rattle.tracerun.specs.Replayed.{Fails, Runs, KeepsUnread}
 use Rattle.tracerun.specs.Script.{lines_of, most_bytes}
 use Rattle.tracerun.specs.State.{State, first_state}
-use Rattle.tracerun.specs.Turns.{HasTurned, HasBegun, TurnFails, Sent, TextFails}
+use Rattle.tracerun.specs.Turns.{HasTurned, TurnFails, Sent}
 use Rattle.tracerun.specs.declared.fault.RunFault.{RunFault}
 use Rattle.tracerun.specs.declared.fault.RunFault.TheVariants.{Script, Memory, Device}
 use Rattle.tracerun.specs.declared.fault.Reason.{Reason}
 use Rattle.tracerun.specs.declared.fault.Reason.TheVariants.{TooLong}
-use Rattle.tracerun.specs.declared.fault.Side.{Side}
 use Rattle.tracerun.specs.declared.fault.Side.TheVariants.{Read, Write}
 use Rattle.tracerun.specs.RunFault.{EndsAsCounted}
 

@@ -2,7 +2,7 @@
 use Rattle.std.specs.Prelude.{◌≡◌, ℕ, Bool, true, List, Option, Result, Ok, Err, MatchResult}
 use Rattle.std.specs.Io.KnownBytes.{Appends, Keeps}
 use Rattle.tracerun.specs.Device.{AppendsFront}
-use Rattle.tracerun.specs.Meaning.{Transcript, Ending, finished, faulty, meaning}
+use Rattle.tracerun.specs.Meaning.{Transcript, finished, faulty, meaning}
 use Rattle.tracerun.specs.declared.fault.RunFault.{RunFault}
 use Rattle.tracerun.specs.declared.fault.RunFault.TheVariants.{Script, Memory, Device}
 use Rattle.tracerun.specs.declared.fault.Side.TheVariants.{Read, Write}

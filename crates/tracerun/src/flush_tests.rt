@@ -17,7 +17,9 @@ use std::io;
 use std::io::{ErrorKind, Read, Write};
 
 const ONE_SPAN: &str = "{\"op\":\"new\",\"name\":\"a\"}\n";
+
 const NO_OBJECT: &str = "{\"op\":\"new\",\"name\":\"a\"}\n[1]\n";
+
 const ONE_LAYER: &str = "{\"op\":\"layer\"}\n{\"op\":\"new\",\"name\":\"a\"}\n";
 
 /// A writer that takes so many bytes and then fails, counts its flushes, and may fail at each.
