@@ -10,8 +10,7 @@ from model_registry import Layer, Limits, Refusal, Registry, id_of_older
 # A script may have this many bytes and no more.
 MOST_BYTES = 16_777_216
 
-OPS_WITHOUT_LAYERS = frozenset(["limits", "new", "clone", "close", "enter", "exit", "find"])
-OPS = OPS_WITHOUT_LAYERS | {"layer", "record", "event"}
+OPS = frozenset(["limits", "layer", "new", "clone", "close", "enter", "exit", "record", "event", "find"])
 
 
 class Fault(Exception):

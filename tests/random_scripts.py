@@ -4,7 +4,7 @@
 Standard output, standard error and the status have to be the same. A script on which they differ is made as small
 as it can be and shown with both. The scripts are the same for the same seed.
 
-usage: random_scripts.py [--program FILE] [--seed N] [--scripts N] [--seconds N] [--ops current|all]
+usage: random_scripts.py [--program FILE] [--seed N] [--scripts N] [--seconds N]
 The last line is 'N passed, M failed': the scripts that agreed and those that differed. The status is 0 where none
 differed.
 """
@@ -19,7 +19,6 @@ import script_maker
 import shrink
 from run_cases import PROGRAM, TOP
 
-OPS = {"current": model.OPS_WITHOUT_LAYERS, "all": model.OPS}
 SECONDS = 20  # after so many the program is stopped
 MOST_SHOWN = 3  # so many differences are shown; later ones are counted
 
@@ -33,8 +32,8 @@ def run_program(program, script):
     return run.stdout, run.stderr, run.returncode
 
 
-def differs(program, script, ops):
-    return run_program(program, script) != model.run(script, ops=ops)
+def differs(program, script):
+    return run_program(program, script) != model.run(script)
 
 
 def shown(data):
@@ -49,14 +48,14 @@ def show(what, result):
     print(shown(output), end="" if output.endswith(b"\n") else "\n")
 
 
-def report(program, script, ops, name):
+def report(program, script, name):
     """Shows the smallest script that was found on which the two differ, and what each says."""
-    small = shrink.smallest(script, lambda it: differs(program, it, ops))
+    small = shrink.smallest(script, lambda it: differs(program, it))
     print(f"FAILED {name}: the program and the model differ on this script ({len(small)} bytes of {len(script)}):")
     print(shown(small), end="" if small.endswith(b"\n") else "\n")
     print(f"--- the same as Python writes it: {small!r}")
     show("the program", run_program(program, small))
-    show("the model", model.run(small, ops=ops))
+    show("the model", model.run(small))
     sys.stdout.flush()
 
 
@@ -74,7 +73,6 @@ def options():
     parser.add_argument("--seed", type=int, default=1)
     parser.add_argument("--scripts", type=int, help="1000 where no --seconds are given, else no bound")
     parser.add_argument("--seconds", type=float, help="no script is begun after so many")
-    parser.add_argument("--ops", choices=sorted(OPS), default="all", help="current: without layer, record and event")
     given = parser.parse_args()
     if given.scripts is None and given.seconds is None:
         given.scripts = 1000
@@ -87,18 +85,17 @@ def main():
         print("the program is not built")
         print("0 passed, 1 failed")
         return 1
-    ops = OPS[given.ops]
     end = None if given.seconds is None else time.monotonic() + given.seconds
     passed = failed = 0
     while passed + failed != given.scripts and (end is None or time.monotonic() < end):
         number = passed + failed
-        script = script_maker.make(given.seed, number, ops)
-        if not differs(given.program, script, ops):
+        script = script_maker.make(given.seed, number, model.OPS)
+        if not differs(given.program, script):
             passed += 1
             continue
         failed += 1
         if failed <= MOST_SHOWN:
-            report(given.program, script, ops, f"script {number} of seed {given.seed}")
+            report(given.program, script, f"script {number} of seed {given.seed}")
     print(f"{passed} passed, {failed} failed")
     return 1 if failed else 0
 

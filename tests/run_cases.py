@@ -3,7 +3,8 @@
 
 A case is a group of files in tests/cases: NAME.in is the standard input, NAME.out the wanted standard output,
 NAME.status the wanted status, NAME.err, where it is there, the wanted standard error, and NAME.args the words
-of the command line, one a line (none: 'replay'). Large cases are made by tests/large_cases.py.
+of the command line, one a line (none: 'replay'). Large cases are made by tests/large_cases.py, those of script faults
+by tests/fault_cases.py.
 The cases that tests/to_come.txt names wait for an operation that the program doesn't have yet. They are run
 too, and one that already passes is a failure: its line has to go.
 
@@ -15,6 +16,7 @@ import os
 import subprocess
 import sys
 
+import fault_cases
 import large_cases
 from worked_case import Case
 
@@ -82,7 +84,7 @@ def main():
     waiting = waiting_names()
     passed = failed = 0
     seen = set()
-    for case in [*file_cases(os.path.join(HERE, "cases")), *large_cases.cases()]:
+    for case in [*file_cases(os.path.join(HERE, "cases")), *large_cases.cases(), *fault_cases.cases()]:
         seen.add(case.name)
         if given.names and case.name not in given.names:
             continue

@@ -7,6 +7,7 @@ The last line is 'N passed, M failed'; the status is 0 where nothing failed.
 import os
 import sys
 
+import fault_cases
 import large_cases
 import model
 from run_cases import HERE, file_cases, shown
@@ -25,7 +26,7 @@ def difference(case):
 
 
 def main():
-    cases = [*file_cases(os.path.join(HERE, "cases")), *large_cases.cuts()]
+    cases = [*file_cases(os.path.join(HERE, "cases")), *large_cases.cuts(), *fault_cases.cases()]
     passed = failed = 0
     for case in cases:
         if case.words != ["replay"]:

@@ -17,7 +17,7 @@ mod tests;
 
 pub use filters::{Admitters, Filters, MAX_LAYERS, Rules};
 pub use form::{Form, text};
-pub use hooks::{AdmitHook, Hooks, SayHook};
+pub use hooks::{AdmitHook, Admitter, Formatter, Hooks, SayHook};
 pub use layers::{Layer, Layers};
 pub use note::{Kind, Note};
 pub use rule::{Rule, admits};

@@ -115,9 +115,9 @@ impl<V> Model for Kept<V> {
         × (k.ready ≡ true → vec_len k.batches < vec_capacity k.batches) };
 }
 
-impl Kept {
+impl<F: Drop> Kept<Formatters<F>> {
     /// An outlet to which nothing was sent, and which writes as the tellers do. It takes no memory.
-    pub fn new(alloc: Global, tellers: Tellers) -> Kept
+    pub fn new(alloc: Global, tellers: Tellers<F>) -> Kept<Formatters<F>>
         ensures { result ≡ record { forms = tellers.forms; sent = []; lines = []; refused = 0; ready = false } }
     {
         let Tellers { forms, formatters } = tellers;

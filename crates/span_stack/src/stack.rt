@@ -1,4 +1,4 @@
-ghost use Rattle.std.specs.Prelude.{◌≡◌, ℕ, ◌+◌, ◌^◌, ◌<◌, ◌≤◌, ◌==◌, ◌&&◌, true, false, not, [], ◌∷◌, ◌++◌, length, IsOk, IfErr, OnOk, OnErr, IfSome, IfNone, OnSome, MatchOption, is_some};
+ghost use Rattle.std.specs.Prelude.{◌≡◌, ℕ, ◌+◌, ◌^◌, ◌<◌, ◌≤◌, ◌==◌, ◌&&◌, true, false, not, [], ◌∷◌, ◌++◌, length, IsOk, IfErr, OnOk, OnErr, IfSome, IfNone, OnSome, MatchOption, is_some, slice_get};
 ghost use Rattle.std.specs.Iterator.{YieldsFirst};
 ghost use Rattle.std.specs.Iterator.Runs.{YieldsInOrder};
 ghost use Rattle.span_stack.specs.Entry.{ids_of, IsLastPlace};
@@ -116,6 +116,13 @@ impl SpanStack {
         ensures { result ≡ words.top self.now.ids }
     {
         self.entries.as_slice().last().map(|entry| entry.id)
+    }
+
+    /// The entry at this place, counted from the lowest, duplicate or not.
+    pub fn get(&self, place: usize) -> Option<Id>
+        ensures { result ≡ slice_get self.now.ids place }
+    {
+        self.entries.as_slice().get(place).map(|entry| entry.id)
     }
 
     /// Whether the span stands in the stack.

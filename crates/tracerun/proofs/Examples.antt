@@ -7,12 +7,23 @@ use Rattle.span_id.specs.declared.level.Level.TheVariants.{Error, Warn, Info, Tr
 use Rattle.span_layers.specs.declared.form.Form.TheVariants.{Compact, Json}
 use Rattle.tracerun.specs.Answer.{answer_text, left_text}
 use Rattle.tracerun.specs.Operation.{operation_of, add_layer, make, on_span, record_fields, tell, find, by_label, by_id, current, root, op_of, layer_of, on_span_of, new_of, record_of, event_of, find_of, all_of, is_setup, at_start, in_setup, running}
-use Rattle.tracerun.specs.Output.{answers_of_lines}
+use Rattle.tracerun.specs.Meaning.{meaning, finished, run}
 use Rattle.tracerun.specs.Script.{lines_of, is_skipped}
+use Rattle.tracerun.specs.Written.{calls_written, each_written}
 use Rattle.tracerun.specs.declared.answer.Answer.TheVariants.{Made, Closed, Refused}
 use Rattle.tracerun.specs.declared.fault.Key.TheVariants as key
 use Rattle.tracerun.specs.declared.fault.Reason.TheVariants.{BadKey, LateLine, NoSuchOp, NotObject}
 use Rattle.tracerun.specs.declared.operation.SpanCall.TheVariants.{Exit}
+
+-- ---- whole scripts
+
+an_empty_script_leaves_nothing : meaning 64 [] ≡ record { text = codes "left 0\n"; ending = finished 0 }
+unfolding lines_of run each_written calls_written digits
+an_empty_script_leaves_nothing = refl
+
+a_skipped_line_has_no_answer : meaning 64 (codes " \t\r\n\n") ≡ record { text = codes "left 0\n"; ending = finished 0 }
+unfolding lines_of run each_written calls_written digits
+a_skipped_line_has_no_answer = refl
 
 -- ---- lines
 
@@ -30,9 +41,6 @@ nothing_stands_after_the_last_newline = refl
 
 a_blank_line_is_skipped : is_skipped (codes " \t\r") ≡ true
 a_blank_line_is_skipped = refl
-
-a_skipped_line_has_no_answer : answers_of_lines (codes "{}" ∷ [] ∷ codes " " ∷ codes "x" ∷ []) ≡ 2
-a_skipped_line_has_no_answer = refl
 
 -- ---- operations
 

@@ -1,34 +1,39 @@
 -- The faults of a script that rest on its labels.
-use Rattle.std.specs.Prelude.{ℕ, Bool, false, nat_lt, List, Option, Some, None, Result, Ok, Err}
+use Rattle.std.specs.Prelude.{ℕ, Bool, false, if◌then◌else◌, nat_lt, List, Option, Some, None, Result, Ok, Err, ⊤}
 use Rattle.span_forest.specs.Spans as forest
 use Rattle.span_forest.specs.Holders.{held_in}
 use Rattle.span_forest.specs.declared.span.Holder.TheVariants.{Handle}
-use Rattle.tracerun.specs.Labels.{id_of_label}
+use Rattle.tracerun.specs.Labels.{Bound, id_in}
 use Rattle.tracerun.specs.Operation.{SpanKey, by_label, by_id, Parent, current, root, named}
 use Rattle.tracerun.specs.Reason.{or_fault}
 use Rattle.tracerun.specs.declared.fault.Reason.{Reason}
-use Rattle.tracerun.specs.declared.fault.Reason.TheVariants.{NoSuchLabel}
-use Rattle.tracerun.specs.declared.labels.Labels.{Labels}
+use Rattle.tracerun.specs.declared.fault.Reason.TheVariants.{NoSuchLabel, LabelTaken}
 
 -- the id of the span that a line names: a label has to be bound
-abbrev pub id_of_key : Labels → SpanKey → Result ℕ Reason
-id_of_key labels (by_label text) = or_fault (id_of_label labels text) NoSuchLabel
+abbrev pub id_of_key : Bound → SpanKey → Result ℕ Reason
+id_of_key labels (by_label text) = or_fault (id_in labels text) NoSuchLabel
 id_of_key labels (by_id id) = Ok id
 
+-- a span that is open has handles that were not closed
 abbrev pub has_handles : forest.Spans → Option ℕ → Bool
 has_handles spans None = false
 has_handles spans (Some id) = nat_lt 0 (held_in Handle (forest.find spans id))
 
 -- a label is taken while its span is open and has handles
-abbrev pub is_taken : forest.Spans → Labels → List ℕ → Bool
-is_taken spans labels label = has_handles spans (id_of_label labels label)
+abbrev pub is_taken : forest.Spans → Bound → List ℕ → Bool
+is_taken spans labels label = has_handles spans (id_in labels label)
 
+-- an id that was found is a parent
 abbrev pub some_id : Result ℕ Reason → Result (Option ℕ) Reason
 some_id (Ok id) = Ok (Some id)
 some_id (Err reason) = Err reason
 
 -- the parent of a new span, where this is the worker's current span
-abbrev pub parent_of_key : Labels → Option ℕ → Parent → Result (Option ℕ) Reason
+abbrev pub parent_of_key : Bound → Option ℕ → Parent → Result (Option ℕ) Reason
 parent_of_key labels now current = Ok now
 parent_of_key labels now root = Ok None
 parent_of_key labels now (named key) = some_id (id_of_key labels key)
+
+-- the label of a new span isn't taken
+abbrev pub free_label : forest.Spans → Bound → List ℕ → Result ⊤ Reason
+free_label spans labels label = if is_taken spans labels label then Err LabelTaken else Ok tt

@@ -1,16 +1,19 @@
 -- Labels and the ids that they name.
-use Rattle.std.specs.Prelude.{ℕ, List, map, string_bytes, Option}
-use Rattle.std.specs.BTreeMap.{get_by_text, values}
-use Rattle.tracerun.specs.declared.labels.Labels.{Labels}
+use Rattle.std.specs.Prelude.{ℕ, if◌then◌else◌, List, [], ◌∷◌, Option, Some, None}
+use Rattle.std.specs.Str.{bytes_eq}
+use Rattle.std.specs.Ordering.{nat_cmp}
+use Rattle.std.specs.Cmp.Lexicographic.{slice_cmp}
+use Rattle.std.specs.BTreeMap.{insert_entry}
 
--- the labels in the order of their bytes, each with the id that it names
-abbrev pub all_labels : Labels → List (List ℕ × ℕ)
-all_labels labels = map (λ entry. (string_bytes entry.0, entry.1)) labels.ids.entries
+-- the labels that are bound, in the order of their bytes, each with the id that it names
+abbrev pub Bound : Type 0
+Bound = List (List ℕ × ℕ)
 
--- the id that the label names
-abbrev pub id_of_label : Labels → List ℕ → Option ℕ
-id_of_label labels label = get_by_text labels.ids label
+-- the id that a label names
+abbrev pub id_in : Bound → List ℕ → Option ℕ
+id_in [] label = None
+id_in (entry ∷ entries) label = if bytes_eq label entry.0 then Some entry.1 else id_in entries label
 
--- the ids that the labels name, in the order of the labels' bytes
-abbrev pub named_ids : Labels → List ℕ
-named_ids labels = values labels.ids
+-- the label names this id from now on, at its place in the order
+abbrev pub bound : Bound → List ℕ → ℕ → Bound
+bound labels label id = insert_entry (slice_cmp nat_cmp) labels label id

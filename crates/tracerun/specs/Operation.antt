@@ -1,5 +1,5 @@
 -- What a line of a script asks for: how it is read from the line's JSON value.
-use Rattle.std.specs.Prelude.{ℕ, ◌^◌, ◌&&◌, List, [], ◌∷◌, codes, Bool, true, false, nat_lt, nat_le, if◌then◌else◌, Option, Some, None, option_and_then, Result, Ok, Err, ⊤}
+use Rattle.std.specs.Prelude.{ℕ, ◌*◌, ◌^◌, ◌&&◌, List, [], ◌∷◌, codes, Bool, true, false, nat_lt, nat_le, if◌then◌else◌, Option, Some, None, option_and_then, Result, Ok, Err, ⊤}
 use Rattle.std.specs.Option.{option_map, option_map_or}
 use Rattle.std.specs.Str.{bytes_eq, is_utf8}
 use Rattle.serde_json.specs.Data.{Data, Items, no_items, item}
@@ -8,7 +8,7 @@ use Rattle.serde_json.specs.Find.{get, as_null, as_number, as_u64, as_str, as_ar
 use Rattle.span_id.specs.declared.level.Level.{Level}
 use Rattle.span_id.specs.declared.level.Level.TheVariants.{Error, Warn, Info, Debug, Trace}
 use Rattle.span_id.specs.declared.limits.Limits.{Limits}
-use Rattle.span_id.specs.Id.{id_of, old_slot_of, old_generation_of}
+use Rattle.span_id.specs.Id.{slots_in_layout, generations_in_layout, id_of, old_slot_of, old_generation_of}
 use Rattle.span_layers.specs.Rule.{Pair}
 use Rattle.span_layers.specs.declared.form.Form.{Form}
 use Rattle.span_layers.specs.declared.form.Form.TheVariants.{Compact, Json}
@@ -77,6 +77,7 @@ json_of line = if is_utf8 line then or_fault (read line) NotJson else Err NotJso
 abbrev pub required : {A : Type 0} → Key → (Data → Option A) → Data → Result A Reason
 required k reading line = or_fault (option_and_then reading (get (key_text k) line)) (BadKey k)
 
+-- the value of a key that may be missing
 abbrev pub given_or : {A : Type 0} → Key → (Data → Option A) → A → Option Data → Result A Reason
 given_or k reading default None = Ok default
 given_or k reading default (Some value) = or_fault (reading value) (BadKey k)
@@ -91,18 +92,22 @@ optional k reading default line = given_or k reading default (get (key_text k) l
 abbrev pub whole_number : Data → Option ℕ
 whole_number value = option_and_then as_u64 (as_number value)
 
+-- numbers within a bound
 abbrev pub at_most : ℕ → ℕ → Option ℕ
 at_most most n = if nat_le n most then Some n else None
 
 abbrev pub below : ℕ → ℕ → Option ℕ
 below bound n = if nat_lt n bound then Some n else None
 
+-- a limit is a whole number below 2^32; which ones are in their range is the registry's business
 abbrev pub limit_in : Data → Option ℕ
 limit_in value = option_and_then (at_most 4294967295) (whole_number value)
 
+-- a worker's number is below the number of workers
 abbrev pub worker_in : ℕ → Data → Option ℕ
 worker_in workers value = option_and_then (below workers) (whole_number value)
 
+-- a level by its name
 abbrev pub level_named : List ℕ → Option Level
 level_named text =
     if bytes_eq text (codes "ERROR") then Some Error else
@@ -116,8 +121,9 @@ level_in value = option_and_then level_named (as_str value)
 
 -- an id is a whole number in the layout: 1 to 2^56
 abbrev pub id_numbered : ℕ → Option SpanKey
-id_numbered n = if nat_lt 0 n && nat_le n (2 ^ 56) then Some (by_id n) else None
+id_numbered n = if nat_lt 0 n && nat_le n (generations_in_layout * slots_in_layout) then Some (by_id n) else None
 
+-- a text is a label, whatever it is
 abbrev pub id_unless_label : Data → Option (List ℕ) → Option SpanKey
 id_unless_label value (Some text) = Some (by_label text)
 id_unless_label value None = option_and_then id_numbered (whole_number value)
@@ -126,6 +132,7 @@ id_unless_label value None = option_and_then id_numbered (whole_number value)
 abbrev pub span_key_in : Data → Option SpanKey
 span_key_in value = id_unless_label value (as_str value)
 
+-- null is a root
 abbrev pub named_unless_null : Data → Option ⊤ → Option Parent
 named_unless_null value (Some _) = Some root
 named_unless_null value None = option_map named (span_key_in value)
@@ -142,11 +149,13 @@ old_id_numbered n =
 abbrev pub old_id_in : Data → Option SpanKey
 old_id_in value = option_and_then old_id_numbered (whole_number value)
 
+-- where there are both
 abbrev pub both : {A B : Type 0} → Option A → Option B → Option (A × B)
 both (Some a) (Some b) = Some (a, b)
 both (Some a) None = None
 both None b = None
 
+-- a list of exactly two values
 abbrev pub two_in : Items → Option (Data × Data)
 two_in no_items = None
 two_in (item first no_items) = None
@@ -158,6 +167,7 @@ abbrev pub pair_of : {A B : Type 0} → (Data → Option A) → (Data → Option
 pair_of first second value =
     option_and_then (λ two. both (first two.0) (second two.1)) (option_and_then two_in (as_array value))
 
+-- a value before others, where there are all
 abbrev pub onto : {A : Type 0} → Option A → Option (List A) → Option (List A)
 onto (Some a) (Some more) = Some (a ∷ more)
 onto (Some a) None = None

@@ -86,3 +86,9 @@ NamesWorker (OnSpan call span worker) workers = worker < workers
 NamesWorker (Record span fields worker) workers = worker < workers
 NamesWorker (Event event) workers = event.worker < workers
 NamesWorker (Find span) workers = Unit {0}
+
+-- an operation that comes after the set-up: a call, or `find`
+abbrev pub IsCall : Operation → Type 0
+IsCall (Limits limits) = ⊥
+IsCall (Layer layer) = ⊥
+IsCall _ = Unit {0}

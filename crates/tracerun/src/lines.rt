@@ -1,4 +1,5 @@
 //! The lines of a script.
+ghost use Rattle.tracerun.specs.Replayed.{IsReplayed};
 ghost use Rattle.std.specs.Prelude.{◌≡◌, ◌==◌, ◌∷◌, ◌<◌, length, position};
 ghost use Rattle.tracerun.specs.Script.{lines_of, is_skipped};
 

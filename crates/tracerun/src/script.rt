@@ -1,185 +1,359 @@
-//! A script as far as it has run: its spans and its labels.
-ghost use Rattle.std.specs.Prelude.{◌≡◌, ◌≢◌, ◌<◌, ◌++◌, false, Ok, Some, IfOk, IfErr, OnOk, OnErr, IsTrue, Result, length, string_bytes, MatchResult, Option};
-ghost use Rattle.span_id.specs.declared.fault.Fault.TheVariants.{Memory};
-ghost use Rattle.tracerun.specs.Answer.{IsAnswer, AddsAnswer};
-ghost use Rattle.tracerun.specs.Faults.{id_of_key, is_taken, parent_of_key};
-ghost use Rattle.tracerun.specs.Reason.{Answers, AnswersOrStops, StopsFor};
-ghost use Rattle.tracerun.specs.Spans.{open_spans, stacks_of};
-ghost use Rattle.tracerun.specs.Views.{key_seen, parent_seen, NamesWorker};
+//! A script as far as its calls have run: the registry, the labels, and how many lines of notes were written.
+ghost use Rattle.std.specs.Prelude.{◌≡◌, ◌<◌, ◌≤◌, ◌++◌, [], ℕ, IfOk, IfErr, OnOk, length, flat_map, drop, map, reverse, string_bytes};
+ghost use Rattle.span_registry.specs.Happening.{id_at};
+ghost use Rattle.span_registry.specs.Lines.{lines_of};
+ghost use Rattle.tracerun.specs.Faults.{id_of_key};
+ghost use Rattle.tracerun.specs.Calls.{labels_given};
+ghost use Rattle.tracerun.specs.Reason.{Answers};
+ghost use Rattle.tracerun.specs.Views.{key_seen};
+ghost use Rattle.tracerun.specs.Written.{note_line};
 
-use crate::answer::{Answer, write_answer, write_found};
+use crate::answer::{Answer, Found, write_answer, write_found, write_note};
+use crate::calls;
 use crate::fault::Reason;
 use crate::labels::Labels;
-use crate::operation::{NewSpan, Operation, Parent, SpanCall, SpanKey};
-use crate::reading;
-use crate::reading::{Op, Stage};
-use crate::spans::Spans;
+use crate::operation::{NewEvent, NewSpan, Operation, Parent, SpanCall, SpanKey};
 use crate::stop::Stop;
-use span_id::{Fault, Id, Limits};
-use std::alloc::Global;
+use span_forest::Span;
+use span_id::{Checked, Fault, Field, Id};
+use span_layers::{Filters, Say};
+use span_registry::{Core, Kept};
+use span_stack::SpanStack;
+use std::alloc::{AllocError, Global};
 
-/// A script as far as it has run.
+/// A script as far as its calls have run.
 #[derive(Drop)]
-pub struct Script {
-    pub spans: Spans,
+pub struct Script<V: Say> {
+    /// The registry. Its outlet makes the lines of the notes.
+    core: Core<Kept<V>>,
+    /// The labels that are bound.
     pub labels: Labels,
-    stage: Stage,
+    // How many of the outlet's lines were written.
+    written: usize,
+    /// How many workers there are.
+    pub workers: u32,
 }
 
-impl Script {
-    /// A script of which no line has run, with the limits that stand where it gives none.
-    pub fn new(alloc: Global) -> Result<Script, Stop>
-        ensures { IfErr result (λ stop. stop ≡ Stop.Memory) }
+impl<V: Say> Script<V> {
+    ghost use Rattle.span_forest.specs.declared.span.Holder.TheVariants.{Handle};
+    ghost use Rattle.span_forest.specs.Holders.{held_in};
+    ghost use Rattle.span_forest.specs.Spans.{find};
+    ghost use Rattle.span_stack.specs.Stack.{current};
+    ghost use Rattle.span_registry.specs.Request.{try_close, exit};
+    ghost use Rattle.span_registry.specs.World.{stack_of, empty_world};
+    ghost use Rattle.tracerun.specs.Answer.{answer_text};
+    ghost use Rattle.tracerun.specs.Faults.{is_taken, parent_of_key};
+    ghost use Rattle.tracerun.specs.Meaning.{turn_of};
+    ghost use Rattle.tracerun.specs.Operation.{Stage, make, on_span, record_fields, tell, find as look_up};
+    ghost use Rattle.tracerun.specs.Running.{core_in, labels_in, state_at, IsWritten, RunsAs, IsWrittenCall};
+    ghost use Rattle.tracerun.specs.Views.{parent_seen, new_seen, event_seen, field_seen, operation_seen, NamesWorker, IsCall};
+
+    /// A script of which no call has run.
+    ///
+    /// The only error is `Memory`; the filters and the outlet are dropped then.
+    pub fn new(
+        alloc: Global,
+        checked: &Checked,
+        filters: Filters,
+        kept: Kept<V>,
+    ) -> Result<Script<V>, Fault>
+        requires { kept.sent ≡ [] }
+        ensures core { IfOk result (λ script. core_in script ≡ record {
+          limits = checked.now;
+          rules = filters.rules;
+          world = empty_world checked.now.workers;
+          sent = [];
+          times_full = 0;
+          forms = kept.forms;
+        }) }
+        ensures labels { IfOk result (λ script. labels_in script ≡ []) }
+        ensures written { IfOk result (λ script. IsWritten script) }
+        ensures memory { IfErr result (λ fault. fault ≡ Fault.Memory) }
     {
-        let Ok(checked) = Limits::default().check() else {
-            unreachable!()
-        };
-        match Spans::new(alloc, &checked) {
-            Ok(spans) => Ok(Script {
-                spans,
-                labels: Labels::new(alloc),
-                stage: Stage::AtStart,
-            }),
-            Err(_) => Err(Stop::Memory),
-        }
+        let core = Core::new(alloc, checked, filters, kept)?;
+        Ok(Script {
+            core,
+            labels: Labels::new(alloc),
+            written: 0,
+            workers: checked.limits().workers,
+        })
     }
 
-    /// Runs a line that isn't skipped, and appends its answer to the text.
-    pub fn run_line(&mut self, alloc: Global, line: &[u8], text: &mut String) -> Result<(), Stop>
-        ensures answer { OnOk result (AddsAnswer (string_bytes text.old) (string_bytes text.new)) }
-    {
-        let value = reading::json_value(alloc, line)?;
-        // Scripts have no layers, records and events yet.
-        if let Ok(Op::Layer | Op::Record | Op::Event) = reading::op_in(&value) {
-            return Err(Stop::Refused(Reason::NoSuchOp));
-        }
-        let workers = self.spans.workers();
-        let operation = match reading::operation(alloc, &value, workers, self.stage) {
-            Ok(operation) => operation,
-            Err(stop) => return Err(stop),
-        };
-        self.stage = Stage::Running;
-        self.run(alloc, &operation, text)
-    }
-
-    /// Runs an operation, and appends its answer to the text.
-    fn run(
+    /// Runs a call or `find`, and appends its notes and its answer to the text.
+    ///
+    /// `Refused` where the script is at fault: then nothing has changed. `Memory` where memory was refused, also for the
+    /// text of a note: then the run has to end.
+    pub fn run(
         &mut self,
         alloc: Global,
         operation: &Operation<'_>,
-        text: &mut String,
+        text: &mut Vec<u8>,
     ) -> Result<(), Stop>
-        requires { NamesWorker operation.now (length (stacks_of self.old.spans)) }
-        ensures answer { OnOk result (AddsAnswer (string_bytes text.old) (string_bytes text.new)) }
+        requires call { IsCall operation.now }
+        requires worker { NamesWorker operation.now self.old.workers }
+        requires written { IsWritten self.old }
+        ensures turn { (hooks : ℕ) (stage : Stage) →
+            RunsAs (turn_of hooks (state_at self.old stage) (operation_seen operation.now)) (state_at self.old stage) text.old.items (state_at self.new stage) text.new.items result }
+        ensures written { OnOk result (IsWritten self.new) }
+        ensures workers { self.new.workers ≡ self.old.workers }
     {
         match operation {
-            Operation::Limits(limits) => self.set_limits(alloc, *limits, text),
             Operation::New(new) => self.make(alloc, new, text),
-            Operation::OnSpan { call, span, worker } => self.call(*call, span, *worker, text),
+            Operation::OnSpan { call, span, worker } => self.on_span(*call, span, *worker, text),
+            Operation::Record {
+                span,
+                fields,
+                worker,
+            } => self.record(span, fields, *worker, text),
+            Operation::Event(event) => self.tell(event, text),
             Operation::Find(span) => self.find(span, text),
-            Operation::Layer(_) | Operation::Record { .. } | Operation::Event(_) => {
-                Err(Stop::Refused(Reason::NoSuchOp))
-            }
+            Operation::Limits(_) => unreachable!(),
+            Operation::Layer(_) => unreachable!(),
         }
     }
 
-    /// Begins anew with these limits, where they are in their ranges.
-    fn set_limits(&mut self, alloc: Global, limits: Limits, text: &mut String) -> Result<(), Stop>
-        ensures answer { OnOk result (AddsAnswer (string_bytes text.old) (string_bytes text.new)) }
+    /// A worker leaves a span, as by `exit`. The only error is `Memory`: then the run has to end.
+    pub fn leave(&mut self, worker: u32, id: Id, text: &mut Vec<u8>) -> Result<(), Stop>
+        requires worker { worker < self.old.workers }
+        requires written { IsWritten self.old }
+        ensures call { OnOk result (IsWrittenCall (core_in self.old) text.old.items (exit worker id) (core_in self.new) text.new.items) }
+        ensures written { OnOk result (IsWritten self.new) }
+        ensures workers { self.new.workers ≡ self.old.workers }
+        ensures labels { labels_in self.new ≡ labels_in self.old }
+        ensures memory { IfErr result (λ stop. stop ≡ Stop.Memory) }
     {
-        let checked = match limits.check() {
-            Ok(checked) => checked,
-            Err(fault) => return answer(text, Answer::Refused(fault)),
-        };
-        match Spans::new(alloc, &checked) {
-            Ok(spans) => {
-                self.spans = spans;
-                answer(text, Answer::Limits)
-            }
-            Err(_) => Err(Stop::Memory),
+        let answer = calls::call(&mut self.core, SpanCall::Exit, worker, id)?;
+        self.answer(answer, text)
+    }
+
+    /// Worker 0 closes a handle of a span, as by `close`. The only error is `Memory`: then the run has to end.
+    pub fn close(&mut self, id: Id, text: &mut Vec<u8>) -> Result<(), Stop>
+        requires worker { 0 < self.old.workers }
+        requires written { IsWritten self.old }
+        ensures call { OnOk result (IsWrittenCall (core_in self.old) text.old.items (try_close 0 id) (core_in self.new) text.new.items) }
+        ensures written { OnOk result (IsWritten self.new) }
+        ensures workers { self.new.workers ≡ self.old.workers }
+        ensures labels { labels_in self.new ≡ labels_in self.old }
+        ensures memory { IfErr result (λ stop. stop ≡ Stop.Memory) }
+    {
+        let answer = calls::call(&mut self.core, SpanCall::Close, 0, id)?;
+        self.answer(answer, text)
+    }
+
+    /// The ids of the worker's entries, the topmost first. The only error is `Memory`.
+    pub fn entered(&self, alloc: Global, worker: u32) -> Result<Vec<Id>, Stop>
+        requires worker { worker < self.now.workers }
+        requires written { IsWritten self.now }
+        ensures ids { IfOk result (λ ids. ids.items ≡ reverse (stack_of (core_in self.now).world worker)) }
+        ensures memory { IfErr result (λ stop. stop ≡ Stop.Memory) }
+    {
+        topmost_first(alloc, self.core.stack(worker))
+    }
+
+    /// How many handles the span has: none where it isn't open.
+    pub fn handles(&self, id: Id) -> u32
+        ensures { result ≡ held_in Handle (find (core_in self.now).world.spans id) }
+    {
+        match self.core.find(id) {
+            Some(span) => span.handles,
+            None => 0,
         }
     }
 
-    /// Makes a span and binds its label, which may name no span that has handles.
-    fn make(&mut self, alloc: Global, new: &NewSpan<'_>, text: &mut String) -> Result<(), Stop>
-        requires { new.now.worker < length (stacks_of self.old.spans) }
-        ensures free { OnOk result (is_taken (open_spans self.old.spans) self.old.labels new.now.label.now ≡ false) }
-        ensures answer { OnOk result (AddsAnswer (string_bytes text.old) (string_bytes text.new)) }
+    /// How many spans are open.
+    pub fn open_spans(&self) -> u32
+        ensures { result ≡ length (core_in self.now).world.spans }
     {
-        let current = self.spans.current(new.worker);
-        let parent = parent_of(&self.labels, current, &new.parent)?;
-        if is_taken(&self.spans, &self.labels, new.label) {
+        self.core.len()
+    }
+
+    // Makes a span and binds its label, which may name no span that has handles.
+    fn make(&mut self, alloc: Global, new: &NewSpan<'_>, text: &mut Vec<u8>) -> Result<(), Stop>
+        requires worker { new.now.worker < self.old.workers }
+        requires written { IsWritten self.old }
+        ensures turn { (hooks : ℕ) (stage : Stage) →
+            RunsAs (turn_of hooks (state_at self.old stage) (make (new_seen new.now))) (state_at self.old stage) text.old.items (state_at self.new stage) text.new.items result }
+        ensures written { OnOk result (IsWritten self.new) }
+        ensures workers { self.new.workers ≡ self.old.workers }
+    {
+        let worker = worker_number(new.worker, self.workers);
+        let parent = self.parent(worker, &new.parent)?;
+        if self.is_taken(new.label) {
             return Err(Stop::Refused(Reason::LabelTaken));
         }
-        match self.spans.new_span(new, parent) {
-            Ok(id) => {
-                self.labels.bind(alloc, new.label, id)?;
-                answer(text, Answer::Made(id))
-            }
-            Err(fault) => refuse(text, fault),
-        }
+        let answer = calls::new_span(&mut self.core, new, worker, parent)?;
+        self.give_label(alloc, new.label, &answer)?;
+        self.answer(answer, text)
     }
 
-    /// Makes a call on a span.
-    fn call(
+    // Makes a worker's call on a span.
+    fn on_span(
         &mut self,
         call: SpanCall,
         span: &SpanKey<'_>,
         worker: usize,
-        text: &mut String,
+        text: &mut Vec<u8>,
     ) -> Result<(), Stop>
-        requires { worker < length (stacks_of self.old.spans) }
-        ensures answer { OnOk result (AddsAnswer (string_bytes text.old) (string_bytes text.new)) }
+        requires worker { worker < self.old.workers }
+        requires written { IsWritten self.old }
+        ensures turn { (hooks : ℕ) (stage : Stage) →
+            RunsAs (turn_of hooks (state_at self.old stage) (on_span call (key_seen span.now) worker)) (state_at self.old stage) text.old.items (state_at self.new stage) text.new.items result }
+        ensures written { OnOk result (IsWritten self.new) }
+        ensures workers { self.new.workers ≡ self.old.workers }
     {
         let id = id_of(&self.labels, span)?;
-        let reply = self.spans.call(call, worker, id);
-        answer_reply(text, reply)
+        let worker = worker_number(worker, self.workers);
+        let answer = calls::call(&mut self.core, call, worker, id)?;
+        self.answer(answer, text)
     }
 
-    /// Looks a span up.
-    fn find(&self, span: &SpanKey<'_>, text: &mut String) -> Result<(), Stop>
-        ensures answer { OnOk result (AddsAnswer (string_bytes text.old) (string_bytes text.new)) }
+    // Adds fields to a span.
+    fn record(
+        &mut self,
+        span: &SpanKey<'_>,
+        fields: &[Field],
+        worker: usize,
+        text: &mut Vec<u8>,
+    ) -> Result<(), Stop>
+        requires worker { worker < self.old.workers }
+        requires written { IsWritten self.old }
+        ensures turn { (hooks : ℕ) (stage : Stage) →
+            RunsAs (turn_of hooks (state_at self.old stage) (record_fields (key_seen span.now) (map field_seen fields.now) worker)) (state_at self.old stage) text.old.items (state_at self.new stage) text.new.items result }
+        ensures written { OnOk result (IsWritten self.new) }
+        ensures workers { self.new.workers ≡ self.old.workers }
     {
         let id = id_of(&self.labels, span)?;
-        match self.spans.find(id) {
-            Some(found) => Ok(write_found(text, &found)?),
-            None => answer(text, Answer::Refused(Fault::Unknown)),
+        let worker = worker_number(worker, self.workers);
+        let answer = calls::record(&mut self.core, worker, id, fields)?;
+        self.answer(answer, text)
+    }
+
+    // Tells an event.
+    fn tell(&mut self, event: &NewEvent<'_>, text: &mut Vec<u8>) -> Result<(), Stop>
+        requires worker { event.now.worker < self.old.workers }
+        requires written { IsWritten self.old }
+        ensures turn { (hooks : ℕ) (stage : Stage) →
+            RunsAs (turn_of hooks (state_at self.old stage) (tell (event_seen event.now))) (state_at self.old stage) text.old.items (state_at self.new stage) text.new.items result }
+        ensures written { OnOk result (IsWritten self.new) }
+        ensures workers { self.new.workers ≡ self.old.workers }
+    {
+        let worker = worker_number(event.worker, self.workers);
+        let answer = calls::event(&mut self.core, event, worker)?;
+        self.answer(answer, text)
+    }
+
+    // Looks a span up.
+    fn find(&self, span: &SpanKey<'_>, text: &mut Vec<u8>) -> Result<(), Stop>
+        ensures turn { (hooks : ℕ) (stage : Stage) →
+            RunsAs (turn_of hooks (state_at self.now stage) (look_up (key_seen span.now))) (state_at self.now stage) text.old.items (state_at self.now stage) text.new.items result }
+    {
+        let id = id_of(&self.labels, span)?;
+        match self.core.find(id) {
+            Some(span) => Ok(write_found(text, &found(span))?),
+            None => Ok(write_answer(text, Answer::Refused(Fault::Unknown))?),
         }
     }
-}
 
-/// Appends the line of an answer to a text.
-fn answer(text: &mut String, answer: Answer) -> Result<(), Stop>
-    ensures answer { OnOk result (AddsAnswer (string_bytes text.old) (string_bytes text.new)) }
-    ensures memory { IfErr result (λ stop. stop ≡ Stop.Memory) }
-{
-    Ok(write_answer(text, answer)?)
-}
+    // Binds the label of a span, where it was made.
+    fn give_label(&mut self, alloc: Global, label: &str, answer: &Answer) -> Result<(), AllocError>
+        ensures labels { OnOk result (labels_in self.new ≡ labels_given (labels_in self.old) label.now answer.now) }
+        ensures core { core_in self.new ≡ core_in self.old }
+        ensures written { self.new.written ≡ self.old.written }
+        ensures workers { self.new.workers ≡ self.old.workers }
+    {
+        match answer {
+            Answer::Made(id) => self.labels.bind(alloc, label, *id),
+            _ => Ok(()),
+        }
+    }
 
-/// Appends the line of a call's answer to a text, or of its refusal.
-pub fn answer_reply(text: &mut String, reply: Result<Answer, Fault>) -> Result<(), Stop>
-    ensures answer { OnOk result (AddsAnswer (string_bytes text.old) (string_bytes text.new)) }
-    ensures memory { IfErr result (λ stop. stop ≡ Stop.Memory) }
-{
-    match reply {
-        Ok(reply) => answer(text, reply),
-        Err(fault) => refuse(text, fault),
+    // The parent that is meant for a new span of this worker.
+    fn parent(&self, worker: u32, parent: &Parent<'_>) -> Result<Option<Id>, Reason>
+        requires worker { worker < self.now.workers }
+        requires written { IsWritten self.now }
+        ensures { Answers (λ id. id) result (parent_of_key (labels_in self.now) (current (stack_of (core_in self.now).world worker)) (parent_seen parent.now)) }
+    {
+        match parent {
+            Parent::Current => Ok(self.core.stack(worker).current()),
+            Parent::Root => Ok(None),
+            Parent::Named(key) => match id_of(&self.labels, key) {
+                Ok(id) => Ok(Some(id)),
+                Err(reason) => Err(reason),
+            },
+        }
+    }
+
+    // Whether the label's span is open and has handles.
+    fn is_taken(&self, label: &str) -> bool
+        ensures { result ≡ is_taken (core_in self.now).world.spans (labels_in self.now) label.now }
+    {
+        match self.labels.get(label) {
+            Some(id) => self.handles(id) > 0,
+            None => false,
+        }
+    }
+
+    // Writes the notes that are new, and then the answer of the call that made them. The only error is `Memory`.
+    fn answer(&mut self, answer: Answer, text: &mut Vec<u8>) -> Result<(), Stop>
+        requires { self.old.written ≤ length (lines_of (core_in self.old).forms (core_in self.old).sent) }
+        ensures text { OnOk result (text.new.items ≡ text.old.items
+            ++ (flat_map note_line (drop self.old.written (lines_of (core_in self.old).forms (core_in self.old).sent)) ++ answer_text answer)) }
+        ensures written { OnOk result (self.new.written ≡ length (lines_of (core_in self.old).forms (core_in self.old).sent)) }
+        ensures core { core_in self.new ≡ core_in self.old }
+        ensures labels { labels_in self.new ≡ labels_in self.old }
+        ensures workers { self.new.workers ≡ self.old.workers }
+        ensures memory { IfErr result (λ stop. stop ≡ Stop.Memory) }
+    {
+        let written = write_notes(self.core.outlet(), self.written, text)?;
+        self.written = written;
+        Ok(write_answer(text, answer)?)
     }
 }
 
-/// Appends the line of a refusal to a text. Want of memory is none: it ends the run.
-fn refuse(text: &mut String, fault: Fault) -> Result<(), Stop>
-    ensures answer { OnOk result (AddsAnswer (string_bytes text.old) (string_bytes text.new)) }
-    ensures told { OnOk result (fault ≢ Memory) }
+// The number of a worker, of which there are so many.
+fn worker_number(worker: usize, workers: u32) -> u32
+    requires { worker < workers }
+    ensures { result ≡ worker }
+{
+    worker as u32
+}
+
+// Writes the lines of the outlet from this number on, and answers how many it has. The only error is `Memory`, also where
+// the outlet had none.
+fn write_notes<V: Say>(kept: &Kept<V>, from: usize, text: &mut Vec<u8>) -> Result<usize, Stop>
+    requires { from ≤ length (lines_of kept.now.forms kept.now.sent) }
+    ensures text { OnOk result (text.new.items ≡ text.old.items ++ flat_map note_line (drop from (lines_of kept.now.forms kept.now.sent))) }
+    ensures written { IfOk result (λ written. written ≡ length (lines_of kept.now.forms kept.now.sent)) }
     ensures memory { IfErr result (λ stop. stop ≡ Stop.Memory) }
 {
-    if fault == Fault::Memory {
+    if kept.refused() > 0 {
         return Err(Stop::Memory);
     }
-    answer(text, Answer::Refused(fault))
+    let lines = kept.all();
+    for line in &lines[from..] {
+        write_note(text, line)?;
+    }
+    Ok(lines.len())
 }
 
-/// The id of the span that a line names.
+// What is told of a span that was looked up.
+fn found(span: &Span) -> Found<'_>
+    ensures name { result.name.now ≡ string_bytes span.now.meta.name }
+    ensures parent { result.parent ≡ id_at span.now.parent }
+    ensures handles { result.handles ≡ span.now.handles }
+    ensures entries { result.entries ≡ span.now.entries }
+    ensures count { result.count ≡ span.now.count }
+{
+    Found {
+        name: &span.meta.name,
+        parent: span.parent.map_or(0, Id::get),
+        handles: span.handles,
+        entries: span.entries,
+        count: span.count,
+    }
+}
+
+// The id of the span that a line names.
 fn id_of(labels: &Labels, key: &SpanKey<'_>) -> Result<Id, Reason>
     ensures { Answers (λ id. id) result (id_of_key labels.now (key_seen key.now)) }
 {
@@ -192,30 +366,19 @@ fn id_of(labels: &Labels, key: &SpanKey<'_>) -> Result<Id, Reason>
     }
 }
 
-/// The parent of a new span, where this is its worker's current span.
-fn parent_of(
-    labels: &Labels,
-    current: Option<Id>,
-    parent: &Parent<'_>,
-) -> Result<Option<Id>, Reason>
-    ensures { Answers (λ id. id) result (parent_of_key labels.now current (parent_seen parent.now)) }
+// The ids of a stack's entries, the topmost first. The only error is `Memory`.
+fn topmost_first(alloc: Global, stack: &SpanStack) -> Result<Vec<Id>, Stop>
+    ensures ids { IfOk result (λ ids. ids.items ≡ reverse stack.now.ids) }
+    ensures memory { IfErr result (λ stop. stop ≡ Stop.Memory) }
 {
-    match parent {
-        Parent::Current => Ok(current),
-        Parent::Root => Ok(None),
-        Parent::Named(key) => match id_of(labels, key) {
-            Ok(id) => Ok(Some(id)),
-            Err(reason) => Err(reason),
-        },
+    let mut ids = Vec::new(alloc);
+    let mut below = stack.len();
+    while below > 0 {
+        below -= 1;
+        let Some(id) = stack.get(below) else {
+            unreachable!()
+        };
+        ids.push(id)?;
     }
-}
-
-/// Whether the label's span is open and has handles.
-fn is_taken(spans: &Spans, labels: &Labels, label: &str) -> bool
-    ensures { result ≡ is_taken (open_spans spans.now) labels.now label.now }
-{
-    match labels.get(label) {
-        Some(id) => spans.handles(id) > 0,
-        None => false,
-    }
+    Ok(ids)
 }

@@ -1,0 +1,38 @@
+-- What a run leaves in the writer, and what it answers.
+use Rattle.std.specs.Prelude.{◌≡◌, ℕ, Bool, true, List, Option, Result, Ok, Err, MatchResult}
+use Rattle.std.specs.Io.KnownBytes.{Appends, Keeps}
+use Rattle.tracerun.specs.Device.{AppendsFront}
+use Rattle.tracerun.specs.Meaning.{Transcript, finished, faulty, meaning}
+use Rattle.tracerun.specs.declared.fault.RunFault.{RunFault}
+use Rattle.tracerun.specs.declared.fault.RunFault.TheVariants.{Script, Memory, Device}
+use Rattle.tracerun.specs.declared.fault.Side.TheVariants.{Read, Write}
+
+-- After a fault of the script the text that is meant stands, and the fault is the one that is meant. Where
+-- memory was refused or a device failed, a front of the text stands.
+abbrev pub Fails : Transcript → Option (List ℕ) → Option (List ℕ) → RunFault → Type 0
+Fails meant old new (Script number reason) = (meant.ending ≡ faulty number reason) × Appends old new meant.text
+Fails meant old new Memory = AppendsFront old new meant.text
+Fails meant old new (Device side) = AppendsFront old new meant.text
+
+-- the text that is meant was written and nothing else, and the answer is how many spans are left open; or a fault
+abbrev pub Runs : Transcript → Option (List ℕ) → Option (List ℕ) → Result ℕ RunFault → Type 0
+Runs meant old new result =
+    MatchResult result (λ left. (meant.ending ≡ finished left) × Appends old new meant.text) (Fails meant old new)
+
+-- a run of these bytes with so many hooks
+abbrev pub IsReplayed : ℕ → List ℕ → Option (List ℕ) → Option (List ℕ) → Result ℕ RunFault → Type 0
+IsReplayed hooks bytes old new result = Runs (meaning hooks bytes) old new result
+
+-- where the reader failed nothing was written, since a script is read to its end before its first line is run
+abbrev pub KeepsUnread : Option (List ℕ) → Option (List ℕ) → RunFault → Type 0
+KeepsUnread old new (Script number reason) = Unit {0}
+KeepsUnread old new Memory = Unit {0}
+KeepsUnread old new (Device Read) = Keeps old new
+KeepsUnread old new (Device Write) = Unit {0}
+
+-- the writer is flushed at the end, after a fault of the script too
+abbrev pub EndsFlushed : Bool → Result ℕ RunFault → Type 0
+EndsFlushed flushed (Ok left) = flushed ≡ true
+EndsFlushed flushed (Err (Script number reason)) = flushed ≡ true
+EndsFlushed flushed (Err Memory) = Unit {0}
+EndsFlushed flushed (Err (Device side)) = Unit {0}
