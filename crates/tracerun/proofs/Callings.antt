@@ -1,5 +1,5 @@
 -- A line that comes after the set-up asks for a call, and what it then does.
-use Rattle.std.proofs.Common.{◌≡◌, ℕ, ◌<◌, List, [], ◌++◌, refl, ap, sym, ◌∙◌, subst, Option, Some, None, Result, Ok, Err}
+use Rattle.std.proofs.Common.{◌≡◌, ℕ, List, [], ◌++◌, refl, ap, sym, ◌∙◌, subst, Option, Some, None, Result, Ok, Err}
 use Rattle.std.specs.Prelude.{IfOk, IfErr, OnOk, codes, ⊤}
 use Rattle.serde_json.specs.Data.{Data}
 use Rattle.serde_json.specs.Find.{get, as_object, as_str}
@@ -7,12 +7,11 @@ use Rattle.span_id.specs.declared.level.Level.TheVariants.{Info}
 use Rattle.tracerun.specs.Key.{key_text}
 use Rattle.tracerun.specs.Meaning.{at_stage, stage_after, turn_of, value_turn}
 use Rattle.tracerun.specs.Operation.{Operation, set_limits, add_layer, make, on_span, record_fields, tell, find, running, Op, limits_op, layer_op, new_op, span_op, record_op, event_op, find_op, required, optional, worker_in, level_in, parent_in, fields_in, span_key_in, old_id_in, op_of, current, new_of, on_span_of, record_of, event_of, find_by_span, find_by, find_of, keys_of, operation_of}
-use Rattle.tracerun.specs.Reason.{◌>>=◌, StopsFor, or_fault}
+use Rattle.tracerun.specs.Reason.{StopsFor, or_fault}
 use Rattle.tracerun.specs.Running.{IsTurn, StopsAs, RunsAs}
 use Rattle.tracerun.specs.State.{State}
 use Rattle.tracerun.specs.Views.{operation_seen, IsCall}
 use Rattle.tracerun.specs.declared.fault.Key.TheVariants as key
-use Rattle.tracerun.specs.declared.fault.Reason.{Reason}
 use Rattle.tracerun.specs.declared.fault.Reason.TheVariants.{NotObject, BadKey}
 use Rattle.tracerun.specs.declared.operation.Operation as code
 use Rattle.tracerun.specs.declared.operation.Operation.TheVariants as codes_of
@@ -118,7 +117,7 @@ pub call_turned : (hooks workers : ℕ) (state new : State) (line : Data) (op : 
 call_turned hooks workers state new line op cleared text at at' same e none p =
     let calls = line_calls workers line op e in
     let read : operation_of state.core.limits.workers state.stage line ≡ Ok op =
-        subst (λ stage. operation_of state.core.limits.workers stage line ≡ Ok op) (sym at) (subst (λ n. operation_of n running line ≡ Ok op) same e) in
+    subst (λ stage. operation_of state.core.limits.workers stage line ≡ Ok op) (sym at) (subst (λ n. operation_of n running line ≡ Ok op) same e) in
     let whole : text ≡ p.added = p.text ∙ ap (λ x. x ++ p.added) none in
     value_does hooks state line op read
     ∙ ap (at_stage (stage_after op)) p.turn
@@ -130,7 +129,7 @@ pub call_stops : (hooks workers : ℕ) (state new : State) (line : Data) (op : O
 call_stops hooks workers state new line op old text Memory at same e p = tt
 call_stops hooks workers state new line op old text (Refused reason) at same e p =
     let read : operation_of state.core.limits.workers state.stage line ≡ Ok op =
-        subst (λ stage. operation_of state.core.limits.workers stage line ≡ Ok op) (sym at) (subst (λ n. operation_of n running line ≡ Ok op) same e) in
+    subst (λ stage. operation_of state.core.limits.workers stage line ≡ Ok op) (sym at) (subst (λ n. operation_of n running line ≡ Ok op) same e) in
     value_does hooks state line op read ∙ ap (at_stage (stage_after op)) p.0
 
 pub read_stops : (hooks workers : ℕ) (state : State) (line : Data) (stop : Stop) → state.stage ≡ running → workers ≡ state.core.limits.workers

@@ -5,14 +5,14 @@ use Rattle.std.specs.List.{range_with_len}
 use Rattle.span_registry.specs.Core.{CoreView}
 use Rattle.tracerun.specs.Answer.{left_text}
 use Rattle.tracerun.specs.Labels.{Bound}
-use Rattle.tracerun.specs.Meaning.{Transcript, finished, left_by_workers, closed_by_labels, last_part}
+use Rattle.tracerun.specs.Meaning.{Transcript, finished, left_by_workers, last_part}
 use Rattle.tracerun.specs.Replayed.{Fails, Runs}
 use Rattle.tracerun.specs.State.{State}
 use Rattle.tracerun.specs.Turns.{AreMade, Sent, TextFails}
 use Rattle.tracerun.specs.Written.{Written, closes, each_written, exits}
 use Rattle.tracerun.specs.declared.fault.RunFault.{RunFault}
 use Rattle.tracerun.specs.declared.fault.RunFault.TheVariants.{Script, Memory, Device}
-use Rattle.tracerun.proofs.Written.{Known, front_more, sent_more, fails_after, runs_after}
+use Rattle.tracerun.proofs.Written.{Known, front_more, fails_after, runs_after}
 
 -- where a text fails that the whole begins with, the whole fails
 text_fails : (a b : Known) (t : Transcript) (text more : List ℕ) (e : RunFault) → t.text ≡ text ++ more → TextFails text a b e → Fails t a b e

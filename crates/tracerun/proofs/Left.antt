@@ -68,7 +68,3 @@ left_nothing hooks bytes n is = by_case (nat_le (length bytes) most_bytes) refl 
 pub nothing_left : (hooks : ℕ) (i a b : Option (List ℕ)) (left : ℕ) → IfSome i (λ bytes. Runs (meaning hooks bytes) a b (Ok left)) → IfSome i (λ bytes. left ≡ 0)
 nothing_left hooks None a b left p = tt
 nothing_left hooks (Some bytes) a b left p = left_nothing hooks bytes left p.0
-
-pub none_claimed : (i : Option (List ℕ)) → IfSome i (λ bytes. Unit {0})
-none_claimed None = tt
-none_claimed (Some bytes) = tt

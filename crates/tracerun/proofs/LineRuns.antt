@@ -1,12 +1,10 @@
 -- From what a line's JSON value does to what the line does, and a loop over lines whose hooks are any.
-use Rattle.std.proofs.Common.{◌≡◌, ℕ, ◌+◌, List, [], ◌∷◌, refl, ap, sym, ◌∙◌, subst, Option, Some, None, Result, Ok, Err, IfErr, OnOk}
+use Rattle.std.proofs.Common.{◌≡◌, ℕ, List, refl, sym, subst, Result, Ok, Err, IfErr, OnOk}
 use Rattle.std.specs.Prelude.{OnErr, ⊤}
 use Rattle.tracerun.specs.Device.{AppendsFront}
-use Rattle.tracerun.specs.Meaning.{Turn, Transcript, line_turn, last_part, run}
-use Rattle.tracerun.specs.Replayed.{Fails}
-use Rattle.tracerun.specs.Script.{lines_of}
+use Rattle.tracerun.specs.Meaning.{Turn}
 use Rattle.tracerun.specs.State.{State}
-use Rattle.tracerun.specs.Turns.{HasTurned, TurnFails, Sent}
+use Rattle.tracerun.specs.Turns.{HasTurned, TurnFails}
 use Rattle.tracerun.specs.declared.fault.Reason.{Reason}
 use Rattle.tracerun.specs.declared.fault.RunFault.{RunFault}
 use Rattle.tracerun.specs.declared.fault.RunFault.TheVariants.{Device}

@@ -1,6 +1,6 @@
 -- From a line's JSON value to what the line does, and to what was written.
-use Rattle.std.proofs.Common.{◌≡◌, ℕ, List, false, refl, ap, sym, ◌∙◌, subst, Option, Result, Ok, Err}
-use Rattle.std.specs.Io.KnownBytes.{Appends, Keeps}
+use Rattle.std.proofs.Common.{◌≡◌, ℕ, List, false, refl, sym, ◌∙◌, subst, Result, Ok, Err}
+use Rattle.std.specs.Io.KnownBytes.{Appends}
 use Rattle.std.proofs.KnownBytes.{Keeps-refl}
 use Rattle.serde_json.specs.Data.{Data}
 use Rattle.tracerun.specs.Device.{AppendsFront}
@@ -10,7 +10,7 @@ use Rattle.tracerun.specs.Operation.{json_of}
 use Rattle.tracerun.specs.Reason.{StopsFor}
 use Rattle.tracerun.specs.Script.{is_skipped}
 use Rattle.tracerun.specs.State.{State}
-use Rattle.tracerun.specs.Turns.{HasTurned, HasBegun, TurnFails}
+use Rattle.tracerun.specs.Turns.{HasTurned, TurnFails}
 use Rattle.tracerun.specs.declared.fault.Reason.{Reason}
 use Rattle.tracerun.specs.declared.fault.RunFault.{RunFault}
 use Rattle.tracerun.specs.declared.fault.RunFault.TheVariants.{Device}

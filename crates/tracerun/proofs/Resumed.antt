@@ -1,5 +1,5 @@
 -- A line after the set-up does the same at each stage.
-use Rattle.std.proofs.Common.{◌≡◌, ℕ, List, false, refl, ap, sym, ◌∙◌, Result, Ok, Err}
+use Rattle.std.proofs.Common.{◌≡◌, ℕ, false, refl, sym, ◌∙◌, Result, Ok, Err}
 use Rattle.serde_json.specs.Data.{Data}
 use Rattle.tracerun.specs.Faults.{id_of_key, parent_of_key, free_label}
 use Rattle.span_stack.specs.Stack as stack

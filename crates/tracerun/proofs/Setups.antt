@@ -1,12 +1,12 @@
 -- Which operations a line can ask for, before the calls and after.
-use Rattle.std.proofs.Common.{◌≡◌, ℕ, List, [], ◌++◌, Bool, true, false, refl, ap, sym, ◌∙◌, subst, Option, Some, None, Result, Ok, Err}
+use Rattle.std.proofs.Common.{◌≡◌, ℕ, List, [], ◌++◌, true, refl, ap, sym, ◌∙◌, subst, Option, Some, None, Result, Ok, Err}
 use Rattle.std.proofs.lemmas.Bool.{false≢true}
 use Rattle.serde_json.specs.Data.{Data}
 use Rattle.serde_json.specs.Find.{as_object}
 use Rattle.span_layers.specs.Rule.{Pair}
 use Rattle.span_layers.specs.declared.form.Form.{Form}
 use Rattle.span_layers.specs.declared.form.Form.TheVariants.{Compact}
-use Rattle.tracerun.specs.Meaning.{Turn, at_stage, stage_after, turn_of, value_turn}
+use Rattle.tracerun.specs.Meaning.{at_stage, stage_after, turn_of, value_turn}
 use Rattle.tracerun.specs.Operation.{Operation, set_limits, add_layer, make, on_span, record_fields, tell, find, Op, Stage, at_start, in_setup, running, limits_op, layer_op, new_op, span_op, record_op, event_op, find_op, op_at, op_of, sets_up, is_setup, operation_of, keys_of, limits_of, layer_of, optional, limit_in, form_in, kinds_in, rule_in, all_targets}
 use Rattle.tracerun.specs.Reason.{◌>>=◌, StopsFor, or_fault}
 use Rattle.tracerun.specs.State.{State}

@@ -1,10 +1,8 @@
 -- The calls of the tidying, one after another.
-use Rattle.std.proofs.Common.{◌≡◌, ℕ, zero, suc, ◌+◌, ◌-◌, ◌<◌, ◌≤◌, Bool, true, false, not, List, [], ◌∷◌, ◌++◌, length, map, take, reverse, replicate, refl, ap, sym, ◌∙◌, subst, append_assoc, append-nil, Option, Some, None, slice_get, ◌⊎◌, inl, inr, arith, if◌then◌else◌, ◌==◌}
+use Rattle.std.proofs.Common.{◌≡◌, ℕ, zero, suc, ◌+◌, ◌-◌, ◌<◌, ◌≤◌, List, [], ◌∷◌, ◌++◌, refl, ap, sym, ◌∙◌, subst, append_assoc, append-nil, arith}
 use Rattle.std.specs.Io.KnownBytes.{Appends}
 use Rattle.std.specs.List.{range_with_len}
-use Rattle.std.specs.Prelude.{slice_set, slice_index_or}
 use Rattle.std.proofs.KnownBytes.{Appends-nil, Appends-trans}
-use Rattle.span_stack.specs.Stack.{has, without_last}
 use Rattle.span_registry.specs.Core.{CoreView}
 use Rattle.span_registry.specs.Request as call
 use Rattle.tracerun.specs.Device.{AppendsFront}
@@ -57,7 +55,7 @@ pub one_made : (a b c : Known) (whole : Written) (core new : CoreView) (all more
     → AreMade (call_written core request) new b c → ArePartlyMade a c whole (calls_written new more)
 one_made a b c whole core new all more request s e p =
     part_more a b c whole _ _ (call_written core request).text s
-        (ap (calls_written core) e ∙ call_more core request more ∙ ap (λ k. written_after (call_written core request).text (calls_written k more)) (sym p.core_is)) p.taken
+    (ap (calls_written core) e ∙ call_more core request more ∙ ap (λ k. written_after (call_written core request).text (calls_written k more)) (sym p.core_is)) p.taken
 
 pub one_fails : (a b c : Known) (whole : Written) (core : CoreView) (all more : List call.Request) (request : call.Request) (e : RunFault) → ArePartlyMade a b whole (calls_written core all) → all ≡ request ∷ more
     → TextFails (call_written core request).text b c e → TextFails whole.text a c e
@@ -82,7 +80,7 @@ pub each_made : (calls : CoreView → ℕ → List call.Request) (a b c : Known)
     → AreMade (calls_written core (calls core n)) new b c → ArePartlyMade a c whole (each_written calls new more)
 each_made calls a b c whole core new all more n s e p =
     part_more a b c whole _ _ (calls_written core (calls core n)).text s
-        (ap (each_written calls core) e ∙ each_more calls core n more ∙ ap (λ k. written_after (calls_written core (calls core n)).text (each_written calls k more)) (sym p.core_is)) p.taken
+    (ap (each_written calls core) e ∙ each_more calls core n more ∙ ap (λ k. written_after (calls_written core (calls core n)).text (each_written calls k more)) (sym p.core_is)) p.taken
 
 pub each_fails : (calls : CoreView → ℕ → List call.Request) (a b c : Known) (whole : Written) (core : CoreView) (all more : List ℕ) (n : ℕ) (e : RunFault) → ArePartlyMade a b whole (each_written calls core all) → all ≡ n ∷ more
     → TextFails (calls_written core (calls core n)).text b c e → TextFails whole.text a c e

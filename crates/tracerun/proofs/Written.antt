@@ -1,20 +1,18 @@
 -- What goes out in a run, piece after piece.
 use Rattle.std.proofs.Common.{◌≡◌, ℕ, ◌+◌, ◌<◌, ◌≤◌, List, [], ◌∷◌, ◌++◌, length, refl, ap, sym, ◌∙◌, subst, append_assoc, append-nil, Option, Some, None, Result, Ok, Err, IfSome, IfErr, arith, length-append}
-use Rattle.std.specs.Io.KnownBytes.{Appends, Consumes, Keeps, IsAtEnd}
-use Rattle.std.proofs.KnownBytes.{Appends-nil, Appends-trans, Appends-kept, Consumes-whole, Keeps-refl}
+use Rattle.std.specs.Io.KnownBytes.{Appends, Consumes, Keeps}
+use Rattle.std.proofs.KnownBytes.{Appends-nil, Appends-trans, Appends-kept, Keeps-refl}
 use Rattle.std.proofs.lemmas.Bool.{le-leb, lt-leb}
-use Rattle.serde_json.specs.Data.{Data}
 use Rattle.tracerun.specs.Device.{AppendsFront, ReadFails}
-use Rattle.tracerun.specs.Meaning.{Turn, Transcript, Ending, finished, faulty, after, turned, run, meaning, line_turn, last_part}
+use Rattle.tracerun.specs.Meaning.{Turn, Transcript, faulty, after, turned, run, meaning, line_turn, last_part}
 use Rattle.tracerun.specs.Replayed.{Fails, Runs, KeepsUnread}
 use Rattle.tracerun.specs.Script.{lines_of, most_bytes}
 use Rattle.tracerun.specs.State.{State, first_state}
-use Rattle.tracerun.specs.Turns.{HasTurned, HasBegun, TurnFails, Sent, TextFails}
+use Rattle.tracerun.specs.Turns.{HasTurned, TurnFails, Sent}
 use Rattle.tracerun.specs.declared.fault.RunFault.{RunFault}
 use Rattle.tracerun.specs.declared.fault.RunFault.TheVariants.{Script, Memory, Device}
 use Rattle.tracerun.specs.declared.fault.Reason.{Reason}
 use Rattle.tracerun.specs.declared.fault.Reason.TheVariants.{TooLong}
-use Rattle.tracerun.specs.declared.fault.Side.{Side}
 use Rattle.tracerun.specs.declared.fault.Side.TheVariants.{Read, Write}
 use Rattle.tracerun.specs.RunFault.{EndsAsCounted}
 
@@ -125,12 +123,6 @@ meaning_fits hooks bytes h = rw (le-leb (length bytes) most_bytes h) refl
 meaning_long : (hooks : ℕ) (bytes : List ℕ) → most_bytes < length bytes → meaning hooks bytes ≡ record { text = []; ending = faulty 0 TooLong }
 meaning_long hooks bytes h = rw (lt-leb (length bytes) most_bytes h) refl
 
--- all was read
-pub read_runs : (hooks : ℕ) (i j a c : Known) (bytes : List ℕ) (r : Result ℕ RunFault) → Consumes i j bytes → IsAtEnd j → length bytes ≤ most_bytes → Runs (run hooks 1 first_state (lines_of bytes)) a c r
-    → IfSome i (λ xs. Runs (meaning hooks xs) a c r)
-read_runs hooks i j a c bytes r all end fits p =
-    Consumes-whole i j bytes (λ xs. Runs (meaning hooks xs) a c r) all end (subst (λ t. Runs t a c r) (sym (meaning_fits hooks bytes fits)) p)
-
 long_runs : (hooks : ℕ) (i j a : Known) (bytes : List ℕ) → Consumes i j bytes → most_bytes < length bytes → IfSome i (λ xs. ((meaning hooks xs).ending ≡ faulty 0 TooLong) × Appends a a (meaning hooks xs).text)
 long_runs hooks None j a bytes all long = tt
 long_runs hooks (Some xs) None a bytes all long = absurd all
@@ -157,31 +149,6 @@ unread_runs hooks i j a (Script number reason) (at, is, (bytes, all, long)) =
 unread_runs hooks i j a Memory p = always i (λ xs. empty_front a (meaning hooks xs).text)
 unread_runs hooks i j a (Device side) p = always i (λ xs. empty_front a (meaning hooks xs).text)
 
--- ---- the flush at the end
-
-finished_kept : (t : Transcript) (a b c : Known) (left : ℕ) → Keeps b c → Runs t a b (Ok left) → Runs t a c (Ok left)
-finished_kept t a b c left k p = (p.0, Appends-kept a b c t.text p.1 k)
-
-stopped_kept : (t : Transcript) (a b c : Known) (number : ℕ) (reason : Reason) → Keeps b c → Fails t a b (Script number reason) → Fails t a c (Script number reason)
-stopped_kept t a b c number reason k p = (p.0, Appends-kept a b c t.text p.1 k)
-
-device_fails : (t : Transcript) (a b c : Known) (side : Side) (e : RunFault) → e ≡ Device side → Keeps b c → Appends a b t.text → Fails t a c e
-device_fails t a b c side e is k p = subst (Fails t a c) (sym is) (front_whole a c t.text (Appends-kept a b c t.text p k))
-
-pub flushed : (f : List ℕ → Transcript) (i a b c : Known) (left : ℕ) → Keeps b c → IfSome i (λ xs. Runs (f xs) a b (Ok left)) → IfSome i (λ xs. Runs (f xs) a c (Ok left))
-flushed f i a b c left k p = if_some i (λ xs. finished_kept (f xs) a b c left k) p
-
-pub unflushed : (f : List ℕ → Transcript) (i a b c : Known) (left : ℕ) (side : Side) (e : RunFault) → e ≡ Device side → Keeps b c → IfSome i (λ xs. Runs (f xs) a b (Ok left)) → IfSome i (λ xs. Fails (f xs) a c e)
-unflushed f i a b c left side e is k p = if_some i (λ xs h. device_fails (f xs) a b c side e is k h.1) p
-
-pub stop_flushed : (f : List ℕ → Transcript) (i a b c : Known) (number : ℕ) (reason : Reason) (stop : RunFault) → stop ≡ Script number reason → Keeps b c → IfSome i (λ xs. Fails (f xs) a b stop) → IfSome i (λ xs. Fails (f xs) a c (Script number reason))
-stop_flushed f i a b c number reason stop was k p = if_some i (λ xs h. stopped_kept (f xs) a b c number reason k (subst (Fails (f xs) a b) was h)) p
-
-pub stop_unflushed : (f : List ℕ → Transcript) (i a b c : Known) (number : ℕ) (reason : Reason) (stop : RunFault) (side : Side) (e : RunFault) → stop ≡ Script number reason → e ≡ Device side → Keeps b c
-    → IfSome i (λ xs. Fails (f xs) a b stop) → IfSome i (λ xs. Fails (f xs) a c e)
-stop_unflushed f i a b c number reason stop side e was is k p =
-    if_some i (λ xs h. device_fails (f xs) a b c side e is k (subst (Fails (f xs) a b) was h).1) p
-
 -- ---- where the reader failed
 
 pub unread_kept : (a : Known) (e : RunFault) → KeepsUnread a a e
@@ -197,6 +164,3 @@ read_kept writes writes' a b (Err (Script number reason)) c = tt
 read_kept writes writes' a b (Err Memory) c = tt
 read_kept writes writes' a b (Err (Device Read)) c = let none = c.0 in absurd (omega (arith, none))
 read_kept writes writes' a b (Err (Device Write)) c = tt
-
-pub write_kept : (a b : Known) (e : RunFault) → e ≡ Device Write → KeepsUnread a b e
-write_kept a b e is = subst (KeepsUnread a b) (sym is) tt

@@ -1,5 +1,5 @@
 -- What a clause reads of a counted reader or writer.
-use Rattle.std.specs.Prelude.{ℕ, ◌+◌, ◌-◌, ◌^◌, min}
+use Rattle.std.specs.Prelude.{Bool, ℕ, ◌+◌, ◌-◌, ◌^◌, min}
 use Rattle.tracerun.specs.declared.counted.Counted.{Counted}
 
 -- the reader or writer inside
@@ -13,6 +13,10 @@ calls_of c = c.calls
 -- how many of those calls failed
 abbrev pub failed_of : {T : Type 0} → Counted T → ℕ
 failed_of c = c.failed
+
+-- whether a flush that succeeded came after the last write
+abbrev pub flushed_of : {T : Type 0} → Counted T → Bool
+flushed_of c = c.flushed
 
 -- one more, at most the greatest value of a count
 abbrev pub one_more : ℕ → ℕ

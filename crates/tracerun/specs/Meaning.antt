@@ -1,6 +1,6 @@
 -- The meaning of a script: what a run writes, and how it ends, as a function of the script's bytes and of how
 -- many layers there may be.
-use Rattle.std.specs.Prelude.{ℕ, ◌+◌, ◌&&◌, if◌then◌else◌, nat_lt, nat_le, Bool, List, [], ◌∷◌, ◌++◌, length, map, Option, Some, None, Result, Ok, Err, ⊤}
+use Rattle.std.specs.Prelude.{ℕ, ◌+◌, ◌&&◌, if◌then◌else◌, nat_lt, nat_le, Bool, List, [], ◌∷◌, ◌++◌, length, map, Result, Ok, Err}
 use Rattle.std.specs.List.{range_with_len}
 use Rattle.serde_json.specs.Data.{Data}
 use Rattle.span_id.specs.declared.fault.Fault.TheVariants.{BadLimits, TooManyLayers}
@@ -11,11 +11,11 @@ use Rattle.span_stack.specs.Stack as stack
 use Rattle.span_registry.specs.World.{empty_world, stack_of}
 use Rattle.span_registry.specs.Request as call
 use Rattle.span_registry.specs.Core.{CoreView}
-use Rattle.span_registry.specs.Outcome.{Outcome, refused, not_wanted, accepted, outcome}
+use Rattle.span_registry.specs.Outcome.{Outcome, accepted, outcome}
 use Rattle.tracerun.specs.Answer.{answer_text, left_text}
 use Rattle.tracerun.specs.Faults.{id_of_key, parent_of_key, free_label}
 use Rattle.tracerun.specs.Labels.{Bound, bound}
-use Rattle.tracerun.specs.Operation.{NewLayer, NewSpan, NewEvent, Stage, at_start, in_setup, running, Operation, set_limits, add_layer, make, on_span, record_fields, tell, find, json_of, operation_of}
+use Rattle.tracerun.specs.Operation.{NewLayer, NewSpan, Stage, in_setup, running, Operation, set_limits, add_layer, make, on_span, record_fields, tell, find, json_of, operation_of}
 use Rattle.tracerun.specs.Reason.{◌>>=◌}
 use Rattle.tracerun.specs.Requests.{request_of_call, request_of_new, request_of_event}
 use Rattle.tracerun.specs.Written.{Written, call_written, find_text, exits, closes, each_written}

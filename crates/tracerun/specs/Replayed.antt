@@ -1,8 +1,8 @@
 -- What a run leaves in the writer, and what it answers.
-use Rattle.std.specs.Prelude.{◌≡◌, ℕ, List, Option, Result, MatchResult}
+use Rattle.std.specs.Prelude.{◌≡◌, ℕ, Bool, true, List, Option, Result, Ok, Err, MatchResult}
 use Rattle.std.specs.Io.KnownBytes.{Appends, Keeps}
 use Rattle.tracerun.specs.Device.{AppendsFront}
-use Rattle.tracerun.specs.Meaning.{Transcript, Ending, finished, faulty, meaning}
+use Rattle.tracerun.specs.Meaning.{Transcript, finished, faulty, meaning}
 use Rattle.tracerun.specs.declared.fault.RunFault.{RunFault}
 use Rattle.tracerun.specs.declared.fault.RunFault.TheVariants.{Script, Memory, Device}
 use Rattle.tracerun.specs.declared.fault.Side.TheVariants.{Read, Write}
@@ -29,3 +29,10 @@ KeepsUnread old new (Script number reason) = Unit {0}
 KeepsUnread old new Memory = Unit {0}
 KeepsUnread old new (Device Read) = Keeps old new
 KeepsUnread old new (Device Write) = Unit {0}
+
+-- the writer is flushed at the end, after a fault of the script too
+abbrev pub EndsFlushed : Bool → Result ℕ RunFault → Type 0
+EndsFlushed flushed (Ok left) = flushed ≡ true
+EndsFlushed flushed (Err (Script number reason)) = flushed ≡ true
+EndsFlushed flushed (Err Memory) = Unit {0}
+EndsFlushed flushed (Err (Device side)) = Unit {0}

@@ -1,5 +1,5 @@
 -- How far a script has run.
-use Rattle.std.specs.Prelude.{ℕ, List, []}
+use Rattle.std.specs.Prelude.{[]}
 use Rattle.span_id.specs.declared.limits.Limits.{Limits}
 use Rattle.span_registry.specs.World.{empty_world}
 use Rattle.span_registry.specs.Core.{CoreView}

@@ -1,5 +1,5 @@
 -- What a run writes for calls: the notes of each call, and then its answer.
-use Rattle.std.specs.Prelude.{ℕ, ◌+◌, nat_lt, List, [], ◌∷◌, ◌++◌, length, map, flat_map, reverse, replicate, codes, Option, Some, None}
+use Rattle.std.specs.Prelude.{ℕ, nat_lt, List, [], ◌∷◌, ◌++◌, length, map, flat_map, reverse, replicate, codes, Option, Some, None}
 use Rattle.std.specs.Fmt.{decimal}
 use Rattle.span_id.specs.declared.fault.Fault.TheVariants.{Unknown}
 use Rattle.span_forest.specs.declared.span.Holder.TheVariants.{Handle}
@@ -7,7 +7,7 @@ use Rattle.span_forest.specs.Node.{Node}
 use Rattle.span_forest.specs.Spans.{find}
 use Rattle.span_forest.specs.Count.{written_count}
 use Rattle.span_forest.specs.Holders.{held_in}
-use Rattle.span_registry.specs.World.{World, stack_of}
+use Rattle.span_registry.specs.World.{stack_of}
 use Rattle.span_registry.specs.Happening.{id_at}
 use Rattle.span_registry.specs.Request as call
 use Rattle.span_registry.specs.Batch.{PlainBatch}

@@ -24,6 +24,17 @@ pub fn order<'a>(alloc: Global, words: &'a [&'a str]) -> Result<Order, Error> {
     }
 }
 
+/// The order that the words of the command line give, as `order` does.
+pub fn order_of(alloc: Global, words: &[String]) -> Result<Order, Error> {
+    let mut texts = Vec::new(alloc);
+    for word in words {
+        if texts.push(word.as_str()).is_err() {
+            return Err(Error::from(AllocError));
+        }
+    }
+    order(alloc, texts.as_slice())
+}
+
 /// The status with which the program ends where its words give no order.
 pub fn status(error: &Error) -> u8 {
     match error.kind() {

@@ -1,8 +1,8 @@
 //! Readers and writers whose calls are counted.
-ghost use Rattle.std.specs.Prelude.{◌≡◌, ◌<◌, IfOk, OnOk, OnErr};
+ghost use Rattle.std.specs.Prelude.{◌≡◌, ◌<◌, true, false, IfOk, OnOk, OnErr};
 ghost use Rattle.std.specs.Io.{ReadsAtMost, WritesAtMost};
 ghost use Rattle.std.specs.Io.KnownBytes.{Keeps, ReadConsumes, WriteAppends};
-ghost use Rattle.tracerun.specs.Counted.{inner_of, calls_of, failed_of, one_more};
+ghost use Rattle.tracerun.specs.Counted.{inner_of, calls_of, failed_of, flushed_of, one_more};
 
 use std::io;
 use std::io::{Read, Write};
@@ -10,12 +10,13 @@ use std::io::{Read, Write};
 /// A reader or a writer, with the number of its calls and of those that failed.
 ///
 /// A call that was interrupted and a write that took no byte count as failed.
-/// Both numbers stay at their greatest value.
+/// Both numbers stay at their greatest value. Whether a writer is flushed is known too: all that it took went out.
 #[derive(Debug, Drop)]
 pub struct Counted<T> {
     inner: T,
     calls: u64,
     failed: u64,
+    flushed: bool,
 }
 
 impl<T> Counted<T> {
@@ -24,11 +25,13 @@ impl<T> Counted<T> {
         ensures inner { inner_of result ≡ inner }
         ensures calls { calls_of result ≡ 0 }
         ensures failed { failed_of result ≡ 0 }
+        ensures flushed { flushed_of result ≡ false }
     {
         Counted {
             inner,
             calls: 0,
             failed: 0,
+            flushed: false,
         }
     }
 
@@ -40,6 +43,7 @@ impl<T> Counted<T> {
             inner,
             calls: _,
             failed: _,
+            flushed: _,
         } = self;
         inner
     }
@@ -56,6 +60,13 @@ impl<T> Counted<T> {
         ensures { result ≡ failed_of self.now }
     {
         self.failed
+    }
+
+    /// Whether a flush that succeeded came after the last `write`.
+    pub fn is_flushed(&self) -> bool
+        ensures { result ≡ flushed_of self.now }
+    {
+        self.flushed
     }
 }
 
@@ -87,9 +98,11 @@ impl<W: Write> Write for Counted<W> {
         ensures calls { calls_of self.new ≡ one_more (calls_of self.old) }
         ensures ok { IfOk result (λ n. 0 < n → failed_of self.new ≡ failed_of self.old) }
         ensures none { IfOk result (λ n. n ≡ 0 → failed_of self.new ≡ one_more (failed_of self.old)) }
+        ensures flushed { flushed_of self.new ≡ false }
         ensures err { OnErr result (failed_of self.new ≡ one_more (failed_of self.old)) }
     {
         self.calls = self.calls.saturating_add(1);
+        self.flushed = false;
         let answer = self.inner.write(buf);
         if !matches!(answer, Ok(1..)) {
             self.failed = self.failed.saturating_add(1);
@@ -102,9 +115,12 @@ impl<W: Write> Write for Counted<W> {
         ensures calls { calls_of self.new ≡ one_more (calls_of self.old) }
         ensures ok { OnOk result (failed_of self.new ≡ failed_of self.old) }
         ensures err { OnErr result (failed_of self.new ≡ one_more (failed_of self.old)) }
+        ensures flushed { OnOk result (flushed_of self.new ≡ true) }
+        ensures not_flushed { OnErr result (flushed_of self.new ≡ false) }
     {
         self.calls = self.calls.saturating_add(1);
         let answer = self.inner.flush();
+        self.flushed = answer.is_ok();
         if answer.is_err() {
             self.failed = self.failed.saturating_add(1);
         }

@@ -31,22 +31,39 @@ use crate::hooks::replay_with_layers;
 use crate::orders::Order;
 use span_layers::MAX_LAYERS;
 use std::io;
-use std::io::BufWriter;
+use std::io::{BufWriter, ErrorKind};
 use std::process::ExitCode;
 
 fn main(rt: HostRuntime) -> io::Result<ExitCode> {
-    let alloc = rt.alloc();
-    let words: Vec<String> = std::env::args(&rt)?.collect(alloc)?;
-    let mut texts: Vec<&str> = Vec::new(alloc);
-    for word in &words {
-        texts.push(word.as_str())?;
-    }
-    match command_line::order(alloc, texts.as_slice()) {
-        Ok(Order::Replay) => status_of(&rt, replay(&rt)),
-        Err(error) => {
-            rt.eprint(&error)?;
-            Ok(ExitCode::from(command_line::status(&error)))
+    match words(&rt) {
+        Ok(words) => obey(&rt, words.as_slice()),
+        Err(error) if matches!(error.kind(), ErrorKind::OutOfMemory) => {
+            status_of(&rt, Err(RunFault::Memory))
         }
+        Err(_) => {
+            eprintln!(rt; "error: a word of the command line isn't UTF-8")?;
+            Ok(ExitCode::from(2))
+        }
+    }
+}
+
+/// The words of the command line.
+fn words(rt: &HostRuntime) -> io::Result<Vec<String>> {
+    let words = std::env::args(rt)?.collect(rt.alloc())?;
+    Ok(words)
+}
+
+/// Does what the words ask for, and tells on standard error where it can't.
+fn obey(rt: &HostRuntime, words: &[String]) -> io::Result<ExitCode> {
+    match command_line::order_of(rt.alloc(), words) {
+        Ok(Order::Replay) => status_of(rt, replay(rt)),
+        Err(error) => match command_line::status(&error) {
+            3 => status_of(rt, Err(RunFault::Memory)),
+            status => {
+                rt.eprint(&error)?;
+                Ok(ExitCode::from(status))
+            }
+        },
     }
 }
 
@@ -75,6 +92,8 @@ fn status_of<R: Eprint>(rt: &R, ended: Result<(), RunFault>) -> io::Result<ExitC
     }
 }
 
+#[cfg(test)]
+mod flush_tests;
 #[cfg(test)]
 mod reading_tests;
 #[cfg(test)]

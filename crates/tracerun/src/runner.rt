@@ -1,9 +1,9 @@
 //! Running a whole script: reading it, its lines, the tidying and the last line, and writing out.
 ghost use Rattle.std.specs.Prelude.{◌≡◌, ◌+◌, ◌^◌, ◌<◌, ◌≤◌, IfOk, IfErr, IfSome, OnOk, length, vec_len};
 ghost use Rattle.std.specs.Io.KnownBytes.{IsAtEnd};
-ghost use Rattle.tracerun.specs.Counted.{inner_of, calls_of, failed_of};
+ghost use Rattle.tracerun.specs.Counted.{inner_of, calls_of, failed_of, flushed_of};
 ghost use Rattle.tracerun.specs.Meaning.{run};
-ghost use Rattle.tracerun.specs.Replayed.{IsReplayed, KeepsUnread, Runs};
+ghost use Rattle.tracerun.specs.Replayed.{EndsFlushed, IsReplayed, KeepsUnread, Runs};
 ghost use Rattle.tracerun.specs.RunFault.{EndsAsCounted};
 ghost use Rattle.tracerun.specs.Script.{lines_of, most_bytes};
 ghost use Rattle.tracerun.specs.State.{first_state};
@@ -39,6 +39,7 @@ pub fn replay<R: Read, W: Write>(
         IsReplayed (vec_len hooks) bytes (W.contents (inner_of output.old)) (W.contents (inner_of output.new)) result) }
     ensures whole { OnOk result (IsAtEnd (R.remaining (inner_of input.new))) }
     ensures unread { IfErr result (KeepsUnread (W.contents (inner_of output.old)) (W.contents (inner_of output.new))) }
+    ensures flushed { EndsFlushed (flushed_of output.new) result }
     ensures left { IfSome (R.remaining (inner_of input.old)) (λ bytes. IfOk result (λ left. left ≡ 0)) }
     ensures counts { EndsAsCounted (failed_of input.old) (failed_of input.new) (failed_of output.old) (failed_of output.new) result }
     ensures reads { calls_of input.new ≤ calls_of input.old + 16777217 }

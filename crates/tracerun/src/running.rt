@@ -184,7 +184,12 @@ fn call<V: Say>(
     ensures err { IfErr result (λ stop. (hooks : ℕ) → StopsFor (value_turn hooks (state_at script.old running) (view line.now)) stop) }
 {
     text.clear();
-    let operation = match operation(alloc, line, script.workers as usize, reading::Stage::Running) {
+    let operation = match operation(
+        alloc,
+        line,
+        script.workers as usize,
+        reading::Stage::Running,
+    ) {
         Ok(operation) => operation,
         Err(stop) => return Err(stop),
     };

@@ -1,4 +1,4 @@
-use Rattle.std.proofs.Common.{rules, arith, refl, ◌∙◌}
+use Rattle.std.proofs.Common.{arith, refl, ◌∙◌}
 use Rattle.tracerun.proofs.Written.{sent_none}
 use Rattle.tracerun.proofs.Openings.{when_some, when_none, opened_more, opened_fails, opened_at_call}
 use Rattle.tracerun.proofs.opening.open.Goals as goal

@@ -1,4 +1,4 @@
-use Rattle.std.proofs.Common.{◌≡◌, ◌+◌, ◌-◌, ◌<◌, ◌≤◌, ◌∙◌, ℕ, zero, suc, List, [], ◌∷◌, replicate, arith, refl, subst}
+use Rattle.std.proofs.Common.{◌≡◌, ◌+◌, ◌-◌, ◌<◌, ◌≤◌, ◌∙◌, ℕ, zero, suc, [], ◌∷◌, replicate, arith, refl, subst}
 use Rattle.span_registry.specs.Core.{CoreView}
 use Rattle.span_registry.specs.Request as call
 use Rattle.tracerun.specs.Turns.{ArePartlyMade}

@@ -2,7 +2,7 @@ use Rattle.std.proofs.Common.{◌≡◌, ◌+◌, ◌<◌, ◌≤◌, ◌∙◌,
 use Rattle.std.proofs.Common.{drop_of_length-le}
 use Rattle.std.proofs.lemmas.List.{drop_more}
 use Rattle.span_registry.specs.Core.{CoreView}
-use Rattle.span_registry.specs.Request.{Request, exit}
+use Rattle.span_registry.specs.Request.{exit}
 use Rattle.span_registry.specs.World.{stack_of}
 use Rattle.tracerun.specs.Turns.{ArePartlyMade}
 use Rattle.tracerun.specs.Written.{calls_written, exits}

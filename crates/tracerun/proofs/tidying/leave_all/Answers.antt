@@ -1,4 +1,4 @@
-use Rattle.std.proofs.Common.{◌≡◌, ◌-◌, ◌∙◌, ◌<◌, ◌≤◌, ℕ, List, refl, sym, subst, arith}
+use Rattle.std.proofs.Common.{◌≡◌, ◌-◌, ◌∙◌, ◌<◌, ◌≤◌, ℕ, refl, subst, arith}
 use Rattle.std.specs.List.{range_with_len}
 use Rattle.span_registry.specs.Core.{CoreView}
 use Rattle.tracerun.specs.Turns.{ArePartlyMade}
