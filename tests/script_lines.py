@@ -138,7 +138,9 @@ class Lines:
 
     def entered(self, worker):
         """A span that stands in the worker's stack, perhaps by its label; a span of any kind where none does."""
-        ids = self.world.stacks[worker].ids
+        # Limits that came since may have left fewer workers.
+        stacks = self.world.stacks
+        ids = stacks[worker].ids if worker < len(stacks) else []
         if not ids or self.dice.chance(0.1):
             return self.span()
         number = ids[-1] if self.dice.chance(0.6) else self.dice.pick(ids)

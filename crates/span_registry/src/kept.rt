@@ -35,13 +35,23 @@ fn line_of_note<V: Say>(
 {
     let form = forms.get(note.layer)?;
     let place = u32::try_from(place).ok()?;
-    let text = formatters.say(form, note).ok()?;
+    let mut text = formatters.say(form, note).ok()?;
+    text.shrink_to_fit();
     Some(Line {
         batch,
         place,
         layer: note.layer,
         text,
     })
+}
+
+// The batch with no room for further notes, since it is kept as long as the outlet is.
+fn trimmed(batch: Batch) -> Batch
+    ensures { plain_batch result ≡ plain_batch batch }
+{
+    let mut kept = batch;
+    kept.notes.shrink_to_fit();
+    kept
 }
 
 impl Told {
@@ -200,8 +210,9 @@ impl<V: Say> Outlet for Kept<V> {
             ready,
             formatters,
         } = self;
-        told.tell_all(&*formatters, batches.len() as u64, &batch);
+        let kept = trimmed(batch);
+        told.tell_all(&*formatters, batches.len() as u64, &kept);
         *ready = false;
-        batches.push_reserved(batch);
+        batches.push_reserved(kept);
     }
 }

@@ -1,17 +1,12 @@
 //! When a run flushes its writer.
-ghost use Rattle.std.specs.Prelude.{◌≡◌, string_bytes};
-ghost use Rattle.std.specs.Result.{ForOk};
-ghost use Rattle.span_layers.specs.Note.{plain_note};
-ghost use Rattle.span_layers.specs.Rule.{pairs_of, is_admitted};
-ghost use Rattle.span_layers.specs.Text.{text_of};
+ghost use Rattle.std.specs.Prelude.{◌≡◌};
 ghost use Rattle.tracerun.specs.Counted.{failed_of};
 
 use crate::counted::Counted;
 use crate::fault::RunFault;
+use crate::hook_tests::hooks;
 use crate::hooks::replay_with_layers;
 use crate::runner::replay;
-use span_id::Meta;
-use span_layers::{Form, Hooks, Note, Rule, admits};
 use std::alloc::{AllocError, Global};
 use std::io;
 use std::io::{ErrorKind, Read, Write};
@@ -120,24 +115,11 @@ fn does_not_flush_after_a_device_that_failed(rt: HostRuntime) -> io::Result<()> 
 #[test]
 fn does_not_flush_after_want_of_memory(rt: HostRuntime) -> io::Result<()> {
     let alloc = rt.alloc();
-    let admit = Box::new(
-        alloc,
-        |rule: &Rule, meta: &Meta| -> bool
-            ensures { result
-                ≡ is_admitted (pairs_of rule.now) (string_bytes meta.now.target) meta.now.level }
-        { admits(rule, meta) },
-    )?;
-    let say = Box::new(
-        alloc,
-        |_alloc: Global, form: Form, note: &Note| -> Result<Vec<u8>, AllocError>
-            ensures { ForOk result (λ text. text.items ≡ text_of form (plain_note note.now)) }
-        { Err(AllocError) },
-    )?;
-    let mut hooks = Vec::new(alloc);
-    hooks.push(Hooks::new(admit, say))?;
+    let mut all = Vec::new(alloc);
+    all.push(hooks(alloc, false)?)?;
     let mut input = Counted::new(ONE_LAYER.as_bytes());
     let mut output = writer(64, true);
-    let ended = replay(alloc, &mut input, &mut output, hooks);
+    let ended = replay(alloc, &mut input, &mut output, all);
     assert!(rt; ended_so(alloc, ended, output, "out of memory", 0)?);
     Ok(())
 }

@@ -95,6 +95,8 @@ fn status_of<R: Eprint>(rt: &R, ended: Result<(), RunFault>) -> io::Result<ExitC
 #[cfg(test)]
 mod flush_tests;
 #[cfg(test)]
+mod hook_tests;
+#[cfg(test)]
 mod reading_tests;
 #[cfg(test)]
 mod tests;

@@ -1,17 +1,9 @@
-ghost use Rattle.std.specs.Prelude.{◌≡◌, string_bytes};
-ghost use Rattle.std.specs.Result.{ForOk};
-ghost use Rattle.span_layers.specs.Note.{plain_note};
-ghost use Rattle.span_layers.specs.Rule.{pairs_of, is_admitted};
-ghost use Rattle.span_layers.specs.Text.{text_of};
-
+//! Whole runs of scripts.
 use crate::command_line::{order, status};
 use crate::counted::Counted;
 use crate::fault::RunFault;
 use crate::hooks::replay_with_layers;
 use crate::orders::Order;
-use crate::runner::replay;
-use span_id::Meta;
-use span_layers::{Form, Hooks, Note, Rule, admits};
 use std::alloc::{AllocError, Global};
 use std::io;
 use std::io::{ErrorKind, Read, Write};
@@ -378,33 +370,6 @@ fn a_flush_that_fails_ends_the_run(rt: HostRuntime) -> io::Result<()> {
         assert!(rt; taken.as_slice() == text.as_bytes(), "at {script}");
         assert_eq!(rt; ended.as_str(), "device: write failed");
     }
-    Ok(())
-}
-
-#[test]
-fn a_formatter_without_memory_ends_the_run(rt: HostRuntime) -> io::Result<()> {
-    let alloc = rt.alloc();
-    let admit = Box::new(
-        alloc,
-        |rule: &Rule, meta: &Meta| -> bool
-            ensures { result
-                ≡ is_admitted (pairs_of rule.now) (string_bytes meta.now.target) meta.now.level }
-        { admits(rule, meta) },
-    )?;
-    let say = Box::new(
-        alloc,
-        |_alloc: Global, form: Form, note: &Note| -> Result<Vec<u8>, AllocError>
-            ensures { ForOk result (λ text. text.items ≡ text_of form (plain_note note.now)) }
-        { Err(AllocError) },
-    )?;
-    let mut hooks = Vec::new(alloc);
-    hooks.push(Hooks::new(admit, say))?;
-    let mut input = Counted::new(ONE_LAYER.as_bytes());
-    let mut taken = Vec::new(alloc);
-    let mut output = Counted::new(&mut taken);
-    let ended = told(alloc, replay(alloc, &mut input, &mut output, hooks))?;
-    assert!(rt; taken.as_slice() == "= layer 0\n".as_bytes());
-    assert_eq!(rt; ended.as_str(), "out of memory");
     Ok(())
 }
 
