@@ -1,5 +1,5 @@
 -- What goes out in a run, piece after piece.
-use Rattle.std.proofs.Common.{◌≡◌, ℕ, ◌+◌, ◌<◌, ◌≤◌, List, [], ◌∷◌, ◌++◌, length, refl, ap, sym, ◌∙◌, subst, append_assoc, Option, Some, None, Result, Ok, Err, IfSome, IfErr, arith, length-append}
+use Rattle.std.proofs.Common.{◌≡◌, ℕ, ◌+◌, ◌<◌, List, [], ◌∷◌, ◌++◌, length, refl, ap, sym, ◌∙◌, subst, append_assoc, Option, Some, None, Result, Ok, Err, IfSome, IfErr, arith, length-append}
 use Rattle.std.specs.Io.KnownBytes.{Appends, Consumes, Keeps}
 use Rattle.std.proofs.KnownBytes.{Appends-nil, Appends-trans, Appends-kept, Keeps-refl}
 use Rattle.std.proofs.lemmas.Bool.{lt-leb}
@@ -7,7 +7,7 @@ use Rattle.tracerun.specs.Device.{AppendsFront, ReadFails}
 use Rattle.tracerun.specs.Meaning.{Turn, Transcript, faulty, after, turned, run, meaning, line_turn, last_part}
 use Rattle.tracerun.specs.Replayed.{Fails, Runs, KeepsUnread}
 use Rattle.tracerun.specs.Script.{lines_of, most_bytes}
-use Rattle.tracerun.specs.State.{State, first_state}
+use Rattle.tracerun.specs.State.{State}
 use Rattle.tracerun.specs.Turns.{HasTurned, TurnFails, Sent}
 use Rattle.tracerun.specs.declared.fault.RunFault.{RunFault}
 use Rattle.tracerun.specs.declared.fault.RunFault.TheVariants.{Script, Memory, Device}
