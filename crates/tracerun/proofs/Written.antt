@@ -1,13 +1,13 @@
 -- What goes out in a run, piece after piece.
-use Rattle.std.proofs.Common.{◌≡◌, ℕ, ◌+◌, ◌<◌, ◌≤◌, List, [], ◌∷◌, ◌++◌, length, refl, ap, sym, ◌∙◌, subst, append_assoc, append-nil, Option, Some, None, Result, Ok, Err, IfSome, IfErr, arith, length-append}
+use Rattle.std.proofs.Common.{◌≡◌, ℕ, ◌+◌, ◌<◌, List, [], ◌∷◌, ◌++◌, length, refl, ap, sym, ◌∙◌, subst, append_assoc, Option, Some, None, Result, Ok, Err, IfSome, IfErr, arith, length-append}
 use Rattle.std.specs.Io.KnownBytes.{Appends, Consumes, Keeps}
 use Rattle.std.proofs.KnownBytes.{Appends-nil, Appends-trans, Appends-kept, Keeps-refl}
-use Rattle.std.proofs.lemmas.Bool.{le-leb, lt-leb}
+use Rattle.std.proofs.lemmas.Bool.{lt-leb}
 use Rattle.tracerun.specs.Device.{AppendsFront, ReadFails}
 use Rattle.tracerun.specs.Meaning.{Turn, Transcript, faulty, after, turned, run, meaning, line_turn, last_part}
 use Rattle.tracerun.specs.Replayed.{Fails, Runs, KeepsUnread}
 use Rattle.tracerun.specs.Script.{lines_of, most_bytes}
-use Rattle.tracerun.specs.State.{State, first_state}
+use Rattle.tracerun.specs.State.{State}
 use Rattle.tracerun.specs.Turns.{HasTurned, TurnFails, Sent}
 use Rattle.tracerun.specs.declared.fault.RunFault.{RunFault}
 use Rattle.tracerun.specs.declared.fault.RunFault.TheVariants.{Script, Memory, Device}
@@ -23,9 +23,6 @@ Known = Option (List ℕ)
 
 pub front_none : (a b : Known) (text : List ℕ) → Keeps a b → AppendsFront a b text
 front_none a b text k = record { front = []; rest = text; whole = refl; taken = Appends-kept a a b [] (Appends-nil a) k }
-
-pub front_whole : (a b : Known) (text : List ℕ) → Appends a b text → AppendsFront a b text
-front_whole a b text p = record { front = text; rest = []; whole = sym (append-nil text); taken = p }
 
 pub front_after : (a b c : Known) (text more : List ℕ) → Appends a b text → AppendsFront b c more → AppendsFront a c (text ++ more)
 front_after a b c text more p q = record {
@@ -116,9 +113,6 @@ unfolding lines_of run
 loop_ends hooks number a b whole state rest s none = subst (λ xs. Sent a b whole (run hooks number state (lines_of xs))) none s
 
 -- ---- the whole script
-
-meaning_fits : (hooks : ℕ) (bytes : List ℕ) → length bytes ≤ most_bytes → meaning hooks bytes ≡ run hooks 1 first_state (lines_of bytes)
-meaning_fits hooks bytes h = rw (le-leb (length bytes) most_bytes h) refl
 
 meaning_long : (hooks : ℕ) (bytes : List ℕ) → most_bytes < length bytes → meaning hooks bytes ≡ record { text = []; ending = faulty 0 TooLong }
 meaning_long hooks bytes h = rw (lt-leb (length bytes) most_bytes h) refl
