@@ -31,7 +31,13 @@ pub(crate) fn hooks(alloc: Global, has_memory: bool) -> Result<Hooks, AllocError
         alloc,
         move |alloc: Global, form: Form, note: &Note| -> Result<Vec<u8>, AllocError>
             ensures { ForOk result (λ text. text.items ≡ text_of form (plain_note note.now)) }
-        { if has_memory { text(alloc, form, note) } else { Err(AllocError) } },
+        {
+            if has_memory {
+                text(alloc, form, note)
+            } else {
+                Err(AllocError)
+            }
+        },
     )?;
     Ok(Hooks::new(admit, say))
 }
@@ -74,14 +80,23 @@ fn layers_take_the_hooks_in_their_order(rt: HostRuntime) -> io::Result<()> {
     let mut all = Vec::new(alloc);
     all.push(hooks(alloc, true)?)?;
     all.push(hooks(alloc, false)?)?;
-    assert!(rt; runs_so(alloc, TWO_LAYERS, all, "= layer 0\n= layer 1\n", "out of memory")?);
+    assert!(rt;
+        runs_so(
+            alloc,
+            TWO_LAYERS,
+            all,
+            "= layer 0\n= layer 1\n",
+            "out of memory"
+        )?
+    );
     Ok(())
 }
 
 #[test]
 fn no_layer_is_there_without_hooks(rt: HostRuntime) -> io::Result<()> {
     let alloc = rt.alloc();
-    let text = "= layer 0\n! too many layers\nL0 new 1 w0 a\n= 1\nL0 close 1 w0 a\n= closed\nleft 0\n";
+    let text =
+        "= layer 0\n! too many layers\nL0 new 1 w0 a\n= 1\nL0 close 1 w0 a\n= closed\nleft 0\n";
     let mut all = Vec::new(alloc);
     all.push(hooks(alloc, true)?)?;
     assert!(rt; runs_so(alloc, TWO_LAYERS, all, text, "0")?);
