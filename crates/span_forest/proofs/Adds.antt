@@ -9,8 +9,8 @@ use Rattle.span_slots.specs.Table.{value_at, with_value, with_entry}
 use Rattle.span_forest.specs.declared.span.Span.{Span}
 use Rattle.span_forest.specs.Node.{Node, node_of}
 use Rattle.span_forest.specs.Spans.{Spans, find, IsOpen, parent_in, parent_of, AreApart, with_node, nodes_of}
-use Rattle.span_forest.specs.Count.{is_some_id, children, holders, holders_in, written_count}
-use Rattle.span_forest.specs.Invariant.{AreCounted, IsSettled, IsConsistent, counts_more}
+use Rattle.span_forest.specs.Count.{is_some_id, children, holders, holders_in, reference_count}
+use Rattle.span_forest.specs.inside.Invariant.{AreCounted, IsSettled, IsConsistent, counts_more}
 use Rattle.span_forest.proofs.Ranks.{IsRanked, ranked}
 use Rattle.span_forest.proofs.Walks.{forest_from}
 use Rattle.span_forest.proofs.Finds.{child_exists, is_some_id_same}
@@ -181,14 +181,14 @@ module _ (es : List (ℕ × Span)) (id : ℕ) (span : Span) (w : IsSettled es) (
   absent_node : find (nodes_of es) id ≡ None
   absent_node = find-nodes es id ∙ ap (option_map node_of) absent
 
-  pub written_new : (is_some_id span.parent id ≡ false) → written_count (with_node (nodes_of es) id (node_of span)) id ≡ span.count
+  pub written_new : (is_some_id span.parent id ≡ false) → reference_count (with_node (nodes_of es) id (node_of span)) id ≡ span.count
   written_new own =
       let a = ap holders_in (find-with_same (nodes_of es) id (node_of span) absent_node) in
       let b = rw own at (children-with (nodes_of es) id id (node_of span)) in
       let z = no_children (nodes_of es) id (ranked (nodes_of es) w.forest) absent_node in
       omega arith
 
-  pub written_old : (j : ℕ) → j ≢ id → written_count (with_node (nodes_of es) id (node_of span)) j ≡ written_count (nodes_of es) j + cond (is_some_id span.parent j) 1 0
+  pub written_old : (j : ℕ) → j ≢ id → reference_count (with_node (nodes_of es) id (node_of span)) j ≡ reference_count (nodes_of es) j + cond (is_some_id span.parent j) 1 0
   written_old j ne =
       let a = ap holders_in (find-with_other (nodes_of es) id j (node_of span) ne) in
       let b = children-with (nodes_of es) id j (node_of span) in

@@ -3,20 +3,20 @@ use Rattle.std.proofs.Common.{◌≡◌, ◌≢◌, ℕ, ◌+◌, ◌-◌, ◌<�
 use Rattle.std.specs.Option.{option_map}
 use Rattle.std.proofs.lemmas.Bool.Decides.{eqb_tells}
 use Rattle.std.proofs.lemmas.Bool.{ne_eqb}
-use Rattle.span_slots.specs.Table.{Table, value_at, with_value, without_entry, removed, freed_with}
+use Rattle.span_slots.specs.Table.{Table, value_at, with_value, without_entry, table_removed, freed_with}
 use Rattle.span_id.specs.Id.{slot_of}
 use Rattle.span_forest.specs.declared.span.Span.{Span}
 use Rattle.span_forest.specs.declared.span.Holder.{Holder}
 use Rattle.span_forest.specs.declared.span.Holder.TheVariants.{Handle, Entry}
 use Rattle.span_forest.specs.Node.{Node, node_of}
-use Rattle.span_forest.specs.Spans.{Spans, find, IsOpen, parent_in, parent_of, changed, AreApart, nodes_of}
-use Rattle.span_forest.specs.Count.{is_some_id, children, holders, holders_in, written_count}
+use Rattle.span_forest.specs.Spans.{Spans, find, IsOpen, parent_in, parent_of, with_change, AreApart, nodes_of}
+use Rattle.span_forest.specs.Count.{is_some_id, children, holders, holders_in, reference_count}
 use Rattle.span_forest.specs.Forest.{ForestView}
 use Rattle.span_forest.specs.Holders.{held_by, held_in, IsHeld, with_less, with_more}
-use Rattle.span_forest.specs.Keep.{kept}
-use Rattle.span_forest.specs.Release.{taken, freed_after, released, closing_list}
-use Rattle.span_forest.specs.Invariant.{AreCounted, IsSettled, IsConsistent, span_less, span_more}
-use Rattle.span_forest.specs.Chain.{without, without_all, Chain, IsPending}
+use Rattle.span_forest.specs.Keep.{with_holder}
+use Rattle.span_forest.specs.Release.{without_holder, freed_after, spans_left, closing_list}
+use Rattle.span_forest.specs.inside.Invariant.{AreCounted, IsSettled, IsConsistent, span_less, span_more}
+use Rattle.span_forest.specs.inside.Chain.{without, without_all, Chain, IsPending}
 use Rattle.span_forest.proofs.Ranks.{IsRanked}
 use Rattle.span_forest.specs.Forest.{IsForest}
 use Rattle.span_forest.proofs.Finds.{no_child, is_some_id_same, find-without_other, find-without_same, AreApart-without}
@@ -57,7 +57,7 @@ value_at-without_same (e ∷ es) id =
     elim (eqb_tells e.0 id) [ inl t ↦ rw t.0 r | inr t ↦ rw (t.0, t.0) r ]
 
 -- a write of a node that f makes of the old one
-written_absent : (f : Node → Node) (es : List (ℕ × Span)) (id : ℕ) (new : Span) → find (nodes_of es) id ≡ None → nodes_of (with_value es id new) ≡ changed f (nodes_of es) id
+written_absent : (f : Node → Node) (es : List (ℕ × Span)) (id : ℕ) (new : Span) → find (nodes_of es) id ≡ None → nodes_of (with_value es id new) ≡ with_change f (nodes_of es) id
 written_absent f [] id new h = refl
 written_absent f (e ∷ es) id new h =
     elim (eqb_tells e.0 id) [
@@ -65,7 +65,7 @@ written_absent f (e ∷ es) id new h =
       | inr t ↦ (let r = written_absent f es id new (rw t.0 at h) in rw (t.0, r) refl)
     ]
 
-pub nodes-written : (f : Node → Node) (es : List (ℕ × Span)) (id : ℕ) (span new : Span) → AreApart (nodes_of es) → value_at es id ≡ Some span → node_of new ≡ f (node_of span) → nodes_of (with_value es id new) ≡ changed f (nodes_of es) id
+pub nodes-written : (f : Node → Node) (es : List (ℕ × Span)) (id : ℕ) (span new : Span) → AreApart (nodes_of es) → value_at es id ≡ Some span → node_of new ≡ f (node_of span) → nodes_of (with_value es id new) ≡ with_change f (nodes_of es) id
 nodes-written f [] id span new a h k = cc
 nodes-written f (e ∷ es) id span new a h k =
     elim (eqb_tells e.0 id) [
@@ -77,7 +77,7 @@ nodes-written f (e ∷ es) id span new a h k =
       | inr t ↦ (let r = nodes-written f es id span new a.1 (rw t.0 at h) k in rw (t.0, r) refl)
     ]
 
-pub changed_none : (spans : Spans) (id : ℕ) → changed (λ n. n) spans id ≡ spans
+pub changed_none : (spans : Spans) (id : ℕ) → with_change (λ n. n) spans id ≡ spans
 changed_none [] id = refl
 changed_none (e ∷ es) id =
     let r = changed_none es id in
@@ -94,7 +94,7 @@ count_less : (holder : Holder) (span : Span) → (span_less holder span).count �
 count_less Handle span = refl
 count_less Entry span = refl
 
-pub nodes_less : (es : List (ℕ × Span)) (id : ℕ) (holder : Holder) (span : Span) → AreApart (nodes_of es) → value_at es id ≡ Some span → nodes_of (with_value es id (span_less holder span)) ≡ taken (nodes_of es) id holder
+pub nodes_less : (es : List (ℕ × Span)) (id : ℕ) (holder : Holder) (span : Span) → AreApart (nodes_of es) → value_at es id ≡ Some span → nodes_of (with_value es id (span_less holder span)) ≡ without_holder (nodes_of es) id holder
 nodes_less es id holder span a h = nodes-written (with_less holder) es id span (span_less holder span) a h (node_less holder span)
 
 pub some_same : (a b : Span) (o : Option Span) → o ≡ Some a → o ≡ Some b → a ≡ b
@@ -154,7 +154,7 @@ counted_child es id p span up a a2 w h e np u j s f =
     ])
 
 -- what one closing leaves of a table
-removed_is : (t : Table Span) (id : ℕ) (span : Span) → value_at t.entries id ≡ Some span → removed t id ≡ record t { entries = without_entry t.entries id; freed = freed_with t (slot_of id) }
+removed_is : (t : Table Span) (id : ℕ) (span : Span) → value_at t.entries id ≡ Some span → table_removed t id ≡ record t { entries = without_entry t.entries id; freed = freed_with t (slot_of id) }
 removed_is t id span h = rw h refl
 
 pub record Closed (t new : Table Span) (id : ℕ) : Type 0 where
@@ -162,7 +162,7 @@ pub record Closed (t new : Table Span) (id : ℕ) : Type 0 where
   pub counted : AreCounted new.entries
   pub table : new ≡ record t { entries = new.entries; freed = freed_with t (slot_of id) }
 
-pub closed_root : (t less : Table Span) (id : ℕ) (span : Span) → IsRanked (nodes_of t.entries) → AreCounted t.entries → value_at t.entries id ≡ Some span → less ≡ removed t id → span.parent ≡ None → Closed t less id
+pub closed_root : (t less : Table Span) (id : ℕ) (span : Span) → IsRanked (nodes_of t.entries) → AreCounted t.entries → value_at t.entries id ≡ Some span → less ≡ table_removed t id → span.parent ≡ None → Closed t less id
 closed_root t less id span w c h e p =
     let q = e ∙ removed_is t id span h in
     let es = ap (λ x. x.entries) q in
@@ -173,7 +173,7 @@ closed_root t less id span w c h e p =
     })
 
 -- the parent is there, and counts the child
-pub parent_counts : (t less : Table Span) (id p : ℕ) (span : Span) → IsRanked (nodes_of t.entries) → AreCounted t.entries → written_count (nodes_of t.entries) id ≡ 0 → value_at t.entries id ≡ Some span → less ≡ removed t id → span.parent ≡ Some p → (up : Span) × (value_at less.entries p ≡ Some up) × (0 < up.count)
+pub parent_counts : (t less : Table Span) (id p : ℕ) (span : Span) → IsRanked (nodes_of t.entries) → AreCounted t.entries → reference_count (nodes_of t.entries) id ≡ 0 → value_at t.entries id ≡ Some span → less ≡ table_removed t id → span.parent ≡ Some p → (up : Span) × (value_at less.entries p ≡ Some up) × (0 < up.count)
 parent_counts t less id p span w c z h e k =
     let nodes = nodes_of t.entries in
     let par : parent_of nodes id ≡ Some p = ap parent_in (node_found t.entries id span h) ∙ k in
@@ -185,7 +185,7 @@ parent_counts t less id p span w c z h e k =
     let q = e ∙ removed_is t id span h in
     (up.0, ap (λ x. value_at x.entries p) q ∙ (value_at-without_other t.entries id p np ∙ up.1), omega arith)
 
-pub closed_child : (t less new : Table Span) (id p : ℕ) (span : Span) → IsRanked (nodes_of t.entries) → AreCounted t.entries → written_count (nodes_of t.entries) id ≡ 0 → value_at t.entries id ≡ Some span → less ≡ removed t id → span.parent ≡ Some p → ((up : Span) → value_at less.entries p ≡ Some up → new ≡ record less { entries = with_value less.entries p (record up { count = up.count - 1 }) }) → Closed t new id
+pub closed_child : (t less new : Table Span) (id p : ℕ) (span : Span) → IsRanked (nodes_of t.entries) → AreCounted t.entries → reference_count (nodes_of t.entries) id ≡ 0 → value_at t.entries id ≡ Some span → less ≡ table_removed t id → span.parent ≡ Some p → ((up : Span) → value_at less.entries p ≡ Some up → new ≡ record less { entries = with_value less.entries p (record up { count = up.count - 1 }) }) → Closed t new id
 closed_child t less new id p span w c z h e k lowered =
     let nodes = nodes_of t.entries in
     let up = parent_counts t less id p span w c z h e k in
@@ -218,7 +218,7 @@ freed_after_more : (last : ℕ) (given freed xs : List ℕ) (x : ℕ) → freed_
 freed_after_more last given freed [] x = refl
 freed_after_more last given freed (y ∷ ys) x = freed_after_more last given (cond (leb (get_or given (slot_of y) 0) last) (slot_of y ∷ freed) freed) ys x
 
-pub Closes_first : (t now : Table Span) (done rest : List ℕ) (x : ℕ) → Closes t now done (x ∷ rest) → IsForest (nodes_of now.entries) × IsOpen (nodes_of now.entries) x × (written_count (nodes_of now.entries) x ≡ 0)
+pub Closes_first : (t now : Table Span) (done rest : List ℕ) (x : ℕ) → Closes t now done (x ∷ rest) → IsForest (nodes_of now.entries) × IsOpen (nodes_of now.entries) x × (reference_count (nodes_of now.entries) x ≡ 0)
 Closes_first t now done rest x w = (w.pending.forest, w.pending.here x w.chain.0, w.chain.1)
 
 pub Closes_more : (t now new : Table Span) (done rest : List ℕ) (x : ℕ) → Closes t now done (x ∷ rest) → Closed now new x → Closes t new (done ++ x ∷ []) rest
@@ -251,7 +251,7 @@ children-without-le (e ∷ es) x j =
     let r = children-without-le es x j in
     elim (eqb_tells e.0 x) [ inl t ↦ rw t.0 (omega arith) | inr t ↦ rw t.0 (omega arith) ]
 
-written_without_le : (spans : Spans) (x j : ℕ) → written_count (without spans x) j ≤ written_count spans j
+written_without_le : (spans : Spans) (x j : ℕ) → reference_count (without spans x) j ≤ reference_count spans j
 written_without_le spans x j =
     let r = children-without-le spans x j in
     elim (eqb_tells j x) [
@@ -259,13 +259,13 @@ written_without_le spans x j =
       | inr t ↦ (let k = ap holders_in (find-without_other spans x j t.1) in omega arith)
     ]
 
-written_all_le : (xs : List ℕ) (spans : Spans) (j : ℕ) → written_count (without_all spans xs) j ≤ written_count spans j
+written_all_le : (xs : List ℕ) (spans : Spans) (j : ℕ) → reference_count (without_all spans xs) j ≤ reference_count spans j
 written_all_le [] spans j = omega arith
 written_all_le (x ∷ xs) spans j = let r = written_all_le xs (without spans x) j in let q = written_without_le spans x j in omega arith
 
-pub written_left_le : (spans : Spans) (id : ℕ) (holder : Holder) (xs : List ℕ) (j : ℕ) → IsHeld spans id holder → written_count (without_all (taken spans id holder) xs) j ≤ written_count spans j
+pub written_left_le : (spans : Spans) (id : ℕ) (holder : Holder) (xs : List ℕ) (j : ℕ) → IsHeld spans id holder → reference_count (without_all (without_holder spans id holder) xs) j ≤ reference_count spans j
 written_left_le spans id holder xs j h =
-    let r = written_all_le xs (taken spans id holder) j in
+    let r = written_all_le xs (without_holder spans id holder) j in
     elim (eqb_tells j id) [
       | inl t ↦ (let q = written-taken_same spans id holder h in let r2 = rw t.1 at r in rw t.1 (omega arith))
       | inr t ↦ (let q = written-taken_other spans id j holder t.1 in omega arith)
@@ -293,7 +293,7 @@ view_of t max = record { spans = nodes_of t.entries; slots = t.slots; last_gener
 view_same : {s1 s2 : Spans} {a1 a2 b1 b2 m : ℕ} {g1 g2 f1 f2 : List ℕ} → s1 ≡ s2 → a1 ≡ a2 → b1 ≡ b2 → g1 ≡ g2 → f1 ≡ f2 → ◌≡◌ {A = ForestView} (record { spans = s1; slots = a1; last_generation = b1; given = g1; freed = f1; max_count = m }) (record { spans = s2; slots = a2; last_generation = b2; given = g2; freed = f2; max_count = m })
 view_same p q r s t = cc
 
-pub release_view : (t new : Table Span) (max id : ℕ) (holder : Holder) (ys : List ℕ) → new ≡ record t { entries = new.entries; freed = freed_after t.last_generation t.given t.freed ys } → nodes_of new.entries ≡ released (nodes_of t.entries) id holder → ys ≡ closing_list (nodes_of t.entries) id holder → view_of new max ≡ record (view_of t max) { spans = released (nodes_of t.entries) id holder; freed = freed_after t.last_generation t.given t.freed (closing_list (nodes_of t.entries) id holder) }
+pub release_view : (t new : Table Span) (max id : ℕ) (holder : Holder) (ys : List ℕ) → new ≡ record t { entries = new.entries; freed = freed_after t.last_generation t.given t.freed ys } → nodes_of new.entries ≡ spans_left (nodes_of t.entries) id holder → ys ≡ closing_list (nodes_of t.entries) id holder → view_of new max ≡ record (view_of t max) { spans = spans_left (nodes_of t.entries) id holder; freed = freed_after t.last_generation t.given t.freed (closing_list (nodes_of t.entries) id holder) }
 release_view t new max id holder ys e n l =
     let a = ap (λ (u : Table Span). u.slots) e in
     let b = ap (λ (u : Table Span). u.last_generation) e in
@@ -317,7 +317,7 @@ more_holders : (holder : Holder) (n : Node) → holders (with_more holder n) ≡
 more_holders Handle n = omega arith
 more_holders Entry n = omega arith
 
-written-kept_same : (spans : Spans) (id : ℕ) (node : Node) (holder : Holder) → find spans id ≡ Some node → written_count (kept spans id holder) id ≡ written_count spans id + 1
+written-kept_same : (spans : Spans) (id : ℕ) (node : Node) (holder : Holder) → find spans id ≡ Some node → reference_count (with_holder spans id holder) id ≡ reference_count spans id + 1
 written-kept_same spans id node holder f =
     let a = ap holders_in (find-changed_same (with_more holder) spans id ∙ ap (option_map (with_more holder)) f) in
     let b = more_holders holder node in
@@ -325,13 +325,13 @@ written-kept_same spans id node holder f =
     let d = children-changed (with_more holder) (with_more-parent holder) spans id id in
     omega arith
 
-written-kept_other : (spans : Spans) (id j : ℕ) (holder : Holder) → j ≢ id → written_count (kept spans id holder) j ≡ written_count spans j
+written-kept_other : (spans : Spans) (id j : ℕ) (holder : Holder) → j ≢ id → reference_count (with_holder spans id holder) j ≡ reference_count spans j
 written-kept_other spans id j holder ne =
     let a = ap holders_in (find-changed_other (with_more holder) spans id j ne) in
     let d = children-changed (with_more holder) (with_more-parent holder) spans id j in
     omega arith
 
-pub nodes_more : (es : List (ℕ × Span)) (id : ℕ) (holder : Holder) (span : Span) → AreApart (nodes_of es) → value_at es id ≡ Some span → nodes_of (with_value es id (span_more holder span)) ≡ kept (nodes_of es) id holder
+pub nodes_more : (es : List (ℕ × Span)) (id : ℕ) (holder : Holder) (span : Span) → AreApart (nodes_of es) → value_at es id ≡ Some span → nodes_of (with_value es id (span_more holder span)) ≡ with_holder (nodes_of es) id holder
 nodes_more es id holder span a h = nodes-written (with_more holder) es id span (span_more holder span) a h (node_more holder span)
 
 -- a forest with one more holder
@@ -368,7 +368,7 @@ IsConsistent-kept es max total more id holder span w h low one =
       max_high = w.max_high;
     }
 
-pub kept_view : (t new : Table Span) (max id : ℕ) (holder : Holder) (es : List (ℕ × Span)) → new ≡ record t { entries = es } → nodes_of es ≡ kept (nodes_of t.entries) id holder → view_of new max ≡ record (view_of t max) { spans = kept (nodes_of t.entries) id holder }
+pub kept_view : (t new : Table Span) (max id : ℕ) (holder : Holder) (es : List (ℕ × Span)) → new ≡ record t { entries = es } → nodes_of es ≡ with_holder (nodes_of t.entries) id holder → view_of new max ≡ record (view_of t max) { spans = with_holder (nodes_of t.entries) id holder }
 kept_view t new max id holder es e n = ap (λ (u : Table Span). view_of u max) e ∙ view_same n refl refl refl refl
 
 part : (holder : Holder) (span : Span) → held_by holder (node_of span) ≤ holders (node_of span)
@@ -376,7 +376,7 @@ part Handle span = omega arith
 part Entry span = omega arith
 
 -- each kind of holder is part of the count
-pub held_part : (es : List (ℕ × Span)) (id : ℕ) (holder : Holder) → IsSettled es → IsHeld (nodes_of es) id Handle → (span : Span) × (value_at es id ≡ Some span) × ((held_by holder (node_of span) ≤ span.count) × (span.count ≡ written_count (nodes_of es) id))
+pub held_part : (es : List (ℕ × Span)) (id : ℕ) (holder : Holder) → IsSettled es → IsHeld (nodes_of es) id Handle → (span : Span) × (value_at es id ≡ Some span) × ((held_by holder (node_of span) ≤ span.count) × (span.count ≡ reference_count (nodes_of es) id))
 held_part es id holder w h =
     let o = held_open (nodes_of es) id Handle h in
     let s = value_of_open es id o in
@@ -399,7 +399,7 @@ less_by_one Handle node h = omega arith
 less_by_one Entry node h = omega arith
 
 -- one holder less is held in all
-pub total-taken : (es : List (ℕ × Span)) (id : ℕ) (holder : Holder) → IsSettled es → IsHeld (nodes_of es) id holder → total_held (taken (nodes_of es) id holder) + 1 ≡ total_held (nodes_of es)
+pub total-taken : (es : List (ℕ × Span)) (id : ℕ) (holder : Holder) → IsSettled es → IsHeld (nodes_of es) id holder → total_held (without_holder (nodes_of es) id holder) + 1 ≡ total_held (nodes_of es)
 total-taken es id holder w h =
     let s = held_counts es id holder w h in
     let q = total-changed (with_less holder) (nodes_of es) id (node_of s.0) w.forest.ids_apart (node_found es id s.0 s.1) in
@@ -410,7 +410,7 @@ total-taken es id holder w h =
 total-closed : (xs : List ℕ) (spans : Spans) (o : Option ℕ) → AreApart spans → Chain spans o xs → total_held (without_all spans xs) ≡ total_held spans
 total-closed [] spans o a c = refl
 total-closed (x ∷ xs) spans o a c =
-    let z : written_count spans x ≡ 0 = c.1 in
+    let z : reference_count spans x ≡ 0 = c.1 in
     total-closed xs (without spans x) (parent_of spans x) (AreApart-without spans x a) c.2 ∙ total-without spans x a (omega arith)
 
 length-without-le : (spans : Spans) (x : ℕ) → length (without spans x) ≤ length spans
@@ -424,18 +424,18 @@ length-closed-le [] spans = omega arith
 length-closed-le (x ∷ xs) spans = let r = length-closed-le xs (without spans x) in let q = length-without-le spans x in omega arith
 
 -- a forest after a release
-pub IsConsistent-released : (es new : List (ℕ × Span)) (max total : ℕ) (id : ℕ) (holder : Holder) (xs : List ℕ) → IsConsistent es max total → IsHeld (nodes_of es) id holder → Chain (taken (nodes_of es) id holder) (Some id) xs → IsSettled new → nodes_of new ≡ without_all (taken (nodes_of es) id holder) xs → IsConsistent new max (total - 1)
+pub IsConsistent-released : (es new : List (ℕ × Span)) (max total : ℕ) (id : ℕ) (holder : Holder) (xs : List ℕ) → IsConsistent es max total → IsHeld (nodes_of es) id holder → Chain (without_holder (nodes_of es) id holder) (Some id) xs → IsSettled new → nodes_of new ≡ without_all (without_holder (nodes_of es) id holder) xs → IsConsistent new max (total - 1)
 IsConsistent-released es new max total id holder xs w h c s n =
     let spans = nodes_of es in
     let p = (Along_none es id holder w.settled h).pending in
     let one = total-taken es id holder w.settled h in
-    let rest = total-closed xs (taken spans id holder) (Some id) p.forest.ids_apart c in
+    let rest = total-closed xs (without_holder spans id holder) (Some id) p.forest.ids_apart c in
     let t = w.total_is in
     record {
       settled = s;
       bounded = λ j. (let a = written_left_le spans id holder xs j h in let b = w.bounded j in rw n (omega arith));
       total_is = rw n (omega arith);
-      few = (let a = ap length n in let b = length-nodes es in let d = length-nodes new in let e = length-changed (with_less holder) spans id in let f = length-closed-le xs (taken spans id holder) in let q = w.few in omega arith);
+      few = (let a = ap length n in let b = length-nodes es in let d = length-nodes new in let e = length-changed (with_less holder) spans id in let f = length-closed-le xs (without_holder spans id holder) in let q = w.few in omega arith);
       max_low = w.max_low;
       max_high = w.max_high;
     }

@@ -9,7 +9,7 @@ use Rattle.span_forest.specs.Walk.{walk_within, walk}
 use Rattle.span_forest.specs.Forest.{IsForest}
 use Rattle.span_forest.specs.Live.{is_live}
 use Rattle.span_forest.specs.Holders.{with_less}
-use Rattle.span_forest.specs.Release.{taken, closing_list}
+use Rattle.span_forest.specs.Release.{without_holder, closing_list}
 use Rattle.span_forest.proofs.Ranks.{IsRanked, ranked}
 use Rattle.span_forest.proofs.Nodes.{with_less-parent, parent_of-changed, IsForest-changed}
 
@@ -44,13 +44,13 @@ walk_once spans forest id =
     AllPairs-weaker _ (λ first later. first ≢ later) (apart_by_rank w.rank) (walk spans id) (walk_falls spans w (length spans) (Some id))
 
 module _ (spans : Spans) (forest : IsForest spans) (id : ℕ) (holder : Holder) where
-  left : IsRanked (taken spans id holder)
-  left = ranked (taken spans id holder) (IsForest-changed (with_less holder) (with_less-parent holder) spans id forest)
+  left : IsRanked (without_holder spans id holder)
+  left = ranked (without_holder spans id holder) (IsForest-changed (with_less holder) (with_less-parent holder) spans id forest)
 
   list_falls : AllPairs (λ first later. left.rank later < left.rank first) (closing_list spans id holder)
   list_falls =
-      AllPairs-filter (λ first later. left.rank later < left.rank first) (λ s. not (is_live (taken spans id holder) s)) (walk (taken spans id holder) id)
-      (walk_falls (taken spans id holder) left (length (taken spans id holder)) (Some id))
+      AllPairs-filter (λ first later. left.rank later < left.rank first) (λ s. not (is_live (without_holder spans id holder) s)) (walk (without_holder spans id holder) id)
+      (walk_falls (without_holder spans id holder) left (length (without_holder spans id holder)) (Some id))
 
   pub list_once : AllPairs (λ first later. first ≢ later) (closing_list spans id holder)
   list_once = AllPairs-weaker _ (λ first later. first ≢ later) (apart_by_rank left.rank) (closing_list spans id holder) list_falls

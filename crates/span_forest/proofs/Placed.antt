@@ -6,15 +6,15 @@ use Rattle.std.proofs.lemmas.Bool.{ne_eqb, cases_Bool}
 use Rattle.span_id.specs.Id.{slot_of, generation_of}
 use Rattle.span_id.specs.declared.fault.Fault.{Fault}
 use Rattle.span_id.specs.declared.fault.Fault.TheVariants.{Unknown, CountFull, Full, NotEntered, TooManyLayers, BadName, Backlog, BadLimits, Memory}
-use Rattle.span_slots.specs.Table.{Table, value_at, with_value, with_entry, issue, id_at, inserted, next_id, next_slot, IsIssued}
+use Rattle.span_slots.specs.Table.{Table, value_at, with_value, with_entry, issue, id_at, table_inserted, next_id, next_slot, IsIssued}
 use Rattle.span_slots.specs.Change.{Insert, after, inserted_in}
 use Rattle.span_forest.specs.declared.span.Span.{Span}
 use Rattle.span_forest.specs.Node.{node_of}
 use Rattle.span_forest.specs.Spans.{find, IsOpen, AreApart, with_node, nodes_of}
-use Rattle.span_forest.specs.Count.{holders, is_some_id, written_count}
+use Rattle.span_forest.specs.Count.{holders, is_some_id, reference_count}
 use Rattle.span_forest.specs.Forest.{IsForest, ForestView}
 use Rattle.span_forest.specs.Add.{WhyNoChild, WhyNotAdded, HasRoomAbove, IsNew}
-use Rattle.span_forest.specs.Invariant.{IsSettled, IsConsistent, counts_more}
+use Rattle.span_forest.specs.inside.Invariant.{IsSettled, IsConsistent, counts_more}
 use Rattle.span_forest.proofs.Ranks.{ranked}
 use Rattle.span_forest.proofs.Walks.{forest_from}
 use Rattle.span_forest.proofs.Finds.{is_some_id_true}
@@ -38,7 +38,7 @@ entry_in t mid id span (Some slot) h e =
     let same : id_at t slot ≡ id = cc in
     ap (λ (x : Table Span). x.entries) e ∙ ap (λ i. with_entry t.entries i span) same
 
-pub stored_is : (t mid : Table Span) (id : ℕ) (span : Span) → next_id t ≡ Some id → mid ≡ inserted t (slot_of id) span → mid ≡ after t (Insert span) → mid ≡ stored t id span
+pub stored_is : (t mid : Table Span) (id : ℕ) (span : Span) → next_id t ≡ Some id → mid ≡ table_inserted t (slot_of id) span → mid ≡ after t (Insert span) → mid ≡ stored t id span
 stored_is t mid id span h e a =
     let entries = entry_in t mid id span (next_slot t) h a in
     e ∙ ap (λ es. record t { entries = es; given = issue t.given (slot_of id); freed = drop 1 t.freed }) (sym (ap (λ (x : Table Span). x.entries) e) ∙ entries)
@@ -87,7 +87,7 @@ module _ (t : Table Span) (id : ℕ) (span : Span) (w : IsSettled t.entries) (ab
   forest_with : ((p : ℕ) → span.parent ≡ Some p → IsOpen (nodes_of t.entries) p) → IsForest (with_node (nodes_of t.entries) id (node_of span))
   forest_with par = forest_from (with_node (nodes_of t.entries) id (node_of span)) (IsRanked-with (nodes_of t.entries) id (node_of span) (ranked (nodes_of t.entries) w.forest) absent_node par)
 
-  positive_with : is_some_id span.parent id ≡ false → (j : ℕ) → IsOpen (with_node (nodes_of t.entries) id (node_of span)) j → 0 < written_count (with_node (nodes_of t.entries) id (node_of span)) j
+  positive_with : is_some_id span.parent id ≡ false → (j : ℕ) → IsOpen (with_node (nodes_of t.entries) id (node_of span)) j → 0 < reference_count (with_node (nodes_of t.entries) id (node_of span)) j
   positive_with own j o =
       elim (eqb_tells j id) [
         | inl q ↦ (let n = written_new t.entries id span w absent (one_count span fresh) own in let c = fresh.count in rw q.1 (omega arith))

@@ -4,12 +4,12 @@ use Rattle.std.proofs.lemmas.Bool.Decides.{nat_tests, eqb_tells}
 use Rattle.std.proofs.lemmas.Bool.{cases_Bool, false≢true}
 use Rattle.span_forest.specs.declared.span.Holder.{Holder}
 use Rattle.span_forest.specs.Node.{Node}
-use Rattle.span_forest.specs.Spans.{Spans, find, IsOpen, parent_of, changed}
+use Rattle.span_forest.specs.Spans.{Spans, find, IsOpen, parent_of, with_change}
 use Rattle.span_forest.specs.Walk.{walk_within, walk}
-use Rattle.span_forest.specs.Count.{holders, is_held, holders_in, written_count}
+use Rattle.span_forest.specs.Count.{holders, is_held, holders_in, reference_count}
 use Rattle.span_forest.specs.Live.{stands_in, is_live, live_part}
 use Rattle.span_forest.specs.Holders.{with_less}
-use Rattle.span_forest.specs.Release.{taken, closing_list, released}
+use Rattle.span_forest.specs.Release.{without_holder, closing_list, spans_left}
 use Rattle.span_forest.specs.Forest.{IsForest}
 use Rattle.span_forest.proofs.Finds.{open_from_node}
 use Rattle.span_forest.proofs.Ranks.{IsRanked, ranked}
@@ -108,15 +108,15 @@ on_walk_open : (spans : Spans) → IsRanked spans → (u s : ℕ) → OnWalk spa
 on_walk_open spans w u s here o = o
 on_walk_open spans w u s (above p e r) o = on_walk_open spans w p s r (w.parents_open u p e)
 
-OnWalk-changed : (f : Node → Node) → ((n : Node) → (f n).parent ≡ n.parent) → (spans : Spans) (id u s : ℕ) → OnWalk spans u s → OnWalk (changed f spans id) u s
+OnWalk-changed : (f : Node → Node) → ((n : Node) → (f n).parent ≡ n.parent) → (spans : Spans) (id u s : ℕ) → OnWalk spans u s → OnWalk (with_change f spans id) u s
 OnWalk-changed f k spans id u s here = here
 OnWalk-changed f k spans id u s (above p e r) = above p (parent_of-changed f k spans id u ∙ e) (OnWalk-changed f k spans id p s r)
 
-walk_same : (f : Node → Node) → ((n : Node) → (f n).parent ≡ n.parent) → (spans : Spans) (id n : ℕ) (o : Option ℕ) → walk_within n (changed f spans id) o ≡ walk_within n spans o
+walk_same : (f : Node → Node) → ((n : Node) → (f n).parent ≡ n.parent) → (spans : Spans) (id n : ℕ) (o : Option ℕ) → walk_within n (with_change f spans id) o ≡ walk_within n spans o
 walk_same f k spans id n None = refl
 walk_same f k spans id zero (Some i) = refl
 walk_same f k spans id (suc n) (Some i) =
-    ap (λ o. i ∷ walk_within n (changed f spans id) o) (parent_of-changed f k spans id i) ∙ ap (λ v. i ∷ v) (walk_same f k spans id n (parent_of spans i))
+    ap (λ o. i ∷ walk_within n (with_change f spans id) o) (parent_of-changed f k spans id i) ∙ ap (λ v. i ∷ v) (walk_same f k spans id n (parent_of spans i))
 
 filter_none : (q : ℕ → Bool) (spans : Spans) → ((c p : ℕ) → parent_of spans c ≡ Some p → q c ≡ false → q p ≡ false) → (n : ℕ) (o : Option ℕ) → ((i : ℕ) → o ≡ Some i → q i ≡ false) → filter q (walk_within n spans o) ≡ []
 filter_none q spans up n None h = refl
@@ -138,41 +138,41 @@ filter_first q spans up (suc n) (Some i) =
 dead_parent : (spans : Spans) → IsRanked spans → (c p : ℕ) → parent_of spans c ≡ Some p → not (is_live spans c) ≡ false → not (is_live spans p) ≡ false
 dead_parent spans w c p e h = rw (parent_live spans c p w e (not_false (is_live spans c) h)) refl
 
-module _ (spans : Spans) (forest : IsForest spans) (positive : (j : ℕ) → IsOpen spans j → 0 < written_count spans j) (id : ℕ) (holder : Holder) where
-  left_ranked : IsRanked (taken spans id holder)
-  left_ranked = ranked (taken spans id holder) (IsForest-changed (with_less holder) (with_less-parent holder) spans id forest)
+module _ (spans : Spans) (forest : IsForest spans) (positive : (j : ℕ) → IsOpen spans j → 0 < reference_count spans j) (id : ℕ) (holder : Holder) where
+  left_ranked : IsRanked (without_holder spans id holder)
+  left_ranked = ranked (without_holder spans id holder) (IsForest-changed (with_less holder) (with_less-parent holder) spans id forest)
 
-  listed_dead : (s : ℕ) → stands_in s (closing_list spans id holder) ≡ true → is_live (taken spans id holder) s ≡ false
-  listed_dead s h = not_true (is_live (taken spans id holder) s) (filtered (λ x. not (is_live (taken spans id holder) x)) s (walk (taken spans id holder) id) h)
+  listed_dead : (s : ℕ) → stands_in s (closing_list spans id holder) ≡ true → is_live (without_holder spans id holder) s ≡ false
+  listed_dead s h = not_true (is_live (without_holder spans id holder) s) (filtered (λ x. not (is_live (without_holder spans id holder) x)) s (walk (without_holder spans id holder) id) h)
 
   -- a span that keeps a holder isn't listed
-  pub holder_spared : (s : ℕ) → 0 < holders_in (find (taken spans id holder) s) → IsTrue (stands_in s (closing_list spans id holder)) → ⊥
-  holder_spared s h t = both _ (held_live (taken spans id holder) s left_ranked h) (listed_dead s t)
+  pub holder_spared : (s : ℕ) → 0 < holders_in (find (without_holder spans id holder) s) → IsTrue (stands_in s (closing_list spans id holder)) → ⊥
+  holder_spared s h t = both _ (held_live (without_holder spans id holder) s left_ranked h) (listed_dead s t)
 
   -- nor is one with a child that stays open
-  pub child_spared : (child parent : ℕ) → parent_of spans child ≡ Some parent → IsOpen (released spans id holder) child → IsTrue (stands_in parent (closing_list spans id holder)) → ⊥
+  pub child_spared : (child parent : ℕ) → parent_of spans child ≡ Some parent → IsOpen (spans_left spans id holder) child → IsTrue (stands_in parent (closing_list spans id holder)) → ⊥
   child_spared child parent e o t =
-      let m = taken spans id holder in
+      let m = without_holder spans id holder in
       let e2 : parent_of m child ≡ Some parent = parent_of-changed (with_less holder) (with_less-parent holder) spans id child ∙ e in
       both _ (parent_live m child parent left_ranked e2 (kept_passes (is_live m) m child o)) (listed_dead parent t)
 
-  listed_gone : (s : ℕ) → IsTrue (stands_in s (closing_list spans id holder)) → find (released spans id holder) s ≡ None
+  listed_gone : (s : ℕ) → IsTrue (stands_in s (closing_list spans id holder)) → find (spans_left spans id holder) s ≡ None
   listed_gone s t =
-      let m = taken spans id holder in
+      let m = without_holder spans id holder in
       not_some (find (live_part m) s) (λ o. both _ (kept_passes (is_live m) m s o) (listed_dead s t))
 
-  gone_dead : (s : ℕ) → IsOpen spans s → find (released spans id holder) s ≡ None → is_live (taken spans id holder) s ≡ false
+  gone_dead : (s : ℕ) → IsOpen spans s → find (spans_left spans id holder) s ≡ None → is_live (without_holder spans id holder) s ≡ false
   gone_dead s o h =
-      let m = taken spans id holder in
+      let m = without_holder spans id holder in
       elim (cases_Bool (is_live m s)) [
         | inl t ↦ absurd (none_open (find m s) (sym (passing_kept (is_live m) m s t) ∙ h) (changed_open (with_less holder) spans id s o))
         | inr t ↦ t
       ]
 
   -- an open span that is dead without the holder is listed
-  dead_listed : (s : ℕ) → IsOpen spans s → is_live (taken spans id holder) s ≡ false → IsTrue (stands_in s (closing_list spans id holder))
+  dead_listed : (s : ℕ) → IsOpen spans s → is_live (without_holder spans id holder) s ≡ false → IsTrue (stands_in s (closing_list spans id holder))
   dead_listed s o dead =
-      let m = taken spans id holder in
+      let m = without_holder spans id holder in
       let r = ranked spans forest in
       let v = Live-from_is_live spans s r (all_live spans r positive s o) in
       let on_walk = OnWalk-changed (with_less holder) (with_less-parent holder) spans id v.holder s v.on_walk in
@@ -185,26 +185,26 @@ module _ (spans : Spans) (forest : IsForest spans) (positive : (j : ℕ) → IsO
       ]
 
   -- exactly the listed spans are gone
-  pub gone_exactly : (s : ℕ) → IsOpen spans s → (IsTrue (stands_in s (closing_list spans id holder)) → find (released spans id holder) s ≡ None) × (find (released spans id holder) s ≡ None → IsTrue (stands_in s (closing_list spans id holder)))
+  pub gone_exactly : (s : ℕ) → IsOpen spans s → (IsTrue (stands_in s (closing_list spans id holder)) → find (spans_left spans id holder) s ≡ None) × (find (spans_left spans id holder) s ≡ None → IsTrue (stands_in s (closing_list spans id holder)))
   gone_exactly s o = (listed_gone s, λ h. dead_listed s o (gone_dead s o h))
 
   -- which are those that are no longer live
-  pub dead_exactly : (s : ℕ) → IsOpen spans s → (IsTrue (stands_in s (closing_list spans id holder)) → is_live (taken spans id holder) s ≡ false) × (is_live (taken spans id holder) s ≡ false → IsTrue (stands_in s (closing_list spans id holder)))
+  pub dead_exactly : (s : ℕ) → IsOpen spans s → (IsTrue (stands_in s (closing_list spans id holder)) → is_live (without_holder spans id holder) s ≡ false) × (is_live (without_holder spans id holder) s ≡ false → IsTrue (stands_in s (closing_list spans id holder)))
   dead_exactly s o = (listed_dead s, dead_listed s o)
 
   -- each of them was open
   pub listed_open : IsOpen spans id → (s : ℕ) → IsTrue (stands_in s (closing_list spans id holder)) → IsOpen spans s
   listed_open o s t =
-      let m = taken spans id holder in
+      let m = without_holder spans id holder in
       let stands = stands_unfiltered (λ x. not (is_live m x)) s (walk m id) t in
       let k = OnWalk-from_stands m s (length m) (Some id) stands in
       let same : k.0 ≡ id = (let q = k.1 in cc) in
       IsOpen-changed (with_less holder) spans id s (on_walk_open m left_ranked k.0 s k.2 (rw same (changed_open (with_less holder) spans id id o)))
 
   -- and each other span stays as it is without the holder
-  pub others_stay : (s : ℕ) → (IsTrue (stands_in s (closing_list spans id holder)) → ⊥) → find (released spans id holder) s ≡ find (taken spans id holder) s
+  pub others_stay : (s : ℕ) → (IsTrue (stands_in s (closing_list spans id holder)) → ⊥) → find (spans_left spans id holder) s ≡ find (without_holder spans id holder) s
   others_stay s unlisted =
-      let m = taken spans id holder in
+      let m = without_holder spans id holder in
       elim (cases_Bool (is_live m s)) [
         | inl t ↦ passing_kept (is_live m) m s t
         | inr t ↦ not_some (find (live_part m) s) (λ o. both _ (kept_passes (is_live m) m s o) t)
@@ -214,6 +214,6 @@ module _ (spans : Spans) (forest : IsForest spans) (positive : (j : ℕ) → IsO
   -- and the list is the first part of the walk
   pub list_first : closing_list spans id holder ≡ take (length (closing_list spans id holder)) (walk spans id)
   list_first =
-      let m = taken spans id holder in
+      let m = without_holder spans id holder in
       filter_first (λ x. not (is_live m x)) m (dead_parent m left_ranked) (length m) (Some id)
       ∙ ap (take (length (closing_list spans id holder))) (ap (λ n. walk_within n m (Some id)) (length-changed (with_less holder) spans id) ∙ walk_same (with_less holder) (with_less-parent holder) spans id (length spans) (Some id))

@@ -5,14 +5,14 @@ use Rattle.std.proofs.lemmas.Bool.Decides.{eqb_tells}
 use Rattle.std.proofs.lemmas.Bool.{cases_Bool}
 use Rattle.span_id.specs.Id.{slot_of}
 use Rattle.span_forest.specs.Node.{Node}
-use Rattle.span_forest.specs.Chain.{without}
-use Rattle.span_forest.specs.Spans.{Spans, nodes_of, find, AreApart, with_node, changed}
+use Rattle.span_forest.specs.inside.Chain.{without}
+use Rattle.span_forest.specs.Spans.{Spans, nodes_of, find, AreApart, with_node, with_change}
 use Rattle.span_forest.specs.Count.{holders, holders_in, total_held}
 use Rattle.std.proofs.lemmas.Bool.{eq-eqb}
 use Rattle.std.proofs.Common.{ltb}
 
 -- a change of one span's node changes the total by what it changes of that span
-changed_absent : (f : Node → Node) (spans : Spans) (id : ℕ) → find spans id ≡ None → total_held (changed f spans id) ≡ total_held spans
+changed_absent : (f : Node → Node) (spans : Spans) (id : ℕ) → find spans id ≡ None → total_held (with_change f spans id) ≡ total_held spans
 changed_absent f [] id h = refl
 changed_absent f (e ∷ es) id h =
     elim (eqb_tells e.0 id) [
@@ -20,7 +20,7 @@ changed_absent f (e ∷ es) id h =
       | inr t ↦ (let r = changed_absent f es id (rw t.0 at h) in rw t.0 (omega arith))
     ]
 
-pub total-changed : (f : Node → Node) (spans : Spans) (id : ℕ) (node : Node) → AreApart spans → find spans id ≡ Some node → total_held (changed f spans id) + holders node ≡ total_held spans + holders (f node)
+pub total-changed : (f : Node → Node) (spans : Spans) (id : ℕ) (node : Node) → AreApart spans → find spans id ≡ Some node → total_held (with_change f spans id) + holders node ≡ total_held spans + holders (f node)
 total-changed f [] id node a h = cc
 total-changed f (e ∷ es) id node a h =
     elim (eqb_tells e.0 id) [
@@ -83,6 +83,6 @@ pub length-nodes : (es : List (ℕ × Span)) → length (nodes_of es) ≡ length
 length-nodes [] = refl
 length-nodes (e ∷ es) = let r = length-nodes es in omega arith
 
-pub length-changed : (f : Node → Node) (spans : Spans) (id : ℕ) → length (changed f spans id) ≡ length spans
+pub length-changed : (f : Node → Node) (spans : Spans) (id : ℕ) → length (with_change f spans id) ≡ length spans
 length-changed f [] id = refl
 length-changed f (e ∷ es) id = let r = length-changed f es id in omega arith

@@ -6,13 +6,13 @@ use Rattle.std.proofs.lemmas.Bool.Decides.{nat_tests, eqb_tells}
 use Rattle.std.proofs.lemmas.Bool.{cases_Bool, cases_lt, eq-eqb}
 use Rattle.span_forest.specs.declared.span.Holder.{Holder}
 use Rattle.span_forest.specs.Node.{Node}
-use Rattle.span_forest.specs.Spans.{Spans, find, IsOpen, AreApart, parent_in, parent_of, changed, with_node}
+use Rattle.span_forest.specs.Spans.{Spans, find, IsOpen, AreApart, parent_in, parent_of, with_change, with_node}
 use Rattle.span_forest.specs.Walk.{walk}
-use Rattle.span_forest.specs.Count.{holders, holders_in, is_held, children, written_count, total_held}
+use Rattle.span_forest.specs.Count.{holders, holders_in, is_held, children, reference_count, total_held}
 use Rattle.span_forest.specs.Forest.{IsForest}
 use Rattle.span_forest.specs.Live.{stands_in, is_live, live_part}
 use Rattle.span_forest.specs.Holders.{with_less}
-use Rattle.span_forest.specs.Release.{taken, closing_list, released}
+use Rattle.span_forest.specs.Release.{without_holder, closing_list, spans_left}
 use Rattle.span_forest.proofs.Ranks.{IsRanked, ranked}
 use Rattle.span_forest.proofs.Walks.{OnWalk, forest_from, OnWalk-from_stands, Live-from_is_live, is_live-from_Live, all_live, here, above}
 use Rattle.span_forest.proofs.Finds.{no_child, child_open}
@@ -23,7 +23,7 @@ use Rattle.span_forest.proofs.Spared.{kept_passes, passing_kept, parent_live, no
 -- a forest in which something holds each open span
 pub record IsUpheld (spans : Spans) : Type 0 where
   pub forest : IsForest spans
-  pub positive : (id : ℕ) → IsOpen spans id → 0 < written_count spans id
+  pub positive : (id : ℕ) → IsOpen spans id → 0 < reference_count spans id
 
 some_none : (p : ℕ) → None ≡ Some p → ⊥
 some_none p h = cc
@@ -59,7 +59,7 @@ holders_map f more None = omega arith
 holders_map f more (Some node) = more node
 
 -- a change that takes no holder and leaves the parent
-pub upheld_changed : (f : Node → Node) → ((node : Node) → (f node).parent ≡ node.parent) → ((node : Node) → holders node ≤ holders (f node)) → (spans : Spans) (id : ℕ) → IsUpheld spans → IsUpheld (changed f spans id)
+pub upheld_changed : (f : Node → Node) → ((node : Node) → (f node).parent ≡ node.parent) → ((node : Node) → holders node ≤ holders (f node)) → (spans : Spans) (id : ℕ) → IsUpheld spans → IsUpheld (with_change f spans id)
 upheld_changed f same more spans id w = record {
   forest = IsForest-changed f same spans id w.forest;
   positive = λ j o.
@@ -146,15 +146,15 @@ module _ (spans : Spans) (w : IsRanked spans) where
   }
 
 -- what a release leaves
-pub upheld_released : (spans : Spans) (id : ℕ) (holder : Holder) → IsForest spans → IsUpheld (released spans id holder)
+pub upheld_released : (spans : Spans) (id : ℕ) (holder : Holder) → IsForest spans → IsUpheld (spans_left spans id holder)
 upheld_released spans id holder forest =
-    let m = taken spans id holder in
+    let m = without_holder spans id holder in
     upheld_live m (ranked m (IsForest-changed (with_less holder) (with_less-parent holder) spans id forest))
 
 -- a span of a closing list is the one that gives the holder back, or is open
 pub listed_known : (spans : Spans) (id : ℕ) (holder : Holder) → IsForest spans → (s : ℕ) → stands_in s (closing_list spans id holder) ≡ true → (id ≡ s) ⊎ IsOpen spans s
 listed_known spans id holder forest s t =
-    let m = taken spans id holder in
+    let m = without_holder spans id holder in
     let k = OnWalk-from_stands m s (length m) (Some id) (stands_unfiltered (λ x. not (is_live m x)) s (walk m id) t) in
     let same : k.0 ≡ id = (let q = k.1 in cc) in
     elim (child_on_walk m k.0 s k.2) [

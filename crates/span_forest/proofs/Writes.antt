@@ -8,9 +8,9 @@ use Rattle.span_id.specs.declared.meta.Field.{Field}
 use Rattle.span_slots.specs.Table.{value_at, with_value}
 use Rattle.span_forest.specs.declared.span.Span.{Span}
 use Rattle.span_forest.specs.Node.{Node, node_of, fields_of, with_fields}
-use Rattle.span_forest.specs.Spans.{Spans, find, nodes_of, changed}
-use Rattle.span_forest.specs.Count.{holders, holders_in, written_count, total_held}
-use Rattle.span_forest.specs.Invariant.{IsSettled, IsConsistent}
+use Rattle.span_forest.specs.Spans.{Spans, find, nodes_of, with_change}
+use Rattle.span_forest.specs.Count.{holders, holders_in, reference_count, total_held}
+use Rattle.span_forest.specs.inside.Invariant.{IsSettled, IsConsistent}
 use Rattle.span_forest.proofs.Nodes.{find-changed_same, find-changed_other, children-changed, IsOpen-changed, IsForest-changed}
 use Rattle.span_forest.proofs.Counts.{value_at-with_value_same, value_at-with_value_other, nodes-written, changed_none, some_same}
 use Rattle.span_forest.proofs.Totals.{length-nodes, length-changed}
@@ -20,7 +20,7 @@ holders_map f k None = refl
 holders_map f k (Some n) = k n
 
 module _ (f : Node → Node) (same_parent : (n : Node) → (f n).parent ≡ n.parent) (same_holders : (n : Node) → holders (f n) ≡ holders n) where
-  pub written-changed : (spans : Spans) (id j : ℕ) → written_count (changed f spans id) j ≡ written_count spans j
+  pub written-changed : (spans : Spans) (id j : ℕ) → reference_count (with_change f spans id) j ≡ reference_count spans j
   written-changed spans id j =
       let d = children-changed f same_parent spans id j in
       elim (eqb_tells j id) [
@@ -46,14 +46,14 @@ module _ (f : Node → Node) (same_parent : (n : Node) → (f n).parent ≡ n.pa
             let b = w.positive j (IsOpen-changed f (nodes_of es) id j (rw n at o)) in omega arith);
       }
 
-  pub total-written : (spans : Spans) (id : ℕ) → total_held (changed f spans id) ≡ total_held spans
+  pub total-written : (spans : Spans) (id : ℕ) → total_held (with_change f spans id) ≡ total_held spans
   total-written [] id = refl
   total-written (e ∷ es) id =
       let r = total-written es id in
       let k = same_holders e.1 in
       elim (eqb_tells e.0 id) [ inl t ↦ rw t.0 (omega arith) | inr t ↦ rw t.0 (omega arith) ]
 
-  pub IsConsistent-written : (es new : List (ℕ × Span)) (max total id : ℕ) → IsConsistent es max total → IsSettled new → nodes_of new ≡ changed f (nodes_of es) id → IsConsistent new max total
+  pub IsConsistent-written : (es new : List (ℕ × Span)) (max total id : ℕ) → IsConsistent es max total → IsSettled new → nodes_of new ≡ with_change f (nodes_of es) id → IsConsistent new max total
   IsConsistent-written es new max total id w s n = record {
     settled = s;
     bounded = λ j. rw n (let k = written-changed (nodes_of es) id j in let b = w.bounded j in omega arith);
@@ -81,7 +81,7 @@ pub with_fields-holders : (more : List (List ℕ × List ℕ)) (n : Node) → ho
 with_fields-holders more n = refl
 
 -- a change at an id that isn't there changes nothing
-pub changed-absent : (f : Node → Node) (spans : Spans) (id : ℕ) → find spans id ≡ None → changed f spans id ≡ spans
+pub changed-absent : (f : Node → Node) (spans : Spans) (id : ℕ) → find spans id ≡ None → with_change f spans id ≡ spans
 changed-absent f [] id h = refl
 changed-absent f (e ∷ es) id h =
     elim (eqb_tells e.0 id) [
@@ -104,7 +104,7 @@ module _ (es : List (ℕ × Span)) (id : ℕ) (span : Span) (new : Vec Field Glo
   settled_appended (Ok v) w f h = IsSettled-written (with_fields (fields_of more)) (with_fields-parent (fields_of more)) (with_fields-holders (fields_of more)) es id span (refielded span new) w f (appended_node h) refl
   settled_appended (Err v) w f h = IsSettled-written (λ n. n) (λ n. refl) (λ n. refl) es id span (refielded span new) w f (kept_node h) refl
 
-  pub written_appended : {R E : Type 0} (r : Result R E) → IsSettled es → value_at es id ≡ Some span → new.items ≡ cond (is_ok r) (span.fields.items ++ more) span.fields.items → OnOk r (nodes_of (with_value es id (refielded span new)) ≡ changed (with_fields (fields_of more)) (nodes_of es) id)
+  pub written_appended : {R E : Type 0} (r : Result R E) → IsSettled es → value_at es id ≡ Some span → new.items ≡ cond (is_ok r) (span.fields.items ++ more) span.fields.items → OnOk r (nodes_of (with_value es id (refielded span new)) ≡ with_change (with_fields (fields_of more)) (nodes_of es) id)
   written_appended (Ok v) w f h = nodes-written (with_fields (fields_of more)) es id span (refielded span new) w.forest.ids_apart f (appended_node h)
   written_appended (Err v) w f h = tt
 
@@ -113,7 +113,7 @@ module _ (es : List (ℕ × Span)) (id : ℕ) (span : Span) (new : Vec Field Glo
   refused_appended (Err v) w f h = nodes-written (λ n. n) es id span (refielded span new) w.forest.ids_apart f (kept_node h) ∙ changed_none (nodes_of es) id
 
 -- a forest after an append, or after one that was refused
-pub IsConsistent-appended : {R E : Type 0} (r : Result R E) (es new : List (ℕ × Span)) (max total id : ℕ) (more : List (List ℕ × List ℕ)) → IsConsistent es max total → IsSettled new → OnOk r (nodes_of new ≡ changed (with_fields more) (nodes_of es) id) → OnErr r (nodes_of new ≡ nodes_of es) → IsConsistent new max total
+pub IsConsistent-appended : {R E : Type 0} (r : Result R E) (es new : List (ℕ × Span)) (max total id : ℕ) (more : List (List ℕ × List ℕ)) → IsConsistent es max total → IsSettled new → OnOk r (nodes_of new ≡ with_change (with_fields more) (nodes_of es) id) → OnErr r (nodes_of new ≡ nodes_of es) → IsConsistent new max total
 IsConsistent-appended (Ok v) es new max total id more w s h k = IsConsistent-written (with_fields more) (with_fields-parent more) (with_fields-holders more) es new max total id w s h
 IsConsistent-appended (Err v) es new max total id more w s h k = IsConsistent-same es new max total w s k
 

@@ -7,17 +7,17 @@ use Rattle.span_id.specs.declared.fault.Fault.TheVariants.{Unknown, CountFull, F
 use Rattle.span_forest.specs.declared.span.Span.{Span}
 use Rattle.span_forest.specs.Node.{Node}
 use Rattle.span_forest.specs.Spans.{Spans, find, IsOpen, with_node}
-use Rattle.span_forest.specs.Count.{written_count}
+use Rattle.span_forest.specs.Count.{reference_count}
 use Rattle.span_forest.specs.Forest.{ForestView, next_span_id}
 
 -- the parent, if there is one, is open and its count may rise
 abbrev pub CanHaveChild : Spans → ℕ → Option ℕ → Type 0
 CanHaveChild spans max_count parent =
-    MatchOption parent (Unit {0}) (λ p. IsOpen spans p × (written_count spans p < max_count))
+    MatchOption parent (Unit {0}) (λ p. IsOpen spans p × (reference_count spans p < max_count))
 
 -- the forest with one span more under this id, whose slot has given one id more
-abbrev pub added : ForestView → ℕ → Node → ForestView
-added forest id node = record forest {
+abbrev pub with_span : ForestView → ℕ → Node → ForestView
+with_span forest id node = record forest {
   spans = with_node forest.spans id node;
   given = issue forest.given (slot_of id);
   freed = drop 1 forest.freed;
@@ -28,7 +28,7 @@ added forest id node = record forest {
 abbrev pub WhyNotAdded : ForestView → Option ℕ → Fault → Type 0
 WhyNotAdded forest parent Unknown = IsSomeAnd parent (λ p. find forest.spans p ≡ None)
 WhyNotAdded forest parent CountFull =
-    IsSomeAnd parent (λ p. IsOpen forest.spans p × (written_count forest.spans p ≡ forest.max_count))
+    IsSomeAnd parent (λ p. IsOpen forest.spans p × (reference_count forest.spans p ≡ forest.max_count))
 WhyNotAdded forest parent Full = CanHaveChild forest.spans forest.max_count parent × (next_span_id forest ≡ None)
 WhyNotAdded forest parent Memory = CanHaveChild forest.spans forest.max_count parent × IsSome (next_span_id forest)
 WhyNotAdded forest parent _ = ⊥
@@ -37,7 +37,7 @@ WhyNotAdded forest parent _ = ⊥
 abbrev pub WhyNoChild : Spans → ℕ → Option ℕ → Fault → Type 0
 WhyNoChild spans max_count parent Unknown = IsSomeAnd parent (λ p. find spans p ≡ None)
 WhyNoChild spans max_count parent CountFull =
-    IsSomeAnd parent (λ p. IsOpen spans p × (written_count spans p ≡ max_count))
+    IsSomeAnd parent (λ p. IsOpen spans p × (reference_count spans p ≡ max_count))
 WhyNoChild spans max_count parent _ = ⊥
 
 -- the same of the code's spans

@@ -4,19 +4,19 @@ use Rattle.span_id.specs.declared.fault.Fault.{Fault}
 use Rattle.span_id.specs.declared.fault.Fault.TheVariants.{Unknown, CountFull}
 use Rattle.span_forest.specs.declared.span.Holder.{Holder}
 use Rattle.span_forest.specs.declared.span.Holder.TheVariants.{Handle}
-use Rattle.span_forest.specs.Spans.{Spans, changed}
-use Rattle.span_forest.specs.Count.{written_count}
+use Rattle.span_forest.specs.Spans.{Spans, with_change}
+use Rattle.span_forest.specs.Count.{reference_count}
 use Rattle.span_forest.specs.Holders.{IsHeld, with_more}
 
-abbrev pub kept : Spans → ℕ → Holder → Spans
-kept spans id holder = changed (with_more holder) spans id
+abbrev pub with_holder : Spans → ℕ → Holder → Spans
+with_holder spans id holder = with_change (with_more holder) spans id
 
 -- a holder may come in where the span has a handle and its count isn't at its greatest
 abbrev pub CanKeep : Spans → ℕ → ℕ → Type 0
-CanKeep spans max_count id = IsHeld spans id Handle × (written_count spans id < max_count)
+CanKeep spans max_count id = IsHeld spans id Handle × (reference_count spans id < max_count)
 
 -- why no holder comes in: the span has no handle, else its count is at its greatest
 abbrev pub WhyNotKept : Spans → ℕ → ℕ → Fault → Type 0
 WhyNotKept spans max_count id Unknown = IsHeld spans id Handle → ⊥
-WhyNotKept spans max_count id CountFull = IsHeld spans id Handle × (written_count spans id ≡ max_count)
+WhyNotKept spans max_count id CountFull = IsHeld spans id Handle × (reference_count spans id ≡ max_count)
 WhyNotKept spans max_count id _ = ⊥

@@ -4,18 +4,18 @@ use Rattle.span_id.specs.Id.{slot_of}
 use Rattle.span_id.specs.declared.fault.Fault.{Fault}
 use Rattle.span_id.specs.declared.fault.Fault.TheVariants.{Unknown, Memory}
 use Rattle.span_forest.specs.declared.span.Holder.{Holder}
-use Rattle.span_forest.specs.Spans.{Spans, changed}
+use Rattle.span_forest.specs.Spans.{Spans, with_change}
 use Rattle.span_forest.specs.Walk.{walk}
 use Rattle.span_forest.specs.Live.{is_live, live_part}
 use Rattle.span_forest.specs.Holders.{IsHeld, with_less}
 
 -- the forest with one holder taken out once
-abbrev pub taken : Spans → ℕ → Holder → Spans
-taken spans id holder = changed (with_less holder) spans id
+abbrev pub without_holder : Spans → ℕ → Holder → Spans
+without_holder spans id holder = with_change (with_less holder) spans id
 
 -- what a release leaves: the spans that are live without the holder
-abbrev pub released : Spans → ℕ → Holder → Spans
-released spans id holder = live_part (taken spans id holder)
+abbrev pub spans_left : Spans → ℕ → Holder → Spans
+spans_left spans id holder = live_part (without_holder spans id holder)
 
 -- the spans on the walk of an id that are not live, in the order of the walk
 abbrev pub gone_on_walk : Spans → ℕ → List ℕ
@@ -23,7 +23,7 @@ gone_on_walk spans id = filter (λ s. not (is_live spans s)) (walk spans id)
 
 -- the closing list: the spans that the release makes go, in the order of the walk, so child first
 abbrev pub closing_list : Spans → ℕ → Holder → List ℕ
-closing_list spans id holder = gone_on_walk (taken spans id holder) id
+closing_list spans id holder = gone_on_walk (without_holder spans id holder) id
 
 -- the freed slots after these ids closed one after the other: a slot whose id was its last is not freed
 abbrev pub freed_after : ℕ → List ℕ → List ℕ → List ℕ → List ℕ

@@ -38,8 +38,8 @@ with_node (e ∷ es) id node =
     cond (nat_lt (slot_of id) (slot_of e.0)) ((id, node) ∷ e ∷ es) (e ∷ with_node es id node)
 
 -- the map with a change of one span
-abbrev pub changed : (Node → Node) → Spans → ℕ → Spans
-changed f spans id = map (λ e. (e.0, cond (e.0 == id) (f e.1) e.1)) spans
+abbrev pub with_change : (Node → Node) → Spans → ℕ → Spans
+with_change f spans id = map (λ e. (e.0, cond (e.0 == id) (f e.1) e.1)) spans
 
 -- what the code's table of spans stands for
 abbrev pub nodes_of : List (ℕ × Span) → Spans

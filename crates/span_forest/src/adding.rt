@@ -3,8 +3,8 @@ ghost use Rattle.span_slots.specs.Table.{value_at, next_id, issue, IsIssued};
 ghost use Rattle.span_id.specs.Id.{slot_of, IsId};
 ghost use Rattle.span_forest.specs.Node.{node_of};
 ghost use Rattle.span_forest.specs.Spans.{nodes_of, with_node};
-ghost use Rattle.span_forest.specs.Count.{written_count};
-ghost use Rattle.span_forest.specs.Invariant.{AreCounted, IsSettled};
+ghost use Rattle.span_forest.specs.Count.{reference_count};
+ghost use Rattle.span_forest.specs.inside.Invariant.{AreCounted, IsSettled};
 ghost use Rattle.span_forest.specs.Add.{CanHaveChild, WhyNoChild, IsNew, HasRoomAbove};
 
 use crate::holders::raise;
@@ -20,7 +20,7 @@ pub(crate) fn checked_parent(
     parent: Option<Id>,
 ) -> Result<Option<Id>, Fault>
     requires counted { AreCounted slots.now.entries }
-    requires bounded { (id : ℕ) → written_count (nodes_of slots.now.entries) id ≤ max_count }
+    requires bounded { (id : ℕ) → reference_count (nodes_of slots.now.entries) id ≤ max_count }
     ensures same { IfOk result (λ checked. checked ≡ parent) }
     ensures above { OnOk result (HasRoomAbove slots.now.entries max_count parent) }
     ensures parent { OnOk result (CanHaveChild (nodes_of slots.now.entries) max_count parent) }

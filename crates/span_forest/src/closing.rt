@@ -2,12 +2,12 @@ ghost use Rattle.std.specs.Prelude.{◌≡◌, Some, IfOk};
 ghost use Rattle.span_slots.specs.Table.{freed_with};
 ghost use Rattle.span_id.specs.Id.{slot_of};
 ghost use Rattle.span_forest.specs.Spans.{IsOpen, nodes_of};
-ghost use Rattle.span_forest.specs.Count.{written_count};
+ghost use Rattle.span_forest.specs.Count.{reference_count};
 ghost use Rattle.span_forest.specs.Forest.{IsForest};
 ghost use Rattle.span_forest.specs.Holders.{IsHeld};
-ghost use Rattle.span_forest.specs.Release.{taken, freed_after};
-ghost use Rattle.span_forest.specs.Invariant.{AreCounted, IsSettled};
-ghost use Rattle.span_forest.specs.Chain.{without, without_all, Chain};
+ghost use Rattle.span_forest.specs.Release.{without_holder, freed_after};
+ghost use Rattle.span_forest.specs.inside.Invariant.{AreCounted, IsSettled};
+ghost use Rattle.span_forest.specs.inside.Chain.{without, without_all, Chain};
 
 use crate::holders::{drop_holder, lower};
 use crate::span::{Holder, Span};
@@ -27,7 +27,7 @@ pub(crate) fn chain(
 ) -> Result<Vec<Id>, AllocError>
     requires settled { IsSettled slots.now.entries }
     requires held { IsHeld (nodes_of slots.now.entries) id holder }
-    ensures { IfOk result (λ ids. Chain (taken (nodes_of slots.now.entries) id holder) (Some id) ids.items) }
+    ensures { IfOk result (λ ids. Chain (without_holder (nodes_of slots.now.entries) id holder) (Some id) ids.items) }
 {
     let mut closed = Vec::new(alloc);
     let mut next = Some(id);
@@ -48,9 +48,9 @@ pub(crate) fn chain(
 pub(crate) fn let_go(slots: &mut Slots<Span>, id: Id, holder: Holder, closed: &[Id])
     requires settled { IsSettled slots.old.entries }
     requires held { IsHeld (nodes_of slots.old.entries) id holder }
-    requires chain { Chain (taken (nodes_of slots.old.entries) id holder) (Some id) closed.now }
+    requires chain { Chain (without_holder (nodes_of slots.old.entries) id holder) (Some id) closed.now }
     ensures settled { IsSettled slots.new.entries }
-    ensures nodes { nodes_of slots.new.entries ≡ without_all (taken (nodes_of slots.old.entries) id holder) closed.now }
+    ensures nodes { nodes_of slots.new.entries ≡ without_all (without_holder (nodes_of slots.old.entries) id holder) closed.now }
     ensures table { slots.new ≡ record slots.old {
       entries = slots.new.entries;
       freed = freed_after slots.old.last_generation slots.old.given slots.old.freed closed.now;
@@ -67,7 +67,7 @@ fn close_one(slots: &mut Slots<Span>, id: Id)
     requires forest { IsForest (nodes_of slots.old.entries) }
     requires counted { AreCounted slots.old.entries }
     requires open { IsOpen (nodes_of slots.old.entries) id }
-    requires leaf { written_count (nodes_of slots.old.entries) id ≡ 0 }
+    requires leaf { reference_count (nodes_of slots.old.entries) id ≡ 0 }
     ensures nodes { nodes_of slots.new.entries ≡ without (nodes_of slots.old.entries) id }
     ensures counted { AreCounted slots.new.entries }
     ensures table { slots.new ≡ record slots.old {

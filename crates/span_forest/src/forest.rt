@@ -2,14 +2,14 @@ ghost use Rattle.std.specs.Prelude.{◌≡◌, ℕ, Some, None, IfSome, IfNone, 
 ghost use Rattle.span_id.specs.Id.{IsId};
 ghost use Rattle.span_slots.specs.Table.{IsIssued};
 ghost use Rattle.span_forest.specs.Node.{Node, node_of, fields_of, new_node, with_fields};
-ghost use Rattle.span_forest.specs.Spans.{find, IsOpen, changed, WhyNotFound};
-ghost use Rattle.span_forest.specs.Count.{written_count, total_held};
+ghost use Rattle.span_forest.specs.Spans.{find, IsOpen, with_change, WhyNotFound};
+ghost use Rattle.span_forest.specs.Count.{reference_count, total_held};
 ghost use Rattle.span_forest.specs.Path.{path};
 ghost use Rattle.span_forest.specs.Forest.{next_span_id, table_of};
 ghost use Rattle.span_forest.specs.Holders.{IsHeld};
-ghost use Rattle.span_forest.specs.Keep.{kept, CanKeep, WhyNotKept};
-ghost use Rattle.span_forest.specs.Release.{closing_list, released, freed_after, WhyNotReleased};
-ghost use Rattle.span_forest.specs.Add.{CanHaveChild, added, WhyNotAdded};
+ghost use Rattle.span_forest.specs.Keep.{with_holder, CanKeep, WhyNotKept};
+ghost use Rattle.span_forest.specs.Release.{closing_list, spans_left, freed_after, WhyNotReleased};
+ghost use Rattle.span_forest.specs.Add.{CanHaveChild, with_span, WhyNotAdded};
 
 pub mod laws;
 
@@ -43,7 +43,7 @@ impl Model for Forest {
     ghost Value = { ForestView };
 
     ghost use Rattle.span_forest.specs.Spans.{nodes_of};
-    ghost use Rattle.span_forest.specs.Invariant.{IsConsistent};
+    ghost use Rattle.span_forest.specs.inside.Invariant.{IsConsistent};
 
     ghost view = { λ f. record {
       spans = nodes_of f.slots.entries;
@@ -84,7 +84,7 @@ impl Forest {
     pub fn find(&self, id: Id) -> Option<&Span>
         ensures absent { IfNone result (find self.now.spans id ≡ None) }
         ensures found { IfSome result (λ span. find self.now.spans id ≡ Some (node_of span.now)) }
-        ensures count { IfSome result (λ span. span.now.count ≡ written_count self.now.spans id) }
+        ensures count { IfSome result (λ span. span.now.count ≡ reference_count self.now.spans id) }
     {
         // Looked at, the forest shows what it keeps: here that the count is the written one.
         let _opened = &self.max_count;
@@ -133,7 +133,7 @@ impl Forest {
         ensures parent { OnOk result (CanHaveChild self.old.spans self.old.max_count parent) }
         ensures id { IfOk result (λ id. next_span_id self.old ≡ Some id) }
         ensures forest { IfOk result (λ id.
-            self.new ≡ added self.old id (new_node meta.now fields.now parent bits.0)) }
+            self.new ≡ with_span self.old id (new_node meta.now fields.now parent bits.0)) }
 
         // The id was never issued before, and is the only one that this call issues.
         ensures never_issued { IfOk result (λ id. IsIssued (table_of self.old) id → ⊥) }
@@ -170,7 +170,7 @@ impl Forest {
     pub fn keep(&mut self, id: Id, holder: Holder) -> Result<(), Fault>
         ensures accepted { OnOk result (CanKeep self.old.spans self.old.max_count id) }
         ensures forest { OnOk result
-            (self.new ≡ record self.old { spans = kept self.old.spans id holder }) }
+            (self.new ≡ record self.old { spans = with_holder self.old.spans id holder }) }
         ensures refused { IfErr result (λ fault. WhyNotKept self.old.spans self.old.max_count id fault) }
         ensures unchanged { OnErr result (self.new ≡ self.old) }
     {
@@ -209,7 +209,7 @@ impl Forest {
     pub fn release(&mut self, id: Id, holder: Holder) -> Result<Vec<Id>, Fault>
         ensures list { IfOk result (λ ids. ids.items ≡ closing_list self.old.spans id holder) }
         ensures forest { OnOk result (self.new ≡ record self.old {
-          spans = released self.old.spans id holder;
+          spans = spans_left self.old.spans id holder;
           freed = freed_after self.old.last_generation self.old.given self.old.freed
               (closing_list self.old.spans id holder);
         }) }
@@ -236,7 +236,7 @@ impl Forest {
     pub fn write_fields(&mut self, id: Id, fields: &[Field]) -> Result<(), Fault>
         ensures found { OnOk result (IsOpen self.old.spans id) }
         ensures forest { OnOk result (self.new ≡ record self.old {
-          spans = changed (with_fields (fields_of fields.now)) self.old.spans id;
+          spans = with_change (with_fields (fields_of fields.now)) self.old.spans id;
         }) }
         ensures refused { IfErr result (λ fault. WhyNotFound self.old.spans id fault) }
         ensures unchanged { OnErr result (self.new ≡ self.old) }

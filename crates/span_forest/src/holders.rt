@@ -4,7 +4,7 @@ ghost use Rattle.span_forest.specs.declared.span.Span.{Span};
 ghost use Rattle.span_forest.specs.Node.{node_of};
 ghost use Rattle.span_forest.specs.Spans.{nodes_of, IsOpen};
 ghost use Rattle.span_forest.specs.Holders.{IsHeld, held_by};
-ghost use Rattle.span_forest.specs.Invariant.{span_less, span_more, counts_more};
+ghost use Rattle.span_forest.specs.inside.Invariant.{span_less, span_more, counts_more};
 
 use crate::span::{Holder, Span};
 use span_id::Id;

@@ -1,10 +1,10 @@
 ghost use Rattle.std.specs.Prelude.{◌≡◌, ◌++◌, Some, IsSome, IfOk, IfErr, OnOk, OnErr, map, string_bytes};
 ghost use Rattle.span_slots.specs.Table.{value_at};
 ghost use Rattle.span_forest.specs.Node.{node_of, fields_of, with_fields};
-ghost use Rattle.span_forest.specs.Spans.{nodes_of, changed, IsOpen};
+ghost use Rattle.span_forest.specs.Spans.{nodes_of, with_change, IsOpen};
 ghost use Rattle.span_forest.specs.Path.{name_for, path};
 ghost use Rattle.span_forest.specs.Forest.{IsForest};
-ghost use Rattle.span_forest.specs.Invariant.{IsSettled};
+ghost use Rattle.span_forest.specs.inside.Invariant.{IsSettled};
 
 use crate::span::Span;
 use span_id::{Fault, Field, Id};
@@ -35,7 +35,7 @@ pub(crate) fn append_fields(
     requires settled { IsSettled slots.old.entries }
     ensures settled { IsSettled slots.new.entries }
     ensures written { OnOk result
-        (nodes_of slots.new.entries ≡ changed (with_fields (fields_of fields.items)) (nodes_of slots.old.entries) id) }
+        (nodes_of slots.new.entries ≡ with_change (with_fields (fields_of fields.items)) (nodes_of slots.old.entries) id) }
     ensures refused { OnErr result (nodes_of slots.new.entries ≡ nodes_of slots.old.entries) }
     ensures table { slots.new ≡ record slots.old { entries = slots.new.entries } }
 {

@@ -15,7 +15,7 @@ mod tellers;
 #[cfg(test)]
 mod tests;
 
-pub use filters::{Admitters, Filters, MAX_LAYERS, Rules};
+pub use filters::{Admit, Admitters, Filters, MAX_LAYERS, Rules};
 pub use form::{Form, text};
 pub use hooks::{AdmitHook, Admitter, Formatter, Hooks, SayHook};
 pub use layers::{Layer, Layers};

@@ -1,30 +1,8 @@
-//! The registry of spans without a lock: spans, their holders, the workers' stacks, and the notes for the layers.
+//! The registry of spans: the crate that a program names.
+//!
+//! It gives every public word of the core (`span_core`) and of what leaves it (`span_outlet`) again. The core has no
+//! lock yet: its calls take it as `&mut`.
 #![tactic(auto)]
 
-mod batch;
-mod closes;
-mod copies;
-mod entries;
-mod events;
-mod handles;
-mod held;
-mod kept;
-pub mod laws;
-mod line;
-mod names;
-mod notes;
-pub mod outcome;
-mod outlet;
-mod registry;
-mod spans;
-mod stacks;
-mod state;
-#[cfg(test)]
-mod tests;
-
-pub use batch::{Batch, Call, ParentOf, Reply};
-pub use kept::Kept;
-pub use line::Line;
-pub use outlet::Outlet;
-pub use registry::Core;
-pub use state::State;
+pub use span_core::{Core, laws};
+pub use span_outlet::{Batch, Call, Kept, Line, Outlet, ParentOf, Reply};

@@ -7,9 +7,9 @@ use Rattle.std.proofs.Math.Seq.{map-set_same}
 use Rattle.span_slots.proofs.Ids.{id_again, slot_of_id}
 use Rattle.span_id.specs.Id.{id_of, slot_of, generation_of, IsId}
 use Rattle.span_slots.specs.declared.cells.Cell.{Cell}
-use Rattle.span_slots.specs.Cells.{row_of}
-use Rattle.span_slots.specs.Table.{Table, with_value, value_at, with_entry, without_entry, removed, inserted, next_id, next_slot}
-use Rattle.span_slots.specs.Rows.{entries_from, AreGoodRows}
+use Rattle.span_slots.specs.inside.Cells.{row_of}
+use Rattle.span_slots.specs.Table.{Table, with_value, value_at, with_entry, without_entry, table_removed, table_inserted, next_id, next_slot}
+use Rattle.span_slots.specs.inside.Rows.{entries_from, AreGoodRows}
 use Rattle.span_slots.proofs.Rows.{row_value, row_none, value_at_rows, without_rows, with_rows, push_rows, written_rows}
 
 pair_same : {A B : Type 0} (a : A) (b : B) (c : A) (d : B) → a ≡ c → b ≡ d → ◌≡◌ {A = A × B} (a, b) (c, d)
@@ -69,7 +69,7 @@ module _ {T : Type 0} where
       ap (λ x. entries_from 0 x) (map-set row_of cells k new) ∙ (ap (λ x. entries_from 0 (set (map row_of cells) k x)) put ∙ (sym w ∙ ap (λ x. without_entry (entries_from 0 (map row_of cells)) x) q))
 
   -- taking a value out, where its slot may be given again
-  pub taken_free : (slots last id k : ℕ) (cells : List (Cell T)) (freed freed2 : List ℕ) (cell new : Cell T) (v : T) → IsId id → length cells ≤ 16777216 → slot_of id ≡ k → k < length cells → cell ≡ get_or cells k cell → cell.given ≡ generation_of id + 1 → cell.value ≡ Some v → new.given ≡ cell.given → new.value ≡ None → IsSome (value_at (entries_from 0 (map row_of cells)) id) → cell.given ≤ last → freed2 ≡ freed ++ k ∷ [] → table_of slots last (set cells k new) freed2 ≡ removed (table_of slots last cells freed) id
+  pub taken_free : (slots last id k : ℕ) (cells : List (Cell T)) (freed freed2 : List ℕ) (cell new : Cell T) (v : T) → IsId id → length cells ≤ 16777216 → slot_of id ≡ k → k < length cells → cell ≡ get_or cells k cell → cell.given ≡ generation_of id + 1 → cell.value ≡ Some v → new.given ≡ cell.given → new.value ≡ None → IsSome (value_at (entries_from 0 (map row_of cells)) id) → cell.given ≤ last → freed2 ≡ freed ++ k ∷ [] → table_of slots last (set cells k new) freed2 ≡ table_removed (table_of slots last cells freed) id
   taken_free slots last id k cells freed freed2 cell new v i n s l e g f same none there le p =
       let a = entries_taken cells id k cell new v i n s l e g f same none in
       let b = given_kept cells k cell new e same in
@@ -78,7 +78,7 @@ module _ {T : Type 0} where
       rw (there, a, b, p, reverse-append, s, at, test) refl
 
   -- and where it gave its last id
-  pub taken_retired : (slots last id k : ℕ) (cells : List (Cell T)) (freed : List ℕ) (cell new : Cell T) (v : T) → IsId id → length cells ≤ 16777216 → slot_of id ≡ k → k < length cells → cell ≡ get_or cells k cell → cell.given ≡ generation_of id + 1 → cell.value ≡ Some v → new.given ≡ cell.given → new.value ≡ None → IsSome (value_at (entries_from 0 (map row_of cells)) id) → last < cell.given → table_of slots last (set cells k new) freed ≡ removed (table_of slots last cells freed) id
+  pub taken_retired : (slots last id k : ℕ) (cells : List (Cell T)) (freed : List ℕ) (cell new : Cell T) (v : T) → IsId id → length cells ≤ 16777216 → slot_of id ≡ k → k < length cells → cell ≡ get_or cells k cell → cell.given ≡ generation_of id + 1 → cell.value ≡ Some v → new.given ≡ cell.given → new.value ≡ None → IsSome (value_at (entries_from 0 (map row_of cells)) id) → last < cell.given → table_of slots last (set cells k new) freed ≡ table_removed (table_of slots last cells freed) id
   taken_retired slots last id k cells freed cell new v i n s l e g f same none there lt =
       let a = entries_taken cells id k cell new v i n s l e g f same none in
       let b = given_kept cells k cell new e same in
@@ -113,7 +113,7 @@ module _ {T : Type 0} where
   next_slot_reused slots last k g cells freed rest l p =
       rw (next_freed slots last k cells freed rest p, slot_of_id k g l) refl
 
-  pub reused : (slots last k : ℕ) (cells : List (Cell T)) (freed rest : List ℕ) (cell new : Cell T) (v : T) → length cells ≤ 16777216 → k < length cells → cell ≡ get_or cells k cell → cell.value ≡ None → new.given ≡ cell.given + 1 → new.value ≡ Some v → freed ≡ rest ++ k ∷ [] → table_of slots last (set cells k new) rest ≡ inserted (table_of slots last cells freed) (slot_of (id_of k cell.given)) v
+  pub reused : (slots last k : ℕ) (cells : List (Cell T)) (freed rest : List ℕ) (cell new : Cell T) (v : T) → length cells ≤ 16777216 → k < length cells → cell ≡ get_or cells k cell → cell.value ≡ None → new.given ≡ cell.given + 1 → new.value ≡ Some v → freed ≡ rest ++ k ∷ [] → table_of slots last (set cells k new) rest ≡ table_inserted (table_of slots last cells freed) (slot_of (id_of k cell.given)) v
   reused slots last k cells freed rest cell new v n l e none up put p =
       let r : get_or (map row_of cells) k (0, None) ≡ (cell.given, None) = row_at cells k cell l e ∙ ap (λ x. (cell.given, x)) none in
       let w = with_rows (map row_of cells) 0 k k cell.given v (0, None) (simp length-map (omega arith)) (omega arith) (simp length-map (omega arith)) r in
@@ -138,7 +138,7 @@ module _ {T : Type 0} where
       let len : length (map (λ c. c.given) cells) ≡ k = simp length-map (sym e) in
       rw (none, len, test, slot_of_id k 0 low) refl
 
-  pub freshened : (slots last k : ℕ) (cells : List (Cell T)) (freed : List ℕ) (new : Cell T) (v : T) → length cells < 16777216 → k ≡ length cells → new.given ≡ 1 → new.value ≡ Some v → reverse freed ≡ [] → table_of slots last (cells ++ new ∷ []) freed ≡ inserted (table_of slots last cells freed) (slot_of (id_of k 0)) v
+  pub freshened : (slots last k : ℕ) (cells : List (Cell T)) (freed : List ℕ) (new : Cell T) (v : T) → length cells < 16777216 → k ≡ length cells → new.given ≡ 1 → new.value ≡ Some v → reverse freed ≡ [] → table_of slots last (cells ++ new ∷ []) freed ≡ table_inserted (table_of slots last cells freed) (slot_of (id_of k 0)) v
   freshened slots last k cells freed new v n e one put none =
       let w = push_rows (map row_of cells) 0 k v (simp length-map (omega arith)) (simp length-map (omega arith)) in
       let q : row_of new ≡ (1, Some v) = pair_same new.given new.value 1 (Some v) one put in

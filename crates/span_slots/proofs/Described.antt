@@ -6,10 +6,10 @@ use Rattle.std.proofs.lemmas.List.Sums.{length-filter}
 use Rattle.std.proofs.lemmas.Bool.{eq-eqb, ne_eqb, cases_Bool, cases_lt, lt-ltb, le-ltb, le-leb, lt-leb}
 use Rattle.span_id.specs.Id.{slot_of, generation_of, IsId}
 use Rattle.span_slots.specs.declared.cells.Cell.{Cell}
-use Rattle.span_slots.specs.Cells.{row_of}
+use Rattle.span_slots.specs.inside.Cells.{row_of}
 use Rattle.span_slots.specs.Table.{Table, is_occupied, is_retired, free_count}
 use Rattle.span_slots.specs.Table as table
-use Rattle.span_slots.specs.Rows.{entries_from, AreGoodRows, is_free, free_rows, free_at, times_in, IsSound}
+use Rattle.span_slots.specs.inside.Rows.{entries_from, AreGoodRows, is_free, free_rows, free_at, times_in, IsSound}
 use Rattle.span_slots.proofs.Ids.{slot_of_id, generation_of_id}
 use Rattle.span_slots.proofs.Issued.{AreBelow, AreIssued, IsKept}
 use Rattle.span_slots.proofs.Rows.{free_at_row, row_free_at, good_row, times_in-push}

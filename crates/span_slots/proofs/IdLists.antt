@@ -3,8 +3,8 @@ use Rattle.std.proofs.Common.{◌≡◌, ℕ, ◌+◌, ◌-◌, ◌<◌, ◌≤�
 use Rattle.std.proofs.lemmas.List.{length-map, map-append}
 use Rattle.span_id.specs.Id.{id_of}
 use Rattle.span_slots.specs.declared.cells.Cell.{Cell}
-use Rattle.span_slots.specs.Cells.{row_of}
-use Rattle.span_slots.specs.Rows.{entries_from, AreGoodRows}
+use Rattle.span_slots.specs.inside.Cells.{row_of}
+use Rattle.span_slots.specs.inside.Rows.{entries_from, AreGoodRows}
 use Rattle.span_slots.proofs.CellLemmas.{row_at}
 use Rattle.span_slots.proofs.Rows.{good_row, entries-take_none, entries-take_some, length-entries_take}
 

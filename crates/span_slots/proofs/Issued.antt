@@ -5,7 +5,7 @@ use Rattle.std.proofs.Math.ListN.{get_or-append}
 use Rattle.std.proofs.lemmas.Bool.{cases_Bool, cases_lt, lt-ltb, le-ltb}
 use Rattle.std.proofs.lemmas.Bool.Decides.{eqb_tells}
 use Rattle.span_id.specs.Id.{id_of, slot_of, generation_of, IsId}
-use Rattle.span_slots.specs.Table.{Table, value_at, with_entry, without_entry, with_value, IsIssued, next_slot, next_slot_of, id_at, issue, inserted, removed}
+use Rattle.span_slots.specs.Table.{Table, value_at, with_entry, without_entry, with_value, IsIssued, next_slot, next_slot_of, id_at, issue, table_inserted, table_removed}
 use Rattle.span_slots.specs.Change.{Change, Insert, Remove, Write, after, after_all}
 use Rattle.span_slots.proofs.Ids.{slot_of_id, generation_of_id, id_again}
 use Rattle.span_slots.proofs.Entries.{value_at-with_entry_other, value_at-without_entry_none, value_at-without_entry_same, value_at-with_value_none}
@@ -129,12 +129,12 @@ module _ {T : Type 0} where
       omega arith
 
   -- and it is issued once a value is inserted
-  pub then_issued : (t : Table T) (s : ℕ) (v : T) → s < 16777216 → s ≤ length t.given → IsIssued (inserted t s v) (id_at t s)
+  pub then_issued : (t : Table T) (s : ℕ) (v : T) → s < 16777216 → s ≤ length t.given → IsIssued (table_inserted t s v) (id_at t s)
   then_issued t s v h l =
       let e = get_or-issue_same t.given s l in
       rw (slot_of_id s (get_or t.given s 0) h, generation_of_id s (get_or t.given s 0) h, e) (omega arith)
 
-  IsKept-inserted : (t : Table T) (s : ℕ) (v : T) → IsKept t → next_slot t ≡ Some s → IsKept (inserted t s v)
+  IsKept-inserted : (t : Table T) (s : ℕ) (v : T) → IsKept t → next_slot t ≡ Some s → IsKept (table_inserted t s v)
   IsKept-inserted t s v k e =
       let low = next_slot_low t s k e in
       let longer = length-issue t.given s in
@@ -149,10 +149,10 @@ module _ {T : Type 0} where
         issued = AreIssued-with_entry (issue t.given s) t.entries (id_at t s) v new (AreIssued-issue t.given s t.entries low.1 k.issued);
       }
 
-  IsKept-removed : (t : Table T) (id : ℕ) → IsKept t → IsKept (removed t id)
+  IsKept-removed : (t : Table T) (id : ℕ) → IsKept t → IsKept (table_removed t id)
   IsKept-removed t id k = go (value_at t.entries id) refl
     where
-      go : (o : Option T) → value_at t.entries id ≡ o → IsKept (removed t id)
+      go : (o : Option T) → value_at t.entries id ≡ o → IsKept (table_removed t id)
       go None e = rw e k
       go (Some v) e =
           let there : IsSome (value_at t.entries id) = rw e cc in
@@ -187,7 +187,7 @@ module _ {T : Type 0} where
       go (Some s) e = rw e (issue_grows t.given s j (next_slot_low t s k e).1)
   given_grows t (Remove id) j k = go (value_at t.entries id) refl
     where
-      go : (o : Option T) → value_at t.entries id ≡ o → get_or t.given j 0 ≤ get_or (removed t id).given j 0
+      go : (o : Option T) → value_at t.entries id ≡ o → get_or t.given j 0 ≤ get_or (table_removed t id).given j 0
       go None e = rw e (omega arith)
       go (Some v) e = rw e (omega arith)
   given_grows t (Write id v) j k = omega arith
@@ -207,7 +207,7 @@ module _ {T : Type 0} where
           rw e (value_at-with_entry_other t.entries (id_at t s) id v new ∙ none)
   stays_absent t (Remove j) id k i none = go (value_at t.entries j) refl
     where
-      go : (o : Option T) → value_at t.entries j ≡ o → value_at (removed t j).entries id ≡ None
+      go : (o : Option T) → value_at t.entries j ≡ o → value_at (table_removed t j).entries id ≡ None
       go None e = rw e none
       go (Some v) e = rw e (value_at-without_entry_none t.entries j id none)
   stays_absent t (Write j v) id k i none = value_at-with_value_none t.entries j id v none
@@ -221,7 +221,7 @@ module _ {T : Type 0} where
       go (Some s) e = rw e refl
   slots-after t (Remove id) = go (value_at t.entries id) refl
     where
-      go : (o : Option T) → value_at t.entries id ≡ o → (removed t id).slots ≡ t.slots
+      go : (o : Option T) → value_at t.entries id ≡ o → (table_removed t id).slots ≡ t.slots
       go None e = rw e refl
       go (Some v) e = rw e refl
   slots-after t (Write id v) = refl
@@ -234,7 +234,7 @@ module _ {T : Type 0} where
       go (Some s) e = rw e refl
   last-after t (Remove id) = go (value_at t.entries id) refl
     where
-      go : (o : Option T) → value_at t.entries id ≡ o → (removed t id).last_generation ≡ t.last_generation
+      go : (o : Option T) → value_at t.entries id ≡ o → (table_removed t id).last_generation ≡ t.last_generation
       go None e = rw e refl
       go (Some v) e = rw e refl
   last-after t (Write id v) = refl
@@ -258,19 +258,19 @@ module _ {T : Type 0} where
       absent_for_good (after t change) changes id (IsKept-after t change k) (stays_issued t change id k i) (stays_absent t change id k i none)
 
   -- a removal takes the id out of the map
-  pub absent-removed : (t : Table T) (id : ℕ) → value_at (removed t id).entries id ≡ None
+  pub absent-removed : (t : Table T) (id : ℕ) → value_at (table_removed t id).entries id ≡ None
   absent-removed t id = go (value_at t.entries id) refl
     where
-      go : (o : Option T) → value_at t.entries id ≡ o → value_at (removed t id).entries id ≡ None
+      go : (o : Option T) → value_at t.entries id ≡ o → value_at (table_removed t id).entries id ≡ None
       go None e = rw e e
       go (Some v) e = rw e (value_at-without_entry_same t.entries id)
 
   pub removed_for_good : (t : Table T) (changes : List (Change T)) (id : ℕ) → IsKept t → IsSome (value_at t.entries id) → value_at (after_all (after t (Remove id)) changes).entries id ≡ None
   removed_for_good t changes id k there =
-      absent_for_good (removed t id) changes id (IsKept-removed t id k) (stays_issued t (Remove id) id k (issued_since t.given t.entries id k.issued there)) (absent-removed t id)
+      absent_for_good (table_removed t id) changes id (IsKept-removed t id k) (stays_issued t (Remove id) id k (issued_since t.given t.entries id k.issued there)) (absent-removed t id)
 
   -- inserting issues the new id and no other
-  pub issued-inserted : (t : Table T) (s id : ℕ) (v : T) → IsId id → s < 16777216 → s ≤ length t.given → IsIssued (inserted t s v) id ↔ (IsIssued t id ⊎ (id_at t s ≡ id))
+  pub issued-inserted : (t : Table T) (s id : ℕ) (v : T) → IsId id → s < 16777216 → s ≤ length t.given → IsIssued (table_inserted t s v) id ↔ (IsIssued t id ⊎ (id_at t s ≡ id))
   issued-inserted t s id v layout h l = (
     λ i. elim (eqb_tells (slot_of id) s) [
       | inl u ↦ (
@@ -285,6 +285,6 @@ module _ {T : Type 0} where
     ],
     elim [
       | inl i ↦ (let more = issue_grows t.given s (slot_of id) l in omega (arith, i))
-      | inr e ↦ subst (λ x. IsIssued (inserted t s v) x) e (then_issued t s v h l)
+      | inr e ↦ subst (λ x. IsIssued (table_inserted t s v) x) e (then_issued t s v h l)
     ],
   )

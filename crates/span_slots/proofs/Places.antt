@@ -3,9 +3,9 @@ use Rattle.std.proofs.Common.{◌≡◌, ℕ, ◌+◌, ◌<◌, ◌≤◌, List,
 use Rattle.std.proofs.lemmas.List.{length-map}
 use Rattle.span_id.specs.Id.{slot_of, generation_of, IsId}
 use Rattle.span_slots.specs.declared.cells.Cell.{Cell}
-use Rattle.span_slots.specs.Cells.{row_of}
+use Rattle.span_slots.specs.inside.Cells.{row_of}
 use Rattle.span_slots.specs.Table.{value_at}
-use Rattle.span_slots.specs.Rows.{entries_from, IsSound}
+use Rattle.span_slots.specs.inside.Rows.{entries_from, IsSound}
 use Rattle.span_slots.proofs.CellLemmas.{found_cell, row_at}
 use Rattle.span_slots.proofs.Sound.{free_row}
 

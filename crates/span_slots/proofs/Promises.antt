@@ -6,9 +6,9 @@ use Rattle.std.proofs.lemmas.List.{get_or_past}
 use Rattle.std.proofs.lemmas.Bool.{eq-eqb, ne_eqb, cases_Bool, cases_lt, lt-ltb, le-ltb, le-leb, lt-leb, ltb-true, ltb-false, not-false, true≢false}
 use Rattle.std.proofs.lemmas.Bool.Decides.{eqb_tells}
 use Rattle.span_id.specs.Id.{id_of, slot_of, generation_of, IsId}
-use Rattle.span_slots.specs.Table.{Table, value_at, IsIssued, IsUsed, IsFull, is_free, is_occupied, is_retired, next_slot, next_slot_of, next_id, id_at, removed, freed_with}
+use Rattle.span_slots.specs.Table.{Table, value_at, IsIssued, IsUsed, IsFull, is_free, is_occupied, is_retired, next_slot, next_slot_of, next_id, id_at, table_removed, freed_with}
 use Rattle.span_slots.specs.Change.{Change, Insert, after, after_all}
-use Rattle.span_slots.specs.Rows.{times_in}
+use Rattle.span_slots.specs.inside.Rows.{times_in}
 use Rattle.span_slots.proofs.Ids.{slot_of_id, generation_of_id}
 use Rattle.span_slots.proofs.Entries.{value_at-with_entry_same, value_at-with_entry_other, value_at-without_entry_other}
 use Rattle.span_slots.proofs.Issued.{IsKept, issued_since, used_since, next_slot_low, not_issued, issued-inserted, issued_for_good, last-after_all}
@@ -147,14 +147,14 @@ module _ {T : Type 0} where
             elim [ inl a ↦ is.1 (inl a) | inr q ↦ is.1 (inr (some_same _ _ q)) ],
           )
 
-  given-removed : (t : Table T) (id : ℕ) → (removed t id).given ≡ t.given
+  given-removed : (t : Table T) (id : ℕ) → (table_removed t id).given ≡ t.given
   given-removed t id = go (value_at t.entries id) refl
     where
-      go : (o : Option T) → value_at t.entries id ≡ o → (removed t id).given ≡ t.given
+      go : (o : Option T) → value_at t.entries id ≡ o → (table_removed t id).given ≡ t.given
       go None e = rw e refl
       go (Some v) e = rw e refl
 
-  pub remove_issues_none : (t : Table T) (id other : ℕ) → IsIssued (removed t other) id ↔ IsIssued t id
+  pub remove_issues_none : (t : Table T) (id other : ℕ) → IsIssued (table_removed t other) id ↔ IsIssued t id
   remove_issues_none t id other =
       let same = given-removed t other in
       (λ i. subst (λ x. generation_of id < get_or x (slot_of id) 0) same i, λ i. subst (λ x. generation_of id < get_or x (slot_of id) 0) (sym same) i)
@@ -248,13 +248,13 @@ module _ {T : Type 0} where
   pub freed_apart : (t : Table T) → IsTable t → AllPairs (λ slot other. slot ≢ other) t.freed
   freed_apart t h i j d l m = apart_once t.freed h.freed_once i j d l m
 
-  next-removed : (t : Table T) (id : ℕ) (v : T) → value_at t.entries id ≡ Some v → next_id (removed t id) ≡ next_id (record t { freed = freed_with t (slot_of id) })
+  next-removed : (t : Table T) (id : ℕ) (v : T) → value_at t.entries id ≡ Some v → next_id (table_removed t id) ≡ next_id (record t { freed = freed_with t (slot_of id) })
   next-removed t id v e = rw e refl
 
-  pub freed_last : (t : Table T) (id : ℕ) → IsTable t → IsSome (value_at t.entries id) → generation_of id < t.last_generation → next_id (removed t id) ≡ Some (id_of (slot_of id) (generation_of id + 1))
+  pub freed_last : (t : Table T) (id : ℕ) → IsTable t → IsSome (value_at t.entries id) → generation_of id < t.last_generation → next_id (table_removed t id) ≡ Some (id_of (slot_of id) (generation_of id + 1))
   freed_last t id h there l = go (value_at t.entries id) refl
     where
-      go : (o : Option T) → value_at t.entries id ≡ o → next_id (removed t id) ≡ Some (id_of (slot_of id) (generation_of id + 1))
+      go : (o : Option T) → value_at t.entries id ≡ o → next_id (table_removed t id) ≡ Some (id_of (slot_of id) (generation_of id + 1))
       go None e = absurd (let q = rw e at there in cc)
       go (Some v) e =
           let n = newest t id h there in
@@ -285,10 +285,10 @@ module _ {T : Type 0} where
       let same : s ≡ slot = sym (slot_of_id s (get_or t.given s 0) low) ∙ q in
       absurd (true≢false (sym r ∙ (ap (is_retired t) (sym same) ∙ next_is_unretired t s h e)))))
 
-  pub retired : (t : Table T) (id : ℕ) → IsTable t → IsSome (value_at t.entries id) → generation_of id ≡ t.last_generation → next_id (removed t id) ≡ next_id t
+  pub retired : (t : Table T) (id : ℕ) → IsTable t → IsSome (value_at t.entries id) → generation_of id ≡ t.last_generation → next_id (table_removed t id) ≡ next_id t
   retired t id h there l = go (value_at t.entries id) refl
     where
-      go : (o : Option T) → value_at t.entries id ≡ o → next_id (removed t id) ≡ next_id t
+      go : (o : Option T) → value_at t.entries id ≡ o → next_id (table_removed t id) ≡ next_id t
       go None e = absurd (let q = rw e at there in cc)
       go (Some v) e =
           let n = newest t id h there in
@@ -346,9 +346,9 @@ module _ {T : Type 0} where
       go None e = rw e refl
       go (Some s) e = rw e (value_at-with_entry_other t.entries (id_at t s) other v (λ q. ne (some_next t s e ∙ ap (λ x. Some x) q)))
 
-  pub others-removed : (t : Table T) (id other : ℕ) → other ≢ id → value_at (removed t id).entries other ≡ value_at t.entries other
+  pub others-removed : (t : Table T) (id other : ℕ) → other ≢ id → value_at (table_removed t id).entries other ≡ value_at t.entries other
   others-removed t id other ne = go (value_at t.entries id) refl
     where
-      go : (o : Option T) → value_at t.entries id ≡ o → value_at (removed t id).entries other ≡ value_at t.entries other
+      go : (o : Option T) → value_at t.entries id ≡ o → value_at (table_removed t id).entries other ≡ value_at t.entries other
       go None e = rw e refl
       go (Some v) e = rw e (value_at-without_entry_other t.entries id other (λ q. ne (sym q)))

@@ -4,7 +4,7 @@ use Rattle.std.proofs.lemmas.Bool.Decides.{nat_tests, eqb_tells}
 use Rattle.std.proofs.lemmas.Bool.{eq-eqb, ne_eqb, cases_Bool}
 use Rattle.span_id.specs.Id.{id_of, slot_of, generation_of, IsId}
 use Rattle.span_slots.specs.Table.{value_at, with_entry, without_entry, with_value}
-use Rattle.span_slots.specs.Rows.{entries_from, IsGoodRow, AreGoodRows, is_free, free_rows, free_at, times_in}
+use Rattle.span_slots.specs.inside.Rows.{entries_from, IsGoodRow, AreGoodRows, is_free, free_rows, free_at, times_in}
 use Rattle.span_slots.proofs.Ids.{slot_of_id, id_again, ids_differ}
 
 other_slot : (b g s j : ℕ) → b < 16777216 → s < 16777216 → b < s → eqb (id_of b g) (id_of s j) ≡ false

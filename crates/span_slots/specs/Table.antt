@@ -103,8 +103,8 @@ module _ {T : Type 0} where
   next_id t = option_map (id_at t) (next_slot t)
 
   -- the table with one more value in the next slot, which is this one
-  abbrev pub inserted : Table T → ℕ → T → Table T
-  inserted t slot value = record t {
+  abbrev pub table_inserted : Table T → ℕ → T → Table T
+  table_inserted t slot value = record t {
     entries = with_entry t.entries (id_at t slot) value;
     given = issue t.given slot;
     freed = drop 1 t.freed;
@@ -115,8 +115,8 @@ module _ {T : Type 0} where
   freed_with t slot = cond (nat_le (slice_index t.given slot) t.last_generation) (slot ∷ t.freed) t.freed
 
   -- the table without the value of an id; it stays as it is where the id has none
-  abbrev pub removed : Table T → ℕ → Table T
-  removed t id =
+  abbrev pub table_removed : Table T → ℕ → Table T
+  table_removed t id =
       cond (is_some (value_at t.entries id))
       (record t { entries = without_entry t.entries id; freed = freed_with t (slot_of id) })
       t

@@ -12,7 +12,7 @@ pub struct Cell<T> {
 }
 
 impl<T> Cell<T> {
-    ghost use Rattle.span_slots.specs.Cells.{lends_cell};
+    ghost use Rattle.span_slots.specs.inside.Cells.{lends_cell};
 
     /// The value, where there is one, for writing.
     pub fn value_mut(&mut self) -> &mut T

@@ -9,7 +9,7 @@ ghost use Rattle.std.specs.Prelude.{◌≡◌, ℕ, ◌+◌, ◌-◌, ◌<◌, �
 ghost use Rattle.std.specs.Option.{option_copied_mut};
 ghost use Rattle.std.specs.Borrow.{sem};
 ghost use Rattle.span_id.specs.Id.{IsId, slot_of};
-ghost use Rattle.span_slots.specs.Table.{Table, value_at, next_id, next_slot, inserted, removed, IsIssued, free_count};
+ghost use Rattle.span_slots.specs.Table.{Table, value_at, next_id, next_slot, table_inserted, table_removed, IsIssued, free_count};
 ghost use Rattle.span_slots.specs.Change.{Insert, Remove, after};
 
 mod cells;
@@ -46,8 +46,8 @@ impl<T> Model for Slots<T> {
 
     ghost coded = { table_code T.code };
 
-    ghost use Rattle.span_slots.specs.Cells.{row_of};
-    ghost use Rattle.span_slots.specs.Rows.{entries_from, IsSound};
+    ghost use Rattle.span_slots.specs.inside.Cells.{row_of};
+    ghost use Rattle.span_slots.specs.inside.Rows.{entries_from, IsSound};
 
     ghost view = { λ s. record {
       slots = s.slots;
@@ -197,7 +197,7 @@ impl<T: Drop> Slots<T> {
         ensures full { IsOk result ↔ IsSome (next_id self.old) }
         ensures id { IfOk result (λ id. next_id self.old ≡ Some id) }
         ensures vacant { IfOk result (λ id. value_at self.old.entries id ≡ None) }
-        ensures table { IfOk result (λ id. self.new ≡ inserted self.old (slot_of id) value) }
+        ensures table { IfOk result (λ id. self.new ≡ table_inserted self.old (slot_of id) value) }
         ensures change { self.new ≡ after self.old (Insert value) }
 
         ensures unchanged { OnErr result (self.new ≡ self.old) }
@@ -219,7 +219,7 @@ impl<T: Drop> Slots<T> {
         ensures slot { next_slot self.old ≡ Some (slot_of result) }
         ensures id { next_id self.old ≡ Some result }
         ensures vacant { value_at self.old.entries result ≡ None }
-        ensures table { self.new ≡ inserted self.old (slot_of result) value }
+        ensures table { self.new ≡ table_inserted self.old (slot_of result) value }
     {
         let Some(slot) = self.freed.pop() else {
             unreachable!()
@@ -239,7 +239,7 @@ impl<T: Drop> Slots<T> {
         ensures slot { next_slot self.old ≡ Some (slot_of result) }
         ensures id { next_id self.old ≡ Some result }
         ensures vacant { value_at self.old.entries result ≡ None }
-        ensures table { self.new ≡ inserted self.old (slot_of result) value }
+        ensures table { self.new ≡ table_inserted self.old (slot_of result) value }
     {
         let slot = self.cells.len() as u32;
         self.cells.push_reserved(Cell {
@@ -255,7 +255,7 @@ impl<T: Drop> Slots<T> {
     /// The slot may be given again, unless the id was its last one.
     pub fn remove(&mut self, id: Id) -> Option<T>
         ensures value { result ≡ value_at self.old.entries id }
-        ensures table { self.new ≡ removed self.old id }
+        ensures table { self.new ≡ table_removed self.old id }
         ensures change { self.new ≡ after self.old (Remove id) }
     {
         if self.get(id).is_none() {
@@ -268,7 +268,7 @@ impl<T: Drop> Slots<T> {
     fn take_out(&mut self, id: Id) -> T
         requires { IsSome (value_at self.old.entries id) }
         ensures value { value_at self.old.entries id ≡ Some result }
-        ensures table { self.new ≡ removed self.old id }
+        ensures table { self.new ≡ table_removed self.old id }
     {
         let slot = id.slot();
         let _generation = id.generation();

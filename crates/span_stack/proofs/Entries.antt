@@ -7,7 +7,7 @@ use Rattle.std.proofs.lemmas.List.Elements.{filter-append, filter_agree}
 use Rattle.std.proofs.lemmas.List.Folds.{list_any-append}
 use Rattle.span_stack.specs.declared.entry.Entry.{Entry}
 use Rattle.span_stack.specs.Stack.{has, first_places, walk}
-use Rattle.span_stack.specs.Entry.{ids_of, AreFlagged, unflagged}
+use Rattle.span_stack.specs.inside.Entry.{ids_of, AreFlagged, unflagged}
 use Rattle.span_stack.proofs.Stacks.{by_cases, or_true, eqb-sym, is_other, filter-filter}
 
 -- an id is looked for among the entries

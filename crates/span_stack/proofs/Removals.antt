@@ -4,7 +4,7 @@ use Rattle.std.specs.List.{remove}
 use Rattle.std.proofs.lemmas.Bool.{eq-eqb}
 use Rattle.span_stack.specs.declared.entry.Entry.{Entry}
 use Rattle.span_stack.specs.Stack.{has, without_last}
-use Rattle.span_stack.specs.Entry.{ids_of, AreFlagged, IsLastPlace}
+use Rattle.span_stack.specs.inside.Entry.{ids_of, AreFlagged, IsLastPlace}
 use Rattle.span_stack.proofs.Stacks.{or_true, without_last-at}
 use Rattle.span_stack.proofs.Entries.{ids_of-append, has-append, AreFlagged-without, AreFlagged-at}
 

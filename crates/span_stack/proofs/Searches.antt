@@ -9,7 +9,7 @@ use Rattle.std.proofs.lemmas.Bool.{eqb-true, not-true, not-false}
 use Rattle.std.proofs.lemmas.List.{append-nil, length-append, nil_from_length}
 use Rattle.span_stack.specs.declared.entry.Entry.{Entry}
 use Rattle.span_stack.specs.Stack.{has}
-use Rattle.span_stack.specs.Entry.{ids_of, unflagged, IsLastPlace}
+use Rattle.span_stack.specs.inside.Entry.{ids_of, unflagged, IsLastPlace}
 use Rattle.span_stack.proofs.Entries.{ids_of-append, has-append, or_false, unflagged-push}
 
 -- calls that leave the closure as it was

@@ -1,7 +1,7 @@
 ghost use Rattle.std.specs.Prelude.{◌≡◌, ℕ, ◌+◌, ◌^◌, ◌<◌, ◌≤◌, ◌==◌, ◌&&◌, true, false, not, [], ◌∷◌, ◌++◌, length, IsOk, IfErr, OnOk, OnErr, IfSome, IfNone, OnSome, MatchOption, is_some, slice_get};
 ghost use Rattle.std.specs.Iterator.{YieldsFirst};
 ghost use Rattle.std.specs.Iterator.Runs.{YieldsInOrder};
-ghost use Rattle.span_stack.specs.Entry.{ids_of, IsLastPlace};
+ghost use Rattle.span_stack.specs.inside.Entry.{ids_of, IsLastPlace};
 ghost use Rattle.span_stack.specs.Stack as words;
 
 use crate::entry::Entry;
@@ -28,7 +28,7 @@ impl Model for SpanStack {
 
     ghost Value = { Stack };
 
-    ghost use Rattle.span_stack.specs.Entry.{stack_of, IsSound};
+    ghost use Rattle.span_stack.specs.inside.Entry.{stack_of, IsSound};
 
     ghost view = { λ s. stack_of s.entries };
 
@@ -166,6 +166,3 @@ fn last_place(entries: &[Entry], id: Id) -> Option<usize>
 {
     entries.iter().rposition(|entry| entry.id == id)
 }
-
-#[cfg(test)]
-mod tests;

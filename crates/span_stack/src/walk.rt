@@ -20,7 +20,7 @@ impl<'a> Model for Walk<'a> {
 
     ghost Value = { List ℕ };
 
-    ghost use Rattle.span_stack.specs.Entry.{unflagged};
+    ghost use Rattle.span_stack.specs.inside.Entry.{unflagged};
 
     ghost view = { λ walk. unflagged (iter_rest walk.entries) };
 }

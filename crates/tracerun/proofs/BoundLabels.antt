@@ -5,7 +5,7 @@ use Rattle.std.specs.Ordering.{match_ordering}
 use Rattle.std.specs.Cmp.Lexicographic.{slice_cmp}
 use Rattle.std.specs.BTreeMap.{insert_entry, is_at}
 use Rattle.std.proofs.lemmas.Map.Text.{is_eq-slice_cmp}
-use Rattle.tracerun.specs.Labels.{Bound, id_in, bound}
+use Rattle.tracerun.specs.Labels.{Bound, id_in, with_label}
 
 abbrev Entry : Type 0
 Entry = String Global × ℕ
@@ -26,11 +26,11 @@ placed Equal before at after rest is = refl
 placed Greater before at after rest is = is
 
 -- after an insert the list is the one in which the label is bound
-pub bound_label : (key : String Global) (id : ℕ) (entries : List Entry) → seen (insert_entry string_cmp entries key id) ≡ bound (seen entries) (string_bytes key) id
+pub bound_label : (key : String Global) (id : ℕ) (entries : List Entry) → seen (insert_entry string_cmp entries key id) ≡ with_label (seen entries) (string_bytes key) id
 bound_label key id [] = refl
 bound_label key id (entry ∷ entries) =
     placed (string_cmp key entry.0) ((key, id) ∷ entry ∷ entries) ((entry.0, id) ∷ entries) (entry ∷ insert_entry string_cmp entries key id)
-    ((string_bytes entry.0, entry.1) ∷ bound (seen entries) (string_bytes key) id)
+    ((string_bytes entry.0, entry.1) ∷ with_label (seen entries) (string_bytes key) id)
     (ap (λ rest. (string_bytes entry.0, entry.1) ∷ rest) (bound_label key id entries))
 
 pub bound_ids : (entries : List Entry) → values_of entries ≡ map (λ entry. entry.1) (seen entries)

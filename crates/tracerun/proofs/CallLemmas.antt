@@ -2,22 +2,22 @@
 use Rattle.std.proofs.Common.{◌≡◌, ℕ, List, Option, Some, None, Result, Ok, Err, sym, ap, subst, ◌∙◌}
 use Rattle.std.specs.Prelude.{IfOk, OnOk, IfSome, IfNone, MatchOption}
 use Rattle.span_id.specs.declared.fault.Fault.{Fault}
-use Rattle.span_registry.specs.Core.{CoreView, IsAccepted, IsRefused, IsNotWanted}
+use Rattle.span_core.specs.Core.{CoreView, IsAccepted, IsRefused, IsNotWanted}
 use Rattle.span_layers.specs.Note.{KeyValue}
-use Rattle.span_registry.specs.Request as call
-use Rattle.span_registry.specs.Request.{PlainMeta}
-use Rattle.span_registry.specs.World.{World}
-use Rattle.span_registry.specs.Parent.{parent_found}
-use Rattle.span_registry.specs.declared.batch.ParentOf.{ParentOf}
-use Rattle.span_registry.specs.declared.batch.ParentOf.TheVariants.{Root, Of}
-use Rattle.span_registry.specs.State.{IsLate}
-use Rattle.span_registry.specs.Outcome.{TakesNextId}
-use Rattle.span_registry.proofs.Outcomes.{accepted_outcome, refused_outcome, not_wanted_outcome}
-use Rattle.tracerun.specs.Calls.{answer_for, IsMade}
+use Rattle.span_outlet.specs.Request as call
+use Rattle.span_outlet.specs.Request.{PlainMeta}
+use Rattle.span_core.specs.World.{World}
+use Rattle.span_core.specs.Parent.{parent_found}
+use Rattle.span_outlet.specs.declared.batch.ParentOf.{ParentOf}
+use Rattle.span_outlet.specs.declared.batch.ParentOf.TheVariants.{Root, Of}
+use Rattle.span_core.specs.Core.{IsLate}
+use Rattle.span_core.specs.Outcome.{TakesNextId}
+use Rattle.span_core.proofs.Outcomes.{accepted_outcome, refused_outcome, not_wanted_outcome}
+use Rattle.tracerun.specs.inside.Calls.{answer_for, IsMade}
 use Rattle.tracerun.specs.Written.{answer_of, core_left}
-use Rattle.tracerun.specs.declared.answer.Answer.{Answer}
-use Rattle.tracerun.specs.declared.answer.Answer.TheVariants.{Made, NotWanted, Refused}
-use Rattle.tracerun.specs.declared.stop.Stop.{Stop}
+use Rattle.tracerun.specs.declared.run.answer.Answer.{Answer}
+use Rattle.tracerun.specs.declared.run.answer.Answer.TheVariants.{Made, NotWanted, Refused}
+use Rattle.span_script.specs.declared.stop.Stop.{Stop}
 
 pub made_accepted : (old : CoreView) (request : call.Request) (answer : call.Answer) (new : CoreView) → IsAccepted old request answer new → TakesNextId old answer
     → IsMade old request (answer_of answer) new

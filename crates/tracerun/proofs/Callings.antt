@@ -4,20 +4,20 @@ use Rattle.std.specs.Prelude.{IfOk, IfErr, OnOk, codes, ⊤}
 use Rattle.serde_json.specs.Data.{Data}
 use Rattle.serde_json.specs.Find.{get, as_object, as_str}
 use Rattle.span_id.specs.declared.level.Level.TheVariants.{Info}
-use Rattle.tracerun.specs.Key.{key_text}
+use Rattle.span_script.specs.Key.{key_text}
 use Rattle.tracerun.specs.Meaning.{at_stage, stage_after, turn_of, value_turn}
-use Rattle.tracerun.specs.Operation.{Operation, set_limits, add_layer, make, on_span, record_fields, tell, find, running, Op, limits_op, layer_op, new_op, span_op, record_op, event_op, find_op, required, optional, worker_in, level_in, parent_in, fields_in, span_key_in, old_id_in, op_of, current, new_of, on_span_of, record_of, event_of, find_by_span, find_by, find_of, keys_of, operation_of}
-use Rattle.tracerun.specs.Reason.{StopsFor, or_fault}
-use Rattle.tracerun.specs.Running.{IsTurn, StopsAs, RunsAs}
+use Rattle.span_script.specs.Operation.{Operation, set_limits, add_layer, make, on_span, record_fields, tell, find, running, Op, limits_op, layer_op, new_op, span_op, record_op, event_op, find_op, required, optional, worker_in, level_in, parent_in, fields_in, span_key_in, old_id_in, op_of, current, new_of, on_span_of, record_of, event_of, find_by_span, find_by, find_of, keys_of, operation_of}
+use Rattle.span_script.specs.Reason.{StopsFor, or_fault}
+use Rattle.tracerun.specs.inside.Running.{IsTurn, StopsAs, RunsAs}
 use Rattle.tracerun.specs.State.{State}
-use Rattle.tracerun.specs.Views.{operation_seen, IsCall}
-use Rattle.tracerun.specs.declared.fault.Key.TheVariants as key
-use Rattle.tracerun.specs.declared.fault.Reason.TheVariants.{NotObject, BadKey}
-use Rattle.tracerun.specs.declared.operation.Operation as code
-use Rattle.tracerun.specs.declared.operation.Operation.TheVariants as codes_of
-use Rattle.tracerun.specs.declared.operation.SpanCall.{SpanCall}
-use Rattle.tracerun.specs.declared.stop.Stop.{Stop}
-use Rattle.tracerun.specs.declared.stop.Stop.TheVariants.{Memory, Refused}
+use Rattle.span_script.specs.Views.{operation_seen, IsCall}
+use Rattle.span_script.specs.declared.key.Key.TheVariants as key
+use Rattle.span_script.specs.declared.reason.Reason.TheVariants.{NotObject, BadKey}
+use Rattle.span_script.specs.declared.operations.Operation as code
+use Rattle.span_script.specs.declared.operations.Operation.TheVariants as codes_of
+use Rattle.span_script.specs.declared.operations.SpanCall.{SpanCall}
+use Rattle.span_script.specs.declared.stop.Stop.{Stop}
+use Rattle.span_script.specs.declared.stop.Stop.TheVariants.{Memory, Refused}
 use Rattle.tracerun.proofs.Fits.{WhereOk, then_ok}
 use Rattle.tracerun.proofs.Setups.{value_does, value_faults}
 

@@ -12,14 +12,14 @@ use Rattle.span_forest.specs.Spans.{IsOpen}
 use Rattle.span_forest.specs.Live.{stands_in}
 use Rattle.span_stack.specs.Stack.{has, without_last}
 use Rattle.span_stack.proofs.Stacks.{without_last-at}
-use Rattle.span_registry.specs.World.{stack_of, workers_inside}
-use Rattle.span_registry.specs.Request as call
-use Rattle.span_registry.specs.Core.{CoreView, IsDue}
-use Rattle.span_registry.specs.Outcome.{Outcome}
-use Rattle.span_registry.proofs.Accepting.{held_open, inside_held}
-use Rattle.span_registry.proofs.Worlds.{one}
-use Rattle.span_registry.proofs.Outcomes.{due_outcome}
-use Rattle.span_registry.proofs.Weights.{weight}
+use Rattle.span_core.specs.World.{stack_of, workers_inside}
+use Rattle.span_outlet.specs.Request as call
+use Rattle.span_core.specs.Core.{CoreView, IsDue}
+use Rattle.span_core.specs.Outcome.{Outcome}
+use Rattle.span_core.proofs.Accepting.{held_open, inside_held}
+use Rattle.span_core.proofs.Worlds.{one}
+use Rattle.span_core.proofs.Outcomes.{due_outcome}
+use Rattle.span_core.proofs.Weights.{weight}
 use Rattle.tracerun.specs.Labels.{Bound}
 use Rattle.tracerun.specs.Written.{core_left, call_written, calls_written, each_written, exits}
 use Rattle.tracerun.proofs.Tracked.{IsTracked, Leads, leads_nowhere, leads_on, done_leads}

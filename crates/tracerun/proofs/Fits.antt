@@ -6,13 +6,13 @@ use Rattle.serde_json.specs.Data.{Data}
 use Rattle.serde_json.specs.Find.{get, as_object, as_str}
 use Rattle.span_id.specs.declared.level.Level.TheVariants.{Info}
 use Rattle.span_layers.specs.declared.form.Form.TheVariants.{Compact}
-use Rattle.tracerun.specs.Key.{key_text}
-use Rattle.tracerun.specs.Operation.{Operation, set_limits, add_layer, make, on_span, record_fields, tell, find, Stage, at_start, in_setup, running, Op, limits_op, layer_op, new_op, span_op, record_op, event_op, find_op, required, given_or, optional, below, whole_number, worker_in, limit_in, form_in, kinds_in, rule_in, all_targets, level_in, parent_in, fields_in, span_key_in, old_id_in, op_of, current, limits_of, layer_of, new_of, on_span_of, record_of, event_of, find_by_span, find_by, find_of, keys_of, operation_of}
-use Rattle.tracerun.specs.Reason.{◌>>=◌, or_fault}
-use Rattle.tracerun.specs.declared.fault.Key.TheVariants as key
-use Rattle.tracerun.specs.declared.operation.SpanCall.{SpanCall}
-use Rattle.tracerun.specs.declared.fault.Reason.{Reason}
-use Rattle.tracerun.specs.declared.fault.Reason.TheVariants.{NotObject, BadKey}
+use Rattle.span_script.specs.Key.{key_text}
+use Rattle.span_script.specs.Operation.{Operation, set_limits, add_layer, make, on_span, record_fields, tell, find, Stage, at_start, in_setup, running, Op, limits_op, layer_op, new_op, span_op, record_op, event_op, find_op, required, given_or, optional, below, whole_number, worker_in, limit_in, form_in, kinds_in, rule_in, all_targets, level_in, parent_in, fields_in, span_key_in, old_id_in, op_of, current, limits_of, layer_of, new_of, on_span_of, record_of, event_of, find_by_span, find_by, find_of, keys_of, operation_of}
+use Rattle.span_script.specs.Reason.{◌>>=◌, or_fault}
+use Rattle.span_script.specs.declared.key.Key.TheVariants as key
+use Rattle.span_script.specs.declared.operations.SpanCall.{SpanCall}
+use Rattle.span_script.specs.declared.reason.Reason.{Reason}
+use Rattle.span_script.specs.declared.reason.Reason.TheVariants.{NotObject, BadKey}
 
 -- the worker that a line names is one of so many, and `limits` comes first
 abbrev pub IsFit : ℕ → Stage → Operation → Type 0

@@ -2,16 +2,16 @@
 use Rattle.std.proofs.Common.{◌≡◌, ℕ, List, [], ◌++◌, length, map, refl, ap, sym, ◌∙◌, subst, append-nil, Result, Ok, Err, IfOk, IfErr}
 use Rattle.std.specs.Io.KnownBytes.{Appends}
 use Rattle.std.specs.List.{range_with_len}
-use Rattle.span_registry.specs.Core.{CoreView}
+use Rattle.span_core.specs.Core.{CoreView}
 use Rattle.tracerun.specs.Answer.{left_text}
 use Rattle.tracerun.specs.Labels.{Bound}
 use Rattle.tracerun.specs.Meaning.{Transcript, finished, left_by_workers, last_part}
 use Rattle.tracerun.specs.Replayed.{Fails, Runs}
 use Rattle.tracerun.specs.State.{State}
-use Rattle.tracerun.specs.Turns.{AreMade, Sent, TextFails}
+use Rattle.tracerun.specs.inside.Turns.{AreMade, Sent, TextFails}
 use Rattle.tracerun.specs.Written.{Written, closes, each_written, exits}
-use Rattle.tracerun.specs.declared.fault.RunFault.{RunFault}
-use Rattle.tracerun.specs.declared.fault.RunFault.TheVariants.{Script, Memory, Device}
+use Rattle.tracerun.specs.declared.run.fault.RunFault.{RunFault}
+use Rattle.tracerun.specs.declared.run.fault.RunFault.TheVariants.{Script, Memory, Device}
 use Rattle.tracerun.proofs.Written.{Known, front_more, fails_after, runs_after}
 
 -- where a text fails that the whole begins with, the whole fails

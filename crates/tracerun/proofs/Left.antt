@@ -7,14 +7,14 @@
 use Rattle.std.proofs.Common.{◌≡◌, ℕ, ◌+◌, ◌-◌, ◌*◌, ◌^◌, ◌<◌, ◌≤◌, Bool, true, false, if◌then◌else◌, List, [], ◌∷◌, length, Result, Ok, Err, refl, sym, ap, ◌∙◌, inl, inr, arith, Option, Some, None, IfSome}
 use Rattle.std.specs.Prelude.{nat_le, ◌==◌}
 use Rattle.std.proofs.lemmas.Bool.{cases_Bool, leb-true}
-use Rattle.span_registry.proofs.Weights.{weight}
+use Rattle.span_core.proofs.Weights.{weight}
 use Rattle.tracerun.specs.State.{State, first_state}
-use Rattle.tracerun.specs.Script.{onto_line, lines_of, most_bytes}
+use Rattle.span_script.specs.Script.{onto_line, lines_of, most_bytes}
 use Rattle.tracerun.specs.Replayed.{Runs}
-use Rattle.tracerun.specs.Meaning.{Turn, Ending, finished, faulty, Transcript, line_turn, turned, run, meaning}
-use Rattle.tracerun.specs.declared.fault.Reason.{Reason}
-use Rattle.tracerun.specs.declared.fault.Reason.TheVariants.{TooLong}
-use Rattle.tracerun.proofs.Closes.{nothing_open}
+use Rattle.tracerun.specs.Meaning.{Turn, Ending, finished, faulty, Transcript, line_turn, turn_then, run, meaning}
+use Rattle.span_script.specs.declared.reason.Reason.{Reason}
+use Rattle.span_script.specs.declared.reason.Reason.TheVariants.{TooLong}
+use Rattle.tracerun.proofs.ClosedLabels.{nothing_open}
 use Rattle.tracerun.proofs.Fits.{WhereOk}
 use Rattle.tracerun.proofs.Turns.{IsGood, Next, line_next, good_start, light_start}
 
@@ -38,7 +38,7 @@ ended (faulty number reason) = 0
 
 -- after a line the run goes on, or ends at its fault
 turned_left : (number n : ℕ) (state : State) (turn : Result Turn Reason) (more : State → Transcript) → WhereOk turn (λ (t : Turn). Next state t.state)
-    → ((new : State) → Next state new → (more new).ending ≡ finished n → n ≡ 0) → (turned number turn more).ending ≡ finished n → n ≡ 0
+    → ((new : State) → Next state new → (more new).ending ≡ finished n → n ≡ 0) → (turn_then number turn more).ending ≡ finished n → n ≡ 0
 turned_left number n state (Ok turn) more next rest is = rest turn.state next.is is
 turned_left number n state (Err reason) more next rest is = cc
 

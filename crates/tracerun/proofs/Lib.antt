@@ -1,12 +1,9 @@
-pub mod Json
-pub mod ValueLists
-pub mod Cuts
 pub mod Written
 pub mod Stages
 pub mod Bindings
 pub mod Tracked
 pub mod Exits
-pub mod Closes
+pub mod ClosedLabels
 pub mod Fits
 pub mod Turns
 pub mod Left

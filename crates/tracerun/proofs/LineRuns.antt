@@ -4,11 +4,11 @@ use Rattle.std.specs.Prelude.{OnErr, ⊤}
 use Rattle.tracerun.specs.Device.{AppendsFront}
 use Rattle.tracerun.specs.Meaning.{Turn}
 use Rattle.tracerun.specs.State.{State}
-use Rattle.tracerun.specs.Turns.{HasTurned, TurnFails}
-use Rattle.tracerun.specs.declared.fault.Reason.{Reason}
-use Rattle.tracerun.specs.declared.fault.RunFault.{RunFault}
-use Rattle.tracerun.specs.declared.fault.RunFault.TheVariants.{Device}
-use Rattle.tracerun.specs.declared.fault.Side.TheVariants.{Write}
+use Rattle.tracerun.specs.inside.Turns.{HasTurned, TurnFails}
+use Rattle.span_script.specs.declared.reason.Reason.{Reason}
+use Rattle.tracerun.specs.declared.run.fault.RunFault.{RunFault}
+use Rattle.tracerun.specs.declared.run.fault.RunFault.TheVariants.{Device}
+use Rattle.tracerun.specs.declared.run.fault.Side.TheVariants.{Write}
 use Rattle.tracerun.proofs.Written.{Known}
 use Rattle.tracerun.proofs.LineTurns.{turn_begun}
 

@@ -4,19 +4,19 @@ use Rattle.std.specs.Io.KnownBytes.{Appends}
 use Rattle.std.proofs.KnownBytes.{Keeps-refl}
 use Rattle.serde_json.specs.Data.{Data}
 use Rattle.tracerun.specs.Device.{AppendsFront}
-use Rattle.tracerun.specs.Ended.{fault_at}
+use Rattle.tracerun.specs.inside.Ended.{fault_at}
 use Rattle.tracerun.specs.Meaning.{Turn, line_turn, read_turn, value_turn}
-use Rattle.tracerun.specs.Operation.{json_of}
-use Rattle.tracerun.specs.Reason.{StopsFor}
-use Rattle.tracerun.specs.Script.{is_skipped}
+use Rattle.span_script.specs.Operation.{json_of}
+use Rattle.span_script.specs.Reason.{StopsFor}
+use Rattle.span_script.specs.Script.{is_skipped}
 use Rattle.tracerun.specs.State.{State}
-use Rattle.tracerun.specs.Turns.{HasTurned, TurnFails}
-use Rattle.tracerun.specs.declared.fault.Reason.{Reason}
-use Rattle.tracerun.specs.declared.fault.RunFault.{RunFault}
-use Rattle.tracerun.specs.declared.fault.RunFault.TheVariants.{Device}
-use Rattle.tracerun.specs.declared.fault.Side.{Side}
-use Rattle.tracerun.specs.declared.stop.Stop.{Stop}
-use Rattle.tracerun.specs.declared.stop.Stop.TheVariants.{Memory, Refused}
+use Rattle.tracerun.specs.inside.Turns.{HasTurned, TurnFails}
+use Rattle.span_script.specs.declared.reason.Reason.{Reason}
+use Rattle.tracerun.specs.declared.run.fault.RunFault.{RunFault}
+use Rattle.tracerun.specs.declared.run.fault.RunFault.TheVariants.{Device}
+use Rattle.tracerun.specs.declared.run.fault.Side.{Side}
+use Rattle.span_script.specs.declared.stop.Stop.{Stop}
+use Rattle.span_script.specs.declared.stop.Stop.TheVariants.{Memory, Refused}
 use Rattle.tracerun.proofs.Written.{Known}
 
 pub read_line : (hooks : ℕ) (state : State) (line : List ℕ) (value : Data) → is_skipped line ≡ false → json_of line ≡ Ok value → line_turn hooks state line ≡ value_turn hooks state value

@@ -3,12 +3,12 @@ use Rattle.std.proofs.Common.{◌≡◌, ℕ, false, refl, sym, ◌∙◌, Resul
 use Rattle.serde_json.specs.Data.{Data}
 use Rattle.tracerun.specs.Faults.{id_of_key, parent_of_key, free_label}
 use Rattle.span_stack.specs.Stack as stack
-use Rattle.span_registry.specs.World.{stack_of}
+use Rattle.span_core.specs.World.{stack_of}
 use Rattle.tracerun.specs.Meaning.{Turn, at_stage, stage_after, turn_of, new_turn, value_turn}
-use Rattle.tracerun.specs.Operation.{NewSpan, Operation, set_limits, add_layer, make, on_span, record_fields, tell, find, Stage, running, is_setup, operation_of}
-use Rattle.tracerun.specs.Reason.{◌>>=◌}
+use Rattle.span_script.specs.Operation.{NewSpan, Operation, set_limits, add_layer, make, on_span, record_fields, tell, find, Stage, running, is_setup, operation_of}
+use Rattle.span_script.specs.Reason.{◌>>=◌}
 use Rattle.tracerun.specs.State.{State}
-use Rattle.tracerun.specs.declared.fault.Reason.{Reason}
+use Rattle.span_script.specs.declared.reason.Reason.{Reason}
 use Rattle.tracerun.proofs.Callings.{Calls, line_calls}
 use Rattle.tracerun.proofs.Setups.{value_does, value_faults}
 use Rattle.tracerun.proofs.Stages.{same_at_each_stage}

@@ -7,11 +7,11 @@ use Rattle.serde_json.proofs.OnLiterals.{serde_json_on_literals}
 use Rattle.span_layers.specs.Rule.{is_admitted}
 use Rattle.span_layers.specs.Text.{text_of}
 use Rattle.tracerun.specs.Meaning.{meaning, finished, faulty, run, read_turn, value_turn, new_turn}
-use Rattle.tracerun.specs.Operation.{json_of, operation_of, op_of, limits_of, layer_of, new_of, on_span_of, record_of, event_of, find_of, all_of}
-use Rattle.tracerun.specs.Script.{lines_of}
+use Rattle.span_script.specs.Operation.{json_of, operation_of, op_of, limits_of, layer_of, new_of, on_span_of, record_of, event_of, find_of, all_of}
+use Rattle.span_script.specs.Script.{lines_of}
 use Rattle.tracerun.specs.Written.{calls_written, each_written}
-use Rattle.tracerun.specs.declared.fault.Key.TheVariants as key
-use Rattle.tracerun.specs.declared.fault.Reason.TheVariants.{BadKey, LabelTaken, LateLine, NoSuchLabel, NotJson}
+use Rattle.span_script.specs.declared.key.Key.TheVariants as key
+use Rattle.span_script.specs.declared.reason.Reason.TheVariants.{BadKey, LabelTaken, LateLine, NoSuchLabel, NotJson}
 
 -- what a worked case unfolds to compute the meaning of a script
 unfoldable on_scripts : ⊤

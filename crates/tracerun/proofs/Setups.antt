@@ -7,15 +7,15 @@ use Rattle.span_layers.specs.Rule.{Pair}
 use Rattle.span_layers.specs.declared.form.Form.{Form}
 use Rattle.span_layers.specs.declared.form.Form.TheVariants.{Compact}
 use Rattle.tracerun.specs.Meaning.{at_stage, stage_after, turn_of, value_turn}
-use Rattle.tracerun.specs.Operation.{Operation, set_limits, add_layer, make, on_span, record_fields, tell, find, Op, Stage, at_start, in_setup, running, limits_op, layer_op, new_op, span_op, record_op, event_op, find_op, op_at, op_of, sets_up, is_setup, operation_of, keys_of, limits_of, layer_of, optional, limit_in, form_in, kinds_in, rule_in, all_targets}
-use Rattle.tracerun.specs.Reason.{◌>>=◌, StopsFor, or_fault}
+use Rattle.span_script.specs.Operation.{Operation, set_limits, add_layer, make, on_span, record_fields, tell, find, Op, Stage, at_start, in_setup, running, limits_op, layer_op, new_op, span_op, record_op, event_op, find_op, op_at, op_of, sets_up, is_setup, operation_of, keys_of, limits_of, layer_of, optional, limit_in, form_in, kinds_in, rule_in, all_targets}
+use Rattle.span_script.specs.Reason.{◌>>=◌, StopsFor, or_fault}
 use Rattle.tracerun.specs.State.{State}
-use Rattle.tracerun.specs.Turns.{SetsUp}
-use Rattle.tracerun.specs.declared.fault.Reason.{Reason}
-use Rattle.tracerun.specs.declared.fault.Reason.TheVariants.{NotObject, NoSuchOp}
-use Rattle.tracerun.specs.declared.fault.Key.TheVariants as key
-use Rattle.tracerun.specs.declared.stop.Stop.{Stop}
-use Rattle.tracerun.specs.declared.stop.Stop.TheVariants.{Memory, Refused}
+use Rattle.tracerun.specs.inside.Turns.{SetsUp}
+use Rattle.span_script.specs.declared.reason.Reason.{Reason}
+use Rattle.span_script.specs.declared.reason.Reason.TheVariants.{NotObject, NoSuchOp}
+use Rattle.span_script.specs.declared.key.Key.TheVariants as key
+use Rattle.span_script.specs.declared.stop.Stop.{Stop}
+use Rattle.span_script.specs.declared.stop.Stop.TheVariants.{Memory, Refused}
 
 abbrev Same : {B : Type 0} → Result B Reason → Result B Reason → Type 0
 Same r s = r ≡ s

@@ -3,10 +3,10 @@ use Rattle.std.proofs.Common.{◌≡◌, ℕ, true, false, Option, Some, None, R
 use Rattle.std.specs.Option.{option_map_or}
 use Rattle.serde_json.specs.Data.{Data}
 use Rattle.serde_json.specs.Find.{as_object}
-use Rattle.tracerun.specs.Operation.{Operation, Op, limits_op, layer_op, new_op, span_op, record_op, event_op, find_op, Stage, op_at, op_of, sets_up, is_setup, keys_of, operation_of}
-use Rattle.tracerun.specs.Reason.{◌>>=◌, or_fault}
-use Rattle.tracerun.specs.declared.fault.Reason.{Reason}
-use Rattle.tracerun.specs.declared.fault.Reason.TheVariants.{NotObject, NoSuchOp}
+use Rattle.span_script.specs.Operation.{Operation, Op, limits_op, layer_op, new_op, span_op, record_op, event_op, find_op, Stage, op_at, op_of, sets_up, is_setup, keys_of, operation_of}
+use Rattle.span_script.specs.Reason.{◌>>=◌, or_fault}
+use Rattle.span_script.specs.declared.reason.Reason.{Reason}
+use Rattle.span_script.specs.declared.reason.Reason.TheVariants.{NotObject, NoSuchOp}
 
 abbrev in_object : (line : Data) → Result Operation Reason → Result Operation Reason
 in_object line meant = or_fault (as_object line) NotObject >>= (λ _. meant)

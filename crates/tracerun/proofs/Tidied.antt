@@ -3,13 +3,13 @@ use Rattle.std.proofs.Common.{◌≡◌, ℕ, zero, suc, ◌+◌, ◌-◌, ◌<�
 use Rattle.std.specs.Io.KnownBytes.{Appends}
 use Rattle.std.specs.List.{range_with_len}
 use Rattle.std.proofs.KnownBytes.{Appends-nil, Appends-trans}
-use Rattle.span_registry.specs.Core.{CoreView}
-use Rattle.span_registry.specs.Request as call
+use Rattle.span_core.specs.Core.{CoreView}
+use Rattle.span_outlet.specs.Request as call
 use Rattle.tracerun.specs.Device.{AppendsFront}
-use Rattle.tracerun.specs.Turns.{AreMade, ArePartlyMade, TextFails}
+use Rattle.tracerun.specs.inside.Turns.{AreMade, ArePartlyMade, TextFails}
 use Rattle.tracerun.specs.Written.{Written, written_after, call_written, calls_written, each_written}
-use Rattle.tracerun.specs.declared.fault.RunFault.{RunFault}
-use Rattle.tracerun.specs.declared.fault.RunFault.TheVariants.{Script, Memory, Device}
+use Rattle.tracerun.specs.declared.run.fault.RunFault.{RunFault}
+use Rattle.tracerun.specs.declared.run.fault.RunFault.TheVariants.{Script, Memory, Device}
 use Rattle.tracerun.proofs.Written.{Known, front_after, front_more}
 
 pub part_none : (a : Known) (w : Written) → ArePartlyMade a a w w

@@ -5,13 +5,13 @@ use Rattle.span_forest.specs.declared.span.Holder.TheVariants.{Handle}
 use Rattle.span_layers.specs.Note.{KeyValue}
 use Rattle.span_forest.specs.Spans.{find}
 use Rattle.span_forest.specs.Holders.{IsHeld, held_in}
-use Rattle.span_registry.specs.Request.{PlainMeta, Request, new_span, made, worker_of}
-use Rattle.span_registry.specs.Core.{CoreView, IsDue}
-use Rattle.span_registry.specs.Happening.{id_at}
-use Rattle.span_registry.specs.Outcome.{id_after, done, outcome}
-use Rattle.span_registry.proofs.Steady.{IsSteady, answer_in, steady_then}
-use Rattle.span_registry.proofs.Weights.{weight, most_more, weight_then, handle_before}
-use Rattle.span_registry.proofs.OutcomeCases.{by_outcome}
+use Rattle.span_outlet.specs.Request.{PlainMeta, Request, new_span, made, worker_of}
+use Rattle.span_core.specs.Core.{CoreView, IsDue}
+use Rattle.span_core.specs.Happening.{id_at}
+use Rattle.span_core.specs.Outcome.{id_after, done, outcome}
+use Rattle.span_core.proofs.Steady.{IsSteady, answer_in, steady_then}
+use Rattle.span_core.proofs.Weights.{weight, most_more, weight_then, handle_before}
+use Rattle.span_core.proofs.OutcomeCases.{by_outcome}
 use Rattle.tracerun.specs.Labels.{Bound, id_in}
 use Rattle.tracerun.specs.Faults.{is_taken, has_handles}
 use Rattle.tracerun.specs.Meaning.{labels_after}

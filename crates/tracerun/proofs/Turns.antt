@@ -5,23 +5,23 @@ use Rattle.std.proofs.lemmas.Bool.{and_parts, leb-true}
 use Rattle.std.proofs.lemmas.List.Folds.{sum_by-replicate}
 use Rattle.span_id.specs.declared.limits.Limits.{Limits}
 use Rattle.span_stack.specs.Stack as stack
-use Rattle.span_registry.specs.World.{stack_of}
-use Rattle.span_registry.specs.Request as call
-use Rattle.span_registry.specs.Core.{CoreView}
-use Rattle.span_registry.specs.Outcome.{outcome}
-use Rattle.span_registry.proofs.Steady.{steady_start}
-use Rattle.span_registry.proofs.Weights.{weight, most_more}
+use Rattle.span_core.specs.World.{stack_of}
+use Rattle.span_outlet.specs.Request as call
+use Rattle.span_core.specs.Core.{CoreView}
+use Rattle.span_core.specs.Outcome.{outcome}
+use Rattle.span_core.proofs.Steady.{steady_start}
+use Rattle.span_core.proofs.Weights.{weight, most_more}
 use Rattle.tracerun.specs.Faults.{id_of_key, parent_of_key, free_label, is_taken}
 use Rattle.tracerun.specs.Labels.{Bound}
-use Rattle.tracerun.specs.Operation.{NewLayer, NewSpan, at_start, Operation, set_limits, add_layer, make, on_span, record_fields, tell, find, json_of, operation_of}
+use Rattle.span_script.specs.Operation.{NewLayer, NewSpan, at_start, Operation, set_limits, add_layer, make, on_span, record_fields, tell, find, json_of, operation_of}
 use Rattle.tracerun.specs.Requests.{request_of_call, request_of_new, request_of_event}
-use Rattle.tracerun.specs.Script.{is_skipped}
+use Rattle.span_script.specs.Script.{is_skipped}
 use Rattle.tracerun.specs.State.{State, default_limits, empty_core, first_state}
 use Rattle.tracerun.specs.Written.{core_left}
 use Rattle.tracerun.specs.Meaning.{Turn, are_in_range, limits_turn, layer_turn, call_turn, made_turn, new_turn, turn_of, stage_after, value_turn, read_turn, line_turn}
-use Rattle.tracerun.specs.declared.fault.Reason.TheVariants.{LabelTaken}
-use Rattle.tracerun.specs.declared.operation.SpanCall.{SpanCall}
-use Rattle.tracerun.specs.declared.operation.SpanCall.TheVariants.{Clone, Close, Enter, Exit}
+use Rattle.span_script.specs.declared.reason.Reason.TheVariants.{LabelTaken}
+use Rattle.span_script.specs.declared.operations.SpanCall.{SpanCall}
+use Rattle.span_script.specs.declared.operations.SpanCall.TheVariants.{Clone, Close, Enter, Exit}
 use Rattle.tracerun.proofs.Fits.{IsFit, WhereOk, then_ok, then_ok_with, operation_fits}
 use Rattle.tracerun.proofs.Tracked.{IsTracked, Leads, MakesNone, call_leads, made_leads}
 

@@ -4,16 +4,16 @@ use Rattle.std.specs.Io.KnownBytes.{Appends, Consumes, Keeps}
 use Rattle.std.proofs.KnownBytes.{Appends-nil, Appends-trans, Appends-kept, Keeps-refl}
 use Rattle.std.proofs.lemmas.Bool.{lt-leb}
 use Rattle.tracerun.specs.Device.{AppendsFront, ReadFails}
-use Rattle.tracerun.specs.Meaning.{Turn, Transcript, faulty, after, turned, run, meaning, line_turn, last_part}
+use Rattle.tracerun.specs.Meaning.{Turn, Transcript, faulty, after, turn_then, run, meaning, line_turn, last_part}
 use Rattle.tracerun.specs.Replayed.{Fails, Runs, KeepsUnread}
-use Rattle.tracerun.specs.Script.{lines_of, most_bytes}
+use Rattle.span_script.specs.Script.{lines_of, most_bytes}
 use Rattle.tracerun.specs.State.{State}
-use Rattle.tracerun.specs.Turns.{HasTurned, TurnFails, Sent}
-use Rattle.tracerun.specs.declared.fault.RunFault.{RunFault}
-use Rattle.tracerun.specs.declared.fault.RunFault.TheVariants.{Script, Memory, Device}
-use Rattle.tracerun.specs.declared.fault.Reason.{Reason}
-use Rattle.tracerun.specs.declared.fault.Reason.TheVariants.{TooLong}
-use Rattle.tracerun.specs.declared.fault.Side.TheVariants.{Read, Write}
+use Rattle.tracerun.specs.inside.Turns.{HasTurned, TurnFails, Sent}
+use Rattle.tracerun.specs.declared.run.fault.RunFault.{RunFault}
+use Rattle.tracerun.specs.declared.run.fault.RunFault.TheVariants.{Script, Memory, Device}
+use Rattle.span_script.specs.declared.reason.Reason.{Reason}
+use Rattle.span_script.specs.declared.reason.Reason.TheVariants.{TooLong}
+use Rattle.tracerun.specs.declared.run.fault.Side.TheVariants.{Read, Write}
 use Rattle.tracerun.specs.RunFault.{EndsAsCounted}
 
 abbrev pub Known : Type 0
@@ -75,25 +75,25 @@ runs_after a b c whole more (Err e) s p = fails_after a b c whole more e s p
 -- ---- one line
 
 -- a line that did what is meant
-pub turned_more : (a b : Known) (number : ℕ) (meant : Result Turn Reason) (state : State) (more : State → Transcript) → HasTurned meant state a b → Sent a b (turned number meant more) (more state)
-turned_more a b number meant state more p = record { text = p.text; taken = p.written; is = ap (λ m. turned number m more) p.is }
+pub turned_more : (a b : Known) (number : ℕ) (meant : Result Turn Reason) (state : State) (more : State → Transcript) → HasTurned meant state a b → Sent a b (turn_then number meant more) (more state)
+turned_more a b number meant state more p = record { text = p.text; taken = p.written; is = ap (λ m. turn_then number m more) p.is }
 
 -- a line that could not be run to its end ends the run
-pub turned_fails : (a b : Known) (number : ℕ) (meant : Result Turn Reason) (more : State → Transcript) (e : RunFault) → TurnFails meant number a b e → Fails (turned number meant more) a b e
+pub turned_fails : (a b : Known) (number : ℕ) (meant : Result Turn Reason) (more : State → Transcript) (e : RunFault) → TurnFails meant number a b e → Fails (turn_then number meant more) a b e
 turned_fails a b number meant more (Script line reason) p =
-    let is = ap (λ m. turned number m more) p.1 in (
+    let is = ap (λ m. turn_then number m more) p.1 in (
       ap (λ t. t.ending) is ∙ ap (λ n. faulty n reason) (sym p.0),
       subst (Appends a b) (sym (ap (λ t. t.text) is)) (Appends-kept a a b [] (Appends-nil a) p.2),
     )
 turned_fails a b number meant more Memory p = front_none a b _ p
 turned_fails a b number meant more (Device side) p =
-    let is = ap (λ m. turned number m more) p.is in
+    let is = ap (λ m. turn_then number m more) p.is in
     subst (AppendsFront a b) (sym (ap (λ t. t.text) is)) (front_more a b p.turn.text (more p.turn.state).text p.front)
 
 -- ---- a turn of a loop over lines: `rest` is what is left, `line` its first line, `tail` what follows
 
 run_cons : (hooks number : ℕ) (state : State) (rest line tail : List ℕ) → lines_of rest ≡ line ∷ lines_of tail
-    → run hooks number state (lines_of rest) ≡ turned number (line_turn hooks state line) (λ new. run hooks (number + 1) new (lines_of tail))
+    → run hooks number state (lines_of rest) ≡ turn_then number (line_turn hooks state line) (λ new. run hooks (number + 1) new (lines_of tail))
 unfolding run
 run_cons hooks number state rest line tail cut = ap (run hooks number state) cut
 

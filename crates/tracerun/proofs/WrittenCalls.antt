@@ -5,32 +5,32 @@ use Rattle.std.proofs.lemmas.List.{take_rest, drop_all, drop-map}
 use Rattle.std.specs.List.{enumerate_from}
 use Rattle.span_id.specs.declared.limits.Limits.{Limits}
 use Rattle.span_layers.specs.declared.form.Form.{Form}
-use Rattle.span_registry.specs.Batch.{PlainBatch}
-use Rattle.span_registry.specs.Core.{CoreView, is_wanted_call}
-use Rattle.span_registry.specs.Lines.{PlainLine, plain_line, lines_of, lines_of_batch}
-use Rattle.span_registry.specs.declared.line.Line.{Line}
-use Rattle.span_registry.specs.Request as call
+use Rattle.span_outlet.specs.Batch.{PlainBatch}
+use Rattle.span_core.specs.Core.{CoreView, is_wanted_call}
+use Rattle.span_outlet.specs.Lines.{PlainLine, plain_line, lines_of, lines_of_batch}
+use Rattle.span_outlet.specs.declared.line.Line.{Line}
+use Rattle.span_outlet.specs.Request as call
 use Rattle.span_id.specs.declared.fault.Fault.TheVariants.{Unknown, CountFull, Full, NotEntered, BadName}
-use Rattle.span_registry.specs.Outcome.{Outcome, refused, not_wanted, accepted, is_named, is_known, may_count, may_send, has_slot, is_inside, outcome}
+use Rattle.span_core.specs.Outcome.{Outcome, refused, not_wanted, accepted, is_named, is_known, may_count, may_send, has_slot, is_inside, outcome}
 use Rattle.tracerun.specs.Answer.{answer_text}
-use Rattle.tracerun.specs.Calls.{answer_for, IsMade, labels_given}
+use Rattle.tracerun.specs.inside.Calls.{answer_for, IsMade, labels_given}
 use Rattle.tracerun.specs.Labels.{Bound}
 use Rattle.tracerun.specs.Faults.{parent_of_key, is_taken}
 use Rattle.tracerun.specs.Meaning.{Turn, call_turn, made_turn, labels_after, new_turn, turn_of}
-use Rattle.tracerun.specs.Operation.{NewSpan, Operation, Parent}
-use Rattle.tracerun.specs.Reason.{◌>>=◌}
+use Rattle.span_script.specs.Operation.{NewSpan, Operation, Parent}
+use Rattle.span_script.specs.Reason.{◌>>=◌}
 use Rattle.tracerun.specs.Requests.{request_of_new}
 use Rattle.span_stack.specs.Stack.{current}
-use Rattle.span_registry.specs.World.{stack_of}
-use Rattle.tracerun.specs.declared.fault.Reason.TheVariants.{LabelTaken}
-use Rattle.tracerun.specs.Running.{StopsAs, RunsAs, IsWrittenCall, IsWritten, core_in}
+use Rattle.span_core.specs.World.{stack_of}
+use Rattle.span_script.specs.declared.reason.Reason.TheVariants.{LabelTaken}
+use Rattle.tracerun.specs.inside.Running.{StopsAs, RunsAs, IsWrittenCall, IsWritten, core_in}
 use Rattle.tracerun.specs.State.{State}
 use Rattle.tracerun.specs.Written.{note_line, outcome_text, core_left, call_written}
-use Rattle.tracerun.specs.declared.answer.Answer.{Answer}
-use Rattle.tracerun.specs.declared.fault.Reason.{Reason}
-use Rattle.tracerun.specs.declared.script.Script.{Script}
-use Rattle.tracerun.specs.declared.stop.Stop.{Stop}
-use Rattle.tracerun.specs.declared.stop.Stop.TheVariants.{Memory, Refused as AtFault}
+use Rattle.tracerun.specs.declared.run.answer.Answer.{Answer}
+use Rattle.span_script.specs.declared.reason.Reason.{Reason}
+use Rattle.tracerun.specs.declared.run.script.Script.{Script}
+use Rattle.span_script.specs.declared.stop.Stop.{Stop}
+use Rattle.span_script.specs.declared.stop.Stop.TheVariants.{Memory, Refused as AtFault}
 
 -- ---- the lines of a history and of one batch more
 

@@ -2,9 +2,9 @@
 use Rattle.std.specs.Prelude.{ℕ, List, ◌++◌, codes, true, false}
 use Rattle.std.specs.Fmt.{decimal}
 use Rattle.span_id.specs.Fault.{text_of}
-use Rattle.tracerun.specs.declared.answer.Answer.{Answer}
-use Rattle.tracerun.specs.declared.answer.Answer.TheVariants.{Limits, Layer, Made, NotWanted, Cloned, Closed, Entered, Recorded, Told, Refused}
-use Rattle.tracerun.specs.declared.answer.Found as found
+use Rattle.tracerun.specs.declared.run.answer.Answer.{Answer}
+use Rattle.tracerun.specs.declared.run.answer.Answer.TheVariants.{Limits, Layer, Made, NotWanted, Cloned, Closed, Entered, Recorded, Told, Refused}
+use Rattle.tracerun.specs.declared.run.answer.Found as found
 
 -- the line of a span that was looked up
 abbrev pub span_text : List ℕ → ℕ → ℕ → ℕ → ℕ → List ℕ

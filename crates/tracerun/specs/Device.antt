@@ -1,10 +1,10 @@
 -- What went through a reader or a writer whose bytes are known.
 use Rattle.std.specs.Prelude.{◌≡◌, ℕ, ◌+◌, ◌++◌, List, length, Option}
 use Rattle.std.specs.Io.KnownBytes.{Appends, Consumes}
-use Rattle.tracerun.specs.Script.{most_bytes}
-use Rattle.tracerun.specs.declared.fault.RunFault.{RunFault}
-use Rattle.tracerun.specs.declared.fault.RunFault.TheVariants.{Script, Memory, Device}
-use Rattle.tracerun.specs.declared.fault.Reason.TheVariants.{TooLong}
+use Rattle.span_script.specs.Script.{most_bytes}
+use Rattle.tracerun.specs.declared.run.fault.RunFault.{RunFault}
+use Rattle.tracerun.specs.declared.run.fault.RunFault.TheVariants.{Script, Memory, Device}
+use Rattle.span_script.specs.declared.reason.Reason.TheVariants.{TooLong}
 
 -- the writer took a front of the text and nothing else
 pub record AppendsFront (old new : Option (List ℕ)) (text : List ℕ) : Type 0 where

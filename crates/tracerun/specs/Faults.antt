@@ -4,10 +4,10 @@ use Rattle.span_forest.specs.Spans as forest
 use Rattle.span_forest.specs.Holders.{held_in}
 use Rattle.span_forest.specs.declared.span.Holder.TheVariants.{Handle}
 use Rattle.tracerun.specs.Labels.{Bound, id_in}
-use Rattle.tracerun.specs.Operation.{SpanKey, by_label, by_id, Parent, current, root, named}
-use Rattle.tracerun.specs.Reason.{or_fault}
-use Rattle.tracerun.specs.declared.fault.Reason.{Reason}
-use Rattle.tracerun.specs.declared.fault.Reason.TheVariants.{NoSuchLabel, LabelTaken}
+use Rattle.span_script.specs.Operation.{SpanKey, by_label, by_id, Parent, current, root, named}
+use Rattle.span_script.specs.Reason.{or_fault}
+use Rattle.span_script.specs.declared.reason.Reason.{Reason}
+use Rattle.span_script.specs.declared.reason.Reason.TheVariants.{NoSuchLabel, LabelTaken}
 
 -- the id of the span that a line names: a label has to be bound
 abbrev pub id_of_key : Bound → SpanKey → Result ℕ Reason

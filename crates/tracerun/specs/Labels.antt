@@ -15,5 +15,5 @@ id_in [] label = None
 id_in (entry ∷ entries) label = if bytes_eq label entry.0 then Some entry.1 else id_in entries label
 
 -- the label names this id from now on, at its place in the order
-abbrev pub bound : Bound → List ℕ → ℕ → Bound
-bound labels label id = insert_entry (slice_cmp nat_cmp) labels label id
+abbrev pub with_label : Bound → List ℕ → ℕ → Bound
+with_label labels label id = insert_entry (slice_cmp nat_cmp) labels label id

@@ -8,22 +8,22 @@ use Rattle.span_id.specs.declared.limits.Limits.{Limits}
 use Rattle.span_id.specs.Id.{slots_in_layout}
 use Rattle.span_layers.specs.Filter.{Filter}
 use Rattle.span_stack.specs.Stack as stack
-use Rattle.span_registry.specs.World.{empty_world, stack_of}
-use Rattle.span_registry.specs.Request as call
-use Rattle.span_registry.specs.Core.{CoreView}
-use Rattle.span_registry.specs.Outcome.{Outcome, accepted, outcome}
+use Rattle.span_core.specs.World.{empty_world, stack_of}
+use Rattle.span_outlet.specs.Request as call
+use Rattle.span_core.specs.Core.{CoreView}
+use Rattle.span_core.specs.Outcome.{Outcome, accepted, outcome}
 use Rattle.tracerun.specs.Answer.{answer_text, left_text}
 use Rattle.tracerun.specs.Faults.{id_of_key, parent_of_key, free_label}
-use Rattle.tracerun.specs.Labels.{Bound, bound}
-use Rattle.tracerun.specs.Operation.{NewLayer, NewSpan, Stage, in_setup, running, Operation, set_limits, add_layer, make, on_span, record_fields, tell, find, json_of, operation_of}
-use Rattle.tracerun.specs.Reason.{◌>>=◌}
+use Rattle.tracerun.specs.Labels.{Bound, with_label}
+use Rattle.span_script.specs.Operation.{NewLayer, NewSpan, Stage, in_setup, running, Operation, set_limits, add_layer, make, on_span, record_fields, tell, find, json_of, operation_of}
+use Rattle.span_script.specs.Reason.{◌>>=◌}
 use Rattle.tracerun.specs.Requests.{request_of_call, request_of_new, request_of_event}
 use Rattle.tracerun.specs.Written.{Written, call_written, find_text, exits, closes, each_written}
-use Rattle.tracerun.specs.Script.{lines_of, most_bytes, is_skipped}
+use Rattle.span_script.specs.Script.{lines_of, most_bytes, is_skipped}
 use Rattle.tracerun.specs.State.{State, first_state}
-use Rattle.tracerun.specs.declared.answer.Answer.TheVariants as answer
-use Rattle.tracerun.specs.declared.fault.Reason.{Reason}
-use Rattle.tracerun.specs.declared.fault.Reason.TheVariants.{TooLong}
+use Rattle.tracerun.specs.declared.run.answer.Answer.TheVariants as answer
+use Rattle.span_script.specs.declared.reason.Reason.{Reason}
+use Rattle.span_script.specs.declared.reason.Reason.TheVariants.{TooLong}
 
 -- what is written for a line, and the state after it
 pub record Turn : Type 0 where
@@ -74,7 +74,7 @@ call_turn state request = written_turn state (call_written state.core request)
 
 -- a label names the id that its last accepted `new` got
 abbrev pub labels_after : Bound → List ℕ → Outcome → Bound
-labels_after labels label (accepted (call.made id) notes new) = bound labels label id
+labels_after labels label (accepted (call.made id) notes new) = with_label labels label id
 labels_after labels label _ = labels
 
 -- a call that makes a span, and binds its label where it is accepted
@@ -161,14 +161,14 @@ last_part state = record {
 }
 
 -- what a line wrote, before what the further lines write; a fault ends the script
-abbrev pub turned : ℕ → Result Turn Reason → (State → Transcript) → Transcript
-turned number (Ok turn) more = after turn.text (more turn.state)
-turned number (Err reason) more = record { text = []; ending = faulty number reason }
+abbrev pub turn_then : ℕ → Result Turn Reason → (State → Transcript) → Transcript
+turn_then number (Ok turn) more = after turn.text (more turn.state)
+turn_then number (Err reason) more = record { text = []; ending = faulty number reason }
 
 -- the lines from this number on
 unfoldable pub run : ℕ → ℕ → State → List (List ℕ) → Transcript
 run hooks number state [] = last_part state
-run hooks number state (line ∷ lines) = turned number (line_turn hooks state line) (λ new. run hooks (number + 1) new lines)
+run hooks number state (line ∷ lines) = turn_then number (line_turn hooks state line) (λ new. run hooks (number + 1) new lines)
 
 -- a script of more than 16,777,216 bytes isn't run at all
 abbrev pub meaning : ℕ → List ℕ → Transcript

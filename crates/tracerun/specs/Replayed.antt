@@ -3,9 +3,9 @@ use Rattle.std.specs.Prelude.{◌≡◌, ℕ, Bool, true, List, Option, Result, 
 use Rattle.std.specs.Io.KnownBytes.{Appends, Keeps}
 use Rattle.tracerun.specs.Device.{AppendsFront}
 use Rattle.tracerun.specs.Meaning.{Transcript, finished, faulty, meaning}
-use Rattle.tracerun.specs.declared.fault.RunFault.{RunFault}
-use Rattle.tracerun.specs.declared.fault.RunFault.TheVariants.{Script, Memory, Device}
-use Rattle.tracerun.specs.declared.fault.Side.TheVariants.{Read, Write}
+use Rattle.tracerun.specs.declared.run.fault.RunFault.{RunFault}
+use Rattle.tracerun.specs.declared.run.fault.RunFault.TheVariants.{Script, Memory, Device}
+use Rattle.tracerun.specs.declared.run.fault.Side.TheVariants.{Read, Write}
 
 -- After a fault of the script the text that is meant stands, and the fault is the one that is meant. Where
 -- memory was refused or a device failed, a front of the text stands.

@@ -1,9 +1,9 @@
 -- The calls that a script's operations make.
 use Rattle.std.specs.Prelude.{ℕ, Option}
-use Rattle.span_registry.specs.Request as call
-use Rattle.tracerun.specs.Operation.{NewSpan, NewEvent}
-use Rattle.tracerun.specs.declared.operation.SpanCall.{SpanCall}
-use Rattle.tracerun.specs.declared.operation.SpanCall.TheVariants.{Clone, Close, Enter, Exit}
+use Rattle.span_outlet.specs.Request as call
+use Rattle.span_script.specs.Operation.{NewSpan, NewEvent}
+use Rattle.span_script.specs.declared.operations.SpanCall.{SpanCall}
+use Rattle.span_script.specs.declared.operations.SpanCall.TheVariants.{Clone, Close, Enter, Exit}
 
 -- a worker's call on a span
 abbrev pub request_of_call : SpanCall → ℕ → ℕ → call.Request

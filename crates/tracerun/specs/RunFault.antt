@@ -1,8 +1,8 @@
 -- Why a run ended early, and the failed calls of a device that this tells of.
 use Rattle.std.specs.Prelude.{◌≡◌, ℕ, ◌+◌, Result, MatchResult}
-use Rattle.tracerun.specs.declared.fault.RunFault.{RunFault}
-use Rattle.tracerun.specs.declared.fault.RunFault.TheVariants.{Script, Memory, Device}
-use Rattle.tracerun.specs.declared.fault.Side.TheVariants.{Read, Write}
+use Rattle.tracerun.specs.declared.run.fault.RunFault.{RunFault}
+use Rattle.tracerun.specs.declared.run.fault.RunFault.TheVariants.{Script, Memory, Device}
+use Rattle.tracerun.specs.declared.run.fault.Side.TheVariants.{Read, Write}
 
 -- the program's status after a fault
 abbrev pub status_of : RunFault → ℕ

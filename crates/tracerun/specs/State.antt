@@ -1,10 +1,10 @@
 -- How far a script has run.
 use Rattle.std.specs.Prelude.{[]}
 use Rattle.span_id.specs.declared.limits.Limits.{Limits}
-use Rattle.span_registry.specs.World.{empty_world}
-use Rattle.span_registry.specs.Core.{CoreView}
+use Rattle.span_core.specs.World.{empty_world}
+use Rattle.span_core.specs.Core.{CoreView}
 use Rattle.tracerun.specs.Labels.{Bound}
-use Rattle.tracerun.specs.Operation.{Stage, at_start}
+use Rattle.span_script.specs.Operation.{Stage, at_start}
 
 -- the core, with the layers that were added so far, the labels that are bound, and which lines came
 pub record State : Type 0 where

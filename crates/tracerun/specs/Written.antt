@@ -5,18 +5,18 @@ use Rattle.span_id.specs.declared.fault.Fault.TheVariants.{Unknown}
 use Rattle.span_forest.specs.declared.span.Holder.TheVariants.{Handle}
 use Rattle.span_forest.specs.Node.{Node}
 use Rattle.span_forest.specs.Spans.{find}
-use Rattle.span_forest.specs.Count.{written_count}
+use Rattle.span_forest.specs.Count.{reference_count}
 use Rattle.span_forest.specs.Holders.{held_in}
-use Rattle.span_registry.specs.World.{stack_of}
-use Rattle.span_registry.specs.Happening.{id_at}
-use Rattle.span_registry.specs.Request as call
-use Rattle.span_registry.specs.Batch.{PlainBatch}
-use Rattle.span_registry.specs.Lines.{PlainLine, lines_of_batch}
-use Rattle.span_registry.specs.Core.{CoreView}
-use Rattle.span_registry.specs.Outcome.{Outcome, refused, not_wanted, accepted, outcome}
+use Rattle.span_core.specs.World.{stack_of}
+use Rattle.span_core.specs.Happening.{id_at}
+use Rattle.span_outlet.specs.Request as call
+use Rattle.span_outlet.specs.Batch.{PlainBatch}
+use Rattle.span_outlet.specs.Lines.{PlainLine, lines_of_batch}
+use Rattle.span_core.specs.Core.{CoreView}
+use Rattle.span_core.specs.Outcome.{Outcome, refused, not_wanted, accepted, outcome}
 use Rattle.tracerun.specs.Answer.{answer_text, span_text}
-use Rattle.tracerun.specs.declared.answer.Answer.{Answer}
-use Rattle.tracerun.specs.declared.answer.Answer.TheVariants.{Made, NotWanted, Cloned, Closed, Entered, Recorded, Told, Refused}
+use Rattle.tracerun.specs.declared.run.answer.Answer.{Answer}
+use Rattle.tracerun.specs.declared.run.answer.Answer.TheVariants.{Made, NotWanted, Cloned, Closed, Entered, Recorded, Told, Refused}
 
 -- the line of a note: `L<layer> <text>`
 abbrev pub note_line : PlainLine → List ℕ
@@ -73,7 +73,7 @@ calls_written core (request ∷ requests) = written_after (call_written core req
 -- the line of a span that was looked up; a root has 0 in place of a parent
 abbrev pub node_text : CoreView → ℕ → Option Node → List ℕ
 node_text core id None = answer_text (Refused Unknown)
-node_text core id (Some node) = span_text node.name (id_at node.parent) node.handles node.entries (written_count core.world.spans id)
+node_text core id (Some node) = span_text node.name (id_at node.parent) node.handles node.entries (reference_count core.world.spans id)
 
 abbrev pub find_text : CoreView → ℕ → List ℕ
 find_text core id = node_text core id (find core.world.spans id)

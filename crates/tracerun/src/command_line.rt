@@ -1,6 +1,8 @@
 //! The command line.
 
-use crate::orders::Order;
+pub mod orders;
+
+use crate::command_line::orders::Order;
 use clap::error::ErrorKind;
 use clap::{Command, Error};
 use std::alloc::{AllocError, Global};

@@ -1,34 +1,16 @@
 //! The program `tracerun`, which runs scripts of calls on the span registry.
 #![tactic(auto)]
 
-mod answer;
-mod calls;
 mod command_line;
-mod counted;
-mod device;
-mod fault;
-mod fields;
-mod hooks;
-mod keys;
-mod labels;
-mod lines;
-mod opening;
-mod operation;
-mod orders;
-mod pairs;
-mod reading;
-mod rules;
-mod runner;
-mod running;
-mod script;
-mod setup;
-mod stop;
-mod tidying;
+mod devices;
+mod run;
+#[cfg(test)]
+mod tests;
 
-use crate::counted::Counted;
-use crate::fault::RunFault;
-use crate::hooks::replay_with_layers;
-use crate::orders::Order;
+use crate::command_line::orders::Order;
+use crate::devices::counted::Counted;
+use crate::run::fault::RunFault;
+use crate::run::hooks::replay_with_layers;
 use span_layers::MAX_LAYERS;
 use std::io;
 use std::io::{BufWriter, ErrorKind};
@@ -91,12 +73,3 @@ fn status_of<R: Eprint>(rt: &R, ended: Result<(), RunFault>) -> io::Result<ExitC
         }
     }
 }
-
-#[cfg(test)]
-mod flush_tests;
-#[cfg(test)]
-mod hook_tests;
-#[cfg(test)]
-mod reading_tests;
-#[cfg(test)]
-mod tests;

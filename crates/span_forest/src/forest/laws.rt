@@ -4,18 +4,19 @@ ghost use Rattle.span_id.specs.Id.{slot_of, IsId};
 ghost use Rattle.span_slots.specs.Table.{IsIssued, IsFull};
 ghost use Rattle.span_forest.specs.declared.span.Holder.{Holder};
 ghost use Rattle.span_forest.specs.Node.{Node};
-ghost use Rattle.span_forest.specs.Add.{added};
+ghost use Rattle.span_forest.specs.Add.{with_span};
 ghost use Rattle.span_forest.specs.Spans.{find, IsOpen, parent_of};
 ghost use Rattle.span_forest.specs.Walk.{walk, Ends};
-ghost use Rattle.span_forest.specs.Count.{holders_in, written_count, total_held};
+ghost use Rattle.span_forest.specs.Count.{holders_in, reference_count, total_held};
 ghost use Rattle.span_forest.specs.Live.{stands_in, is_live};
 ghost use Rattle.span_forest.specs.Forest.{IsForest, next_span_id, table_of};
 ghost use Rattle.span_forest.specs.Holders.{IsHeld};
-ghost use Rattle.span_forest.specs.Release.{taken, closing_list, released};
+ghost use Rattle.span_forest.specs.Release.{without_holder, closing_list, spans_left};
 
 use super::Forest;
 use span_slots::laws::{
-    each_slot_has_one_id, full_where_no_slot_is_free, next_id_was_never_issued,
+    each_slot_has_one_id, full_where_no_slot_is_free, issued_ids_are_in_range,
+    next_id_was_never_issued,
 };
 
 /// Each walk, from an open span to its parent and so on, ends at a root within as many steps as there
@@ -43,8 +44,8 @@ pub fn walks_have_no_id_twice(forest: &Forest)
 
 /// An open span has a positive count, which is at most the greatest one, and its parent is open.
 pub fn open_spans_are_counted(forest: &Forest)
-    ensures positive { (id : ℕ) → IsOpen forest.now.spans id → 0 < written_count forest.now.spans id }
-    ensures bounded { (id : ℕ) → written_count forest.now.spans id ≤ forest.now.max_count }
+    ensures positive { (id : ℕ) → IsOpen forest.now.spans id → 0 < reference_count forest.now.spans id }
+    ensures bounded { (id : ℕ) → reference_count forest.now.spans id ≤ forest.now.max_count }
     ensures parent { (id parent : ℕ) → parent_of forest.now.spans id ≡ Some parent →
         IsOpen forest.now.spans parent }
 {
@@ -64,6 +65,14 @@ pub fn each_slot_has_one_open_id(forest: &Forest)
     ensures issued { (id : ℕ) → IsOpen forest.now.spans id → IsIssued (table_of forest.now) id }
 {
     each_slot_has_one_id(&forest.slots);
+}
+
+/// The slot of an open id is one of the forest's.
+pub fn open_slots_are_in_range(forest: &Forest)
+    ensures { (id : ℕ) → IsOpen forest.now.spans id → slot_of id < forest.now.slots }
+{
+    each_slot_has_one_id(&forest.slots);
+    issued_ids_are_in_range(&forest.slots);
 }
 
 /// Where no span has a handle or an entry, no span is open.
@@ -86,7 +95,7 @@ pub fn next_id_is_new(forest: &Forest)
 /// An id that was issued stays issued where a span is added. A release issues no id and takes none back.
 pub fn issued_ids_stay_issued(forest: &Forest)
     ensures { (id issued : ℕ) (node : Node) → IsIssued (table_of forest.now) issued →
-        IsIssued (table_of (added forest.now id node)) issued }
+        IsIssued (table_of (with_span forest.now id node)) issued }
 {}
 
 /// No span can be added exactly where each slot is occupied or has given its last id.
@@ -101,7 +110,7 @@ pub fn release_closes_its_list(forest: &Forest)
     ensures { (id span : ℕ) (holder : Holder) → IsHeld forest.now.spans id holder →
         IsOpen forest.now.spans span →
         (IsTrue (stands_in span (closing_list forest.now.spans id holder))
-        ↔ (find (released forest.now.spans id holder) span ≡ None)) }
+        ↔ (find (spans_left forest.now.spans id holder) span ≡ None)) }
 {
     let _opened = &forest.slots;
 }
@@ -114,10 +123,10 @@ pub fn release_closes_what_nothing_holds(forest: &Forest)
     ensures not_live { (id span : ℕ) (holder : Holder) → IsHeld forest.now.spans id holder →
         IsOpen forest.now.spans span →
         (IsTrue (stands_in span (closing_list forest.now.spans id holder))
-        ↔ (is_live (taken forest.now.spans id holder) span ≡ false)) }
+        ↔ (is_live (without_holder forest.now.spans id holder) span ≡ false)) }
     ensures others { (id span : ℕ) (holder : Holder) → IsHeld forest.now.spans id holder →
         (IsTrue (stands_in span (closing_list forest.now.spans id holder)) → ⊥) →
-        find (released forest.now.spans id holder) span ≡ find (taken forest.now.spans id holder) span }
+        find (spans_left forest.now.spans id holder) span ≡ find (without_holder forest.now.spans id holder) span }
 {
     let _opened = &forest.slots;
 }
@@ -145,11 +154,11 @@ pub fn closing_list_begins_the_walk(forest: &Forest)
 /// A span that keeps a holder, and one with a child that stays open, is never in a closing list.
 pub fn what_is_held_stays_open(forest: &Forest)
     ensures holder { (id span : ℕ) (holder : Holder) → IsHeld forest.now.spans id holder →
-        0 < holders_in (find (taken forest.now.spans id holder) span) →
+        0 < holders_in (find (without_holder forest.now.spans id holder) span) →
         (IsTrue (stands_in span (closing_list forest.now.spans id holder)) → ⊥) }
     ensures child { (id child parent : ℕ) (holder : Holder) → IsHeld forest.now.spans id holder →
         parent_of forest.now.spans child ≡ Some parent →
-        IsOpen (released forest.now.spans id holder) child →
+        IsOpen (spans_left forest.now.spans id holder) child →
         (IsTrue (stands_in parent (closing_list forest.now.spans id holder)) → ⊥) }
 {
     let _opened = &forest.slots;

@@ -5,7 +5,7 @@ use Rattle.span_slots.specs.Table.{Table, issue}
 use Rattle.span_forest.specs.declared.span.Span.{Span}
 use Rattle.span_forest.specs.Node.{node_of}
 use Rattle.span_forest.specs.Spans.{nodes_of, with_node}
-use Rattle.span_forest.specs.Invariant.{IsSettled}
+use Rattle.span_forest.specs.inside.Invariant.{IsSettled}
 use Rattle.span_forest.proofs.Placed.{stored, stored_is, issued_alone, placed_root, placed_child, parent_there}
 use Rattle.span_forest.proofs.adding.place.Goals as goal
 use Rattle.span_forest.proofs.adding.place.Goals.{in-Some, in_default-parent}

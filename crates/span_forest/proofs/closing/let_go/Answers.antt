@@ -5,8 +5,8 @@ use Rattle.span_forest.specs.declared.span.Span.{Span}
 use Rattle.span_forest.specs.Node.{node_of}
 use Rattle.span_forest.specs.Spans.{nodes_of}
 use Rattle.span_forest.specs.Holders.{held_by}
-use Rattle.span_forest.specs.Release.{taken, freed_after}
-use Rattle.span_forest.specs.Chain.{without_all, Chain, IsPending}
+use Rattle.span_forest.specs.Release.{without_holder, freed_after}
+use Rattle.span_forest.specs.inside.Chain.{without_all, Chain, IsPending}
 use Rattle.span_forest.proofs.Along.{Along_none}
 use Rattle.span_forest.proofs.Counts.{held_counts, nodes_less, counted_less, Closes_none, Closes_turn, settled_at_end, Closes_end}
 use Rattle.span_forest.proofs.closing.let_go.Goals as goal
@@ -17,7 +17,7 @@ drop_holder-requires c =
     let s = held_counts c.args.slots.now.entries c.args.id c.args.holder c.requires.settled c.requires.held in
     subst (λ o. IsSomeAnd o (λ (span : Span). (0 < held_by c.args.holder (node_of span)) × (0 < span.count))) (sym s.1) s.2
 
-mid_nodes : (c : After-drop_holder) → nodes_of c.drop_holder.new.slots.entries ≡ taken (nodes_of c.args.slots.now.entries) c.args.id c.args.holder
+mid_nodes : (c : After-drop_holder) → nodes_of c.drop_holder.new.slots.entries ≡ without_holder (nodes_of c.args.slots.now.entries) c.args.id c.args.holder
 mid_nodes c =
     let s = held_counts c.args.slots.now.entries c.args.id c.args.holder c.requires.settled c.requires.held in
     ap (λ (t : Table Span). nodes_of t.entries) (c.drop_holder.ensures s.0 s.1)

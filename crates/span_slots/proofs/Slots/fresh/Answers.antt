@@ -1,6 +1,6 @@
 use Rattle.std.proofs.Common.{◌≡◌, ◌<◌, Some, length, map, refl, arith}
 use Rattle.std.proofs.lemmas.List.{length-map, map-append}
-use Rattle.span_slots.specs.Cells.{row_of}
+use Rattle.span_slots.specs.inside.Cells.{row_of}
 use Rattle.span_slots.proofs.Rows.{length-entries-le}
 use Rattle.span_slots.proofs.CellLemmas.{freshened, next_slot_fresh, vacant_fresh}
 use Rattle.span_slots.proofs.Sound.{IsSound-fresh}

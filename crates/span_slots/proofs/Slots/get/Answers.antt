@@ -2,7 +2,7 @@ use Rattle.std.proofs.Common.{◌≡◌, ◌≢◌, ◌+◌, ◌<◌, ◌≤◌,
 use Rattle.std.proofs.lemmas.Bool.{eq-eqb, ne_eqb}
 use Rattle.std.proofs.lemmas.List.{length-map}
 use Rattle.span_id.specs.Id.{slot_of, generation_of}
-use Rattle.span_slots.specs.Cells.{row_of}
+use Rattle.span_slots.specs.inside.Cells.{row_of}
 use Rattle.span_slots.proofs.CellLemmas.{value_at_cells, value_past_cells}
 use Rattle.span_slots.proofs.Slots.get.Goals as goal
 

@@ -1,7 +1,7 @@
 use Rattle.std.proofs.Common.{◌≡◌, length, map, is_some, true, false, refl, sym, ap, subst, arith}
 use Rattle.std.proofs.lemmas.List.{length-map, take_all}
-use Rattle.span_slots.specs.Cells.{row_of}
-use Rattle.span_slots.specs.Rows.{AreGoodRows}
+use Rattle.span_slots.specs.inside.Cells.{row_of}
+use Rattle.span_slots.specs.inside.Rows.{AreGoodRows}
 use Rattle.span_slots.proofs.IdLists.{good_cell, ids-more_none, ids-more_some, length-ids_of}
 use Rattle.span_slots.proofs.Slots.ids.Goals as goal
 use Rattle.span_slots.proofs.Slots.ids.Goals.{then-occupied, else-occupied}

@@ -1,7 +1,7 @@
 use Rattle.std.proofs.Common.{◌≡◌, ◌≤◌, length, map, take}
 use Rattle.std.specs.Prelude.{vec_capacity}
-use Rattle.span_slots.specs.Cells.{row_of}
-use Rattle.span_slots.specs.Rows.{entries_from}
+use Rattle.span_slots.specs.inside.Cells.{row_of}
+use Rattle.span_slots.specs.inside.Rows.{entries_from}
 use Rattle.span_slots.proofs.Slots.ids.Given as goal
 
 -- the ids of the cells so far, in a list with room for all

@@ -1,7 +1,7 @@
 use Rattle.std.proofs.Common.{◌≡◌, ◌+◌, None, Some, [], ◌∷◌, ◌++◌, map, refl, ap, ◌∙◌, arith}
 use Rattle.std.specs.Option.{option_to_list}
 use Rattle.std.proofs.lemmas.List.{length-map, map-set}
-use Rattle.span_slots.specs.Cells.{row_of}
+use Rattle.span_slots.specs.inside.Cells.{row_of}
 use Rattle.span_slots.proofs.Rows.{length-entries-le}
 use Rattle.span_slots.proofs.CellLemmas.{reused, next_id_reused, next_slot_reused, vacant_reused}
 use Rattle.span_slots.proofs.Places.{reusable}

@@ -1,6 +1,6 @@
 use Rattle.std.proofs.Common.{◌≡◌, ◌≤◌, ◌<◌, None, Some, refl, sym, ◌∙◌, map, arith}
 use Rattle.std.proofs.lemmas.List.{map-set}
-use Rattle.span_slots.specs.Cells.{row_of}
+use Rattle.span_slots.specs.inside.Cells.{row_of}
 use Rattle.span_slots.proofs.Rows.{free_rows_less, length-entries_set_none}
 use Rattle.span_slots.proofs.CellLemmas.{taken_free, taken_retired, not_there}
 use Rattle.span_slots.proofs.Places.{found}

@@ -5,9 +5,9 @@ use Rattle.span_forest.specs.declared.span.Span.{Span}
 use Rattle.span_forest.specs.declared.span.Holder.TheVariants.{Handle}
 use Rattle.span_forest.specs.Node.{node_of}
 use Rattle.span_forest.specs.Spans.{nodes_of}
-use Rattle.span_forest.specs.Count.{written_count}
+use Rattle.span_forest.specs.Count.{reference_count}
 use Rattle.span_forest.specs.Holders.{IsHeld, held_by}
-use Rattle.span_forest.specs.Invariant.{IsConsistent, span_more}
+use Rattle.span_forest.specs.inside.Invariant.{IsConsistent, span_more}
 use Rattle.span_forest.proofs.Counts.{held_part, nodes_more, IsConsistent-kept, kept_view, total_fits}
 use Rattle.span_forest.proofs.forest.Forest.keep.Goals as goal
 
@@ -19,7 +19,7 @@ returns-then-count_of-self-clause-refused c =
     let s = held_part i.slots.entries c.args.id c.args.holder v.settled held in
     let e = c.count_of.ensures s.0 s.1 in
     let b = v.bounded c.args.id in
-    let same : written_count (nodes_of i.slots.entries) c.args.id ≡ i.max_count = omega (arith, c.if-count_of-self.true, s.2.1) in
+    let same : reference_count (nodes_of i.slots.entries) c.args.id ≡ i.max_count = omega (arith, c.if-count_of-self.true, s.2.1) in
     rw (← c.self.view_is) (held, same)
 
 pub raise_holder-requires : goal.raise_holder-requires
@@ -63,5 +63,5 @@ returns-clause-accepted c =
     let held : IsHeld (nodes_of i.slots.entries) c.args.id Handle = c.is_held.ensures.0 c.if-not-is_held.false in
     let s = held_part i.slots.entries c.args.id c.args.holder v.settled held in
     let e = c.count_of.ensures s.0 s.1 in
-    let low : written_count (nodes_of i.slots.entries) c.args.id < i.max_count = omega (arith, c.if-count_of-self.false, s.2.1) in
+    let low : reference_count (nodes_of i.slots.entries) c.args.id < i.max_count = omega (arith, c.if-count_of-self.false, s.2.1) in
     rw (← c.self.view_is) (held, low)

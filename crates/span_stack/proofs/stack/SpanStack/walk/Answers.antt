@@ -3,7 +3,7 @@ use Rattle.std.specs.Iterator.{YieldsFirst}
 use Rattle.std.proofs.iter.runs.Sources.{from_front, as_is}
 use Rattle.std.proofs.lemmas.List.{length-map}
 use Rattle.span_stack.specs.Stack.{walk}
-use Rattle.span_stack.specs.Entry.{ids_of, unflagged}
+use Rattle.span_stack.specs.inside.Entry.{ids_of, unflagged}
 use Rattle.span_stack.proofs.Stacks.{length-walk}
 use Rattle.span_stack.proofs.Entries.{unflagged-walk}
 use Rattle.span_stack.proofs.stack.SpanStack.walk.Goals as goal

@@ -1,0 +1,96 @@
+use Rattle.std.proofs.Common.{◌≡◌, ◌∙◌, ◌<◌, ℕ, true, [], ◌∷◌, ◌++◌, map, filter, length, Option, Some, None, ap, sym, refl, subst, inr, arith}
+use Rattle.std.specs.Prelude.{string_bytes, IfSome, slice_index}
+use Rattle.std.specs.List.{range_with_len}
+use Rattle.span_id.specs.Id.{IsId, slot_of, generation_of}
+use Rattle.span_slots.specs.Table.{IsIssued}
+use Rattle.span_layers.specs.declared.note.Kind.TheVariants.{OnNew}
+use Rattle.span_layers.specs.Note.{plain_note}
+use Rattle.span_layers.specs.Filter.{admission_set}
+use Rattle.span_forest.specs.Node.{new_node}
+use Rattle.span_forest.specs.Spans.{find}
+use Rattle.span_forest.specs.Forest.{table_of, next_span_id}
+use Rattle.span_forest.specs.Add.{with_span}
+use Rattle.span_stack.specs.Stack.{ids_of_each}
+use Rattle.span_outlet.specs.Request.{made, plain_meta, plain_fields}
+use Rattle.span_core.specs.Happening.{at_span, notes_of_all}
+use Rattle.span_core.specs.Step.{IsStep, is_wanted, made_node, ParentIsOpen}
+use Rattle.span_core.specs.History.{issued}
+use Rattle.span_core.specs.inside.Sound.{first_note, is_told_new}
+use Rattle.span_core.specs.NextId.{next_id}
+use Rattle.span_core.specs.inside.Lent.{span_request}
+use Rattle.span_core.specs.Core.{CoreView}
+use Rattle.span_core.proofs.NewSpans.{sound_new, step_new, new_notes, not_open, not_in_history}
+use Rattle.span_core.proofs.Core.make.Given as given
+use Rattle.span_core.proofs.Core.make.Goals as goal
+use Rattle.span_core.proofs.Core.make.Goals.{After-put}
+
+-- what holds of the core before the call, said of its parts
+wanted : (g : given.Over) (c : After-put g) → is_wanted c.self.inside.rules (plain_meta c.args.new.now.meta.now) ≡ true
+wanted g c = subst (λ (v : CoreView). is_wanted v.rules (plain_meta c.args.new.now.meta.now) ≡ true) (sym c.self.view_is) c.requires.due.wanted
+
+parent_open : (g : given.Over) (c : After-put g) → ParentIsOpen c.self.inside.forest.spans c.args.new.now.parent
+parent_open g c = subst (λ (v : CoreView). ParentIsOpen v.world.spans c.args.new.now.parent) (sym c.self.view_is) c.requires.due.known
+
+bits_are : (g : given.Over) (c : After-put g) → c.args.new.now.bits.0 ≡ admission_set c.self.inside.rules (string_bytes c.args.new.now.meta.now.target) c.args.new.now.meta.now.level
+bits_are g c = subst (λ (v : CoreView). c.args.new.now.bits.0 ≡ admission_set v.rules (string_bytes c.args.new.now.meta.now.target) c.args.new.now.meta.now.level) (sym c.self.view_is) c.requires.bits
+
+within : (g : given.Over) (c : After-put g) → c.args.new.now.worker < length (ids_of_each c.self.inside.stacks.items)
+within g c = omega (arith, c.requires.within, ap (λ (v : CoreView). v.limits.workers) c.self.view_is, c.self.invariant.stacks_are)
+
+-- the id that the forest gives is the one that the history gives
+same_id : (g : given.Over) (c : After-put g) → c.args.new.now.id ≡ c.in-Ok.id
+same_id g c =
+    some_same _ _ (sym c.requires.next
+    ∙ ap (λ (v : CoreView). next_id v.limits.slots v.limits.last_generation v.sent) (sym c.self.view_is)
+    ∙ ap next_span_id (sym c.self.invariant.forest_is)
+    ∙ c.in-Ok.ensures.id)
+  where
+    some_same : (a b : ℕ) → Some a ≡ Some b → a ≡ b
+    some_same a b same = cc
+
+in_layout : (g : given.Over) (c : After-put g) → IsId c.in-Ok.id
+in_layout g c = subst (λ (o : Option ℕ). IfSome o IsId) c.in-Ok.ensures.id c.next_id_is_new.ensures.in_layout
+
+gone : (g : given.Over) (c : After-put g) → find c.self.inside.forest.spans c.in-Ok.id ≡ None
+gone g c = not_open c.self.inside.forest.spans c.in-Ok.id (IsIssued (table_of c.self.inside.forest) c.in-Ok.id) (c.each_slot_has_one_open_id.ensures.issued c.in-Ok.id) c.in-Ok.ensures.never_issued
+
+now_issued : (g : given.Over) (c : After-put g) → generation_of c.in-Ok.id < slice_index c.add.new.self.given (slot_of c.in-Ok.id)
+now_issued g c = (c.in-Ok.ensures.issued c.in-Ok.id (in_layout g c)).1 (inr refl)
+
+forest_is : (g : given.Over) (c : After-put g) → c.add.new.self ≡ with_span c.self.inside.forest c.in-Ok.id (made_node c.self.inside.rules (plain_meta c.args.new.now.meta.now) (plain_fields c.args.new.now.fields.now) c.args.new.now.parent)
+forest_is g c = c.in-Ok.ensures.forest ∙ ap (λ b. with_span c.self.inside.forest c.in-Ok.id (new_node c.args.new.now.meta.now c.args.new.now.fields.now c.args.new.now.parent b)) (bits_are g c)
+
+told : (g : given.Over) (c : After-put g) → map plain_note c.in_ok-notes.notes.items ≡ notes_of_all c.self.inside.rules c.args.new.now.worker (at_span c.add.new.self.spans OnNew c.in-Ok.id (plain_fields c.args.new.now.fields.now) ∷ [])
+told g c =
+    new_notes c.self.inside.rules c.args.new.now.worker c.in-Ok.id c.self.inside.forest.spans c.add.new.self.spans (made_node c.self.inside.rules (plain_meta c.args.new.now.meta.now) (plain_fields c.args.new.now.fields.now) c.args.new.now.parent) (plain_fields c.args.new.now.fields.now) _
+    (gone g c) c.open_spans_are_counted.ensures.parent (parent_open g c) (ap (λ f. f.spans) (forest_is g c))
+    (c.in_ok-notes.ensures.notes
+    ∙ (λ j. map (first_note c.self.inside.forest.spans c.args.new.now.worker (same_id g c j) c.args.new.now.parent (string_bytes c.args.new.now.meta.now.name) (plain_fields c.args.new.now.fields.now))
+    (filter (is_told_new c.self.inside.rules (bits_are g c j)) (range_with_len 0 (length c.self.inside.rules)))))
+
+pub invariant_of-self-2 : goal.invariant_of-self-2
+invariant_of-self-2 g c =
+    sound_new _ _ _ _ _ _ _ _ _ c.args.new.now.worker c.in-Ok.id (plain_meta c.args.new.now.meta.now) (plain_fields c.args.new.now.fields.now) c.args.new.now.parent _ _
+    c.self.invariant (within g c) (in_layout g c) c.in-Ok.ensures.never_issued (now_issued g c) (wanted g c) (parent_open g c) (gone g c) (forest_is g c) (told g c)
+    c.in_ok-call.ensures.call c.in_ok-ask.ensures.sent c.put.ensures.sent
+
+pub returns-clause-made : goal.returns-clause-made
+returns-clause-made g c =
+    let request = span_request c.args.new.now in
+    let call_is = c.in_ok-call.ensures.call in
+    let sent_is : g.O.Outlet.sent c.ask.new.outlet ≡ c.args.self.now.sent = c.in_ok-ask.ensures.sent ∙ ap (λ (v : CoreView). v.sent) c.self.view_is in
+    let step : IsStep c.self.inside.rules (issued (g.O.Outlet.sent c.self.inside.outlet)) (record { spans = c.self.inside.forest.spans; stacks = ids_of_each c.self.inside.stacks.items }) request (made c.in-Ok.id) (map plain_note c.in_ok-notes.notes.items) (record { spans = c.add.new.self.spans; stacks = ids_of_each c.self.inside.stacks.items }) =
+    step_new c.self.inside.rules (issued (g.O.Outlet.sent c.self.inside.outlet)) c.self.inside.forest.spans c.add.new.self.spans (ids_of_each c.self.inside.stacks.items) c.args.new.now.worker c.in-Ok.id (plain_meta c.args.new.now.meta.now) (plain_fields c.args.new.now.fields.now) c.args.new.now.parent _
+    (within g c) (in_layout g c) (not_in_history _ _ _ _ _ _ c.in-Ok.id c.self.invariant c.in-Ok.ensures.never_issued) (wanted g c) (parent_open g c) (ap (λ f. f.spans) (forest_is g c)) (told g c) in
+    let same = sym (same_id g c) in
+    record {
+      due = c.requires.due;
+      limits = ap (λ (v : CoreView). v.limits) c.self.view_is;
+      rules = ap (λ (v : CoreView). v.rules) c.self.view_is;
+      notes = map plain_note c.in_ok-notes.notes.items;
+      step = subst (λ (id : ℕ). IsStep c.args.self.now.rules (issued c.args.self.now.sent) c.args.self.now.world request (made id) (map plain_note c.in_ok-notes.notes.items) (record { spans = c.add.new.self.spans; stacks = ids_of_each c.self.inside.stacks.items })) same
+          (subst (λ (v : CoreView). IsStep v.rules (issued v.sent) v.world request (made c.in-Ok.id) (map plain_note c.in_ok-notes.notes.items) (record { spans = c.add.new.self.spans; stacks = ids_of_each c.self.inside.stacks.items })) c.self.view_is step);
+      sent = c.put.ensures.sent ∙ (λ j. sent_is j ++ (record { request = call_is j; answer = made (same j); notes = map plain_note c.in_ok-notes.notes.items }) ∷ []);
+      times_full = c.put.ensures.times_full ∙ c.in_ok-ask.ensures.times_full ∙ ap (λ (v : CoreView). v.times_full) c.self.view_is;
+      forms = c.put.ensures.forms ∙ c.in_ok-ask.ensures.forms ∙ ap (λ (v : CoreView). v.forms) c.self.view_is;
+    }

@@ -1,0 +1,211 @@
+-- A new span: its path and its notes, as they can be said before it is there.
+use Rattle.std.proofs.Common.{◌≡◌, ◌≢◌, ℕ, zero, suc, ◌+◌, ◌<◌, ◌==◌, Bool, true, false, cond, ◌&&◌, ◌||◌, List, [], ◌∷◌, ◌++◌, length, map, filter, reverse, Option, Some, None, refl, sym, ap, ◌∙◌, subst, inl, inr}
+use Rattle.std.specs.Prelude.{is_some, IfSome, slice_index, nat_lt}
+use Rattle.std.specs.Option.{option_map_or}
+use Rattle.std.specs.List.{range_with_len}
+use Rattle.std.proofs.lemmas.Bool.{cases_Bool, false≢true}
+use Rattle.std.proofs.lemmas.Bool.Decides.{eqb_tells}
+use Rattle.std.proofs.lemmas.List.{reverse-append}
+use Rattle.span_id.specs.Bits.{has_bit}
+use Rattle.span_id.specs.Id.{slot_of, generation_of, IsId}
+use Rattle.span_id.specs.declared.limits.Limits.{Limits}
+use Rattle.span_slots.specs.Table.{issue, IsIssued}
+use Rattle.span_layers.specs.declared.note.Kind.TheVariants.{OnNew}
+use Rattle.span_layers.specs.Note.{PlainNote, KeyValue}
+use Rattle.span_layers.specs.Filter.{Filter, layer_wants}
+use Rattle.span_forest.specs.Node.{Node}
+use Rattle.span_forest.specs.Spans.{Spans, find, IsOpen, with_node, parent_in, parent_of}
+use Rattle.span_forest.specs.declared.span.Holder.TheVariants.{Entry}
+use Rattle.span_forest.specs.Holders.{held_in}
+use Rattle.span_forest.specs.Forest.{ForestView, table_of, next_span_id}
+use Rattle.span_forest.specs.Live.{stands_in}
+use Rattle.span_forest.specs.Add.{with_span}
+use Rattle.span_forest.specs.Walk.{walk_within}
+use Rattle.span_forest.specs.Path.{path, names_for, name_for}
+use Rattle.span_forest.proofs.Adds.{find-with_same, find-with_other}
+use Rattle.span_forest.proofs.Slotted.{issue_more}
+use Rattle.span_core.specs.World.{IsWorld}
+use Rattle.span_outlet.specs.Request.{PlainMeta, Request, new_span, made}
+use Rattle.span_outlet.specs.Batch.{PlainBatch}
+use Rattle.span_core.specs.Step.{ParentIsOpen, IsStep, is_wanted, made_node}
+use Rattle.span_core.specs.History.{issued}
+use Rattle.span_core.specs.NextId.{with_answer, slots_after, next_id}
+use Rattle.span_core.specs.Happening.{at_span, is_told, note_of, notes_of, notes_of_all, path_at}
+use Rattle.span_core.specs.inside.Sound.{first_note, is_told_new, IsSound, forest_with}
+use Rattle.span_core.proofs.Soundness.{sound_more}
+use Rattle.span_core.proofs.Worlds.{same_key}
+use Rattle.span_core.proofs.Telling.{one_happening}
+
+abbrev pub ParentsOpen : Spans → Type 0
+ParentsOpen spans = (id parent : ℕ) → parent_of spans id ≡ Some parent → IsOpen spans parent
+
+length-with_node : (spans : Spans) (id : ℕ) (node : Node) → length (with_node spans id node) ≡ suc (length spans)
+length-with_node [] id node = refl
+length-with_node (e ∷ es) id node =
+    elim (cases_Bool (nat_lt (slot_of id) (slot_of e.0))) [ inl t ↦ rw t refl | inr t ↦ rw t (ap suc (length-with_node es id node)) ]
+
+apart : (spans : Spans) (id j : ℕ) → find spans id ≡ None → IsOpen spans j → j ≢ id
+apart spans id j gone there same = absurd (false≢true (sym (ap is_some gone) ∙ subst (λ k. IsOpen spans k) same there))
+
+pub parent_is_open : (spans : Spans) (j : ℕ) → ParentsOpen spans → ParentIsOpen spans (parent_of spans j)
+parent_is_open spans j whole = by_case (parent_of spans j) refl
+  where
+    by_case : (o : Option ℕ) → parent_of spans j ≡ o → ParentIsOpen spans o
+    by_case None is = tt
+    by_case (Some p) is = whole j p is
+
+-- what stands above a span that was there before is as before
+names_before : (n : ℕ) (spans : Spans) (id : ℕ) (node : Node) (layer : ℕ) → find spans id ≡ None → ParentsOpen spans → (o : Option ℕ) → ParentIsOpen spans o
+    → names_for layer (with_node spans id node) (walk_within n (with_node spans id node) o) ≡ names_for layer spans (walk_within n spans o)
+names_before n spans id node layer gone whole None there = refl
+names_before zero spans id node layer gone whole (Some j) there = refl
+names_before (suc n) spans id node layer gone whole (Some j) there =
+    let same : find (with_node spans id node) j ≡ find spans j = find-with_other spans id j node (apart spans id j gone there) in
+    ap (λ o. name_for layer o ++ names_for layer (with_node spans id node) (walk_within n (with_node spans id node) (parent_in o))) same
+    ∙ ap (λ ns. name_for layer (find spans j) ++ ns) (names_before n spans id node layer gone whole (parent_of spans j) (parent_is_open spans j whole))
+
+pub path_is : (spans : Spans) (layer : ℕ) (o : Option ℕ) → reverse (names_for layer spans (walk_within (length spans) spans o)) ≡ path_at layer spans o
+path_is spans layer None = refl
+path_is spans layer (Some p) = refl
+
+-- the path of a new span is that of its parent, and its own name
+pub new_path : (spans : Spans) (id : ℕ) (node : Node) (layer : ℕ) → find spans id ≡ None → ParentsOpen spans → ParentIsOpen spans node.parent → has_bit node.bits layer ≡ true
+    → path layer (with_node spans id node) id ≡ path_at layer spans node.parent ++ node.name ∷ []
+new_path spans id node layer gone whole there admitted =
+    let here : find (with_node spans id node) id ≡ Some node = find-with_same spans id node gone in
+    let new = with_node spans id node in
+    ap (λ n. reverse (names_for layer new (walk_within n new (Some id)))) (length-with_node spans id node)
+    ∙ ap (λ o. reverse (name_for layer o ++ names_for layer new (walk_within (length spans) new (parent_in o)))) here
+    ∙ ap (λ b. reverse (cond b (node.name ∷ []) [] ++ names_for layer new (walk_within (length spans) new node.parent))) admitted
+    ∙ ap (λ ns. reverse (node.name ∷ ns)) (names_before (length spans) spans id node layer gone whole node.parent there)
+    ∙ reverse_first node.name (names_for layer spans (walk_within (length spans) spans node.parent))
+    ∙ ap (λ p. p ++ node.name ∷ []) (path_is spans layer node.parent)
+  where
+    reverse_first : (x : List ℕ) (xs : List (List ℕ)) → reverse (x ∷ xs) ≡ reverse xs ++ x ∷ []
+    reverse_first x xs = reverse-append (x ∷ []) xs
+
+map-filter-same : {X : Type 0} (f g : ℕ → X) (p q : ℕ → Bool) → ((k : ℕ) → p k ≡ q k) → ((k : ℕ) → p k ≡ true → f k ≡ g k) → (ks : List ℕ) → map f (filter p ks) ≡ map g (filter q ks)
+map-filter-same f g p q tests same [] = refl
+map-filter-same f g p q tests same (k ∷ ks) =
+    let rest = map-filter-same f g p q tests same ks in
+    elim (cases_Bool (p k)) [
+      | inl t ↦ (let u : q k ≡ true = sym (tests k) ∙ t in let e : f k ≡ g k = same k t in rw (t, u) (λ j. e j ∷ rest j))
+      | inr t ↦ (let u : q k ≡ false = sym (tests k) ∙ t in rw (t, u) rest)
+    ]
+
+and_first : (a b : Bool) → (a && b) ≡ true → a ≡ true
+and_first true b h = refl
+and_first false b h = h
+
+-- the notes of a new span
+pub new_notes : (rules : List Filter) (worker id : ℕ) (spans new_spans : Spans) (node : Node) (fields : List KeyValue) (notes : List PlainNote)
+    → find spans id ≡ None → ParentsOpen spans → ParentIsOpen spans node.parent → new_spans ≡ with_node spans id node
+    → notes ≡ map (first_note spans worker id node.parent node.name fields) (filter (is_told_new rules node.bits) (range_with_len 0 (length rules)))
+    → notes ≡ notes_of_all rules worker (at_span new_spans OnNew id fields ∷ [])
+new_notes rules worker id spans new_spans node fields notes gone whole there are told =
+    one_happening rules worker (at_span new_spans OnNew id fields) [] notes refl
+    (told ∙ all ∙ ap (λ s. notes_of rules worker (at_span s OnNew id fields)) (sym are))
+  where
+    here : find (with_node spans id node) id ≡ Some node
+    here = find-with_same spans id node gone
+
+    bits_are : option_map_or (λ (n : Node). n.bits) (find (with_node spans id node) id) 0 ≡ node.bits
+    bits_are = ap (λ (o : Option Node). option_map_or (λ n. n.bits) o 0) here
+
+    all : map (first_note spans worker id node.parent node.name fields) (filter (is_told_new rules node.bits) (range_with_len 0 (length rules))) ≡ notes_of rules worker (at_span (with_node spans id node) OnNew id fields)
+    all =
+        map-filter-same (first_note spans worker id node.parent node.name fields) (note_of worker (at_span (with_node spans id node) OnNew id fields)) (is_told_new rules node.bits) (is_told rules (at_span (with_node spans id node) OnNew id fields))
+        (λ k. ap (λ b. has_bit b k && layer_wants rules k OnNew) (sym bits_are))
+        (λ k told_k. let admitted = and_first (has_bit node.bits k) (layer_wants rules k OnNew) told_k in
+        let p = sym (new_path spans id node k gone whole there admitted) in
+        λ j. record { layer = k; kind = OnNew; worker = worker; id = id; path = p j; fields = fields; tail = None })
+        (range_with_len 0 (length rules))
+
+-- an id of a slot that is free isn't open
+pub not_open : (spans : Spans) (id : ℕ) (Issued : Type 0) → (IsOpen spans id → Issued) → (Issued → ⊥) → find spans id ≡ None
+not_open spans id Issued issued never = by_case (find spans id) refl
+  where
+    by_case : (o : Option Node) → find spans id ≡ o → o ≡ None
+    by_case None is = refl
+    by_case (Some node) is = absurd (never (issued (ap is_some is)))
+
+pub world_new : (spans : Spans) (id : ℕ) (node : Node) (stacks : List (List ℕ)) → find spans id ≡ None → node.entries ≡ 0 → IsWorld (record { spans = spans; stacks = stacks }) → IsWorld (record { spans = with_node spans id node; stacks = stacks })
+world_new spans id node stacks gone none whole = record { entered = λ j. same j ∙ whole.entered j }
+  where
+    same : (j : ℕ) → held_in Entry (find (with_node spans id node) j) ≡ held_in Entry (find spans j)
+    same j =
+        elim (eqb_tells j id) [
+          | inl t ↦ subst (λ (k : ℕ). held_in Entry (find (with_node spans id node) k) ≡ held_in Entry (find spans k)) (sym t.1)
+              (ap (held_in Entry) (find-with_same spans id node gone) ∙ none ∙ sym (ap (held_in Entry) gone))
+          | inr t ↦ ap (held_in Entry) (find-with_other spans id j node t.1)
+        ]
+
+only_one : (id x : ℕ) → ((id == x) || false) ≡ true → id ≡ x
+only_one id x h = same_key id x (sym (or_none (id == x)) ∙ h)
+  where
+    or_none : (b : Bool) → (b || false) ≡ b
+    or_none true = refl
+    or_none false = refl
+
+pub step_new : (rules : List Filter) (ids : List ℕ) (spans new_spans : Spans) (stacks : List (List ℕ)) (worker id : ℕ) (meta : PlainMeta) (fields : List KeyValue) (parent : Option ℕ) (notes : List PlainNote)
+    → worker < length stacks → IsId id → stands_in id ids ≡ false → is_wanted rules meta ≡ true → ParentIsOpen spans parent
+    → new_spans ≡ with_node spans id (made_node rules meta fields parent)
+    → notes ≡ notes_of_all rules worker (at_span new_spans OnNew id fields ∷ [])
+    → IsStep rules ids (record { spans = spans; stacks = stacks }) (new_span worker meta fields parent) (made id) notes (record { spans = new_spans; stacks = stacks })
+step_new rules ids spans new_spans stacks worker id meta fields parent notes within in_layout not_issued wanted there spans_are notes_are =
+    record {
+      within = within;
+      changes = record {
+        in_layout = in_layout;
+        not_issued = not_issued;
+        wanted = wanted;
+        parent_open = there;
+        after = λ j. record { spans = spans_are j; stacks = stacks };
+      };
+      notes_are = notes_are;
+    }
+
+-- an id that no slot has given was not issued by the history
+pub not_in_history : (limits : Limits) (rules : List Filter) (forest : ForestView) (stacks : List (List ℕ)) (calls : ℕ) (sent : List PlainBatch) (id : ℕ) → IsSound limits forest stacks rules calls sent
+    → (generation_of id < slice_index forest.given (slot_of id) → ⊥) → stands_in id (issued sent) ≡ false
+not_in_history limits rules forest stacks calls sent id sound never =
+    elim (cases_Bool (stands_in id (issued sent))) [ inl t ↦ absurd (never (sound.counted id t)) | inr t ↦ t ]
+
+-- the next id of sound parts is new: it is the forest's, of which that is known
+pub next_is_new : (limits : Limits) (rules : List Filter) (forest : ForestView) (stacks : List (List ℕ)) (calls : ℕ) (sent : List PlainBatch) → IsSound limits forest stacks rules calls sent
+    → IfSome (next_span_id forest) IsId → IfSome (next_span_id forest) (λ id. IsIssued (table_of forest) id → ⊥)
+    → IfSome (next_id limits.slots limits.last_generation sent) (λ id. IsId id × (stands_in id (issued sent) ≡ false))
+next_is_new limits rules forest stacks calls sent sound in_layout never =
+    subst (λ (o : Option ℕ). IfSome o (λ id. IsId id × (stands_in id (issued sent) ≡ false))) (ap next_span_id sound.forest_is) (by_case (next_span_id forest) in_layout never)
+  where
+    by_case : (o : Option ℕ) → IfSome o IsId → IfSome o (λ id. IsIssued (table_of forest) id → ⊥) → IfSome o (λ id. IsId id × (stands_in id (issued sent) ≡ false))
+    by_case None there unissued = tt
+    by_case (Some id) there unissued = (there, not_in_history limits rules forest stacks calls sent id sound unissued)
+
+pub sound_new : (limits : Limits) (rules : List Filter) (forest new_forest : ForestView) (stacks : List (List ℕ)) (calls : ℕ) (old mid new : List PlainBatch) (worker id : ℕ) (meta : PlainMeta) (fields : List KeyValue) (parent : Option ℕ) (written : Request) (notes : List PlainNote)
+    → IsSound limits forest stacks rules calls old
+    → worker < length stacks
+    → IsId id
+    → (generation_of id < slice_index forest.given (slot_of id) → ⊥)
+    → generation_of id < slice_index new_forest.given (slot_of id)
+    → is_wanted rules meta ≡ true
+    → ParentIsOpen forest.spans parent
+    → find forest.spans id ≡ None
+    → new_forest ≡ with_span forest id (made_node rules meta fields parent)
+    → notes ≡ notes_of_all rules worker (at_span new_forest.spans OnNew id fields ∷ [])
+    → written ≡ new_span worker meta fields parent
+    → mid ≡ old → new ≡ mid ++ (record { request = written; answer = made id; notes = notes }) ∷ []
+    → IsSound limits new_forest stacks rules (calls + 1) new
+sound_new limits rules forest new_forest stacks calls old mid new worker id meta fields parent written notes sound within in_layout never now_issued wanted there gone forest_is notes_are written_is same sent =
+    let node = made_node rules meta fields parent in
+    let spans_are = ap (λ f. f.spans) forest_is in
+    let given_is : new_forest.given ≡ issue forest.given (slot_of id) = ap (λ f. f.given) forest_is in
+    sound_more limits rules forest new_forest stacks stacks calls old mid new (record { request = new_span worker meta fields parent; answer = made id; notes = notes }) sound
+    (forest_is ∙ ap (λ (f : ForestView). with_span f id node) sound.forest_is
+    ∙ ap (λ s. forest_with limits s (with_answer limits.last_generation (slots_after limits.last_generation old) (made id))) (sym spans_are))
+    (λ x there_x. subst (λ (y : ℕ). generation_of y < slice_index new_forest.given (slot_of y)) (only_one id x there_x) now_issued)
+    (λ x before. rw given_is (issue_more forest.given (slot_of id) (slot_of x) (generation_of x) before))
+    refl
+    (subst (λ (spans : Spans). IsWorld (record { spans = spans; stacks = stacks })) (sym spans_are) (world_new forest.spans id node stacks gone refl sound.world))
+    (step_new rules (issued old) forest.spans new_forest.spans stacks worker id meta fields parent notes within in_layout (not_in_history limits rules forest stacks calls old id sound never) wanted there spans_are notes_are)
+    same (sent ∙ ap (λ (request : Request). mid ++ (record { request = request; answer = made id; notes = notes }) ∷ []) written_is)

@@ -1,0 +1,10 @@
+pub mod World
+pub mod Parent
+pub mod Happening
+pub mod Step
+pub mod History
+pub mod NextId
+pub mod Core
+pub mod Outcome
+pub mod ClosedSpans
+pub mod inside

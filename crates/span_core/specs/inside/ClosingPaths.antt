@@ -1,0 +1,49 @@
+-- Chains of spans that close, and the paths that the notes so far tell, for the functions inside this crate.
+use Rattle.std.specs.Prelude.{◌≡◌, ℕ, ◌++◌, false, cond, nat_lt, List, [], ◌∷◌, Option, Some, None, slice_get, slice_index_or}
+use Rattle.span_layers.specs.declared.note.Kind.TheVariants.{OnClose}
+use Rattle.span_layers.specs.Note.{PlainNote}
+use Rattle.span_layers.specs.Filter.{Filter, layer_wants}
+use Rattle.span_forest.specs.Spans.{Spans, IsOpen, parent_of}
+use Rattle.span_core.specs.Happening.{path_at}
+
+-- the list ends, or goes on with this span
+abbrev pub GoesOn : Option ℕ → List ℕ → Type 0
+GoesOn next [] = Unit {0}
+GoesOn next (id ∷ ids) = next ≡ Some id
+
+-- a chain: each of the spans is open, and the next one is its parent
+abbrev pub IsChain : Spans → List ℕ → Type 0
+IsChain spans [] = Unit {0}
+IsChain spans (id ∷ ids) = IsOpen spans id × GoesOn (parent_of spans id) ids × IsChain spans ids
+
+-- the note tells this path and one name more
+abbrev pub TellsBelow : List (List ℕ) → PlainNote → Type 0
+TellsBelow path note = (name : List ℕ) × (note.path ≡ path ++ name ∷ [])
+
+-- the note of a place, if there is one
+abbrev pub note_in : List PlainNote → Option ℕ → Option PlainNote
+note_in notes None = None
+note_in notes (Some at) = slice_get notes at
+
+-- the place, if there is one, is that of a note that tells the layer's path at this span and one name more
+abbrev pub IsBelow : Spans → List PlainNote → ℕ → Option ℕ → Option ℕ → Type 0
+IsBelow spans notes layer next None = Unit {0}
+IsBelow spans notes layer next (Some at) = (note : PlainNote) × (note_in notes (Some at) ≡ Some note) × TellsBelow (path_at layer spans next) note
+
+-- the place of a layer
+abbrev pub place_in : List (Option ℕ) → ℕ → Option ℕ
+place_in places layer = slice_index_or places layer None
+
+-- each layer's place is such a one, where `next` says for each layer at which span; a layer that wants no closes has none
+pub record AreBelow (rules : List Filter) (spans : Spans) (notes : List PlainNote) (next : ℕ → Option ℕ) (places : List (Option ℕ)) : Type 0 where
+  pub below : (layer : ℕ) → IsBelow spans notes layer (next layer) (place_in places layer)
+  pub wanted : (layer : ℕ) → layer_wants rules layer OnClose ≡ false → place_in places layer ≡ None
+
+-- the same at the first span of a list, if it has one
+abbrev pub AreBelowFirst : List Filter → Spans → List PlainNote → List ℕ → List (Option ℕ) → Type 0
+AreBelowFirst rules spans notes [] places = Unit {0}
+AreBelowFirst rules spans notes (id ∷ ids) places = AreBelow rules spans notes (λ layer. Some id) places
+
+-- where each layer stands while a span is told of: the first so many layers are at its parent already, the others at the span
+abbrev pub up_to : Spans → ℕ → ℕ → ℕ → Option ℕ
+up_to spans id layers layer = cond (nat_lt layer layers) (parent_of spans id) (Some id)

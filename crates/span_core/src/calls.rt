@@ -1,0 +1,8 @@
+//! The calls of a core that change something.
+mod entries;
+mod events;
+mod handles;
+mod held;
+mod names;
+mod room;
+mod spans;

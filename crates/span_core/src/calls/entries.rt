@@ -1,0 +1,182 @@
+//! The calls that change a worker's stack.
+ghost use Rattle.std.specs.Prelude.{◌≡◌, ◌≢◌, ◌<◌, true, false, if◌then◌else◌, [], nat_lt, length, IfOk, IfErr, OnOk, OnErr};
+ghost use Rattle.span_forest.specs.declared.span.Holder.TheVariants.{Handle, Entry};
+ghost use Rattle.span_forest.specs.Count.{reference_count};
+ghost use Rattle.span_forest.specs.Holders.{IsHeld};
+ghost use Rattle.span_forest.specs.Keep.{with_holder};
+ghost use Rattle.span_forest.specs.Release.{closing_list, spans_left, freed_after};
+ghost use Rattle.span_core.specs.inside.ClosingPaths.{IsChain};
+ghost use Rattle.span_outlet.specs.Request.{enter, entered, exit, exited};
+ghost use Rattle.span_core.specs.Step.{closed_by_exit};
+ghost use Rattle.span_core.specs.Core.{IsAccepted, IsRefused};
+
+use crate::Core;
+use crate::calls::held::{held_span, open_bits};
+use crate::calls::room::ask;
+use crate::notes::closes::closing_lists_are_chains;
+use crate::notes::{Happening, exit_notes, push_notes};
+use crate::stacks::{is_inside, pop_at, push_at, stays_inside};
+use span_forest::{Forest, Holder};
+use span_id::{Fault, Id};
+use span_layers::Kind;
+use span_outlet::{Batch, Call, Outlet, Reply};
+use std::alloc::Global;
+
+impl<O: Outlet, A> Core<O, A> {
+    /// A worker, whose number needs to be below `workers`, enters a span that has a handle. It answers whether the entry is no duplicate: only then it holds the span.
+    ///
+    /// Refused in this order: `Unknown` where the span has no handle, `CountFull` where the entry is no duplicate and
+    /// the span's count is at its greatest or the number of accepted calls is, `Backlog`, `Memory`.
+    pub fn enter(&mut self, worker: u32, id: Id) -> Result<bool, Fault>
+        requires { worker < self.old.limits.workers }
+        ensures accepted { IfOk result (λ first. IsAccepted self.old (enter worker id) (entered first) self.new) }
+        ensures refused { IfErr result (λ fault. IsRefused self.old (enter worker id) fault self.new) }
+    {
+        let Some(held) = held_span(&self.forest, id) else {
+            return Err(Fault::Unknown);
+        };
+        let first = !is_inside(self.stacks.as_slice(), worker, id);
+        let full = first && held.count >= self.limits.limits().max_count;
+        if full || self.calls == u64::MAX {
+            return Err(Fault::CountFull);
+        }
+        ask(&mut self.outlet)?;
+        let what = Happening {
+            worker,
+            kind: Kind::OnEnter,
+            id,
+            bits: held.bits,
+        };
+        let mut notes = Vec::new(self.alloc);
+        push_notes(
+            self.alloc,
+            &mut notes,
+            &self.rules,
+            &self.forest,
+            &what,
+            &[],
+        )?;
+        push_at(&mut self.stacks, worker, id)?;
+        keep_first(&mut self.forest, first, id);
+        self.calls += 1;
+        self.outlet.put(Batch {
+            call: Call::Enter { worker, id },
+            reply: Reply::Entered(first),
+            notes,
+        });
+        Ok(first)
+    }
+
+    /// A worker, whose number needs to be below `workers`, leaves a span: the topmost entry of it is taken out of the worker's stack. Where the span stands there no
+    /// longer, the entry is given back. It answers whether the span closed.
+    ///
+    /// Refused in this order: `Unknown` where the span isn't open, `CountFull` where the number of accepted calls is at
+    /// its greatest, `NotEntered` where the span doesn't stand in the worker's stack, `Backlog`, `Memory`.
+    pub fn exit(&mut self, worker: u32, id: Id) -> Result<bool, Fault>
+        requires { worker < self.old.limits.workers }
+        ensures accepted { OnOk result (IsAccepted self.old (exit worker id) (exited (closed_by_exit self.old.world worker id)) self.new) }
+        ensures closed { IfOk result (λ closed. closed ≡ nat_lt 0 (length (closed_by_exit self.old.world worker id))) }
+        ensures refused { IfErr result (λ fault. IsRefused self.old (exit worker id) fault self.new) }
+    {
+        Ok(!self.leave(worker, id)?.is_empty())
+    }
+
+    /// The same, answering the ids of the spans that closed.
+    pub fn leave(&mut self, worker: u32, id: Id) -> Result<Vec<Id>, Fault>
+        requires { worker < self.old.limits.workers }
+        ensures accepted { OnOk result (IsAccepted self.old (exit worker id) (exited (closed_by_exit self.old.world worker id)) self.new) }
+        ensures closed { IfOk result (λ closed. closed.items ≡ closed_by_exit self.old.world worker id) }
+        ensures refused { IfErr result (λ fault. IsRefused self.old (exit worker id) fault self.new) }
+    {
+        let Some(bits) = open_bits(&self.forest, id) else {
+            return Err(Fault::Unknown);
+        };
+        if self.calls == u64::MAX {
+            return Err(Fault::CountFull);
+        }
+        if !is_inside(self.stacks.as_slice(), worker, id) {
+            return Err(Fault::NotEntered);
+        }
+        let stays = stays_inside(self.stacks.as_slice(), worker, id);
+        ask(&mut self.outlet)?;
+        let closing = closing_on_exit(self.alloc, &self.forest, stays, id)?;
+        let what = Happening {
+            worker,
+            kind: Kind::OnExit,
+            id,
+            bits,
+        };
+        let notes = exit_notes(
+            self.alloc,
+            &self.rules,
+            &self.forest,
+            &what,
+            closing.as_slice(),
+        )?;
+        let closed = release_on_exit(self.alloc, &mut self.forest, stays, id)?;
+        pop_at(&mut self.stacks, worker, id);
+        self.calls += 1;
+        self.outlet.put(Batch {
+            call: Call::Exit { worker, id },
+            reply: Reply::Exited(closed),
+            notes,
+        });
+        Ok(closing)
+    }
+}
+
+// Writes the entry down, where it is the worker's first of the span.
+fn keep_first(forest: &mut Forest, first: bool, id: Id)
+    requires held { IsHeld forest.old.spans id Handle }
+    requires count { first ≡ true → reference_count forest.old.spans id < forest.old.max_count }
+    ensures { forest.new ≡ record forest.old { spans = if first then with_holder forest.old.spans id Entry else forest.old.spans } }
+{
+    if first {
+        let Ok(()) = forest.keep(id, Holder::Entry) else {
+            unreachable!();
+        };
+    }
+}
+
+// The spans that close where a worker leaves a span: none where the span stays in its stack.
+fn closing_on_exit(alloc: Global, forest: &Forest, stays: bool, id: Id) -> Result<Vec<Id>, Fault>
+    requires held { stays ≡ false → IsHeld forest.now.spans id Entry }
+    ensures list { IfOk result (λ ids. ids.items ≡ if stays then [] else closing_list forest.now.spans id Entry) }
+    ensures chain { IfOk result (λ ids. IsChain forest.now.spans ids.items) }
+    ensures memory { IfErr result (λ fault. fault ≡ Fault.Memory) }
+{
+    if stays {
+        return Ok(Vec::new(alloc));
+    }
+    closing_lists_are_chains(forest);
+    match forest.closing(id, Holder::Entry) {
+        Ok(closing) => Ok(closing),
+        Err(_) => Err(Fault::Memory),
+    }
+}
+
+// Gives the entry back, unless the span stays in the worker's stack, and answers the spans that closed.
+fn release_on_exit(
+    alloc: Global,
+    forest: &mut Forest,
+    stays: bool,
+    id: Id,
+) -> Result<Vec<Id>, Fault>
+    requires held { stays ≡ false → IsHeld forest.old.spans id Entry }
+    ensures list { IfOk result (λ ids. ids.items ≡ if stays then [] else closing_list forest.old.spans id Entry) }
+    ensures forest { OnOk result (forest.new ≡ record forest.old {
+      spans = if stays then forest.old.spans else spans_left forest.old.spans id Entry;
+      freed = freed_after forest.old.last_generation forest.old.given forest.old.freed
+          (if stays then [] else closing_list forest.old.spans id Entry);
+    }) }
+    ensures unchanged { OnErr result (forest.new ≡ forest.old) }
+    ensures memory { IfErr result (λ fault. fault ≡ Fault.Memory) }
+{
+    if stays {
+        return Ok(Vec::new(alloc));
+    }
+    match forest.release(id, Holder::Entry) {
+        Ok(closed) => Ok(closed),
+        Err(_) => Err(Fault::Memory),
+    }
+}

@@ -1,0 +1,158 @@
+//! The calls on a handle that enter no stack: one more handle, fields appended, a handle given back.
+ghost use Rattle.std.specs.Prelude.{◌≡◌, ◌<◌, nat_lt, length, OnOk, IfOk, IfErr};
+ghost use Rattle.span_forest.specs.declared.span.Holder.TheVariants.{Handle};
+ghost use Rattle.span_forest.specs.Release.{closing_list};
+ghost use Rattle.span_outlet.specs.Request.{clone_span, cloned, record_fields, recorded, try_close, released, plain_fields, request_of};
+ghost use Rattle.span_core.specs.Core.{IsAccepted, IsRefused};
+
+use crate::Core;
+use crate::calls::held::held_span;
+use crate::calls::names::are_keys;
+use crate::calls::room::ask;
+use crate::notes::closes::{closing_lists_are_chains, push_closes};
+use crate::notes::copies::copy_fields;
+use crate::notes::{Happening, push_notes};
+use span_forest::Holder;
+use span_id::{Fault, Field, Id};
+use span_layers::Kind;
+use span_outlet::{Batch, Call, Outlet, Reply};
+use std::alloc::Global;
+
+impl<O: Outlet, A> Core<O, A> {
+    /// One more handle of a span that has a handle. The number of the worker that calls needs to be below `workers`.
+    ///
+    /// Refused in this order: `Unknown` where the span has no handle, `CountFull` where its count or the number of
+    /// accepted calls is at its greatest, `Backlog`, `Memory`.
+    pub fn clone_span(&mut self, worker: u32, id: Id) -> Result<(), Fault>
+        requires { worker < self.old.limits.workers }
+        ensures accepted { OnOk result (IsAccepted self.old (clone_span worker id) cloned self.new) }
+        ensures refused { IfErr result (λ fault. IsRefused self.old (clone_span worker id) fault self.new) }
+    {
+        let Some(held) = held_span(&self.forest, id) else {
+            return Err(Fault::Unknown);
+        };
+        if held.count >= self.limits.limits().max_count || self.calls == u64::MAX {
+            return Err(Fault::CountFull);
+        }
+        ask(&mut self.outlet)?;
+        let Ok(()) = self.forest.keep(id, Holder::Handle) else {
+            unreachable!();
+        };
+        self.calls += 1;
+        self.outlet.put(Batch {
+            call: Call::CloneSpan { worker, id },
+            reply: Reply::Cloned,
+            notes: Vec::new(self.alloc),
+        });
+        Ok(())
+    }
+
+    /// Appends fields to those of a span that has a handle. The number of the worker that calls needs to be below `workers`.
+    ///
+    /// Refused in this order: `BadName` where a key is no name, `Unknown` where the span has no handle, `CountFull`
+    /// where the number of accepted calls is at its greatest, `Backlog`, `Memory`.
+    pub fn record(&mut self, worker: u32, id: Id, fields: &[Field]) -> Result<(), Fault>
+        requires { worker < self.old.limits.workers }
+        ensures accepted { OnOk result (IsAccepted self.old (record_fields worker id (plain_fields fields.now)) recorded self.new) }
+        ensures refused { IfErr result (λ fault. IsRefused self.old (record_fields worker id (plain_fields fields.now)) fault self.new) }
+    {
+        if !are_keys(fields) {
+            return Err(Fault::BadName);
+        }
+        let Some(held) = held_span(&self.forest, id) else {
+            return Err(Fault::Unknown);
+        };
+        if self.calls == u64::MAX {
+            return Err(Fault::CountFull);
+        }
+        ask(&mut self.outlet)?;
+        let what = Happening {
+            worker,
+            kind: Kind::OnRecord,
+            id,
+            bits: held.bits,
+        };
+        let mut notes = Vec::new(self.alloc);
+        push_notes(
+            self.alloc,
+            &mut notes,
+            &self.rules,
+            &self.forest,
+            &what,
+            fields,
+        )?;
+        let call = record_call(self.alloc, worker, id, fields)?;
+        let Ok(()) = self.forest.write_fields(id, fields) else {
+            return Err(Fault::Memory);
+        };
+        self.calls += 1;
+        self.outlet.put(Batch {
+            call,
+            reply: Reply::Recorded,
+            notes,
+        });
+        Ok(())
+    }
+
+    /// Gives a handle of a span back, and answers whether the span closed. The number of the worker that calls needs to be
+    /// below `workers`.
+    ///
+    /// Refused in this order: `Unknown` where the span has no handle, `CountFull` where the number of accepted calls is
+    /// at its greatest, `Backlog`, `Memory`.
+    pub fn try_close(&mut self, worker: u32, id: Id) -> Result<bool, Fault>
+        requires { worker < self.old.limits.workers }
+        ensures accepted { OnOk result (IsAccepted self.old (try_close worker id) (released (closing_list self.old.world.spans id Handle)) self.new) }
+        ensures closed { IfOk result (λ closed. closed ≡ nat_lt 0 (length (closing_list self.old.world.spans id Handle))) }
+        ensures refused { IfErr result (λ fault. IsRefused self.old (try_close worker id) fault self.new) }
+    {
+        Ok(!self.give_back(worker, id)?.is_empty())
+    }
+
+    /// The same, answering the ids of the spans that closed.
+    pub fn give_back(&mut self, worker: u32, id: Id) -> Result<Vec<Id>, Fault>
+        requires { worker < self.old.limits.workers }
+        ensures accepted { OnOk result (IsAccepted self.old (try_close worker id) (released (closing_list self.old.world.spans id Handle)) self.new) }
+        ensures closed { IfOk result (λ closed. closed.items ≡ closing_list self.old.world.spans id Handle) }
+        ensures refused { IfErr result (λ fault. IsRefused self.old (try_close worker id) fault self.new) }
+    {
+        if held_span(&self.forest, id).is_none() {
+            return Err(Fault::Unknown);
+        }
+        if self.calls == u64::MAX {
+            return Err(Fault::CountFull);
+        }
+        ask(&mut self.outlet)?;
+        let Ok(closing) = self.forest.closing(id, Holder::Handle) else {
+            return Err(Fault::Memory);
+        };
+        closing_lists_are_chains(&self.forest);
+        let mut notes = Vec::new(self.alloc);
+        push_closes(
+            self.alloc,
+            &mut notes,
+            &self.rules,
+            &self.forest,
+            worker,
+            closing.as_slice(),
+        )?;
+        let Ok(closed) = self.forest.release(id, Holder::Handle) else {
+            return Err(Fault::Memory);
+        };
+        self.calls += 1;
+        self.outlet.put(Batch {
+            call: Call::TryClose { worker, id },
+            reply: Reply::Released(closed),
+            notes,
+        });
+        Ok(closing)
+    }
+}
+
+// The call that appends fields, with copies of what the caller lent.
+fn record_call(alloc: Global, worker: u32, id: Id, fields: &[Field]) -> Result<Call, Fault>
+    ensures call { IfOk result (λ call. request_of call ≡ record_fields worker id (plain_fields fields.now)) }
+    ensures memory { IfErr result (λ fault. fault ≡ Fault.Memory) }
+{
+    let fields = copy_fields(alloc, fields)?;
+    Ok(Call::RecordFields { worker, id, fields })
+}

@@ -1,0 +1,20 @@
+ghost use Rattle.std.specs.Prelude.{◌≡◌, true, IfErr, OnOk};
+ghost use Rattle.span_core.specs.Core.{IsLate, times_after};
+
+use span_id::Fault;
+use span_outlet::Outlet;
+
+// Asks for a place for one more batch.
+pub(crate) fn ask<O: Outlet>(outlet: &mut O) -> Result<(), Fault>
+    ensures sent { O.sent outlet.new ≡ O.sent outlet.old }
+    ensures forms { O.forms outlet.new ≡ O.forms outlet.old }
+    ensures ready { OnOk result (O.ready outlet.new ≡ true) }
+    ensures times_full { OnOk result (O.times_full outlet.new ≡ O.times_full outlet.old) }
+    ensures refused { IfErr result (λ fault. IsLate fault × (O.times_full outlet.new ≡ times_after fault (O.times_full outlet.old))) }
+{
+    match outlet.room() {
+        Ok(true) => Ok(()),
+        Ok(false) => Err(Fault::Backlog),
+        Err(_) => Err(Fault::Memory),
+    }
+}

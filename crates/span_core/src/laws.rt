@@ -1,0 +1,129 @@
+//! What every registry promises, in plain words: each function does nothing, and its contract is the promise.
+ghost use Rattle.std.specs.Prelude.{◌≡◌, ◌≢◌, ◌≤◌, ◌<◌, ℕ, true, false, ◌&&◌, ◌↔◌, if◌then◌else◌, [], Some, None, IsTrue, All, AllPairs, count_by};
+ghost use Rattle.span_id.specs.Id.{slot_of, IsId};
+ghost use Rattle.span_layers.specs.Filter.{admission_set};
+ghost use Rattle.span_forest.specs.Node.{Node};
+ghost use Rattle.span_forest.specs.Spans.{find, IsOpen, parent_of};
+ghost use Rattle.span_forest.specs.declared.span.Holder.TheVariants.{Handle};
+ghost use Rattle.span_forest.specs.Count.{total_held};
+ghost use Rattle.span_forest.specs.Holders.{held_in};
+ghost use Rattle.span_forest.specs.Live.{stands_in, is_live};
+ghost use Rattle.span_forest.specs.Forest.{IsForest};
+ghost use Rattle.span_core.specs.World.{IsWorld};
+ghost use Rattle.span_outlet.specs.Request.{Request, Answer};
+ghost use Rattle.span_core.specs.Core.{CoreView, IsAccepted};
+ghost use Rattle.span_core.specs.History.{issued};
+ghost use Rattle.span_core.specs.ClosedSpans.{closed_by, closed_in, gives_back, spans_before_closing, tells_close, hears_close, notes_in};
+
+pub mod outcome;
+
+use crate::Core;
+use span_forest::laws::{each_slot_has_one_open_id, open_slots_are_in_range};
+use span_outlet::Outlet;
+
+/// The open spans are a forest: each parent is open, and each walk ends at a root. Each open span is live: it stands on
+/// the walk of a span that has a holder.
+pub fn open_spans_are_a_live_forest<O: Outlet, A>(core: &Core<O, A>)
+    ensures forest { IsForest core.now.world.spans }
+    ensures live { (id : ℕ) → IsOpen core.now.world.spans id → is_live core.now.world.spans id ≡ true }
+{
+    core.calls();
+}
+
+/// The entries of each span are the workers that are inside it, each counted once.
+pub fn entries_are_the_workers_inside<O: Outlet, A>(core: &Core<O, A>)
+    ensures { IsWorld core.now.world }
+{
+    let _opened = &core.calls;
+}
+
+/// Where the total of handles and entries is 0, no span is open. The same where no span has a handle and no
+/// worker's stack has an entry.
+pub fn empty_where_nothing_is_held<O: Outlet, A>(core: &Core<O, A>)
+    ensures total { total_held core.now.world.spans ≡ 0 → core.now.world.spans ≡ [] }
+    ensures stacks { ((id : ℕ) → held_in Handle (find core.now.world.spans id) ≡ 0) →
+        All (λ stack. stack ≡ []) core.now.world.stacks → core.now.world.spans ≡ [] }
+{
+    entries_are_the_workers_inside(core);
+    core.calls();
+}
+
+/// Whichever call is accepted next: it closes exactly the spans that its answer lists, which only an exit and
+/// a release do. They are the open spans that are not live without the holder that the call gives back: no
+/// holder is left on them or below them. Each other span stays as it was, but for that holder. No span is listed
+/// twice, and none after its parent.
+pub fn release_closes_what_nothing_holds<O: Outlet, A>(core: &Core<O, A>)
+    ensures exact { (request : Request) (answer : Answer) (new : CoreView) (id : ℕ) →
+        IsAccepted core.now request answer new →
+        (IsTrue (stands_in id (closed_by answer))
+        ↔ (IsOpen core.now.world.spans id × (find new.world.spans id ≡ None))) }
+    ensures not_live { (request : Request) (answer : Answer) (new : CoreView) (id : ℕ) →
+        IsAccepted core.now request answer new →
+        IsOpen core.now.world.spans id →
+        (IsTrue (stands_in id (closed_by answer))
+        ↔ (is_live (spans_before_closing core.now.world request) id ≡ false)) }
+    ensures others { (request : Request) (answer : Answer) (new : CoreView) (id : ℕ) →
+        IsAccepted core.now request answer new →
+        IsTrue (gives_back request) → (IsTrue (stands_in id (closed_by answer)) → ⊥) →
+        find new.world.spans id ≡ find (spans_before_closing core.now.world request) id }
+    ensures once { (request : Request) (answer : Answer) (new : CoreView) →
+        IsAccepted core.now request answer new →
+        AllPairs (λ first later. first ≢ later) (closed_by answer) }
+    ensures child_first { (request : Request) (answer : Answer) (new : CoreView) →
+        IsAccepted core.now request answer new →
+        AllPairs (λ first later. parent_of core.now.world.spans later ≢ Some first) (closed_by answer) }
+{
+    entries_are_the_workers_inside(core);
+    core.calls();
+}
+
+/// Whichever call is accepted next: each span that closes is announced once to every layer that admits the
+/// span and wants closes, and to no other layer. A span that doesn't close is announced to none.
+pub fn closes_are_announced_once<O: Outlet, A>(core: &Core<O, A>)
+    ensures { (request : Request) (answer : Answer) (new : CoreView) (layer id : ℕ) →
+        (accepted : IsAccepted core.now request answer new) →
+        count_by (tells_close layer id) accepted.notes
+        ≡ (if stands_in id (closed_by answer) && hears_close core.now.rules core.now.world.spans layer id
+        then 1 else 0) }
+{
+    core.calls();
+}
+
+/// In the whole history no layer is told twice that a span closed, and none is told so of a span that didn't.
+pub fn no_close_is_told_twice<O: Outlet, A>(core: &Core<O, A>)
+    ensures { (layer id : ℕ) → count_by (tells_close layer id) (notes_in core.now.sent)
+        ≤ (if stands_in id (closed_in core.now.sent) then 1 else 0) }
+{
+    core.calls();
+}
+
+/// The open spans are those whose id was issued and that didn't close. No id was issued twice. So a span that
+/// closed is never open again.
+pub fn open_spans_were_made_and_not_closed<O: Outlet, A>(core: &Core<O, A>)
+    ensures exact { (id : ℕ) → (IsOpen core.now.world.spans id
+        ↔ (IsTrue (stands_in id (issued core.now.sent)) × (IsTrue (stands_in id (closed_in core.now.sent)) → ⊥))) }
+    ensures once { AllPairs (λ first later. first ≢ later) (issued core.now.sent) }
+    ensures closed { (id : ℕ) → IsTrue (stands_in id (closed_in core.now.sent)) →
+        find core.now.world.spans id ≡ None }
+{
+    core.calls();
+}
+
+/// The layers that admit an open span are those whose rule admits its target and its level.
+pub fn layers_admit_spans_by_their_rules<O: Outlet, A>(core: &Core<O, A>)
+    ensures { (id : ℕ) (node : Node) → find core.now.world.spans id ≡ Some node →
+        node.bits ≡ admission_set core.now.rules node.target node.level }
+{
+    core.calls();
+}
+
+/// No two open ids have one slot. Each is in the layout of ids, and its slot is below the number of slots.
+pub fn each_slot_has_one_open_span<O: Outlet, A>(core: &Core<O, A>)
+    ensures one_slot { (id other : ℕ) → IsOpen core.now.world.spans id → IsOpen core.now.world.spans other →
+        slot_of id ≡ slot_of other → id ≡ other }
+    ensures in_layout { (id : ℕ) → IsOpen core.now.world.spans id → IsId id }
+    ensures in_range { (id : ℕ) → IsOpen core.now.world.spans id → slot_of id < core.now.limits.slots }
+{
+    each_slot_has_one_open_id(&core.forest);
+    open_slots_are_in_range(&core.forest);
+}

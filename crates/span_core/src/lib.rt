@@ -1,0 +1,179 @@
+//! The registry without a lock: spans, their holders, the workers' stacks, and the notes for the layers.
+//!
+//! What a core promises over all its calls is said by the functions of [`laws`].
+#![tactic(auto)]
+
+ghost use Rattle.std.specs.Prelude.{◌≡◌, ◌<◌, [], length, IfOk, IfErr, IfSome, IfNone, Some, None};
+ghost use Rattle.span_forest.specs.Node.{node_of};
+ghost use Rattle.span_forest.specs.Spans.{find};
+ghost use Rattle.span_forest.specs.Count.{total_held, reference_count};
+ghost use Rattle.span_core.specs.World.{empty_world, stack_of, IsCounted};
+ghost use Rattle.span_core.specs.History.{IsLegal};
+
+mod calls;
+pub mod laws;
+mod notes;
+mod stacks;
+#[cfg(test)]
+mod tests;
+
+use crate::stacks::empty_stacks;
+use span_forest::laws::open_spans_are_counted;
+use span_forest::{Forest, Span};
+use span_id::{Checked, Fault, Id};
+use span_layers::{Admitters, Filters, Rules};
+use span_outlet::Outlet;
+use span_stack::SpanStack;
+use std::alloc::Global;
+use std::marker::Model;
+
+/// The registry of spans without a lock.
+///
+/// Each call that changes something is exactly one step of a legal history, and sends exactly its batch to the
+/// outlet; or it is refused, for the first reason that applies, and changes nothing. The number of the worker that
+/// calls needs to be below `workers` of the limits.
+#[derive(Drop)]
+pub struct Core<O: Outlet, A = Admitters> {
+    pub(crate) alloc: Global,
+    pub(crate) limits: Checked,
+    pub(crate) forest: Forest,
+    pub(crate) stacks: Vec<SpanStack>,
+    pub(crate) rules: Rules,
+    // How many calls were accepted.
+    pub(crate) calls: u64,
+    pub(crate) outlet: O,
+    // Applies the layers' rules.
+    pub(crate) admitters: A,
+}
+
+impl<O: Outlet, A> Model for Core<O, A> {
+    ghost use Rattle.span_stack.specs.Stack.{ids_of_each};
+    ghost use Rattle.span_core.specs.Core.{CoreView};
+
+    ghost Value = { CoreView };
+
+    ghost use Rattle.span_core.specs.inside.Sound.{IsSound};
+
+    ghost view = { λ s. record {
+      limits = s.limits;
+      rules = s.rules;
+      world = record { spans = s.forest.spans; stacks = ids_of_each s.stacks.items };
+      sent = O.sent s.outlet;
+      times_full = O.times_full s.outlet;
+      forms = O.forms s.outlet;
+    } };
+
+    ghost invariant = { λ s. IsSound s.limits s.forest (ids_of_each s.stacks.items) s.rules s.calls (O.sent s.outlet) };
+}
+
+impl<O: Outlet + Drop, F: Drop> Core<O, Admitters<F>> {
+    /// An empty registry: no span is open, and each of the workers has an empty stack. Nothing was sent to the outlet.
+    ///
+    /// The only error is `Memory`; the filters and the outlet are dropped then.
+    pub fn new(
+        alloc: Global,
+        checked: &Checked,
+        filters: Filters<F>,
+        outlet: O,
+    ) -> Result<Core<O, Admitters<F>>, Fault>
+        requires { O.sent outlet ≡ [] }
+        ensures empty { IfOk result (λ core. core ≡ record {
+          limits = checked.now;
+          rules = filters.rules;
+          world = empty_world checked.now.workers;
+          sent = [];
+          times_full = O.times_full outlet;
+          forms = O.forms outlet;
+        }) }
+        ensures memory { IfErr result (λ fault. fault ≡ Fault.Memory) }
+    {
+        let Filters { rules, admitters } = filters;
+        let stacks = empty_stacks(alloc, checked.limits().workers)?;
+        let forest = Forest::new(alloc, checked)?;
+        Ok(Core {
+            alloc,
+            limits: *checked,
+            forest,
+            stacks,
+            rules,
+            calls: 0,
+            outlet,
+            admitters,
+        })
+    }
+}
+
+impl<O: Outlet, A> Core<O, A> {
+    /// The span of an id, if it is open; ids that are closed or were never given find nothing. Its count is its
+    /// handles, the workers that are inside it and its open children; it is positive, and its parent is open.
+    pub fn find(&self, id: Id) -> Option<&Span>
+        ensures absent { IfNone result (find self.now.world.spans id ≡ None) }
+        ensures found { IfSome result (λ span. find self.now.world.spans id ≡ Some (node_of span.now)) }
+        ensures counted { IfSome result (λ span. IsCounted self.now.world id span.now) }
+        ensures written { IfSome result (λ span. span.now.count ≡ reference_count self.now.world.spans id) }
+    {
+        open_spans_are_counted(&self.forest);
+        self.forest.find(id)
+    }
+
+    /// The stack of a worker, whose number is below `workers`.
+    pub fn stack(&self, worker: u32) -> &SpanStack
+        requires { worker < self.now.limits.workers }
+        ensures { result.now.ids ≡ stack_of self.now.world worker }
+    {
+        &self.stacks[worker as usize]
+    }
+
+    /// How many spans are open.
+    pub fn len(&self) -> u32
+        ensures { result ≡ length self.now.world.spans }
+    {
+        self.forest.len()
+    }
+
+    /// How many handles and entries all spans have.
+    pub fn total(&self) -> u64
+        ensures { result ≡ total_held self.now.world.spans }
+    {
+        self.forest.total()
+    }
+
+    /// How many calls were accepted: the batches sent. They are a legal history, which leaves this world.
+    pub fn calls(&self) -> u64
+        ensures calls { result ≡ length self.now.sent }
+        ensures legal { IsLegal self.now.rules self.now.limits.workers self.now.sent self.now.world }
+    {
+        self.calls
+    }
+
+    /// The outlet.
+    pub fn outlet(&self) -> &O
+        ensures sent { O.sent result.now ≡ self.now.sent }
+        ensures times_full { O.times_full result.now ≡ self.now.times_full }
+        ensures forms { O.forms result.now ≡ self.now.forms }
+    {
+        &self.outlet
+    }
+}
+
+impl<O: Outlet, A: Drop> Core<O, A> {
+    /// The outlet alone. What was sent to it is a legal history, which left the world that is given up.
+    pub fn into_outlet(self) -> O
+        ensures sent { O.sent result ≡ self.sent }
+        ensures times_full { O.times_full result ≡ self.times_full }
+        ensures forms { O.forms result ≡ self.forms }
+        ensures legal { IsLegal self.rules self.limits.workers self.sent self.world }
+    {
+        let Core {
+            alloc: _,
+            limits: _,
+            forest: _,
+            stacks: _,
+            rules: _,
+            calls: _,
+            outlet,
+            admitters: _,
+        } = self;
+        outlet
+    }
+}

@@ -1,0 +1,42 @@
+-- What is always true of a forest and of the counts that its spans keep.
+use Rattle.std.specs.Prelude.{ℕ, ◌+◌, ◌-◌, ◌<◌, ◌≤◌, ◌≡◌, List, length, Some}
+use Rattle.span_slots.specs.Table.{value_at}
+use Rattle.span_forest.specs.declared.span.Span.{Span}
+use Rattle.span_forest.specs.declared.span.Holder.{Holder}
+use Rattle.span_forest.specs.declared.span.Holder.TheVariants.{Handle, Entry}
+use Rattle.span_forest.specs.Spans.{IsOpen, nodes_of}
+use Rattle.span_forest.specs.Count.{reference_count, total_held}
+use Rattle.span_forest.specs.Forest.{IsForest}
+
+-- the `count` of each span is its written count
+abbrev pub AreCounted : List (ℕ × Span) → Type 0
+AreCounted entries = (id : ℕ) (span : Span) → value_at entries id ≡ Some span → span.count ≡ reference_count (nodes_of entries) id
+
+-- a forest in which each count is written and something holds each span
+pub record IsSettled (entries : List (ℕ × Span)) : Type 0 where
+  pub forest : IsForest (nodes_of entries)
+  pub counted : AreCounted entries
+  pub positive : (id : ℕ) → IsOpen (nodes_of entries) id → 0 < reference_count (nodes_of entries) id
+
+-- what is true of every forest: it is settled, no count is above the greatest one, and the number of all
+-- holders is written beside it
+pub record IsConsistent (entries : List (ℕ × Span)) (max_count total : ℕ) : Type 0 where
+  pub settled : IsSettled entries
+  pub bounded : (id : ℕ) → reference_count (nodes_of entries) id ≤ max_count
+  pub total_is : total ≡ total_held (nodes_of entries)
+  pub few : length entries ≤ 4294967295
+  pub max_low : 1 ≤ max_count
+  pub max_high : max_count ≤ 4294967295
+
+-- the span with one holder less, and with one more; its count tells it too
+abbrev pub span_less : Holder → Span → Span
+span_less Handle span = record span { handles = span.handles - 1; count = span.count - 1 }
+span_less Entry span = record span { entries = span.entries - 1; count = span.count - 1 }
+
+abbrev pub span_more : Holder → Span → Span
+span_more Handle span = record span { handles = span.handles + 1; count = span.count + 1 }
+span_more Entry span = record span { entries = span.entries + 1; count = span.count + 1 }
+
+-- the span with one child more
+abbrev pub counts_more : Span → Span
+counts_more span = record span { count = span.count + 1 }

@@ -1,0 +1,56 @@
+-- What the outlet that keeps lines has of a history.
+use Rattle.std.specs.Prelude.{◌≡◌, ℕ, ◌+◌, ◌-◌, ◌^◌, Bool, List, [], ◌∷◌, ◌++◌, map, flat_map, length, min, All, Some}
+use Rattle.std.specs.List.{enumerate_from}
+use Rattle.span_layers.specs.declared.form.Form.{Form}
+use Rattle.span_layers.specs.Note.{PlainNote}
+use Rattle.span_outlet.specs.Batch.{PlainBatch}
+use Rattle.span_outlet.specs.Lines.{PlainLine, line_of}
+
+-- the forms in which it writes, the batches that were sent to it, the lines that it has of their notes, how
+-- many notes were missed, and whether it has a place for one more batch
+pub record KeptView : Type 0 where
+  pub forms : List Form
+  pub sent : List PlainBatch
+  pub lines : List PlainLine
+  pub refused : ℕ
+  pub ready : Bool
+
+-- a note, with the number of its batch and its place in it, both from 0
+pub record NumberedNote : Type 0 where
+  pub batch : ℕ
+  pub place : ℕ
+  pub note : PlainNote
+
+-- the notes of a batch with this number
+abbrev pub numbered_in : ℕ × PlainBatch → List NumberedNote
+numbered_in batch = map (λ note. record { batch = batch.0; place = note.0; note = note.1 }) (enumerate_from 0 batch.1.notes)
+
+-- the notes of a history, in order
+abbrev pub numbered : List PlainBatch → List NumberedNote
+numbered history = flat_map numbered_in (enumerate_from 0 history)
+
+-- Each of these notes was told or missed, in order: of one that was told there is its line, of one that was
+-- missed there is none. A note whose layer has no form has no line, so it is missed.
+pub data AreTold (forms : List Form) : List NumberedNote → List PlainLine → List NumberedNote → Type 0 where
+  none : AreTold forms [] [] []
+  told : (note : NumberedNote) (line : PlainLine) {notes : List NumberedNote} {lines : List PlainLine} {missed : List NumberedNote} → line_of forms note.batch (note.place, note.note) ≡ Some line → AreTold forms notes lines missed → AreTold forms (note ∷ notes) (line ∷ lines) missed
+  missed : (note : NumberedNote) {notes : List NumberedNote} {lines : List PlainLine} {missed : List NumberedNote} → AreTold forms notes lines missed → AreTold forms (note ∷ notes) lines (note ∷ missed)
+
+-- the lines of these notes, but for those that were missed, which are counted; the count stays at the greatest `u64`
+pub record AreKept (forms : List Form) (notes : List NumberedNote) (lines : List PlainLine) (refused : ℕ) : Type 0 where
+  pub missed : List NumberedNote
+  pub each : AreTold forms notes lines missed
+  pub counted : refused ≡ min (2 ^ 64 - 1) (length missed)
+
+-- More notes: after the lines so far stand those of these notes, but for the ones that were missed, which are
+-- counted; the count stays at the greatest `u64`.
+pub record GainsLines (forms : List Form) (notes : List NumberedNote) (lines : List PlainLine) (refused : ℕ) (new_lines : List PlainLine) (new_refused : ℕ) : Type 0 where
+  pub added : List PlainLine
+  pub missed : List NumberedNote
+  pub each : AreTold forms notes added missed
+  pub lines_are : new_lines ≡ lines ++ added
+  pub counted : new_refused ≡ min (2 ^ 64 - 1) (refused + length missed)
+
+-- no line has the batch and the place of the note
+abbrev pub HasNoLine : List PlainLine → NumberedNote → Type 0
+HasNoLine lines note = All (λ line. (line.batch ≡ note.batch) × (line.place ≡ note.place) → ⊥) lines

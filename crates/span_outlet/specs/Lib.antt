@@ -1,0 +1,5 @@
+pub mod Request
+pub mod Batch
+pub mod Outlet
+pub mod Lines
+pub mod Kept

@@ -1,0 +1,71 @@
+-- What a caller asks for, and what an accepted call answers, with texts as bytes.
+use Rattle.std.specs.Prelude.{ℕ, Bool, List, map, Option, string_bytes}
+use Rattle.span_id.specs.declared.level.Level.{Level}
+use Rattle.span_id.specs.declared.meta.Meta.{Meta}
+use Rattle.span_id.specs.declared.meta.Field.{Field}
+use Rattle.span_layers.specs.Note.{KeyValue, key_value}
+use Rattle.span_outlet.specs.declared.batch.Call.{Call}
+use Rattle.span_outlet.specs.declared.batch.Call.TheVariants.{NewSpan, CloneSpan, Enter, Exit, TryClose, RecordFields, Event}
+use Rattle.span_outlet.specs.declared.batch.Reply.{Reply}
+use Rattle.span_outlet.specs.declared.batch.Reply.TheVariants.{Made, Cloned, Entered, Exited, Released, Recorded, Told}
+
+-- the name, the target and the level of a span or an event
+pub record PlainMeta : Type 0 where
+  pub name : List ℕ
+  pub target : List ℕ
+  pub level : Level
+
+abbrev pub plain_meta : Meta → PlainMeta
+plain_meta meta = record { name = string_bytes meta.name; target = string_bytes meta.target; level = meta.level }
+
+abbrev pub plain_fields : List Field → List KeyValue
+plain_fields fields = map key_value fields
+
+-- a call with its arguments; the first is the worker that calls, and a parent is the one that was found
+pub data Request : Type 0 where
+  new_span : ℕ → PlainMeta → List KeyValue → Option ℕ → Request
+  clone_span : ℕ → ℕ → Request
+  enter : ℕ → ℕ → Request
+  exit : ℕ → ℕ → Request
+  try_close : ℕ → ℕ → Request
+  record_fields : ℕ → ℕ → List KeyValue → Request
+  event : ℕ → PlainMeta → List ℕ → List KeyValue → Request
+
+-- the new id; whether the entry is no duplicate; the spans that closed, child first
+pub data Answer : Type 0 where
+  made : ℕ → Answer
+  cloned : Answer
+  entered : Bool → Answer
+  exited : List ℕ → Answer
+  released : List ℕ → Answer
+  recorded : Answer
+  told : Answer
+
+-- what the code's call and reply stand for
+abbrev pub request_of : Call → Request
+request_of (NewSpan worker meta fields parent) = new_span worker (plain_meta meta) (plain_fields fields.items) parent
+request_of (CloneSpan worker id) = clone_span worker id
+request_of (Enter worker id) = enter worker id
+request_of (Exit worker id) = exit worker id
+request_of (TryClose worker id) = try_close worker id
+request_of (RecordFields worker id fields) = record_fields worker id (plain_fields fields.items)
+request_of (Event worker meta message fields) = event worker (plain_meta meta) (string_bytes message) (plain_fields fields.items)
+
+abbrev pub answer_of : Reply → Answer
+answer_of (Made id) = made id
+answer_of Cloned = cloned
+answer_of (Entered first) = entered first
+answer_of (Exited closed) = exited closed.items
+answer_of (Released closed) = released closed.items
+answer_of Recorded = recorded
+answer_of Told = told
+
+-- the worker that calls
+abbrev pub worker_of : Request → ℕ
+worker_of (new_span worker meta fields parent) = worker
+worker_of (clone_span worker id) = worker
+worker_of (enter worker id) = worker
+worker_of (exit worker id) = worker
+worker_of (try_close worker id) = worker
+worker_of (record_fields worker id fields) = worker
+worker_of (event worker meta message fields) = worker

@@ -1,0 +1,218 @@
+//! The outlet that keeps the batches and writes their notes at once.
+ghost use Rattle.std.specs.Prelude.{◌≡◌, ◌+◌, ◌-◌, ◌^◌, ◌<◌, ◌≤◌, ◌++◌, ◌∷◌, [], List, true, false, Some, IfSome, IfOk, OnErr, map, length, min, All};
+ghost use Rattle.span_layers.specs.Note.{plain_note};
+ghost use Rattle.span_outlet.specs.Batch.{plain_batch};
+ghost use Rattle.span_outlet.specs.Lines.{lines_of, line_of, plain_line};
+ghost use Rattle.span_outlet.specs.Kept.{AreKept, AreTold, GainsLines, HasNoLine, NumberedNote, numbered, numbered_in};
+
+use crate::batch::Batch;
+use crate::line::Line;
+use crate::outlet::Outlet;
+use span_layers::{Formatters, Forms, Note, Say, Tellers};
+use std::alloc::{AllocError, Global};
+use std::marker::Model;
+
+/// The lines so far, and how many notes were missed.
+#[derive(Drop)]
+struct Told {
+    forms: Forms,
+    lines: Vec<Line>,
+    // Stays at its greatest value.
+    refused: u64,
+    // The range of a `u64`, known where it isn't read.
+    ghost in_range: { refused ≤ 2 ^ 64 - 1 },
+}
+
+// The line of a note, if its layer has a form, its place fits and there is memory for its text.
+fn line_of_note<V: Say>(
+    forms: &Forms,
+    formatters: &V,
+    batch: u64,
+    place: usize,
+    note: &Note,
+) -> Option<Line>
+    ensures { IfSome result (λ line. line_of forms.now batch (place, plain_note note.now) ≡ Some (plain_line line)) }
+{
+    let form = forms.get(note.layer)?;
+    let place = u32::try_from(place).ok()?;
+    let mut text = formatters.say(form, note).ok()?;
+    text.shrink_to_fit();
+    Some(Line {
+        batch,
+        place,
+        layer: note.layer,
+        text,
+    })
+}
+
+// The batch with no room for further notes, since it is kept as long as the outlet is.
+fn trimmed(batch: Batch) -> Batch
+    ensures { plain_batch result ≡ plain_batch batch }
+{
+    let mut kept = batch;
+    kept.notes.shrink_to_fit();
+    kept
+}
+
+impl Told {
+    // Counts a note that is missed.
+    fn miss(&mut self)
+        ensures forms { self.new.forms ≡ self.old.forms }
+        ensures lines { self.new.lines ≡ self.old.lines }
+        ensures refused { self.new.refused ≡ min (2 ^ 64 - 1) (self.old.refused + 1) }
+    {
+        self.refused = self.refused.saturating_add(1);
+    }
+
+    // Tells a note: its line is appended, or it is missed and counted.
+    fn tell<V: Say>(&mut self, formatters: &V, batch: u64, place: usize, note: &Note)
+        ensures forms { self.new.forms ≡ self.old.forms }
+        ensures told { GainsLines self.old.forms ((record { batch = batch; place = place; note = plain_note note.now }) ∷ [])
+            (map plain_line self.old.lines.items) self.old.refused (map plain_line self.new.lines.items) self.new.refused }
+    {
+        let Some(line) = line_of_note(&self.forms, formatters, batch, place, note) else {
+            self.miss();
+            return;
+        };
+        if self.lines.push(line).is_err() {
+            self.miss();
+        }
+    }
+
+    // Tells the notes of the batch of this number, in order.
+    fn tell_all<V: Say>(&mut self, formatters: &V, number: u64, batch: &Batch)
+        ensures forms { self.new.forms ≡ self.old.forms }
+        ensures told { GainsLines self.old.forms (numbered_in (number, plain_batch batch.now))
+            (map plain_line self.old.lines.items) self.old.refused (map plain_line self.new.lines.items) self.new.refused }
+    {
+        for (place, note) in batch.notes.iter().enumerate() {
+            self.tell(formatters, number, place, note);
+        }
+    }
+}
+
+/// An outlet that keeps the batches, and at once the lines of their notes.
+///
+/// It always has room for one more batch or lacks memory. A note is missed where its layer has no form, where its text
+/// or the place of its line was refused memory, or where more than 2^32 - 1 notes stand before it in its batch. No line
+/// has the place of a missed note, and `refused` counts them. `V` makes the texts.
+#[derive(Drop)]
+pub struct Kept<V = Formatters> {
+    batches: Vec<Batch>,
+    told: Told,
+    ready: bool,
+    formatters: V,
+}
+
+impl<V> Model for Kept<V> {
+    ghost use Rattle.std.specs.Prelude.{◌≡◌, ◌<◌, true, map, vec_len, vec_capacity};
+    ghost use Rattle.span_outlet.specs.Batch.{plain_batch};
+    ghost use Rattle.span_outlet.specs.Lines.{plain_line};
+    ghost use Rattle.span_outlet.specs.Kept.{KeptView, AreKept, numbered};
+
+    ghost Value = { KeptView };
+
+    ghost view = { λ k. record {
+      forms = k.told.forms;
+      sent = map plain_batch k.batches.items;
+      lines = map plain_line k.told.lines.items;
+      refused = k.told.refused;
+      ready = k.ready;
+    } };
+
+    ghost invariant = { λ k.
+        AreKept k.told.forms (numbered (map plain_batch k.batches.items)) (map plain_line k.told.lines.items) k.told.refused
+        × (k.ready ≡ true → vec_len k.batches < vec_capacity k.batches) };
+}
+
+impl<F: Drop> Kept<Formatters<F>> {
+    /// An outlet to which nothing was sent, and which writes as the tellers do. It takes no memory.
+    pub fn new(alloc: Global, tellers: Tellers<F>) -> Kept<Formatters<F>>
+        ensures { result ≡ record { forms = tellers.forms; sent = []; lines = []; refused = 0; ready = false } }
+    {
+        let Tellers { forms, formatters } = tellers;
+        Kept {
+            batches: Vec::new(alloc),
+            told: Told {
+                forms,
+                lines: Vec::new(alloc),
+                refused: 0,
+            },
+            ready: false,
+            formatters,
+        }
+    }
+}
+
+impl<V> Kept<V> {
+    /// The batches sent so far.
+    pub fn batches(&self) -> &[Batch]
+        ensures { map plain_batch result.now ≡ self.now.sent }
+    {
+        self.batches.as_slice()
+    }
+
+    /// The lines of the notes sent so far, in order, but for the notes that were missed. No line has the batch and the
+    /// place of a note that was missed; where none was missed, these are the lines of the history.
+    pub fn all(&self) -> &[Line]
+        ensures lines { map plain_line result.now ≡ self.now.lines }
+        ensures kept { AreKept self.now.forms (numbered self.now.sent) (map plain_line result.now) self.now.refused }
+        ensures apart { (missed : List NumberedNote) → AreTold self.now.forms (numbered self.now.sent) (map plain_line result.now) missed
+            → All (HasNoLine (map plain_line result.now)) missed }
+        ensures whole { self.now.refused ≡ 0 → map plain_line result.now ≡ lines_of self.now.forms self.now.sent }
+    {
+        self.told.lines.as_slice()
+    }
+
+    /// How many notes were missed. It stays at its greatest value.
+    pub fn refused(&self) -> u64
+        ensures { result ≡ self.now.refused }
+    {
+        self.told.refused
+    }
+}
+
+impl<V: Say> Outlet for Kept<V> {
+    ghost sent = { λ k. k.sent };
+
+    ghost ready = { λ k. k.ready };
+
+    ghost times_full = { λ k. 0 };
+
+    ghost forms = { λ k. k.forms };
+
+    /// There is always a place for one more batch, unless memory is refused. No line comes or goes.
+    fn room(&mut self) -> Result<bool, AllocError>
+        ensures same { self.new ≡ record self.old { ready = self.new.ready } }
+        ensures ready { IfOk result (λ yes. (yes ≡ true) × (self.new.ready ≡ true)) }
+        ensures not_ready { OnErr result (self.new.ready ≡ false) }
+    {
+        self.ready = false;
+        self.batches.try_reserve(1)?;
+        self.ready = true;
+        Ok(true)
+    }
+
+    /// The lines gain those of the notes of the batch, at the end and in order, but for the notes that are missed, which
+    /// are counted.
+    fn put(&mut self, batch: Batch)
+        requires ready { self.old.ready ≡ true }
+        requires countable { length self.old.sent < 2 ^ 64 - 1 }
+        ensures sent { self.new.sent ≡ self.old.sent ++ plain_batch batch ∷ [] }
+        ensures forms { self.new.forms ≡ self.old.forms }
+        ensures ready { self.new.ready ≡ false }
+        ensures told { GainsLines self.old.forms (numbered_in (length self.old.sent, plain_batch batch))
+            self.old.lines self.old.refused self.new.lines self.new.refused }
+    {
+        let Kept {
+            batches,
+            told,
+            ready,
+            formatters,
+        } = self;
+        let kept = trimmed(batch);
+        told.tell_all(&*formatters, batches.len() as u64, &kept);
+        *ready = false;
+        batches.push_reserved(kept);
+    }
+}

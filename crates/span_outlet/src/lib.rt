@@ -1,0 +1,12 @@
+//! What leaves the registry: the batches of accepted calls, where they go, and the lines that layers write of their notes.
+#![tactic(auto)]
+
+mod batch;
+mod kept;
+mod line;
+mod outlet;
+
+pub use batch::{Batch, Call, ParentOf, Reply};
+pub use kept::Kept;
+pub use line::Line;
+pub use outlet::Outlet;

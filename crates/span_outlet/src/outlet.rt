@@ -1,0 +1,41 @@
+ghost use Rattle.std.specs.Prelude.{◌≡◌, ◌++◌, ◌∷◌, [], ◌<◌, ◌-◌, ◌^◌, ℕ, List, Bool, true, false, IfOk, OnErr, length, if◌then◌else◌};
+ghost use Rattle.span_layers.specs.declared.form.Form.{Form};
+ghost use Rattle.span_outlet.specs.Batch.{PlainBatch, plain_batch};
+ghost use Rattle.span_outlet.specs.Outlet.{one_more};
+
+use crate::batch::Batch;
+use std::alloc::AllocError;
+
+/// Where the batches of accepted calls go.
+pub trait Outlet {
+    /// The batches sent so far.
+    ghost sent: { Self → List PlainBatch };
+
+    /// Whether the last `room` answered true, and no `put` came since.
+    ghost ready: { Self → Bool };
+
+    /// How often `room` answered false. An outlet stores it as a `u64`, which stays at its greatest value.
+    ghost times_full: { Self → ℕ };
+
+    /// The forms in which the outlet writes the layers' notes, in the order of the layers. No call changes them; an outlet
+    /// that writes no text has none.
+    ghost forms: { Self → List Form };
+
+    /// Whether there is a place for one more batch. The error is want of memory.
+    fn room(&mut self) -> Result<bool, AllocError>
+        ensures sent { sent self.new ≡ sent self.old }
+        ensures forms { forms self.new ≡ forms self.old }
+        ensures ready { IfOk result (λ yes. ready self.new ≡ yes) }
+        ensures counted { IfOk result (λ yes. times_full self.new ≡ (if yes then times_full self.old else one_more (times_full self.old))) }
+        ensures not_ready { OnErr result (ready self.new ≡ false) }
+        ensures err { OnErr result (times_full self.new ≡ times_full self.old) };
+
+    /// Sends a batch. It cannot fail: the place for it was made by `room`.
+    fn put(&mut self, batch: Batch)
+        requires ready { ready self.old ≡ true }
+        requires countable { length (sent self.old) < 2 ^ 64 - 1 }
+        ensures sent { sent self.new ≡ sent self.old ++ plain_batch batch ∷ [] }
+        ensures forms { forms self.new ≡ forms self.old }
+        ensures ready { ready self.new ≡ false }
+        ensures times_full { times_full self.new ≡ times_full self.old };
+}

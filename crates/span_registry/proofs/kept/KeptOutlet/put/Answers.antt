@@ -1,9 +1,0 @@
-use Rattle.std.proofs.Common.{rules, ◌≡◌, ◌++◌, ◌∷◌, [], length}
-use Rattle.span_registry.proofs.Keeping.{kept_more, batch_kept}
-use Rattle.span_registry.proofs.kept.KeptOutlet.put.Goals as goal
-
-pub invariant_of-self : goal.invariant_of-self
-invariant_of-self g c =
-    let number_is : c.len.result ≡ length c.self.inside.batches.items = search rules in
-    let sent : c.push_reserved.new.self.items ≡ c.self.inside.batches.items ++ c.trimmed-kept.result ∷ [] = search rules in
-    (batch_kept _ _ _ _ c.trimmed-kept.result _ _ _ c.tell_all.ensures.forms number_is sent (kept_more _ _ _ _ _ _ _ c.self.invariant.0 c.tell_all.ensures.told), search rules)

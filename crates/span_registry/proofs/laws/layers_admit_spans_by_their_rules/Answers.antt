@@ -1,5 +1,0 @@
-use Rattle.span_registry.proofs.Legal.{whole}
-use Rattle.span_registry.proofs.laws.layers_admit_spans_by_their_rules.Goals as goal
-
-pub returns : goal.returns
-returns g c = (whole _ _ _ _ c.calls.ensures.legal).settled.bits

@@ -1,9 +1,0 @@
-use Rattle.std.proofs.Common.{arith}
-use Rattle.span_registry.proofs.LegalWorlds.{stacks_are}
-use Rattle.span_registry.proofs.Outcomes.{outcome_allowed}
-use Rattle.span_registry.proofs.outcome.outcome_is_allowed.Goals as goal
-
-pub returns-clause-allowed : goal.returns-clause-allowed
-returns-clause-allowed g c request within =
-    let stacks = stacks_are _ _ _ _ c.calls.ensures.legal in
-    outcome_allowed c.args.core.now.state request (omega (arith, within, stacks)) c.next_id_is_new_here.ensures

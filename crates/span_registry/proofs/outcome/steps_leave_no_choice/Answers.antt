@@ -1,5 +1,0 @@
-use Rattle.span_registry.proofs.Outcomes.{one_step}
-use Rattle.span_registry.proofs.outcome.steps_leave_no_choice.Goals as goal
-
-pub returns : goal.returns
-returns c = one_step

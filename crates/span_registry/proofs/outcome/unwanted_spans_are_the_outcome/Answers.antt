@@ -1,5 +1,0 @@
-use Rattle.span_registry.proofs.Outcomes.{not_wanted_outcome}
-use Rattle.span_registry.proofs.outcome.unwanted_spans_are_the_outcome.Goals as goal
-
-pub returns-clause-outcome : goal.returns-clause-outcome
-returns-clause-outcome g c request new call = (not_wanted_outcome c.args.core.now.state request new call).0

@@ -1,8 +1,0 @@
-use Rattle.std.proofs.Common.{◌∙◌, ap, replicate, []}
-use Rattle.span_id.specs.declared.limits.Limits.{Limits}
-use Rattle.span_registry.proofs.Soundness.{sound_start}
-use Rattle.span_registry.proofs.state.State.new.Goals as goal
-
-pub invariant_of-result : goal.invariant_of-result
-invariant_of-result g c =
-    sound_start c.args.checked.now c.args.rules _ _ _ c.requires c.in_ok-forest.ensures.empty (c.in_ok-stacks.ensures.stacks ∙ ap (λ (l : Limits). replicate l.workers []) c.limits.ensures.value)

@@ -1,0 +1,4 @@
+pub mod Json
+pub mod ValueLists
+pub mod Cuts
+mod Examples

@@ -1,0 +1,5 @@
+pub mod Script
+pub mod Key
+pub mod Reason
+pub mod Operation
+pub mod Views

@@ -1,0 +1,60 @@
+//! The fields that a line gives.
+ghost use Rattle.std.specs.Prelude.{◌≡◌, codes, [], IfOk, Result, map, MatchResult};
+ghost use Rattle.std.specs.Option.{option_map};
+ghost use Rattle.serde_json.specs.View.{view, items_of, items_view};
+ghost use Rattle.span_script.specs.Reason.{AnswersOrStops, or_fault};
+ghost use Rattle.span_script.specs.Operation.{optional, fields_in, field_in, all_of};
+ghost use Rattle.span_script.specs.Views.{field_seen};
+
+use crate::key::Key;
+use crate::pairs::pair;
+use crate::reason::Reason;
+use crate::stop::Stop;
+use serde_json::Value;
+use span_id::Field;
+use std::alloc::{AllocError, Global};
+
+/// The fields that a line gives, none where it has no such key.
+pub fn fields(alloc: Global, line: &Value) -> Result<Vec<Field>, Stop>
+    ensures { AnswersOrStops (λ fields. map field_seen fields.items) result (optional Key.Fields fields_in [] (view line.now)) }
+{
+    let Some(value) = line.get(Key::Fields.text()) else {
+        return Ok(Vec::new(alloc));
+    };
+    let Some(list) = value.as_array() else {
+        return Err(Stop::Refused(Reason::BadKey(Key::Fields)));
+    };
+    all_fields(alloc, list)
+}
+
+/// The fields that the values of a list are.
+fn all_fields(alloc: Global, list: &[Value]) -> Result<Vec<Field>, Stop>
+    ensures { AnswersOrStops (λ fields. map field_seen fields.items) result (or_fault (all_of field_in (items_view list.now)) (Reason.BadKey Key.Fields)) }
+{
+    let mut fields = Vec::new(alloc);
+    for value in list {
+        let Some((key, value)) = pair_of_texts(value) else {
+            return Err(Stop::Refused(Reason::BadKey(Key::Fields)));
+        };
+        fields.push(field(alloc, key, value)?)?;
+    }
+    Ok(fields)
+}
+
+/// A list of two texts.
+fn pair_of_texts(value: &Value) -> Option<(&str, &str)>
+    ensures { option_map (λ pair. (pair.0.now, pair.1.now)) result ≡ field_in (view value.now) }
+{
+    let (key, value) = pair(value)?;
+    Some((key.as_str()?, value.as_str()?))
+}
+
+/// A field of these texts.
+fn field(alloc: Global, key: &str, value: &str) -> Result<Field, AllocError>
+    ensures { IfOk result (λ field. field_seen field ≡ (key.now, value.now)) }
+{
+    Ok(Field {
+        key: String::from_str(alloc, key)?,
+        value: String::from_str(alloc, value)?,
+    })
+}

@@ -1,0 +1,30 @@
+//! The lines of a script.
+ghost use Rattle.std.specs.Prelude.{◌≡◌, ◌==◌, ◌∷◌, ◌<◌, length, position};
+ghost use Rattle.span_script.specs.Script.{lines_of, is_skipped};
+
+/// The first line without its newline, and what follows.
+pub fn cut_line(script: &[u8]) -> (&[u8], &[u8])
+    requires { 0 < length script.now }
+    ensures line { lines_of script.now ≡ result.0.now ∷ lines_of result.1.now }
+    ensures shorter { length result.1.now < length script.now }
+{
+    match newline(script) {
+        Some(end) => (&script[..end], &script[end + 1..]),
+        None => (script, &script[script.len()..]),
+    }
+}
+
+/// Where the first newline stands.
+fn newline(script: &[u8]) -> Option<usize>
+    ensures { result ≡ position (λ byte. byte == 10) script.now }
+{
+    script.iter().position(|byte| *byte == b'\n')
+}
+
+/// Whether the line has blanks, tabs and carriage returns alone.
+pub fn is_skipped(line: &[u8]) -> bool
+    ensures { result ≡ is_skipped line.now }
+{
+    line.iter()
+        .all(|byte| *byte == b' ' || *byte == b'\t' || *byte == b'\r')
+}

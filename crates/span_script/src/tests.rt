@@ -1,0 +1,2 @@
+//! What no clause says: how lines are read, and the texts of their faults.
+mod reading;

@@ -1,0 +1,6 @@
+-- What only the proofs of this crate need: no public clause cites it.
+pub mod Turns
+pub mod Running
+pub mod Calls
+pub mod Setup
+pub mod Ended

@@ -1,0 +1,3 @@
+//! What a script is read from, and what its answers are written to.
+pub mod counted;
+pub mod transfer;

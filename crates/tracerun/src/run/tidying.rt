@@ -1,0 +1,226 @@
+//! The tidying at the end of a script, and the last line.
+ghost use Rattle.std.specs.Prelude.{◌≡◌, ◌^◌, ◌<◌, ℕ, map, IfOk, IfErr, OnOk};
+ghost use Rattle.std.specs.List.{range_with_len};
+ghost use Rattle.std.specs.Io.KnownBytes.{Appends};
+ghost use Rattle.span_outlet.specs.Request.{exit, try_close};
+ghost use Rattle.tracerun.specs.Answer.{left_text};
+ghost use Rattle.tracerun.specs.Counted.{inner_of, failed_of};
+ghost use Rattle.tracerun.specs.Meaning.{last_part};
+ghost use Rattle.span_script.specs.Operation.{Stage};
+ghost use Rattle.tracerun.specs.Replayed.{Runs};
+ghost use Rattle.tracerun.specs.RunFault.{EndsAsCounted};
+ghost use Rattle.tracerun.specs.inside.Running.{IsWritten, core_in, labels_in, state_at};
+ghost use Rattle.tracerun.specs.inside.Turns.{TextFails, AreMade};
+ghost use Rattle.tracerun.specs.Written.{call_written, calls_written, closes, each_written, exits};
+ghost use Rattle.tracerun.specs.declared.run.fault.RunFault.TheVariants.{Memory};
+
+use crate::devices::counted::Counted;
+use crate::devices::transfer::write_text;
+use crate::run::answer::write_left;
+use crate::run::fault::RunFault;
+use crate::run::labels::Labels;
+use crate::run::script::Script;
+use span_id::Id;
+use span_layers::Say;
+use std::alloc::Global;
+use std::io::Write;
+use std::mem;
+
+/// Leaves what is entered, worker by worker, closes what the labels name, label by label, and writes how many spans
+/// are left open, which is the answer.
+pub fn tidy<V: Say, W: Write>(
+    alloc: Global,
+    mut script: Script<V>,
+    text: &mut Vec<u8>,
+    output: &mut Counted<W>,
+) -> Result<u64, RunFault>
+    requires failed { failed_of output.old < 2 ^ 63 }
+    requires written { IsWritten script }
+    ensures runs { (stage : Stage) → Runs (last_part (state_at script stage)) (W.contents (inner_of output.old)) (W.contents (inner_of output.new)) result }
+    ensures counts { EndsAsCounted 0 0 (failed_of output.old) (failed_of output.new) result }
+{
+    if let Err(fault) = leave_all(alloc, &mut script, text, output) {
+        return Err(fault);
+    }
+    let labels = mem::replace(&mut script.labels, Labels::new(alloc));
+    if let Err(fault) = close_all(&mut script, &labels, text, output) {
+        return Err(fault);
+    }
+    finish(script.open_spans(), text, output)
+}
+
+/// Leaves what the workers have entered, worker by worker.
+fn leave_all<V: Say, W: Write>(
+    alloc: Global,
+    script: &mut Script<V>,
+    text: &mut Vec<u8>,
+    output: &mut Counted<W>,
+) -> Result<(), RunFault>
+    requires failed { failed_of output.old < 2 ^ 63 }
+    requires written { IsWritten script.old }
+    ensures made { OnOk result (AreMade (each_written exits (core_in script.old) (range_with_len 0 script.old.workers)) (core_in script.new)
+        (W.contents (inner_of output.old)) (W.contents (inner_of output.new))) }
+    ensures written { OnOk result (IsWritten script.new) }
+    ensures labels { labels_in script.new ≡ labels_in script.old }
+    ensures workers { script.new.workers ≡ script.old.workers }
+    ensures err { IfErr result (TextFails (each_written exits (core_in script.old) (range_with_len 0 script.old.workers)).text
+        (W.contents (inner_of output.old)) (W.contents (inner_of output.new))) }
+    ensures counts { EndsAsCounted 0 0 (failed_of output.old) (failed_of output.new) result }
+{
+    for worker in 0..script.workers {
+        if let Err(fault) = leave(alloc, worker, script, text, output) {
+            return Err(fault);
+        }
+    }
+    Ok(())
+}
+
+/// Leaves what a worker has entered, the last entry first.
+fn leave<V: Say, W: Write>(
+    alloc: Global,
+    worker: u32,
+    script: &mut Script<V>,
+    text: &mut Vec<u8>,
+    output: &mut Counted<W>,
+) -> Result<(), RunFault>
+    requires worker { worker < script.old.workers }
+    requires failed { failed_of output.old < 2 ^ 63 }
+    requires written { IsWritten script.old }
+    ensures made { OnOk result (AreMade (calls_written (core_in script.old) (exits (core_in script.old) worker)) (core_in script.new)
+        (W.contents (inner_of output.old)) (W.contents (inner_of output.new))) }
+    ensures written { OnOk result (IsWritten script.new) }
+    ensures labels { labels_in script.new ≡ labels_in script.old }
+    ensures workers { script.new.workers ≡ script.old.workers }
+    ensures err { IfErr result (TextFails (calls_written (core_in script.old) (exits (core_in script.old) worker)).text
+        (W.contents (inner_of output.old)) (W.contents (inner_of output.new))) }
+    ensures counts { EndsAsCounted 0 0 (failed_of output.old) (failed_of output.new) result }
+{
+    let Ok(ids) = script.entered(alloc, worker) else {
+        return Err(RunFault::Memory);
+    };
+    for id in &ids {
+        if let Err(fault) = leave_one(worker, *id, script, text, output) {
+            return Err(fault);
+        }
+    }
+    Ok(())
+}
+
+/// Leaves one entry, and writes the notes and the answer.
+fn leave_one<V: Say, W: Write>(
+    worker: u32,
+    id: Id,
+    script: &mut Script<V>,
+    text: &mut Vec<u8>,
+    output: &mut Counted<W>,
+) -> Result<(), RunFault>
+    requires worker { worker < script.old.workers }
+    requires failed { failed_of output.old < 2 ^ 63 }
+    requires written { IsWritten script.old }
+    ensures made { OnOk result (AreMade (call_written (core_in script.old) (exit worker id)) (core_in script.new)
+        (W.contents (inner_of output.old)) (W.contents (inner_of output.new))) }
+    ensures written { OnOk result (IsWritten script.new) }
+    ensures labels { labels_in script.new ≡ labels_in script.old }
+    ensures workers { script.new.workers ≡ script.old.workers }
+    ensures err { IfErr result (TextFails (call_written (core_in script.old) (exit worker id)).text
+        (W.contents (inner_of output.old)) (W.contents (inner_of output.new))) }
+    ensures counts { EndsAsCounted 0 0 (failed_of output.old) (failed_of output.new) result }
+{
+    text.clear();
+    match script.leave(worker, id, text) {
+        Ok(()) => write_text(output, text.as_slice()),
+        Err(_) => Err(RunFault::Memory),
+    }
+}
+
+/// Closes what the labels name, label by label.
+fn close_all<V: Say, W: Write>(
+    script: &mut Script<V>,
+    labels: &Labels,
+    text: &mut Vec<u8>,
+    output: &mut Counted<W>,
+) -> Result<(), RunFault>
+    requires worker { 0 < script.old.workers }
+    requires failed { failed_of output.old < 2 ^ 63 }
+    requires written { IsWritten script.old }
+    ensures made { OnOk result (AreMade (each_written closes (core_in script.old) (map (λ entry. entry.1) labels.now)) (core_in script.new)
+        (W.contents (inner_of output.old)) (W.contents (inner_of output.new))) }
+    ensures err { IfErr result (TextFails (each_written closes (core_in script.old) (map (λ entry. entry.1) labels.now)).text
+        (W.contents (inner_of output.old)) (W.contents (inner_of output.new))) }
+    ensures counts { EndsAsCounted 0 0 (failed_of output.old) (failed_of output.new) result }
+{
+    for id in labels.ids() {
+        if let Err(fault) = close(*id, script, text, output) {
+            return Err(fault);
+        }
+    }
+    Ok(())
+}
+
+/// Closes a span as often as it has handles.
+fn close<V: Say, W: Write>(
+    id: Id,
+    script: &mut Script<V>,
+    text: &mut Vec<u8>,
+    output: &mut Counted<W>,
+) -> Result<(), RunFault>
+    requires worker { 0 < script.old.workers }
+    requires failed { failed_of output.old < 2 ^ 63 }
+    requires written { IsWritten script.old }
+    ensures made { OnOk result (AreMade (calls_written (core_in script.old) (closes (core_in script.old) id)) (core_in script.new)
+        (W.contents (inner_of output.old)) (W.contents (inner_of output.new))) }
+    ensures written { OnOk result (IsWritten script.new) }
+    ensures workers { script.new.workers ≡ script.old.workers }
+    ensures err { IfErr result (TextFails (calls_written (core_in script.old) (closes (core_in script.old) id)).text
+        (W.contents (inner_of output.old)) (W.contents (inner_of output.new))) }
+    ensures counts { EndsAsCounted 0 0 (failed_of output.old) (failed_of output.new) result }
+{
+    for _ in 0..script.handles(id) {
+        if let Err(fault) = close_one(id, script, text, output) {
+            return Err(fault);
+        }
+    }
+    Ok(())
+}
+
+/// Closes one handle, and writes the notes and the answer.
+fn close_one<V: Say, W: Write>(
+    id: Id,
+    script: &mut Script<V>,
+    text: &mut Vec<u8>,
+    output: &mut Counted<W>,
+) -> Result<(), RunFault>
+    requires worker { 0 < script.old.workers }
+    requires failed { failed_of output.old < 2 ^ 63 }
+    requires written { IsWritten script.old }
+    ensures made { OnOk result (AreMade (call_written (core_in script.old) (try_close 0 id)) (core_in script.new)
+        (W.contents (inner_of output.old)) (W.contents (inner_of output.new))) }
+    ensures written { OnOk result (IsWritten script.new) }
+    ensures workers { script.new.workers ≡ script.old.workers }
+    ensures err { IfErr result (TextFails (call_written (core_in script.old) (try_close 0 id)).text
+        (W.contents (inner_of output.old)) (W.contents (inner_of output.new))) }
+    ensures counts { EndsAsCounted 0 0 (failed_of output.old) (failed_of output.new) result }
+{
+    text.clear();
+    match script.close(id, text) {
+        Ok(()) => write_text(output, text.as_slice()),
+        Err(_) => Err(RunFault::Memory),
+    }
+}
+
+/// Writes the last line: how many spans are open.
+fn finish<W: Write>(left: u32, text: &mut Vec<u8>, output: &mut Counted<W>) -> Result<u64, RunFault>
+    requires { failed_of output.old < 2 ^ 63 }
+    ensures ok { IfOk result (λ n. (n ≡ left) × Appends (W.contents (inner_of output.old)) (W.contents (inner_of output.new)) (left_text left)) }
+    ensures err { IfErr result (TextFails (left_text left) (W.contents (inner_of output.old)) (W.contents (inner_of output.new))) }
+    ensures counts { EndsAsCounted 0 0 (failed_of output.old) (failed_of output.new) result }
+{
+    text.clear();
+    if write_left(text, left).is_err() {
+        return Err(RunFault::Memory);
+    }
+    match write_text(output, text.as_slice()) {
+        Ok(()) => Ok(u64::from(left)),
+        Err(fault) => Err(fault),
+    }
+}
