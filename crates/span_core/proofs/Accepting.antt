@@ -3,7 +3,8 @@ use Rattle.std.proofs.Common.{◌≡◌, true, false, ℕ, ◌+◌, ◌<◌, Boo
 use Rattle.std.proofs.lemmas.List.{length-set}
 use Rattle.span_id.specs.declared.limits.Limits.{Limits}
 use Rattle.span_layers.specs.declared.note.Kind.TheVariants.{OnExit, OnRecord, OnEnter}
-use Rattle.span_layers.specs.Note.{PlainNote, KeyValue}
+use Rattle.span_id.specs.Meta.{KeyValue, PlainMeta}
+use Rattle.span_layers.specs.Note.{PlainNote}
 use Rattle.span_layers.specs.Filter.{Filter, admission_set}
 use Rattle.span_forest.specs.declared.span.Holder.{Holder}
 use Rattle.span_forest.specs.declared.span.Holder.TheVariants.{Handle, Entry}
@@ -15,7 +16,7 @@ use Rattle.span_forest.specs.Keep.{with_holder}
 use Rattle.span_forest.specs.Release.{closing_list, spans_left, freed_after}
 use Rattle.span_stack.specs.Stack.{has, without_last}
 use Rattle.span_core.specs.World.{World, IsWorld}
-use Rattle.span_outlet.specs.Request.{PlainMeta, Request, event, told, enter, entered, exit, exited, clone_span, cloned, record_fields, recorded, try_close, released}
+use Rattle.span_outlet.specs.Request.{Request, event, told, enter, entered, exit, exited, clone_span, cloned, record_fields, recorded, try_close, released}
 use Rattle.span_outlet.specs.Batch.{PlainBatch}
 use Rattle.span_core.specs.Happening.{notes_of_all, close_of, at_span, event_at}
 use Rattle.span_core.specs.NextId.{SlotsUsed, with_closed, slots_after}

@@ -5,7 +5,7 @@ use Rattle.std.specs.List.{list_all}
 use Rattle.std.proofs.lemmas.Bool.{leb-true, le-leb, true≢false}
 use Rattle.std.proofs.lemmas.Bool.Decides.{Decides-ltb, Decides-and, Decides-by_and}
 use Rattle.span_id.specs.Name.{is_name_byte, IsName}
-use Rattle.span_layers.specs.Note.{KeyValue}
+use Rattle.span_id.specs.Meta.{KeyValue}
 use Rattle.span_forest.specs.declared.span.Holder.TheVariants.{Handle}
 use Rattle.span_forest.specs.Spans.{find}
 use Rattle.span_forest.specs.Holders.{IsHeld, held_in}

@@ -16,7 +16,8 @@ use Rattle.span_forest.specs.Spans.{Spans}
 use Rattle.span_forest.specs.Release.{closing_list}
 use Rattle.span_stack.specs.Stack.{current}
 use Rattle.span_core.specs.World.{World, empty_world, stack_of, workers_inside}
-use Rattle.span_outlet.specs.Request.{PlainMeta, Request, new_span, exit, try_close, Answer, made, exited, released, enter, entered}
+use Rattle.span_id.specs.Meta.{PlainMeta}
+use Rattle.span_outlet.specs.Request.{Request, new_span, exit, try_close, Answer, made, exited, released, enter, entered}
 use Rattle.span_outlet.specs.Batch.{PlainBatch}
 use Rattle.span_core.specs.Happening.{contextual_span, event_told, happenings, notes_of_all}
 use Rattle.span_core.specs.Step.{is_wanted, closed_by_exit}

@@ -11,7 +11,8 @@ use Rattle.span_id.specs.Id.{slot_of, generation_of, IsId}
 use Rattle.span_id.specs.declared.limits.Limits.{Limits}
 use Rattle.span_slots.specs.Table.{issue, IsIssued}
 use Rattle.span_layers.specs.declared.note.Kind.TheVariants.{OnNew}
-use Rattle.span_layers.specs.Note.{PlainNote, KeyValue}
+use Rattle.span_id.specs.Meta.{KeyValue, PlainMeta}
+use Rattle.span_layers.specs.Note.{PlainNote}
 use Rattle.span_layers.specs.Filter.{Filter, layer_wants}
 use Rattle.span_forest.specs.Node.{Node}
 use Rattle.span_forest.specs.Spans.{Spans, find, IsOpen, with_node, parent_in, parent_of}
@@ -25,7 +26,7 @@ use Rattle.span_forest.specs.Path.{path, names_for, name_for}
 use Rattle.span_forest.proofs.Adds.{find-with_same, find-with_other}
 use Rattle.span_forest.proofs.Slotted.{issue_more}
 use Rattle.span_core.specs.World.{IsWorld}
-use Rattle.span_outlet.specs.Request.{PlainMeta, Request, new_span, made}
+use Rattle.span_outlet.specs.Request.{Request, new_span, made}
 use Rattle.span_outlet.specs.Batch.{PlainBatch}
 use Rattle.span_core.specs.Step.{ParentIsOpen, IsStep, is_wanted, made_node}
 use Rattle.span_core.specs.History.{issued}

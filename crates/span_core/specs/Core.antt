@@ -4,7 +4,8 @@ use Rattle.span_id.specs.declared.fault.Fault.{Fault}
 use Rattle.span_id.specs.declared.fault.Fault.TheVariants.{Unknown, CountFull, Full, NotEntered, TooManyLayers, BadName, Backlog, BadLimits, Memory}
 use Rattle.span_id.specs.declared.limits.Limits.{Limits}
 use Rattle.span_id.specs.Name.{IsName}
-use Rattle.span_layers.specs.Note.{KeyValue, PlainNote}
+use Rattle.span_id.specs.Meta.{KeyValue}
+use Rattle.span_layers.specs.Note.{PlainNote}
 use Rattle.span_layers.specs.Filter.{Filter}
 use Rattle.span_layers.specs.declared.form.Form.{Form}
 use Rattle.span_forest.specs.declared.span.Holder.TheVariants.{Handle}

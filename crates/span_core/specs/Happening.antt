@@ -6,13 +6,14 @@ use Rattle.span_id.specs.Bits.{has_bit}
 use Rattle.span_id.specs.declared.level.Level.{Level}
 use Rattle.span_layers.specs.declared.note.Kind.{Kind}
 use Rattle.span_layers.specs.declared.note.Kind.TheVariants.{OnNew, OnRecord, OnEvent, OnEnter, OnExit, OnClose}
-use Rattle.span_layers.specs.Note.{KeyValue, Told, PlainNote}
+use Rattle.span_id.specs.Meta.{KeyValue, PlainMeta}
+use Rattle.span_layers.specs.Note.{Told, PlainNote}
 use Rattle.span_layers.specs.Filter.{Filter, layer_wants, admission_set}
 use Rattle.span_forest.specs.Spans.{Spans, find}
 use Rattle.span_forest.specs.Path.{path}
 use Rattle.span_stack.specs.Stack.{walk}
 use Rattle.span_core.specs.World.{World, stack_of}
-use Rattle.span_outlet.specs.Request.{PlainMeta, Request, new_span, enter, exit, try_close, record_fields, event, Answer, made, exited, released}
+use Rattle.span_outlet.specs.Request.{Request, new_span, enter, exit, try_close, record_fields, event, Answer, made, exited, released}
 
 -- the admission set of an open span, and its fields as they stand
 abbrev pub bits_in : Spans → ℕ → ℕ

@@ -6,7 +6,8 @@ use Rattle.span_id.specs.declared.fault.Fault.{Fault}
 use Rattle.span_id.specs.declared.fault.Fault.TheVariants.{Unknown, CountFull, Full, NotEntered, BadName}
 use Rattle.span_id.specs.Id.{IsId}
 use Rattle.span_id.specs.Name.{is_name_byte}
-use Rattle.span_layers.specs.Note.{KeyValue, PlainNote}
+use Rattle.span_id.specs.Meta.{KeyValue}
+use Rattle.span_layers.specs.Note.{PlainNote}
 use Rattle.span_layers.specs.Filter.{Filter}
 use Rattle.span_forest.specs.declared.span.Holder.TheVariants.{Handle}
 use Rattle.span_forest.specs.Spans.{find}

@@ -1,7 +1,8 @@
 -- One accepted call, as a step from a world to the next.
 use Rattle.std.specs.Prelude.{◌≡◌, ℕ, ◌<◌, ◌==◌, Bool, true, false, ◌||◌, not, cond, List, [], ◌∷◌, ◌++◌, length, Option, MatchOption}
 use Rattle.span_id.specs.Id.{IsId}
-use Rattle.span_layers.specs.Note.{KeyValue, PlainNote}
+use Rattle.span_id.specs.Meta.{KeyValue, PlainMeta}
+use Rattle.span_layers.specs.Note.{PlainNote}
 use Rattle.span_layers.specs.Filter.{Filter, admission_set}
 use Rattle.span_forest.specs.declared.span.Holder.TheVariants.{Handle, Entry}
 use Rattle.span_forest.specs.Node.{Node, with_fields}
@@ -12,7 +13,7 @@ use Rattle.span_forest.specs.Keep.{with_holder}
 use Rattle.span_forest.specs.Release.{spans_left, closing_list}
 use Rattle.span_stack.specs.Stack.{has, without_last}
 use Rattle.span_core.specs.World.{World, stack_of, with_stack}
-use Rattle.span_outlet.specs.Request.{PlainMeta, Request, new_span, clone_span, enter, exit, try_close, record_fields, event, Answer, made, cloned, entered, exited, released, recorded, told, worker_of}
+use Rattle.span_outlet.specs.Request.{Request, new_span, clone_span, enter, exit, try_close, record_fields, event, Answer, made, cloned, entered, exited, released, recorded, told, worker_of}
 use Rattle.span_core.specs.Happening.{happenings, notes_of_all}
 
 -- a span or an event is wanted where there is no layer, or one admits it

@@ -3,16 +3,14 @@ ghost use Rattle.std.specs.Prelude.{◌≡◌, ◌<◌, ◌++◌, ◌∷◌, [],
 ghost use Rattle.span_layers.specs.declared.note.Kind.TheVariants.{OnExit};
 ghost use Rattle.span_layers.specs.Note.{plain_note};
 ghost use Rattle.span_core.specs.inside.ClosingPaths.{IsChain};
-ghost use Rattle.span_outlet.specs.Request.{plain_fields};
+ghost use Rattle.span_id.specs.Meta.{plain_fields};
 ghost use Rattle.span_core.specs.Happening.{at_span, close_of, bits_in, is_told, note_of, notes_of, notes_of_all};
 
 pub(crate) mod closes;
-pub(crate) mod copies;
 
 use closes::push_closes;
-use copies::copy_fields;
 use span_forest::Forest;
-use span_id::{Bits, Fault, Field, Id};
+use span_id::{Bits, Fault, Field, Id, copy_fields};
 use span_layers::{Kind, Note, Rules};
 use std::alloc::Global;
 

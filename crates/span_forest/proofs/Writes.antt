@@ -7,7 +7,8 @@ use Rattle.std.proofs.lemmas.List.{map-append}
 use Rattle.span_id.specs.declared.meta.Field.{Field}
 use Rattle.span_slots.specs.Table.{value_at, with_value}
 use Rattle.span_forest.specs.declared.span.Span.{Span}
-use Rattle.span_forest.specs.Node.{Node, node_of, fields_of, with_fields}
+use Rattle.span_id.specs.Meta.{plain_fields}
+use Rattle.span_forest.specs.Node.{Node, node_of, with_fields}
 use Rattle.span_forest.specs.Spans.{Spans, find, nodes_of, with_change}
 use Rattle.span_forest.specs.Count.{holders, holders_in, reference_count, total_held}
 use Rattle.span_forest.specs.inside.Invariant.{IsSettled, IsConsistent}
@@ -94,18 +95,18 @@ abbrev pub refielded : Span → Vec Field Global → Span
 refielded span fields = record span { fields = fields }
 
 module _ (es : List (ℕ × Span)) (id : ℕ) (span : Span) (new : Vec Field Global) (more : List Field) where
-  appended_node : new.items ≡ span.fields.items ++ more → node_of (refielded span new) ≡ with_fields (fields_of more) (node_of span)
-  appended_node h = ap (λ fields. record (node_of span) { fields = fields }) (ap fields_of h ∙ map-append (λ f. (string_bytes f.key, string_bytes f.value)) span.fields.items more)
+  appended_node : new.items ≡ span.fields.items ++ more → node_of (refielded span new) ≡ with_fields (plain_fields more) (node_of span)
+  appended_node h = ap (λ fields. record (node_of span) { fields = fields }) (ap plain_fields h ∙ map-append (λ f. (string_bytes f.key, string_bytes f.value)) span.fields.items more)
 
   kept_node : new.items ≡ span.fields.items → node_of (refielded span new) ≡ node_of span
-  kept_node h = ap (λ fields. record (node_of span) { fields = fields }) (ap fields_of h)
+  kept_node h = ap (λ fields. record (node_of span) { fields = fields }) (ap plain_fields h)
 
   pub settled_appended : {R E : Type 0} (r : Result R E) → IsSettled es → value_at es id ≡ Some span → new.items ≡ cond (is_ok r) (span.fields.items ++ more) span.fields.items → IsSettled (with_value es id (refielded span new))
-  settled_appended (Ok v) w f h = IsSettled-written (with_fields (fields_of more)) (with_fields-parent (fields_of more)) (with_fields-holders (fields_of more)) es id span (refielded span new) w f (appended_node h) refl
+  settled_appended (Ok v) w f h = IsSettled-written (with_fields (plain_fields more)) (with_fields-parent (plain_fields more)) (with_fields-holders (plain_fields more)) es id span (refielded span new) w f (appended_node h) refl
   settled_appended (Err v) w f h = IsSettled-written (λ n. n) (λ n. refl) (λ n. refl) es id span (refielded span new) w f (kept_node h) refl
 
-  pub written_appended : {R E : Type 0} (r : Result R E) → IsSettled es → value_at es id ≡ Some span → new.items ≡ cond (is_ok r) (span.fields.items ++ more) span.fields.items → OnOk r (nodes_of (with_value es id (refielded span new)) ≡ with_change (with_fields (fields_of more)) (nodes_of es) id)
-  written_appended (Ok v) w f h = nodes-written (with_fields (fields_of more)) es id span (refielded span new) w.forest.ids_apart f (appended_node h)
+  pub written_appended : {R E : Type 0} (r : Result R E) → IsSettled es → value_at es id ≡ Some span → new.items ≡ cond (is_ok r) (span.fields.items ++ more) span.fields.items → OnOk r (nodes_of (with_value es id (refielded span new)) ≡ with_change (with_fields (plain_fields more)) (nodes_of es) id)
+  written_appended (Ok v) w f h = nodes-written (with_fields (plain_fields more)) es id span (refielded span new) w.forest.ids_apart f (appended_node h)
   written_appended (Err v) w f h = tt
 
   pub refused_appended : {R E : Type 0} (r : Result R E) → IsSettled es → value_at es id ≡ Some span → new.items ≡ cond (is_ok r) (span.fields.items ++ more) span.fields.items → OnErr r (nodes_of (with_value es id (refielded span new)) ≡ nodes_of es)

@@ -1,8 +1,9 @@
 -- A span as contracts see it.
-use Rattle.std.specs.Prelude.{ℕ, List, ◌++◌, map, string_bytes, Option}
+use Rattle.std.specs.Prelude.{ℕ, List, ◌++◌, string_bytes, Option}
 use Rattle.span_id.specs.declared.level.Level.{Level}
 use Rattle.span_id.specs.declared.meta.Meta.{Meta}
 use Rattle.span_id.specs.declared.meta.Field.{Field}
+use Rattle.span_id.specs.Meta.{KeyValue, plain_fields}
 use Rattle.span_forest.specs.declared.span.Span.{Span}
 
 -- a span: what it was made with, its parent, and how many handles and entries hold it
@@ -11,15 +12,11 @@ pub record Node : Type 0 where
   pub name : List ℕ
   pub target : List ℕ
   pub level : Level
-  pub fields : List (List ℕ × List ℕ)
+  pub fields : List KeyValue
   pub bits : ℕ
   pub parent : Option ℕ
   pub handles : ℕ
   pub entries : ℕ
-
--- keys with their values
-abbrev pub fields_of : List Field → List (List ℕ × List ℕ)
-fields_of fields = map (λ f. (string_bytes f.key, string_bytes f.value)) fields
 
 -- what the code's span stands for
 abbrev pub node_of : Span → Node
@@ -27,7 +24,7 @@ node_of span = record {
   name = string_bytes span.meta.name;
   target = string_bytes span.meta.target;
   level = span.meta.level;
-  fields = fields_of span.fields.items;
+  fields = plain_fields span.fields.items;
   bits = span.bits.0;
   parent = span.parent;
   handles = span.handles;
@@ -40,7 +37,7 @@ new_node meta fields parent bits = record {
   name = string_bytes meta.name;
   target = string_bytes meta.target;
   level = meta.level;
-  fields = fields_of fields;
+  fields = plain_fields fields;
   bits = bits;
   parent = parent;
   handles = 1;
@@ -48,5 +45,5 @@ new_node meta fields parent bits = record {
 }
 
 -- the span with more fields at the end of its own; a repeated key stands twice
-abbrev pub with_fields : List (List ℕ × List ℕ) → Node → Node
+abbrev pub with_fields : List KeyValue → Node → Node
 with_fields more node = record node { fields = node.fields ++ more }

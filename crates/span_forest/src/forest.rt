@@ -1,7 +1,8 @@
 ghost use Rattle.std.specs.Prelude.{◌≡◌, ℕ, Some, None, IfSome, IfNone, IfOk, IfErr, OnOk, OnErr, IsTrue, ◌↔◌, ◌⊎◌, length, [], map, string_bytes};
 ghost use Rattle.span_id.specs.Id.{IsId};
 ghost use Rattle.span_slots.specs.Table.{IsIssued};
-ghost use Rattle.span_forest.specs.Node.{Node, node_of, fields_of, new_node, with_fields};
+ghost use Rattle.span_id.specs.Meta.{plain_fields};
+ghost use Rattle.span_forest.specs.Node.{Node, node_of, new_node, with_fields};
 ghost use Rattle.span_forest.specs.Spans.{find, IsOpen, with_change, WhyNotFound};
 ghost use Rattle.span_forest.specs.Count.{reference_count, total_held};
 ghost use Rattle.span_forest.specs.Path.{path};
@@ -17,8 +18,8 @@ use crate::adding::{checked_parent, place};
 use crate::closing::{chain, let_go};
 use crate::holders::{count_of, is_held, is_open, raise_holder};
 use crate::span::{Holder, Span};
-use crate::writing::{append_fields, copies_of, names_of};
-use span_id::{Bits, Checked, Fault, Field, Id, Meta};
+use crate::writing::{append_fields, names_of};
+use span_id::{Bits, Checked, Fault, Field, Id, Meta, copy_fields};
 use span_slots::Slots;
 use std::alloc::Global;
 use std::marker::Model;
@@ -149,7 +150,7 @@ impl Forest {
             return Err(Fault::Full);
         }
         let meta = meta.copy(self.alloc)?;
-        let fields = copies_of(self.alloc, fields)?;
+        let fields = copy_fields(self.alloc, fields)?;
         let span = Span {
             meta,
             fields,
@@ -196,10 +197,8 @@ impl Forest {
         if !is_held(&self.slots, id, holder) {
             return Err(Fault::Unknown);
         }
-        match chain(&self.slots, self.alloc, id, holder) {
-            Ok(closed) => Ok(closed),
-            Err(_) => Err(Fault::Memory),
-        }
+        let closed = chain(&self.slots, self.alloc, id, holder)?;
+        Ok(closed)
     }
 
     /// Gives one holder of a span back, closes the spans that nothing holds any longer and answers their
@@ -236,7 +235,7 @@ impl Forest {
     pub fn write_fields(&mut self, id: Id, fields: &[Field]) -> Result<(), Fault>
         ensures found { OnOk result (IsOpen self.old.spans id) }
         ensures forest { OnOk result (self.new ≡ record self.old {
-          spans = with_change (with_fields (fields_of fields.now)) self.old.spans id;
+          spans = with_change (with_fields (plain_fields fields.now)) self.old.spans id;
         }) }
         ensures refused { IfErr result (λ fault. WhyNotFound self.old.spans id fault) }
         ensures unchanged { OnErr result (self.new ≡ self.old) }
@@ -244,7 +243,7 @@ impl Forest {
         if !is_open(&self.slots, id) {
             return Err(Fault::Unknown);
         }
-        let copies = copies_of(self.alloc, fields)?;
+        let copies = copy_fields(self.alloc, fields)?;
         match append_fields(&mut self.slots, id, copies) {
             Ok(()) => Ok(()),
             Err(_) => Err(Fault::Memory),
@@ -262,9 +261,6 @@ impl Forest {
         if !is_open(&self.slots, id) {
             return Err(Fault::Unknown);
         }
-        match names_of(&self.slots, self.alloc, layer, id) {
-            Ok(names) => Ok(names),
-            Err(_) => Err(Fault::Memory),
-        }
+        Ok(names_of(&self.slots, self.alloc, layer, id)?)
     }
 }

@@ -1,30 +1,16 @@
 ghost use Rattle.std.specs.Prelude.{◌≡◌, ◌++◌, Some, IsSome, IfOk, IfErr, OnOk, OnErr, map, string_bytes};
 ghost use Rattle.span_slots.specs.Table.{value_at};
-ghost use Rattle.span_forest.specs.Node.{node_of, fields_of, with_fields};
+ghost use Rattle.span_id.specs.Meta.{plain_fields};
+ghost use Rattle.span_forest.specs.Node.{node_of, with_fields};
 ghost use Rattle.span_forest.specs.Spans.{nodes_of, with_change, IsOpen};
 ghost use Rattle.span_forest.specs.Path.{name_for, path};
 ghost use Rattle.span_forest.specs.Forest.{IsForest};
 ghost use Rattle.span_forest.specs.inside.Invariant.{IsSettled};
 
 use crate::span::Span;
-use span_id::{Fault, Field, Id};
+use span_id::{Field, Id};
 use span_slots::Slots;
 use std::alloc::{AllocError, Global};
-
-// Copies of these fields.
-pub(crate) fn copies_of(alloc: Global, fields: &[Field]) -> Result<Vec<Field>, Fault>
-    ensures fields { IfOk result (λ copies. fields_of copies.items ≡ fields_of fields.now) }
-    ensures memory { IfErr result (λ fault. fault ≡ Fault.Memory) }
-{
-    let Ok(mut copies) = Vec::with_capacity(alloc, fields.len()) else {
-        return Err(Fault::Memory);
-    };
-    for field in fields {
-        let copy = field.copy(alloc)?;
-        copies.push_reserved(copy);
-    }
-    Ok(copies)
-}
 
 // Appends these fields to those of a span. Where memory is refused the span stays as it was.
 pub(crate) fn append_fields(
@@ -35,7 +21,7 @@ pub(crate) fn append_fields(
     requires settled { IsSettled slots.old.entries }
     ensures settled { IsSettled slots.new.entries }
     ensures written { OnOk result
-        (nodes_of slots.new.entries ≡ with_change (with_fields (fields_of fields.items)) (nodes_of slots.old.entries) id) }
+        (nodes_of slots.new.entries ≡ with_change (with_fields (plain_fields fields.items)) (nodes_of slots.old.entries) id) }
     ensures refused { OnErr result (nodes_of slots.new.entries ≡ nodes_of slots.old.entries) }
     ensures table { slots.new ≡ record slots.old { entries = slots.new.entries } }
 {

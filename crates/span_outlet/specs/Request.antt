@@ -1,25 +1,10 @@
 -- What a caller asks for, and what an accepted call answers, with texts as bytes.
-use Rattle.std.specs.Prelude.{ℕ, Bool, List, map, Option, string_bytes}
-use Rattle.span_id.specs.declared.level.Level.{Level}
-use Rattle.span_id.specs.declared.meta.Meta.{Meta}
-use Rattle.span_id.specs.declared.meta.Field.{Field}
-use Rattle.span_layers.specs.Note.{KeyValue, key_value}
+use Rattle.std.specs.Prelude.{ℕ, Bool, List, Option, string_bytes}
+use Rattle.span_id.specs.Meta.{PlainMeta, KeyValue, plain_meta, plain_fields}
 use Rattle.span_outlet.specs.declared.batch.Call.{Call}
 use Rattle.span_outlet.specs.declared.batch.Call.TheVariants.{NewSpan, CloneSpan, Enter, Exit, TryClose, RecordFields, Event}
 use Rattle.span_outlet.specs.declared.batch.Reply.{Reply}
 use Rattle.span_outlet.specs.declared.batch.Reply.TheVariants.{Made, Cloned, Entered, Exited, Released, Recorded, Told}
-
--- the name, the target and the level of a span or an event
-pub record PlainMeta : Type 0 where
-  pub name : List ℕ
-  pub target : List ℕ
-  pub level : Level
-
-abbrev pub plain_meta : Meta → PlainMeta
-plain_meta meta = record { name = string_bytes meta.name; target = string_bytes meta.target; level = meta.level }
-
-abbrev pub plain_fields : List Field → List KeyValue
-plain_fields fields = map key_value fields
 
 -- a call with its arguments; the first is the worker that calls, and a parent is the one that was found
 pub data Request : Type 0 where

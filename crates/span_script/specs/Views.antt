@@ -1,6 +1,6 @@
 -- The code's operations, as the definitions see them.
-use Rattle.std.specs.Prelude.{ℕ, ◌<◌, List, map, string_bytes}
-use Rattle.span_id.specs.declared.meta.Field.{Field}
+use Rattle.std.specs.Prelude.{ℕ, ◌<◌, List, string_bytes}
+use Rattle.span_id.specs.Meta.{plain_fields}
 use Rattle.span_layers.specs.FmtSpan.{bits_of}
 use Rattle.span_layers.specs.Rule.{pairs_of}
 use Rattle.span_script.specs.Operation as meant
@@ -27,16 +27,13 @@ parent_seen Current = meant.current
 parent_seen Root = meant.root
 parent_seen (Named key) = meant.named (key_seen key)
 
-abbrev pub field_seen : Field → List ℕ × List ℕ
-field_seen field = (string_bytes field.key, string_bytes field.value)
-
 abbrev pub new_seen : NewSpan → meant.NewSpan
 new_seen new = record {
   name = string_bytes new.meta.name;
   target = string_bytes new.meta.target;
   level = new.meta.level;
   parent = parent_seen new.parent;
-  fields = map field_seen new.fields.items;
+  fields = plain_fields new.fields.items;
   label = new.label.now;
   worker = new.worker;
 }
@@ -50,7 +47,7 @@ event_seen event = record {
   target = string_bytes event.meta.target;
   level = event.meta.level;
   message = event.message.now;
-  fields = map field_seen event.fields.items;
+  fields = plain_fields event.fields.items;
   worker = event.worker;
 }
 
@@ -59,7 +56,7 @@ operation_seen (Limits limits) = meant.set_limits limits
 operation_seen (Layer layer) = meant.add_layer (layer_seen layer)
 operation_seen (New new) = meant.make (new_seen new)
 operation_seen (OnSpan call span worker) = meant.on_span call (key_seen span) worker
-operation_seen (Record span fields worker) = meant.record_fields (key_seen span) (map field_seen fields.items) worker
+operation_seen (Record span fields worker) = meant.record_fields (key_seen span) (plain_fields fields.items) worker
 operation_seen (Event event) = meant.tell (event_seen event)
 operation_seen (Find span) = meant.find (key_seen span)
 

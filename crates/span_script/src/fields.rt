@@ -4,7 +4,7 @@ ghost use Rattle.std.specs.Option.{option_map};
 ghost use Rattle.serde_json.specs.View.{view, items_of, items_view};
 ghost use Rattle.span_script.specs.Reason.{AnswersOrStops, or_fault};
 ghost use Rattle.span_script.specs.Operation.{optional, fields_in, field_in, all_of};
-ghost use Rattle.span_script.specs.Views.{field_seen};
+ghost use Rattle.span_id.specs.Meta.{key_value};
 
 use crate::key::Key;
 use crate::pairs::pair;
@@ -16,7 +16,7 @@ use std::alloc::{AllocError, Global};
 
 /// The fields that a line gives, none where it has no such key.
 pub fn fields(alloc: Global, line: &Value) -> Result<Vec<Field>, Stop>
-    ensures { AnswersOrStops (λ fields. map field_seen fields.items) result (optional Key.Fields fields_in [] (view line.now)) }
+    ensures { AnswersOrStops (λ fields. map key_value fields.items) result (optional Key.Fields fields_in [] (view line.now)) }
 {
     let Some(value) = line.get(Key::Fields.text()) else {
         return Ok(Vec::new(alloc));
@@ -29,7 +29,7 @@ pub fn fields(alloc: Global, line: &Value) -> Result<Vec<Field>, Stop>
 
 /// The fields that the values of a list are.
 fn all_fields(alloc: Global, list: &[Value]) -> Result<Vec<Field>, Stop>
-    ensures { AnswersOrStops (λ fields. map field_seen fields.items) result (or_fault (all_of field_in (items_view list.now)) (Reason.BadKey Key.Fields)) }
+    ensures { AnswersOrStops (λ fields. map key_value fields.items) result (or_fault (all_of field_in (items_view list.now)) (Reason.BadKey Key.Fields)) }
 {
     let mut fields = Vec::new(alloc);
     for value in list {
@@ -51,7 +51,7 @@ fn pair_of_texts(value: &Value) -> Option<(&str, &str)>
 
 /// A field of these texts.
 fn field(alloc: Global, key: &str, value: &str) -> Result<Field, AllocError>
-    ensures { IfOk result (λ field. field_seen field ≡ (key.now, value.now)) }
+    ensures { IfOk result (λ field. key_value field ≡ (key.now, value.now)) }
 {
     Ok(Field {
         key: String::from_str(alloc, key)?,

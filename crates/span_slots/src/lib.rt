@@ -78,8 +78,8 @@ impl<T: Drop> Slots<T> {
         let limits = checked.limits();
         let slots = limits.slots;
         let last_generation = limits.last_generation;
-        let cells = Vec::with_capacity(alloc, slots as usize).map_err(|_| Fault::Memory)?;
-        let freed = Vec::with_capacity(alloc, slots as usize).map_err(|_| Fault::Memory)?;
+        let cells = Vec::with_capacity(alloc, slots as usize)?;
+        let freed = Vec::with_capacity(alloc, slots as usize)?;
         Ok(Slots {
             cells,
             freed,
@@ -119,9 +119,7 @@ impl<T: Drop> Slots<T> {
         ensures fault { IfErr result (λ fault. fault ≡ Fault.Memory) }
     {
         let alloc = *self.cells.allocator();
-        let Ok(mut ids) = Vec::with_capacity(alloc, self.len as usize) else {
-            return Err(Fault::Memory);
-        };
+        let mut ids = Vec::with_capacity(alloc, self.len as usize)?;
         for (slot, cell) in self.cells.iter().enumerate() {
             let occupied = cell.value.is_some();
             if occupied {

@@ -58,7 +58,7 @@ impl SpanStack {
         ensures err { OnErr result (self.new ≡ self.old) }
         ensures memory { IfErr result (λ fault. fault ≡ Fault.Memory) }
     {
-        self.entries.reserve(n).map_err(|_| Fault::Memory)
+        Ok(self.entries.reserve(n)?)
     }
 
     /// Puts the span on top, and answers whether this entry is no duplicate.

@@ -3,9 +3,8 @@ use Rattle.std.proofs.Common.{◌≡◌, ℕ, List, Option, Some, None, Result, 
 use Rattle.std.specs.Prelude.{IfOk, OnOk, IfSome, IfNone, MatchOption}
 use Rattle.span_id.specs.declared.fault.Fault.{Fault}
 use Rattle.span_core.specs.Core.{CoreView, IsAccepted, IsRefused, IsNotWanted}
-use Rattle.span_layers.specs.Note.{KeyValue}
+use Rattle.span_id.specs.Meta.{KeyValue, PlainMeta}
 use Rattle.span_outlet.specs.Request as call
-use Rattle.span_outlet.specs.Request.{PlainMeta}
 use Rattle.span_core.specs.World.{World}
 use Rattle.span_core.specs.Parent.{parent_found}
 use Rattle.span_outlet.specs.declared.batch.ParentOf.{ParentOf}

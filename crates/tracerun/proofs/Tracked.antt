@@ -2,10 +2,10 @@
 use Rattle.std.proofs.Common.{◌≡◌, ℕ, ◌+◌, ◌<◌, ◌≤◌, true, false, List, Option, Some, refl, sym, ap, ◌∙◌, inl, inr, arith}
 use Rattle.std.proofs.lemmas.Bool.{true≢false, lt-ltb}
 use Rattle.span_forest.specs.declared.span.Holder.TheVariants.{Handle}
-use Rattle.span_layers.specs.Note.{KeyValue}
+use Rattle.span_id.specs.Meta.{KeyValue, PlainMeta}
 use Rattle.span_forest.specs.Spans.{find}
 use Rattle.span_forest.specs.Holders.{IsHeld, held_in}
-use Rattle.span_outlet.specs.Request.{PlainMeta, Request, new_span, made, worker_of}
+use Rattle.span_outlet.specs.Request.{Request, new_span, made, worker_of}
 use Rattle.span_core.specs.Core.{CoreView, IsDue}
 use Rattle.span_core.specs.Happening.{id_at}
 use Rattle.span_core.specs.Outcome.{id_after, done, outcome}

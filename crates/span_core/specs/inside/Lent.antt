@@ -5,7 +5,8 @@ use Rattle.span_layers.specs.Note.{PlainNote}
 use Rattle.span_core.specs.declared.calls.events.Event.{Event}
 use Rattle.span_core.specs.declared.calls.spans.NewSpan.{NewSpan}
 use Rattle.span_core.specs.inside.Sound.{first_note}
-use Rattle.span_outlet.specs.Request.{Request, new_span, event, plain_meta, plain_fields}
+use Rattle.span_id.specs.Meta.{plain_meta, plain_fields}
+use Rattle.span_outlet.specs.Request.{Request, new_span, event}
 use Rattle.span_core.specs.Happening.{Happening, event_at}
 
 -- the call that makes a span

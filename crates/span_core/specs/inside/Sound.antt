@@ -4,7 +4,8 @@ use Rattle.span_id.specs.declared.limits.Limits.{Limits}
 use Rattle.span_id.specs.Id.{slot_of, generation_of}
 use Rattle.span_id.specs.Bits.{has_bit}
 use Rattle.span_layers.specs.declared.note.Kind.TheVariants.{OnNew}
-use Rattle.span_layers.specs.Note.{KeyValue, PlainNote}
+use Rattle.span_id.specs.Meta.{KeyValue}
+use Rattle.span_layers.specs.Note.{PlainNote}
 use Rattle.span_layers.specs.Filter.{Filter, layer_wants}
 use Rattle.span_forest.specs.Spans.{Spans}
 use Rattle.span_forest.specs.Forest.{ForestView}

@@ -4,7 +4,8 @@ ghost use Rattle.std.specs.List.{find as first_that};
 ghost use Rattle.span_id.specs.Bits.{has_bit};
 ghost use Rattle.span_layers.specs.Note.{plain_note};
 ghost use Rattle.span_stack.specs.Stack.{walk, ids_of_each};
-ghost use Rattle.span_outlet.specs.Request.{event, told, plain_meta, plain_fields, request_of};
+ghost use Rattle.span_id.specs.Meta.{plain_meta, plain_fields};
+ghost use Rattle.span_outlet.specs.Request.{event, told, request_of};
 ghost use Rattle.span_core.specs.Happening.{bits_in, id_at, path_at, is_told, note_of, notes_of};
 ghost use Rattle.span_core.specs.inside.Lent.{event_request, event_seen};
 ghost use Rattle.span_core.specs.Core.{IsAccepted, IsRefused};
@@ -12,9 +13,8 @@ ghost use Rattle.span_core.specs.Core.{IsAccepted, IsRefused};
 use crate::Core;
 use crate::calls::names::are_keys;
 use crate::calls::room::ask;
-use crate::notes::copies::{copy_fields, copy_meta, copy_text};
 use span_forest::Forest;
-use span_id::{Bits, Fault, Field, Id, Meta};
+use span_id::{Bits, Fault, Field, Id, Meta, copy_fields, copy_text};
 use span_layers::{Admit, Kind, Note, Rules};
 use span_outlet::{Batch, Call, Outlet, Reply};
 use span_stack::SpanStack;
@@ -79,7 +79,7 @@ fn event_call(alloc: Global, event: &Event<'_>) -> Result<Call, Fault>
         ≡ event_request event.now) }
     ensures memory { IfErr result (λ fault. fault ≡ Fault.Memory) }
 {
-    let meta = copy_meta(alloc, event.meta)?;
+    let meta = event.meta.copy(alloc)?;
     let message = copy_text(alloc, event.message)?;
     let fields = copy_fields(alloc, event.fields)?;
     Ok(Call::Event {

@@ -2,7 +2,8 @@
 ghost use Rattle.std.specs.Prelude.{◌≡◌, ◌<◌, nat_lt, length, OnOk, IfOk, IfErr};
 ghost use Rattle.span_forest.specs.declared.span.Holder.TheVariants.{Handle};
 ghost use Rattle.span_forest.specs.Release.{closing_list};
-ghost use Rattle.span_outlet.specs.Request.{clone_span, cloned, record_fields, recorded, try_close, released, plain_fields, request_of};
+ghost use Rattle.span_id.specs.Meta.{plain_fields};
+ghost use Rattle.span_outlet.specs.Request.{clone_span, cloned, record_fields, recorded, try_close, released, request_of};
 ghost use Rattle.span_core.specs.Core.{IsAccepted, IsRefused};
 
 use crate::Core;
@@ -10,10 +11,9 @@ use crate::calls::held::held_span;
 use crate::calls::names::are_keys;
 use crate::calls::room::ask;
 use crate::notes::closes::{closing_lists_are_chains, push_closes};
-use crate::notes::copies::copy_fields;
 use crate::notes::{Happening, push_notes};
 use span_forest::Holder;
-use span_id::{Fault, Field, Id};
+use span_id::{Fault, Field, Id, copy_fields};
 use span_layers::Kind;
 use span_outlet::{Batch, Call, Outlet, Reply};
 use std::alloc::Global;

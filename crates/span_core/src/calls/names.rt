@@ -1,5 +1,5 @@
 ghost use Rattle.std.specs.Prelude.{◌↔◌, IsTrue};
-ghost use Rattle.span_outlet.specs.Request.{plain_fields};
+ghost use Rattle.span_id.specs.Meta.{plain_fields};
 ghost use Rattle.span_core.specs.Core.{AreKeys};
 
 use span_id::Field;

@@ -4,7 +4,8 @@ ghost use Rattle.std.specs.List.{range_with_len};
 ghost use Rattle.span_layers.specs.Note.{plain_note};
 ghost use Rattle.span_layers.specs.Filter.{admission_set};
 ghost use Rattle.span_forest.specs.Count.{reference_count};
-ghost use Rattle.span_outlet.specs.Request.{new_span, made, plain_meta, plain_fields, request_of};
+ghost use Rattle.span_id.specs.Meta.{plain_meta, plain_fields};
+ghost use Rattle.span_outlet.specs.Request.{new_span, made, request_of};
 ghost use Rattle.span_core.specs.Parent.{parent_found};
 ghost use Rattle.span_core.specs.Happening.{path_at};
 ghost use Rattle.span_core.specs.Step.{ParentIsOpen};
@@ -16,10 +17,9 @@ ghost use Rattle.span_core.specs.Core.{IsDue, IsAccepted, IsRefused, IsNotWanted
 use crate::Core;
 use crate::calls::names::are_keys;
 use crate::calls::room::ask;
-use crate::notes::copies::{copy_fields, copy_meta, copy_text};
 use span_forest::Forest;
 use span_forest::laws::{each_slot_has_one_open_id, next_id_is_new, open_spans_are_counted};
-use span_id::{Bits, Fault, Field, Id, Meta};
+use span_id::{Bits, Fault, Field, Id, Meta, copy_fields, copy_text};
 use span_layers::{Admit, Kind, Note, Rules};
 use span_outlet::{Batch, Call, Outlet, ParentOf, Reply};
 use std::alloc::Global;
@@ -135,7 +135,7 @@ fn new_call(alloc: Global, new: &NewSpan<'_>) -> Result<Call, Fault>
     ensures call { IfOk result (λ call. request_of call ≡ span_request new.now) }
     ensures memory { IfErr result (λ fault. fault ≡ Fault.Memory) }
 {
-    let meta = copy_meta(alloc, new.meta)?;
+    let meta = new.meta.copy(alloc)?;
     let fields = copy_fields(alloc, new.fields)?;
     Ok(Call::NewSpan {
         worker: new.worker,

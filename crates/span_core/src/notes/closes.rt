@@ -10,12 +10,11 @@ ghost use Rattle.span_forest.specs.Release.{closing_list};
 ghost use Rattle.span_core.specs.Happening.{close_of, is_told, note_of, notes_of};
 ghost use Rattle.span_core.specs.inside.ClosingPaths.{IsChain, TellsBelow, IsBelow, note_in, place_in, AreBelow};
 
-use crate::notes::copies::{copy_fields, copy_text};
 use span_forest::laws::{
     closing_list_begins_the_walk, held_ids_are_open, open_spans_are_counted, walks_end,
 };
 use span_forest::{Forest, Span};
-use span_id::{Fault, Id};
+use span_id::{Fault, Id, copy_fields, copy_text};
 use span_layers::{Kind, Note, Rules};
 use std::alloc::Global;
 

@@ -5,7 +5,8 @@ ghost use Rattle.span_core.specs.Core.{IsLate};
 ghost use Rattle.span_outlet.specs.Request.{record_fields};
 ghost use Rattle.tracerun.specs.inside.Calls.{IsMade};
 ghost use Rattle.tracerun.specs.Requests.{request_of_call, request_of_new, request_of_event};
-ghost use Rattle.span_script.specs.Views.{new_seen, event_seen, field_seen};
+ghost use Rattle.span_id.specs.Meta.{key_value};
+ghost use Rattle.span_script.specs.Views.{new_seen, event_seen};
 
 use crate::run::answer::Answer;
 use span_id::{Fault, Field, Id};
@@ -74,7 +75,7 @@ pub fn record<V: Say>(
     fields: &[Field],
 ) -> Result<Answer, Stop>
     requires { worker < core.old.limits.workers }
-    ensures made { IfOk result (λ answer. IsMade core.old (record_fields worker id (map field_seen fields.now)) answer core.new) }
+    ensures made { IfOk result (λ answer. IsMade core.old (record_fields worker id (map key_value fields.now)) answer core.new) }
     ensures memory { IfErr result (λ stop. stop ≡ Stop.Memory) }
 {
     match core.record(worker, id, fields) {

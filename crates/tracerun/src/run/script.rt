@@ -44,7 +44,8 @@ impl<V: Say> Script<V> {
     ghost use Rattle.tracerun.specs.Meaning.{turn_of};
     ghost use Rattle.span_script.specs.Operation.{Stage, make, on_span, record_fields, tell, find as look_up};
     ghost use Rattle.tracerun.specs.inside.Running.{core_in, labels_in, state_at, IsWritten, RunsAs, IsWrittenCall};
-    ghost use Rattle.span_script.specs.Views.{parent_seen, new_seen, event_seen, field_seen, operation_seen, NamesWorker, IsCall};
+    ghost use Rattle.span_id.specs.Meta.{key_value};
+    ghost use Rattle.span_script.specs.Views.{parent_seen, new_seen, event_seen, operation_seen, NamesWorker, IsCall};
 
     /// A script of which no call has run.
     ///
@@ -216,7 +217,7 @@ impl<V: Say> Script<V> {
         requires worker { worker < self.old.workers }
         requires written { IsWritten self.old }
         ensures turn { (hooks : ℕ) (stage : Stage) →
-            RunsAs (turn_of hooks (state_at self.old stage) (record_fields (key_seen span.now) (map field_seen fields.now) worker)) (state_at self.old stage) text.old.items (state_at self.new stage) text.new.items result }
+            RunsAs (turn_of hooks (state_at self.old stage) (record_fields (key_seen span.now) (map key_value fields.now) worker)) (state_at self.old stage) text.old.items (state_at self.new stage) text.new.items result }
         ensures written { OnOk result (IsWritten self.new) }
         ensures workers { self.new.workers ≡ self.old.workers }
     {

@@ -1,7 +1,8 @@
 use Rattle.std.proofs.Common.{rules, ◌≡◌, ◌∙◌, ◌<◌, List, [], ◌∷◌, ◌++◌, length, get_or, ap, map, subst, arith}
 use Rattle.span_layers.specs.Note.{plain_note}
 use Rattle.span_stack.specs.Stack.{Stack, ids_of_each}
-use Rattle.span_outlet.specs.Request.{event, told, plain_meta, plain_fields}
+use Rattle.span_id.specs.Meta.{plain_meta, plain_fields}
+use Rattle.span_outlet.specs.Request.{event, told}
 use Rattle.span_core.specs.Happening.{event_told, notes_of_all}
 use Rattle.span_core.specs.Core.{CoreView, IsDue}
 use Rattle.span_core.proofs.Accepting.{sound_event}

@@ -11,7 +11,8 @@ use Rattle.span_forest.specs.Spans.{find}
 use Rattle.span_forest.specs.Forest.{table_of, next_span_id}
 use Rattle.span_forest.specs.Add.{with_span}
 use Rattle.span_stack.specs.Stack.{ids_of_each}
-use Rattle.span_outlet.specs.Request.{made, plain_meta, plain_fields}
+use Rattle.span_id.specs.Meta.{plain_meta, plain_fields}
+use Rattle.span_outlet.specs.Request.{made}
 use Rattle.span_core.specs.Happening.{at_span, notes_of_all}
 use Rattle.span_core.specs.Step.{IsStep, is_wanted, made_node, ParentIsOpen}
 use Rattle.span_core.specs.History.{issued}

@@ -3,7 +3,7 @@ use Rattle.span_layers.specs.declared.note.Kind.TheVariants.{OnRecord}
 use Rattle.span_layers.specs.Note.{plain_note}
 use Rattle.span_stack.specs.Stack.{ids_of_each}
 use Rattle.span_core.specs.Core.{CoreView}
-use Rattle.span_outlet.specs.Request.{plain_fields}
+use Rattle.span_id.specs.Meta.{plain_fields}
 use Rattle.span_core.specs.Happening.{at_span}
 use Rattle.span_core.proofs.Accepting.{sound_record}
 use Rattle.span_core.proofs.Telling.{one_happening}

@@ -1,4 +1,4 @@
-use Rattle.span_outlet.specs.Request.{plain_fields}
+use Rattle.span_id.specs.Meta.{plain_fields}
 use Rattle.span_core.specs.Happening.{at_span}
 use Rattle.span_core.proofs.Telling.{told_more}
 use Rattle.span_core.proofs.notes.push_notes.Goals as goal

@@ -2,7 +2,7 @@ use Rattle.std.proofs.Common.{◌≡◌, ◌++◌, map}
 use Rattle.std.specs.Prelude.{filter}
 use Rattle.std.specs.List.{range_with_len}
 use Rattle.span_layers.specs.Note.{plain_note}
-use Rattle.span_outlet.specs.Request.{plain_fields}
+use Rattle.span_id.specs.Meta.{plain_fields}
 use Rattle.span_core.specs.Happening.{at_span, is_told, note_of}
 use Rattle.span_core.proofs.notes.push_notes.Given as goal
 

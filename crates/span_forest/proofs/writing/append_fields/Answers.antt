@@ -1,6 +1,7 @@
 use Rattle.std.proofs.Common.{sym, ap, ◌∙◌}
 use Rattle.std.specs.Option.{option_copied_mut}
-use Rattle.span_forest.specs.Node.{fields_of, with_fields}
+use Rattle.span_id.specs.Meta.{plain_fields}
+use Rattle.span_forest.specs.Node.{with_fields}
 use Rattle.span_forest.specs.Spans.{nodes_of}
 use Rattle.span_forest.proofs.Adds.{not_found}
 use Rattle.span_forest.proofs.Writes.{changed-absent, settled_appended, written_appended, refused_appended}
@@ -8,7 +9,7 @@ use Rattle.span_forest.proofs.writing.append_fields.Goals as goal
 
 pub returns-in-None-clause-written : goal.returns-in-None-clause-written
 returns-in-None-clause-written c =
-    sym (changed-absent (with_fields (fields_of c.args.fields.items)) (nodes_of c.args.slots.now.entries) c.args.id (not_found c.args.slots.now.entries c.args.id (sym c.get_mut.ensures.value ∙ ap option_copied_mut c.in-None.is)))
+    sym (changed-absent (with_fields (plain_fields c.args.fields.items)) (nodes_of c.args.slots.now.entries) c.args.id (not_found c.args.slots.now.entries c.args.id (sym c.get_mut.ensures.value ∙ ap option_copied_mut c.in-None.is)))
 
 pub returns-clause-settled : goal.returns-clause-settled
 returns-clause-settled c =

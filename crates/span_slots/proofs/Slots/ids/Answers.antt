@@ -11,8 +11,8 @@ loop-slot-init g c =
     let v = c.self.invariant in
     let cells = c.deref-cell-items.ensures.value in
     record {
-      so_far = c.in-Ok.ensures.items;
-      room = rw cells (omega (arith, v.len_is, c.in-Ok.ensures.capacity));
+      so_far = c.in_ok-ids.ensures.items;
+      room = rw cells (omega (arith, v.len_is, c.in_ok-ids.ensures.capacity));
     }
 
 pub overflow_sub-cell : goal.overflow_sub-cell

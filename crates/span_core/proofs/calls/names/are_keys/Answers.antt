@@ -5,8 +5,7 @@ use Rattle.std.proofs.lemmas.Iterator.{cases_from_all, YieldsList-from_slice}
 use Rattle.std.proofs.lemmas.List.{get_or-map, length-map}
 use Rattle.span_id.specs.Name.{IsName}
 use Rattle.span_id.specs.declared.meta.Field.{Field}
-use Rattle.span_layers.specs.Note.{KeyValue, key_value}
-use Rattle.span_outlet.specs.Request.{plain_fields}
+use Rattle.span_id.specs.Meta.{KeyValue, key_value, plain_fields}
 use Rattle.span_core.specs.Core.{AreKeys}
 use Rattle.span_core.proofs.calls.names.are_keys.Goals as goal
 

@@ -1,7 +1,7 @@
 use Rattle.std.proofs.Common.{sym, ◌∙◌}
 use Rattle.std.proofs.lemmas.Bool.{false≢true}
 use Rattle.std.proofs.lemmas.Result.{err_from_is_err_and}
-use Rattle.span_forest.specs.Node.{fields_of}
+use Rattle.span_id.specs.Meta.{plain_fields}
 use Rattle.span_forest.specs.Spans.{find, IsOpen, nodes_of}
 use Rattle.span_forest.proofs.Writes.{IsConsistent-appended, on_ok, closed_none}
 use Rattle.span_forest.proofs.forest.Forest.write_fields.Goals as goal
@@ -20,7 +20,7 @@ returns-in_err-copies-clause-refused c =
 pub invariant_of-self : goal.invariant_of-self
 invariant_of-self c =
     let i = c.self.inside in
-    IsConsistent-appended c.append_fields.result i.slots.entries c.append_fields.new.slots.entries i.max_count i.total c.args.id (fields_of c.in_ok-copies.copies.items) c.self.invariant c.append_fields.ensures.settled c.append_fields.ensures.written c.append_fields.ensures.refused
+    IsConsistent-appended c.append_fields.result i.slots.entries c.append_fields.new.slots.entries i.max_count i.total c.args.id (plain_fields c.in_ok-copies.copies.items) c.self.invariant c.append_fields.ensures.settled c.append_fields.ensures.written c.append_fields.ensures.refused
 
 pub returns-clause-found : goal.returns-clause-found
 returns-clause-found c =

@@ -1,6 +1,6 @@
 use Rattle.std.proofs.Common.{ap, subst}
 use Rattle.span_core.specs.Core.{IsRefused}
-use Rattle.span_outlet.specs.Request.{plain_fields}
+use Rattle.span_id.specs.Meta.{plain_fields}
 use Rattle.tracerun.specs.inside.Calls.{IsMade}
 use Rattle.tracerun.specs.declared.run.answer.Answer.TheVariants.{Told}
 use Rattle.tracerun.proofs.CallLemmas.{same_event, made_accepted, refused_answer}

@@ -1,6 +1,6 @@
 use Rattle.std.proofs.Common.{ap, subst}
 use Rattle.span_core.specs.Core.{IsRefused}
-use Rattle.span_outlet.specs.Request.{plain_fields}
+use Rattle.span_id.specs.Meta.{plain_fields}
 use Rattle.tracerun.specs.inside.Calls.{IsMade}
 use Rattle.tracerun.specs.declared.run.answer.Answer.TheVariants.{Made, NotWanted}
 use Rattle.tracerun.proofs.CallLemmas.{same_new, made_some, made_none, refused_answer}

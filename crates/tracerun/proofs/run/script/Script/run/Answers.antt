@@ -1,6 +1,7 @@
 use Rattle.std.proofs.Common.{◌∙◌, ap, map, sym}
 use Rattle.span_script.specs.Operation.{record_fields}
-use Rattle.span_script.specs.Views.{key_seen, field_seen, operation_seen}
+use Rattle.span_id.specs.Meta.{key_value}
+use Rattle.span_script.specs.Views.{key_seen, operation_seen}
 use Rattle.tracerun.proofs.WrittenCalls.{runs_by}
 use Rattle.tracerun.proofs.run.script.Script.run.Goals as goal
 
@@ -18,4 +19,4 @@ returns-in-Find-clause-turn g c = λ hooks stage. runs_by _ _ hooks _ _ _ _ _ (a
 
 pub returns-in-Record-clause-turn : goal.returns-in-Record-clause-turn
 returns-in-Record-clause-turn g c = λ hooks stage.
-    runs_by _ _ hooks _ _ _ _ _ (ap operation_seen c.in-Record.is ∙ ap (λ fields. record_fields (key_seen c.in-Record.span) (map field_seen fields) c.in-Record.worker) (sym c.deref.ensures.value)) (c.record.ensures.turn hooks stage)
+    runs_by _ _ hooks _ _ _ _ _ (ap operation_seen c.in-Record.is ∙ ap (λ fields. record_fields (key_seen c.in-Record.span) (map key_value fields) c.in-Record.worker) (sym c.deref.ensures.value)) (c.record.ensures.turn hooks stage)

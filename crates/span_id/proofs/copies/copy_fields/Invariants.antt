@@ -1,7 +1,7 @@
 use Rattle.std.proofs.Common.{◌≡◌, length, take, vec_len}
 use Rattle.std.specs.Prelude.{vec_capacity}
-use Rattle.span_outlet.specs.Request.{plain_fields}
-use Rattle.span_core.proofs.notes.copies.copy_fields.Given as goal
+use Rattle.span_id.specs.Meta.{plain_fields}
+use Rattle.span_id.proofs.copies.copy_fields.Given as goal
 
 abbrev pub invariant-loop-field : goal.invariant-loop-field
 invariant-loop-field l = record {

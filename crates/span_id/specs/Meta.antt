@@ -1,0 +1,24 @@
+-- The texts of spans, events and fields, as contracts see them: lists of bytes.
+use Rattle.std.specs.Prelude.{ℕ, List, map, string_bytes}
+use Rattle.span_id.specs.declared.level.Level.{Level}
+use Rattle.span_id.specs.declared.meta.Meta.{Meta}
+use Rattle.span_id.specs.declared.meta.Field.{Field}
+
+-- the name, the target and the level of a span or an event
+pub record PlainMeta : Type 0 where
+  pub name : List ℕ
+  pub target : List ℕ
+  pub level : Level
+
+abbrev pub plain_meta : Meta → PlainMeta
+plain_meta meta = record { name = string_bytes meta.name; target = string_bytes meta.target; level = meta.level }
+
+-- a key and its value
+abbrev pub KeyValue : Type 0
+KeyValue = List ℕ × List ℕ
+
+abbrev pub key_value : Field → KeyValue
+key_value field = (string_bytes field.key, string_bytes field.value)
+
+abbrev pub plain_fields : List Field → List KeyValue
+plain_fields fields = map key_value fields
