@@ -4,5 +4,8 @@
 //! lock yet: its calls take it as `&mut`.
 #![tactic(auto)]
 
+#[cfg(test)]
+mod tests;
+
 pub use span_core::{Core, laws};
 pub use span_outlet::{Batch, Call, Kept, Line, Outlet, ParentOf, Reply};
