@@ -55,7 +55,7 @@ handles-left spans id holder forest =
     let less = without_holder spans id holder in
     let whole = IsForest-changed (with_less holder) (with_less-parent holder) spans id forest in
     let is = weighed-filter (λ (n : Node). n.handles) (is_live less) less whole.ids_apart (λ j node found some.
-      held_live less j (ranked less whole) (let have = ap holders_in found in omega (arith, have, some))) in
+    held_live less j (ranked less whole) (let have = ap holders_in found in omega (arith, have, some))) in
     omega (arith, is, handles_weighed less, handles_weighed (spans_left spans id holder))
 
 node_held : (spans : Spans) (id : ℕ) → IsHeld spans id Handle → (node : Node) × (find spans id ≡ Some node) × (0 < node.handles)

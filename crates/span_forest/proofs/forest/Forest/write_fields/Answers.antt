@@ -20,4 +20,3 @@ pub invariant_of-self-2 : goal.invariant_of-self-2
 invariant_of-self-2 c =
     let i = c.self.inside in
     IsConsistent-appended c.append_fields.result i.slots.entries c.append_fields.new.slots.entries i.max_count i.total i.handles c.args.id (plain_fields c.in_ok-copies.copies.items) c.self.invariant c.append_fields.ensures.settled c.append_fields.ensures.written c.append_fields.ensures.refused
-
