@@ -1,18 +1,19 @@
 -- The spans of the code's table by their slots.
-use Rattle.std.proofs.Common.{◌≡◌, ℕ, ◌+◌, ◌<◌, true, false, ◌||◌, List, [], ◌∷◌, ◌++◌, length, set, Option, Some, None, IsSome, IfSome, IsTrue, ◌==◌, refl, sym, ap, subst, inl, inr, arith}
+use Rattle.std.proofs.Common.{◌≡◌, ℕ, ◌+◌, ◌<◌, ◌⊎◌, Bool, true, false, ◌||◌, List, [], ◌∷◌, ◌++◌, length, set, Option, Some, None, IsSome, IfSome, IsTrue, ◌==◌, refl, sym, ap, ◌∙◌, subst, inl, inr, arith}
 use Rattle.std.specs.Prelude.{slice_index, nat_lt}
-use Rattle.std.proofs.lemmas.Bool.{cases_lt, lt-ltb}
+use Rattle.std.proofs.lemmas.Bool.{cases_lt, lt-ltb, eq-eqb}
 use Rattle.std.proofs.lemmas.Bool.Decides.{eqb_tells, nat_tests}
 use Rattle.std.proofs.lemmas.List.{get_or-set_same, get_or-set_other, get_or_append_left, get_or_past}
 use Rattle.std.specs.Option.{option_map}
 use Rattle.std.specs.List.{list_any}
-use Rattle.span_id.specs.Id.{slot_of}
-use Rattle.span_slots.specs.Table.{Table, issue, value_at, next_id, IsFull, is_occupied, is_retired}
+use Rattle.span_id.specs.Id.{id_of, slot_of, generation_of}
+use Rattle.span_slots.specs.Table.{Table, issue, value_at, next_id, IsIssued, IsFull, is_occupied, is_retired}
 use Rattle.span_forest.specs.declared.span.Span.{Span}
 use Rattle.span_forest.specs.Node.{Node, node_of}
-use Rattle.span_forest.specs.Spans.{find, IsOpen, nodes_of}
-use Rattle.span_forest.specs.Forest.{table_of, next_span_id}
+use Rattle.span_forest.specs.Spans.{Spans, find, IsOpen, IsOccupied, with_node, nodes_of}
+use Rattle.span_forest.specs.Forest.{ForestView, table_of, next_span_id}
 use Rattle.span_forest.proofs.Nodes.{find-nodes}
+use Rattle.span_forest.proofs.Adds.{find-with_same}
 use Rattle.span_forest.proofs.Counts.{view_of}
 
 some_back : (o : Option Span) → IsSome (option_map node_of o) → IsSome o
@@ -35,6 +36,56 @@ full_nodes t max h = (
   λ e slot low. subst (λ b. IsTrue (b || is_retired t slot)) (sym (occupied_nodes t max slot)) (h.0 e slot low),
   λ full. h.1 (λ slot low. subst (λ b. IsTrue (b || is_retired t slot)) (occupied_nodes t max slot) (full slot low)),
 )
+
+-- a slot is occupied as a test and in words
+occupied_by : (spans : Spans) (slot : ℕ) → list_any (λ e. slot_of e.0 == slot) spans ≡ true → IsOccupied spans slot
+occupied_by [] slot h = cc
+occupied_by (e ∷ es) slot h =
+    elim (eqb_tells (slot_of e.0) slot) [
+      | inl t ↦ (e.0, rw (eq-eqb e.0 e.0 refl) refl, t.1)
+      | inr t ↦ (let r = occupied_by es slot (rw t.0 at h) in
+          (r.0, elim (eqb_tells e.0 r.0) [ inl u ↦ rw u.0 refl | inr u ↦ rw u.0 r.1 ], r.2))
+    ]
+
+occupies : (spans : Spans) (slot id : ℕ) → IsOpen spans id → slot_of id ≡ slot → list_any (λ e. slot_of e.0 == slot) spans ≡ true
+occupies [] slot id o s = cc
+occupies (e ∷ es) slot id o s =
+    elim (eqb_tells (slot_of e.0) slot) [
+      | inl t ↦ rw t.0 refl
+      | inr t ↦ elim (eqb_tells e.0 id) [
+        | inl u ↦ absurd (t.1 (ap slot_of u.1 ∙ s))
+        | inr u ↦ (let r = occupies es slot id (rw u.0 at o) s in rw t.0 r)
+      ]
+    ]
+
+either : (a b : Bool) → (a || b) ≡ true → (a ≡ true) ⊎ (b ≡ true)
+either true b h = inl refl
+either false b h = inr h
+
+or_right : (a b : Bool) → b ≡ true → (a || b) ≡ true
+or_right true b h = refl
+or_right false b h = h
+
+-- a table of spans is full where each slot is an open span's or gave its last id
+pub full_in_words : (forest : ForestView) → (next_span_id forest ≡ None → IsFull (table_of forest)) × (IsFull (table_of forest) → next_span_id forest ≡ None) → (next_span_id forest ≡ None → (slot : ℕ) → slot < forest.slots → IsOccupied forest.spans slot ⊎ IsIssued (table_of forest) (id_of slot forest.last_generation)) × (((slot : ℕ) → slot < forest.slots → IsOccupied forest.spans slot ⊎ IsIssued (table_of forest) (id_of slot forest.last_generation)) → next_span_id forest ≡ None)
+full_in_words forest h = (
+  λ e slot low. elim (either (is_occupied (table_of forest) slot) (is_retired (table_of forest) slot) (h.0 e slot low)) [
+    | inl t ↦ inl (occupied_by forest.spans slot t)
+    | inr t ↦ inr (issued_so (generation_of (id_of slot forest.last_generation)) (slice_index forest.given (slot_of (id_of slot forest.last_generation))) t)
+  ],
+  λ words. h.1 (λ slot low. elim (words slot low) [
+    | inl there ↦ (let t = occupies forest.spans slot there.0 there.1 there.2 in rw t refl)
+    | inr last ↦ or_right (is_occupied (table_of forest) slot) (is_retired (table_of forest) slot) (lt-ltb _ _ last)
+  ]),
+)
+  where
+    issued_so : (n m : ℕ) → nat_lt n m ≡ true → n < m
+    issued_so n m t = grind (arith, nat_tests)
+
+-- a new id that isn't open finds its span
+pub found_next : (next : Option ℕ) (spans : Spans) (node : Node) → IfSome next (λ id. find spans id ≡ None) → IfSome next (λ id. find (with_node spans id node) id ≡ Some node)
+found_next None spans node h = tt
+found_next (Some id) spans node h = find-with_same spans id node h
 
 absent : (o : Option Node) → (IsSome o → ⊥) → o ≡ None
 absent None h = refl

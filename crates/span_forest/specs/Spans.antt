@@ -18,6 +18,10 @@ find (e ∷ es) id = cond (e.0 == id) (Some e.1) (find es id)
 abbrev pub IsOpen : Spans → ℕ → Type 0
 IsOpen spans id = IsSome (find spans id)
 
+-- some open span has the slot
+abbrev pub IsOccupied : Spans → ℕ → Type 0
+IsOccupied spans slot = (id : ℕ) × IsOpen spans id × (slot_of id ≡ slot)
+
 -- no id stands twice
 abbrev pub AreApart : Spans → Type 0
 AreApart [] = Unit {0}

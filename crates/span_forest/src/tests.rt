@@ -1,3 +1,4 @@
+mod row;
 mod tree;
 
 use super::*;
@@ -242,5 +243,22 @@ fn a_chain_of_65536_spans(rt: HostRuntime) -> Result<(), Fail> {
     }
     assert!(rt; forest.is_empty());
     assert_eq!(rt; forest.total(), 0);
+    Ok(())
+}
+
+#[test]
+fn more_roots_than_the_older_layout_had_slots(rt: HostRuntime) -> Result<(), Fail> {
+    let mut forest = Forest::new(rt.alloc(), &checked(65537, 0, 1)?)?;
+    let meta = named(rt.alloc(), "r")?;
+    for number in 1..=65537 {
+        assert_eq!(rt; forest.add(&meta, &[], None, Bits(0))?.get(), number);
+    }
+    assert_eq!(rt; forest.len(), 65537);
+    assert_eq!(rt; forest.next_id(), None);
+    assert!(rt; forest.find(id(&rt, 65537)).is_some());
+    // In the older layout this number was the first slot at its second generation.
+    let old = Id::from_v1(65537).expect(&rt, "an id of the older layout");
+    assert_eq!(rt; old.get(), 16777217);
+    assert!(rt; forest.find(old).is_none());
     Ok(())
 }

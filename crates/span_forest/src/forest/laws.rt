@@ -1,11 +1,11 @@
 //! What every forest promises, in plain words: each function does nothing, and its contract is the promise.
-ghost use Rattle.std.specs.Prelude.{◌≡◌, ◌≢◌, ℕ, ◌<◌, ◌≤◌, ◌↔◌, [], false, Some, None, IfSome, IsTrue, AllPairs, length, take};
-ghost use Rattle.span_id.specs.Id.{slot_of, IsId};
+ghost use Rattle.std.specs.Prelude.{◌≡◌, ◌≢◌, ℕ, ◌<◌, ◌≤◌, ◌↔◌, ◌⊎◌, [], false, Some, None, IfSome, IsTrue, AllPairs, length, take};
+ghost use Rattle.span_id.specs.Id.{id_of, slot_of, IsId};
 ghost use Rattle.span_slots.specs.Table.{IsIssued, IsFull};
 ghost use Rattle.span_forest.specs.declared.span.Holder.{Holder};
 ghost use Rattle.span_forest.specs.Node.{Node};
 ghost use Rattle.span_forest.specs.Add.{with_span};
-ghost use Rattle.span_forest.specs.Spans.{find, IsOpen, parent_of};
+ghost use Rattle.span_forest.specs.Spans.{find, IsOpen, IsOccupied, parent_of};
 ghost use Rattle.span_forest.specs.Walk.{walk, Ends};
 ghost use Rattle.span_forest.specs.Count.{holders_in, reference_count, total_held};
 ghost use Rattle.span_forest.specs.Live.{stands_in, is_live};
@@ -92,15 +92,29 @@ pub fn next_id_is_new(forest: &Forest)
     next_id_was_never_issued(&forest.slots);
 }
 
+/// A new id finds its span, and each other id finds what it found before.
+pub fn new_id_finds_its_span(forest: &Forest)
+    ensures found { (node : Node) → IfSome (next_span_id forest.now) (λ id.
+        find (with_span forest.now id node).spans id ≡ Some node) }
+    ensures others { (id other : ℕ) (node : Node) → other ≢ id →
+        find (with_span forest.now id node).spans other ≡ find forest.now.spans other }
+{
+    next_id_is_new(forest);
+}
+
 /// An id that was issued stays issued where a span is added. A release issues no id and takes none back.
 pub fn issued_ids_stay_issued(forest: &Forest)
     ensures { (id issued : ℕ) (node : Node) → IsIssued (table_of forest.now) issued →
         IsIssued (table_of (with_span forest.now id node)) issued }
 {}
 
-/// No span can be added exactly where each slot is occupied or has given its last id.
+/// No span can be added exactly where each slot is an open span's, or its id of the last generation was
+/// issued.
 pub fn full_where_each_slot_is_used_up(forest: &Forest)
-    ensures { (next_span_id forest.now ≡ None) ↔ IsFull (table_of forest.now) }
+    ensures full { (next_span_id forest.now ≡ None) ↔ IsFull (table_of forest.now) }
+    ensures slots { (next_span_id forest.now ≡ None) ↔ ((slot : ℕ) → slot < forest.now.slots →
+        (IsOccupied forest.now.spans slot
+        ⊎ IsIssued (table_of forest.now) (id_of slot forest.now.last_generation))) }
 {
     full_where_no_slot_is_free(&forest.slots);
 }
