@@ -1,0 +1,4 @@
+use Rattle.span_core.proofs.notes.events.event_notes.Goals as goal
+
+pub returns-clause-notes : goal.returns-clause-notes
+returns-clause-notes c = ?
