@@ -6,7 +6,8 @@ ghost use Rattle.span_id.specs.Meta.{plain_fields};
 ghost use Rattle.span_forest.specs.Path.{path};
 ghost use Rattle.span_core.specs.Happening.{at_span, close_of, bits_in, id_at, path_at, notes_of, notes_of_all};
 ghost use Rattle.span_core.specs.inside.ClosingPaths.{IsChain};
-ghost use Rattle.span_core.specs.inside.Telling.{hears, id_told, path_told, tail_told, told_to, told_below};
+ghost use Rattle.span_core.specs.inside.Sound.{hears};
+ghost use Rattle.span_core.specs.inside.Telling.{id_told, path_told, tail_told, told_to, told_below};
 
 pub(crate) mod closing;
 pub(crate) mod events;
@@ -158,28 +159,6 @@ fn is_told(rules: &Rules, bits: Bits, kind: Kind, layer: u32) -> bool
     bits.has(layer) && rules.want(layer, kind)
 }
 
-// Appends the note of one layer, if it is told.
-fn push_note(
-    alloc: Global,
-    notes: &mut Vec<Note>,
-    rules: &Rules,
-    forest: &Forest,
-    what: &Telling<'_>,
-    layer: u32,
-) -> Result<(), Fault>
-    requires there { layer < length rules.now }
-    ensures notes { OnOk result (map plain_note notes.new.items ≡ map plain_note notes.old.items
-        ++ (if hears rules.now what.now.bits.0 what.now.kind layer then told_to forest.now.spans what.now layer ∷ [] else [])) }
-    ensures memory { IfErr result (λ fault. fault ≡ Fault.Memory) }
-{
-    if !is_told(rules, what.bits, what.kind, layer) {
-        return Ok(());
-    }
-    let note = note(alloc, forest, what, layer)?;
-    notes.push(note)?;
-    Ok(())
-}
-
 // Appends the notes of the layers: one for each that admits what happened and wants the kind.
 fn push_told(
     alloc: Global,
@@ -193,7 +172,11 @@ fn push_told(
     ensures memory { IfErr result (λ fault. fault ≡ Fault.Memory) }
 {
     for layer in 0..rules.len() {
-        push_note(alloc, notes, rules, forest, what, layer as u32)?;
+        let layer = layer as u32;
+        if is_told(rules, what.bits, what.kind, layer) {
+            let note = note(alloc, forest, what, layer)?;
+            notes.push(note)?;
+        }
     }
     Ok(())
 }

@@ -1,16 +1,15 @@
 -- What the layers are told of one subject, as it can be said before the call is done: for the functions inside this crate.
-use Rattle.std.specs.Prelude.{ℕ, Bool, ◌&&◌, List, [], ◌∷◌, ◌++◌, length, map, filter, Option, Some, None}
+use Rattle.std.specs.Prelude.{ℕ, List, [], ◌∷◌, ◌++◌, map, filter, Option, Some, None}
 use Rattle.std.specs.List.{range_with_len}
-use Rattle.span_id.specs.Bits.{has_bit}
 use Rattle.span_id.specs.Meta.{plain_fields}
-use Rattle.span_layers.specs.declared.note.Kind.{Kind}
 use Rattle.span_layers.specs.Note.{PlainNote, Told}
-use Rattle.span_layers.specs.Filter.{Filter, layer_wants}
+use Rattle.span_layers.specs.Filter.{Filter}
 use Rattle.span_forest.specs.Spans.{Spans}
 use Rattle.span_forest.specs.Path.{path}
 use Rattle.span_core.specs.declared.notes.Telling.{Telling}
 use Rattle.span_core.specs.declared.notes.Subject.{Subject}
 use Rattle.span_core.specs.declared.notes.Subject.TheVariants.{Span, NewSpan, Event}
+use Rattle.span_core.specs.inside.Sound.{hears}
 use Rattle.span_core.specs.Happening.{contextual_span, id_at, path_at}
 
 -- the id that a layer is told
@@ -41,10 +40,6 @@ told_to spans what layer = record {
   fields = plain_fields what.fields.now;
   tail = tail_told what.subject;
 }
-
--- whether a layer is told: these bits have it, and it wants notes of this kind
-abbrev pub hears : List Filter → ℕ → Kind → ℕ → Bool
-hears rules bits kind layer = has_bit bits layer && layer_wants rules layer kind
 
 -- what the layers below this number are told, one note for each that is
 abbrev pub told_below : List Filter → Spans → Telling → ℕ → List PlainNote

@@ -1,9 +1,10 @@
 //! The notes of a new span, which are made before it is there.
 ghost use Rattle.std.specs.Prelude.{◌≡◌, ◌++◌, ◌∷◌, [], map, filter, length, string_bytes, IfOk, IfErr};
 ghost use Rattle.std.specs.List.{range_with_len};
+ghost use Rattle.span_layers.specs.declared.note.Kind.TheVariants.{OnNew};
 ghost use Rattle.span_layers.specs.Note.{plain_note};
 ghost use Rattle.span_core.specs.Happening.{path_at};
-ghost use Rattle.span_core.specs.inside.Sound.{is_told_new};
+ghost use Rattle.span_core.specs.inside.Sound.{hears};
 ghost use Rattle.span_core.specs.inside.Lent.{first_note_of};
 
 use crate::notes::{Subject, Telling, seen_at, told};
@@ -32,7 +33,7 @@ pub(crate) fn new_notes(
 ) -> Result<Vec<Note>, Fault>
     ensures notes { IfOk result (λ notes. map plain_note notes.items
         ≡ map (first_note_of forest.now.spans new.now)
-        (filter (is_told_new rules.now new.now.bits.0) (range_with_len 0 (length rules.now)))) }
+        (filter (hears rules.now new.now.bits.0 OnNew) (range_with_len 0 (length rules.now)))) }
     ensures memory { IfErr result (λ fault. fault ≡ Fault.Memory) }
 {
     let what = Telling {

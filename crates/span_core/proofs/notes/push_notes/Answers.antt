@@ -4,7 +4,7 @@ use Rattle.std.specs.List.{range_with_len}
 use Rattle.span_id.specs.Meta.{plain_fields}
 use Rattle.span_layers.specs.Note.{plain_note}
 use Rattle.span_core.specs.Happening.{at_span, note_of}
-use Rattle.span_core.specs.inside.Telling.{hears}
+use Rattle.span_core.specs.inside.Sound.{hears}
 use Rattle.span_core.proofs.notes.push_notes.Goals as goal
 
 pub returns-clause-notes : goal.returns-clause-notes
