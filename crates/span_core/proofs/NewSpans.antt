@@ -32,7 +32,7 @@ use Rattle.span_core.specs.Step.{ParentIsOpen, IsStep, is_wanted, made_node}
 use Rattle.span_core.specs.History.{issued}
 use Rattle.span_core.specs.NextId.{with_answer, slots_after, next_id}
 use Rattle.span_core.specs.Happening.{at_span, is_told, note_of, notes_of, notes_of_all, path_at}
-use Rattle.span_core.specs.inside.Sound.{first_note, is_told_new, IsSound, forest_with}
+use Rattle.span_core.specs.inside.Sound.{first_note, hears, IsSound, forest_with}
 use Rattle.span_core.proofs.Soundness.{sound_more}
 use Rattle.span_core.proofs.Worlds.{same_key}
 use Rattle.span_core.proofs.Telling.{one_happening}
@@ -101,7 +101,7 @@ and_first false b h = h
 -- the notes of a new span
 pub new_notes : (rules : List Filter) (worker id : ℕ) (spans new_spans : Spans) (node : Node) (fields : List KeyValue) (notes : List PlainNote)
     → find spans id ≡ None → ParentsOpen spans → ParentIsOpen spans node.parent → new_spans ≡ with_node spans id node
-    → notes ≡ map (first_note spans worker id node.parent node.name fields) (filter (is_told_new rules node.bits) (range_with_len 0 (length rules)))
+    → notes ≡ map (first_note spans worker id node.parent node.name fields) (filter (hears rules node.bits OnNew) (range_with_len 0 (length rules)))
     → notes ≡ notes_of_all rules worker (at_span new_spans OnNew id fields ∷ [])
 new_notes rules worker id spans new_spans node fields notes gone whole there are told =
     one_happening rules worker (at_span new_spans OnNew id fields) [] notes refl
@@ -113,9 +113,9 @@ new_notes rules worker id spans new_spans node fields notes gone whole there are
     bits_are : option_map_or (λ (n : Node). n.bits) (find (with_node spans id node) id) 0 ≡ node.bits
     bits_are = ap (λ (o : Option Node). option_map_or (λ n. n.bits) o 0) here
 
-    all : map (first_note spans worker id node.parent node.name fields) (filter (is_told_new rules node.bits) (range_with_len 0 (length rules))) ≡ notes_of rules worker (at_span (with_node spans id node) OnNew id fields)
+    all : map (first_note spans worker id node.parent node.name fields) (filter (hears rules node.bits OnNew) (range_with_len 0 (length rules))) ≡ notes_of rules worker (at_span (with_node spans id node) OnNew id fields)
     all =
-        map-filter-same (first_note spans worker id node.parent node.name fields) (note_of worker (at_span (with_node spans id node) OnNew id fields)) (is_told_new rules node.bits) (is_told rules (at_span (with_node spans id node) OnNew id fields))
+        map-filter-same (first_note spans worker id node.parent node.name fields) (note_of worker (at_span (with_node spans id node) OnNew id fields)) (hears rules node.bits OnNew) (is_told rules (at_span (with_node spans id node) OnNew id fields))
         (λ k. ap (λ b. has_bit b k && layer_wants rules k OnNew) (sym bits_are))
         (λ k told_k. let admitted = and_first (has_bit node.bits k) (layer_wants rules k OnNew) told_k in
         let p = sym (new_path spans id node k gone whole there admitted) in

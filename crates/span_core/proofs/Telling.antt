@@ -8,7 +8,7 @@ use Rattle.span_id.specs.Meta.{KeyValue, PlainMeta}
 use Rattle.span_layers.specs.Note.{PlainNote}
 use Rattle.span_layers.specs.Filter.{Filter}
 use Rattle.span_forest.specs.Spans.{Spans}
-use Rattle.span_core.specs.Happening.{Happening, is_told, note_of, notes_of, notes_of_all, close_of, event_at}
+use Rattle.span_core.specs.Happening.{Happening, notes_of, notes_of_all, close_of, event_at}
 
 range_more : (a n : ℕ) → range_with_len a (suc n) ≡ range_with_len a n ++ (a + n) ∷ []
 range_more a zero = ap (λ k. k ∷ []) (omega arith)
@@ -16,7 +16,7 @@ range_more a (suc n) =
     ap (λ xs. a ∷ xs) (range_more (a + 1) n ∙ ap (λ k. range_with_len (a + 1) n ++ k ∷ []) (omega arith))
 
 -- a layer more that is told, or isn't
-pub told_next : {X : Type 0} (f : ℕ → X) (p : ℕ → Bool) (n : ℕ) → map f (filter p (range_with_len 0 (n + 1))) ≡ map f (filter p (range_with_len 0 n)) ++ cond (p n) (f n ∷ []) []
+told_next : {X : Type 0} (f : ℕ → X) (p : ℕ → Bool) (n : ℕ) → map f (filter p (range_with_len 0 (n + 1))) ≡ map f (filter p (range_with_len 0 n)) ++ cond (p n) (f n ∷ []) []
 told_next f p n =
     let next : range_with_len 0 (n + 1) ≡ range_with_len 0 n ++ n ∷ [] =
     (let one : n + 1 ≡ suc n = omega arith in let same : 0 + n ≡ n = omega arith in
@@ -30,14 +30,15 @@ told_next f p n =
     by_case true = refl
     by_case false = refl
 
-pub told_more : (rules : List Filter) (what : Happening) (worker layer : ℕ) (first before after : List PlainNote)
-    → before ≡ first ++ map (note_of worker what) (filter (is_told rules what) (range_with_len 0 layer))
-    → after ≡ before ++ cond (is_told rules what layer) (note_of worker what layer ∷ []) []
-    → after ≡ first ++ map (note_of worker what) (filter (is_told rules what) (range_with_len 0 (layer + 1)))
-told_more rules what worker layer first before after so_far more =
-    more ∙ ap (λ xs. xs ++ cond (is_told rules what layer) (note_of worker what layer ∷ []) []) so_far
+-- a turn of a loop over the layers
+pub layer_more : (f : ℕ → PlainNote) (p : ℕ → Bool) (layer : ℕ) (first before after : List PlainNote)
+    → before ≡ first ++ map f (filter p (range_with_len 0 layer))
+    → after ≡ before ++ cond (p layer) (f layer ∷ []) []
+    → after ≡ first ++ map f (filter p (range_with_len 0 (layer + 1)))
+layer_more f p layer first before after so_far more =
+    more ∙ ap (λ xs. xs ++ cond (p layer) (f layer ∷ []) []) so_far
     ∙ append_assoc first _ _
-    ∙ ap (λ xs. first ++ xs) (sym (told_next (note_of worker what) (is_told rules what) layer))
+    ∙ ap (λ xs. first ++ xs) (sym (told_next f p layer))
 
 -- the notes of a call with one happening
 pub one_happening : (rules : List Filter) (worker : ℕ) (what : Happening) (first notes : List PlainNote) → first ≡ [] → notes ≡ first ++ notes_of rules worker what → notes ≡ notes_of_all rules worker (what ∷ [])
@@ -63,11 +64,3 @@ pub event_notes : (rules : List Filter) (worker : ℕ) (spans : Spans) (stack se
 event_notes rules worker spans stack seen bits admitted meta message fields notes same bits_are are =
     one_happening rules worker (event_at spans stack admitted meta.level message fields) [] notes refl
     (are ∙ (λ j. notes_of rules worker (event_at spans (same j) (bits_are j) meta.level message fields)))
-
--- a turn of a loop over the layers
-pub layer_more : (f : ℕ → PlainNote) (p : ℕ → Bool) (layer : ℕ) (before after : List PlainNote)
-    → before ≡ map f (filter p (range_with_len 0 layer))
-    → after ≡ before ++ cond (p layer) (f layer ∷ []) []
-    → after ≡ map f (filter p (range_with_len 0 (layer + 1)))
-layer_more f p layer before after so_far more =
-    more ∙ ap (λ xs. xs ++ cond (p layer) (f layer ∷ []) []) so_far ∙ sym (told_next f p layer)

@@ -2,3 +2,4 @@
 pub mod Sound
 pub mod Lent
 pub mod ClosingPaths
+pub mod Telling

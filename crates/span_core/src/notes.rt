@@ -1,17 +1,25 @@
-//! The notes that the layers are told of what happens to spans.
-ghost use Rattle.std.specs.Prelude.{◌≡◌, ◌<◌, ◌++◌, ◌∷◌, [], if◌then◌else◌, map, flat_map, length, IfOk, OnOk, IfErr};
+//! The notes that the layers are told of what happens.
+ghost use Rattle.std.specs.Prelude.{◌≡◌, ◌<◌, ◌++◌, ◌∷◌, [], if◌then◌else◌, map, flat_map, length, string_bytes, IfOk, OnOk, IfErr};
 ghost use Rattle.span_layers.specs.declared.note.Kind.TheVariants.{OnExit};
-ghost use Rattle.span_layers.specs.Note.{plain_note};
-ghost use Rattle.span_core.specs.inside.ClosingPaths.{IsChain};
+ghost use Rattle.span_layers.specs.Note.{plain_note, told_of};
 ghost use Rattle.span_id.specs.Meta.{plain_fields};
-ghost use Rattle.span_core.specs.Happening.{at_span, close_of, bits_in, is_told, note_of, notes_of, notes_of_all};
+ghost use Rattle.span_forest.specs.Path.{path};
+ghost use Rattle.span_core.specs.Happening.{at_span, close_of, bits_in, id_at, path_at, notes_of, notes_of_all};
+ghost use Rattle.span_core.specs.inside.ClosingPaths.{IsChain};
+ghost use Rattle.span_core.specs.inside.Sound.{hears};
+ghost use Rattle.span_core.specs.inside.Telling.{id_told, path_told, tail_told, told_to, told_below};
 
-pub(crate) mod closes;
+pub(crate) mod closing;
+pub(crate) mod events;
+pub(crate) mod new_spans;
 
-use closes::push_closes;
+use closing::push_closes;
+use events::contextual_span;
+use new_spans::new_path;
 use span_forest::Forest;
-use span_id::{Bits, Fault, Field, Id, copy_fields};
+use span_id::{Bits, Fault, Field, Id, Level, copy_fields, copy_text};
 use span_layers::{Kind, Note, Rules};
+use span_stack::SpanStack;
 use std::alloc::Global;
 
 /// What happened to a span: which worker caused it, its kind, the span, and the layers that admit the span.
@@ -23,59 +31,169 @@ pub(crate) struct Happening {
     pub(crate) bits: Bits,
 }
 
-// The note that a layer is told.
-fn span_note(
-    alloc: Global,
-    forest: &Forest,
-    what: &Happening,
-    fields: &[Field],
-    layer: u32,
-) -> Result<Note, Fault>
-    ensures note { IfOk result (λ note. plain_note note
-        ≡ note_of what.now.worker (at_span forest.now.spans what.now.kind what.now.id (plain_fields fields.now)) layer) }
+/// What the layers are told: which worker caused it, its kind, the layers that admit it, the fields, and its subject.
+#[derive(Clone, Copy)]
+pub(crate) struct Telling<'a> {
+    worker: u32,
+    kind: Kind,
+    bits: Bits,
+    fields: &'a [Field],
+    subject: Subject<'a>,
+}
+
+/// What the layers are told of.
+#[derive(Clone, Copy)]
+pub(crate) enum Subject<'a> {
+    /// A span that is open.
+    Span(Id),
+    /// A span that is to be made.
+    NewSpan {
+        id: Id,
+        parent: Option<Id>,
+        name: &'a str,
+    },
+    /// An event, told by a worker with this stack.
+    Event {
+        stack: &'a SpanStack,
+        level: Level,
+        message: &'a str,
+    },
+}
+
+/// What a layer sees of a subject: the number of the span's id, or 0, and the layer's path there.
+#[derive(Drop)]
+struct Seen {
+    id: u64,
+    path: Vec<String>,
+}
+
+// The path of a layer at a span that is open.
+fn path_of(forest: &Forest, layer: u32, id: Id) -> Result<Vec<String>, Fault>
+    ensures path { IfOk result (λ names. map string_bytes names.items ≡ path layer forest.now.spans id) }
     ensures memory { IfErr result (λ fault. fault ≡ Fault.Memory) }
 {
-    let Ok(path) = forest.path(layer, what.id) else {
-        return Err(Fault::Memory);
+    match forest.path(layer, id) {
+        Ok(path) => Ok(path),
+        Err(_) => Err(Fault::Memory),
+    }
+}
+
+// A span as a layer sees it, or that it sees none.
+fn seen_at(alloc: Global, forest: &Forest, layer: u32, place: Option<Id>) -> Result<Seen, Fault>
+    ensures id { IfOk result (λ seen. seen.id ≡ id_at place) }
+    ensures path { IfOk result (λ seen. map string_bytes seen.path.items ≡ path_at layer forest.now.spans place) }
+    ensures memory { IfErr result (λ fault. fault ≡ Fault.Memory) }
+{
+    let Some(id) = place else {
+        return Ok(Seen {
+            id: 0,
+            path: Vec::new(alloc),
+        });
     };
-    let fields = copy_fields(alloc, fields)?;
+    let path = path_of(forest, layer, id)?;
+    Ok(Seen { id: id.get(), path })
+}
+
+// A subject as a layer sees it.
+fn where_seen(
+    alloc: Global,
+    forest: &Forest,
+    subject: &Subject<'_>,
+    layer: u32,
+) -> Result<Seen, Fault>
+    ensures id { IfOk result (λ seen. seen.id ≡ id_told forest.now.spans subject.now layer) }
+    ensures path { IfOk result (λ seen. map string_bytes seen.path.items ≡ path_told forest.now.spans subject.now layer) }
+    ensures memory { IfErr result (λ fault. fault ≡ Fault.Memory) }
+{
+    match subject {
+        Subject::Span(id) => seen_at(alloc, forest, layer, Some(*id)),
+        Subject::NewSpan { id, parent, name } => {
+            let path = new_path(alloc, forest, layer, *parent, name)?;
+            Ok(Seen { id: id.get(), path })
+        }
+        Subject::Event { stack, .. } => {
+            let place = contextual_span(forest, stack, layer);
+            seen_at(alloc, forest, layer, place)
+        }
+    }
+}
+
+// An event's level and a copy of its message.
+fn tail(alloc: Global, subject: &Subject<'_>) -> Result<Option<(Level, String)>, Fault>
+    ensures tail { IfOk result (λ tail. told_of tail ≡ tail_told subject.now) }
+    ensures memory { IfErr result (λ fault. fault ≡ Fault.Memory) }
+{
+    match subject {
+        Subject::Event { level, message, .. } => {
+            let text = copy_text(alloc, message)?;
+            Ok(Some((*level, text)))
+        }
+        _ => Ok(None),
+    }
+}
+
+// The note that a layer is told.
+fn note(alloc: Global, forest: &Forest, what: &Telling<'_>, layer: u32) -> Result<Note, Fault>
+    ensures note { IfOk result (λ note. plain_note note ≡ told_to forest.now.spans what.now layer) }
+    ensures memory { IfErr result (λ fault. fault ≡ Fault.Memory) }
+{
+    let seen = where_seen(alloc, forest, &what.subject, layer)?;
+    let tail = tail(alloc, &what.subject)?;
+    let fields = copy_fields(alloc, what.fields)?;
     Ok(Note {
         layer,
         kind: what.kind,
         worker: what.worker,
-        id: what.id.get(),
-        path,
+        id: seen.id,
+        path: seen.path,
         fields,
-        tail: None,
+        tail,
     })
 }
 
-// Appends the note of one layer, if it is told.
-fn push_note(
+// Whether a layer is told: it admits what happened, and wants the kind.
+fn is_told(rules: &Rules, bits: Bits, kind: Kind, layer: u32) -> bool
+    requires { layer < length rules.now }
+    ensures { result ≡ hears rules.now bits.0 kind layer }
+{
+    bits.has(layer) && rules.want(layer, kind)
+}
+
+// Appends the notes of the layers: one for each that admits what happened and wants the kind.
+fn push_told(
     alloc: Global,
     notes: &mut Vec<Note>,
     rules: &Rules,
     forest: &Forest,
-    what: &Happening,
-    fields: &[Field],
-    layer: u32,
+    what: &Telling<'_>,
 ) -> Result<(), Fault>
-    requires there { layer < length rules.now }
-    requires bits { what.now.bits.0 ≡ bits_in forest.now.spans what.now.id }
     ensures notes { OnOk result (map plain_note notes.new.items ≡ map plain_note notes.old.items
-        ++ (if is_told rules.now (at_span forest.now.spans what.now.kind what.now.id (plain_fields fields.now)) layer
-        then note_of what.now.worker (at_span forest.now.spans what.now.kind what.now.id (plain_fields fields.now)) layer ∷ []
-        else [])) }
+        ++ told_below rules.now forest.now.spans what.now (length rules.now)) }
     ensures memory { IfErr result (λ fault. fault ≡ Fault.Memory) }
 {
-    if !(what.bits.has(layer) && rules.want(layer, what.kind)) {
-        return Ok(());
+    for layer in 0..rules.len() {
+        let layer = layer as u32;
+        if is_told(rules, what.bits, what.kind, layer) {
+            let note = note(alloc, forest, what, layer)?;
+            notes.push(note)?;
+        }
     }
-    let note = span_note(alloc, forest, what, fields, layer)?;
-    match notes.push(note) {
-        Ok(()) => Ok(()),
-        Err(_) => Err(Fault::Memory),
-    }
+    Ok(())
+}
+
+// The notes of the layers alone.
+fn told(
+    alloc: Global,
+    rules: &Rules,
+    forest: &Forest,
+    what: &Telling<'_>,
+) -> Result<Vec<Note>, Fault>
+    ensures notes { IfOk result (λ notes. map plain_note notes.items ≡ told_below rules.now forest.now.spans what.now (length rules.now)) }
+    ensures memory { IfErr result (λ fault. fault ≡ Fault.Memory) }
+{
+    let mut notes = Vec::new(alloc);
+    push_told(alloc, &mut notes, rules, forest, what)?;
+    Ok(notes)
 }
 
 // Appends the notes of what happened to a span: one for each layer that admits the span and wants the kind.
@@ -92,10 +210,14 @@ pub(crate) fn push_notes(
         ++ notes_of rules.now what.now.worker (at_span forest.now.spans what.now.kind what.now.id (plain_fields fields.now))) }
     ensures memory { IfErr result (λ fault. fault ≡ Fault.Memory) }
 {
-    for layer in 0..rules.len() {
-        push_note(alloc, notes, rules, forest, what, fields, layer as u32)?;
-    }
-    Ok(())
+    let what = Telling {
+        worker: what.worker,
+        kind: what.kind,
+        bits: what.bits,
+        fields,
+        subject: Subject::Span(what.id),
+    };
+    push_told(alloc, notes, rules, forest, &what)
 }
 
 // The notes of an exit: those of the exit itself, then those of the spans that it closes.

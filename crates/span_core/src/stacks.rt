@@ -10,9 +10,7 @@ pub(crate) fn empty_stacks(alloc: Global, workers: u32) -> Result<Vec<SpanStack>
     ensures stacks { IfOk result (λ stacks. ids_of_each stacks.items ≡ replicate workers []) }
     ensures memory { IfErr result (λ fault. fault ≡ Fault.Memory) }
 {
-    let Ok(mut stacks) = Vec::with_capacity(alloc, workers as usize) else {
-        return Err(Fault::Memory);
-    };
+    let mut stacks = Vec::with_capacity(alloc, workers as usize)?;
     for _ in 0..workers {
         stacks.push_reserved(SpanStack::new(alloc));
     }

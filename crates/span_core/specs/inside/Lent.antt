@@ -2,8 +2,8 @@
 use Rattle.std.specs.Prelude.{ℕ, List, string_bytes}
 use Rattle.span_forest.specs.Spans.{Spans}
 use Rattle.span_layers.specs.Note.{PlainNote}
-use Rattle.span_core.specs.declared.calls.events.Event.{Event}
-use Rattle.span_core.specs.declared.calls.spans.NewSpan.{NewSpan}
+use Rattle.span_core.specs.declared.notes.events.Event.{Event}
+use Rattle.span_core.specs.declared.notes.new_spans.NewSpan.{NewSpan}
 use Rattle.span_core.specs.inside.Sound.{first_note}
 use Rattle.span_id.specs.Meta.{plain_meta, plain_fields}
 use Rattle.span_outlet.specs.Request.{Request, new_span, event}

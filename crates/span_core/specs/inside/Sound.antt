@@ -3,6 +3,7 @@ use Rattle.std.specs.Prelude.{◌≡◌, ℕ, ◌<◌, Bool, true, ◌&&◌, Lis
 use Rattle.span_id.specs.declared.limits.Limits.{Limits}
 use Rattle.span_id.specs.Id.{slot_of, generation_of}
 use Rattle.span_id.specs.Bits.{has_bit}
+use Rattle.span_layers.specs.declared.note.Kind.{Kind}
 use Rattle.span_layers.specs.declared.note.Kind.TheVariants.{OnNew}
 use Rattle.span_id.specs.Meta.{KeyValue}
 use Rattle.span_layers.specs.Note.{PlainNote}
@@ -51,6 +52,6 @@ first_note spans worker id parent name fields layer = record {
   tail = None;
 }
 
--- the layers that are told of it
-abbrev pub is_told_new : List Filter → ℕ → ℕ → Bool
-is_told_new rules bits layer = has_bit bits layer && layer_wants rules layer OnNew
+-- whether a layer is told: these bits have it, and it wants notes of this kind
+abbrev pub hears : List Filter → ℕ → Kind → ℕ → Bool
+hears rules bits kind layer = has_bit bits layer && layer_wants rules layer kind

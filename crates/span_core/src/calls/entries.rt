@@ -13,7 +13,7 @@ ghost use Rattle.span_core.specs.Core.{IsAccepted, IsRefused};
 use crate::Core;
 use crate::calls::held::{held_span, open_bits};
 use crate::calls::room::ask;
-use crate::notes::closes::closing_lists_are_chains;
+use crate::notes::closing::closing_lists_are_chains;
 use crate::notes::{Happening, exit_notes, push_notes};
 use crate::stacks::{is_inside, pop_at, push_at, stays_inside};
 use span_forest::{Forest, Holder};

@@ -10,7 +10,7 @@ use crate::Core;
 use crate::calls::held::held_span;
 use crate::calls::names::are_keys;
 use crate::calls::room::ask;
-use crate::notes::closes::{closing_lists_are_chains, push_closes};
+use crate::notes::closing::{closing_lists_are_chains, push_closes};
 use crate::notes::{Happening, push_notes};
 use span_forest::Holder;
 use span_id::{Fault, Field, Id, copy_fields};

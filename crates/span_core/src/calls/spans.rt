@@ -1,39 +1,25 @@
 //! New spans.
-ghost use Rattle.std.specs.Prelude.{◌≡◌, ◌<◌, ◌++◌, ◌∷◌, [], true, false, if◌then◌else◌, map, filter, length, string_bytes, IfOk, OnOk, IfErr, IfSome, IfNone, OnSome, MatchOption, Some, None};
-ghost use Rattle.std.specs.List.{range_with_len};
-ghost use Rattle.span_layers.specs.Note.{plain_note};
+ghost use Rattle.std.specs.Prelude.{◌≡◌, ◌<◌, true, false, string_bytes, IfOk, OnOk, IfErr, IfSome, IfNone, OnSome, MatchOption, Some, None};
 ghost use Rattle.span_layers.specs.Filter.{admission_set};
 ghost use Rattle.span_forest.specs.Count.{reference_count};
 ghost use Rattle.span_id.specs.Meta.{plain_meta, plain_fields};
 ghost use Rattle.span_outlet.specs.Request.{new_span, made, request_of};
 ghost use Rattle.span_core.specs.Parent.{parent_found};
-ghost use Rattle.span_core.specs.Happening.{path_at};
 ghost use Rattle.span_core.specs.Step.{ParentIsOpen};
 ghost use Rattle.span_core.specs.NextId.{next_id};
-ghost use Rattle.span_core.specs.inside.Sound.{is_told_new};
-ghost use Rattle.span_core.specs.inside.Lent.{span_request, first_note_of};
+ghost use Rattle.span_core.specs.inside.Lent.{span_request};
 ghost use Rattle.span_core.specs.Core.{IsDue, IsAccepted, IsRefused, IsNotWanted};
 
 use crate::Core;
 use crate::calls::names::are_keys;
 use crate::calls::room::ask;
+use crate::notes::new_spans::{NewSpan, new_notes};
 use span_forest::Forest;
 use span_forest::laws::{each_slot_has_one_open_id, next_id_is_new, open_spans_are_counted};
-use span_id::{Bits, Fault, Field, Id, Meta, copy_fields, copy_text};
-use span_layers::{Admit, Kind, Note, Rules};
+use span_id::{Fault, Field, Id, Meta, copy_fields};
+use span_layers::Admit;
 use span_outlet::{Batch, Call, Outlet, ParentOf, Reply};
 use std::alloc::Global;
-
-/// A new span: which worker makes it, the id that it gets, the layers that admit it, its parent, and what the caller lent.
-#[derive(Clone, Copy)]
-pub(crate) struct NewSpan<'a> {
-    worker: u32,
-    id: Id,
-    bits: Bits,
-    parent: Option<Id>,
-    meta: &'a Meta,
-    fields: &'a [Field],
-}
 
 impl<O: Outlet, A: Admit> Core<O, A> {
     // The parent that a caller means.
@@ -159,92 +145,4 @@ fn parent_full(forest: &Forest, max_count: u32, parent: &Option<Id>) -> Option<b
             Some(span.count >= max_count)
         }
     }
-}
-
-// The path of a layer at a new span: that of its parent, and its own name.
-fn new_path(
-    alloc: Global,
-    forest: &Forest,
-    layer: u32,
-    parent: &Option<Id>,
-    name: &str,
-) -> Result<Vec<String>, Fault>
-    ensures path { IfOk result (λ path. map string_bytes path.items ≡ path_at layer forest.now.spans parent.now ++ name.now ∷ []) }
-    ensures memory { IfErr result (λ fault. fault ≡ Fault.Memory) }
-{
-    let mut path = match parent {
-        None => Vec::new(alloc),
-        Some(id) => match forest.path(layer, *id) {
-            Ok(path) => path,
-            Err(_) => return Err(Fault::Memory),
-        },
-    };
-    let name = copy_text(alloc, name)?;
-    match path.push(name) {
-        Ok(()) => Ok(path),
-        Err(_) => Err(Fault::Memory),
-    }
-}
-
-// The note that a layer is told of a new span.
-fn new_note(alloc: Global, forest: &Forest, new: &NewSpan<'_>, layer: u32) -> Result<Note, Fault>
-    ensures note { IfOk result (λ note. plain_note note ≡ first_note_of forest.now.spans new.now layer) }
-    ensures memory { IfErr result (λ fault. fault ≡ Fault.Memory) }
-{
-    let path = new_path(alloc, forest, layer, &new.parent, new.meta.name.as_str())?;
-    let fields = copy_fields(alloc, new.fields)?;
-    Ok(Note {
-        layer,
-        kind: Kind::OnNew,
-        worker: new.worker,
-        id: new.id.get(),
-        path,
-        fields,
-        tail: None,
-    })
-}
-
-// Appends the note of one layer, if it is told.
-fn push_new_note(
-    alloc: Global,
-    notes: &mut Vec<Note>,
-    rules: &Rules,
-    forest: &Forest,
-    new: &NewSpan<'_>,
-    layer: u32,
-) -> Result<(), Fault>
-    requires there { layer < length rules.now }
-    ensures notes { OnOk result (map plain_note notes.new.items ≡ map plain_note notes.old.items
-        ++ (if is_told_new rules.now new.now.bits.0 layer
-        then first_note_of forest.now.spans new.now layer ∷ []
-        else [])) }
-    ensures memory { IfErr result (λ fault. fault ≡ Fault.Memory) }
-{
-    if !(new.bits.has(layer) && rules.want(layer, Kind::OnNew)) {
-        return Ok(());
-    }
-    let note = new_note(alloc, forest, new, layer)?;
-    match notes.push(note) {
-        Ok(()) => Ok(()),
-        Err(_) => Err(Fault::Memory),
-    }
-}
-
-// The notes of a new span, before it is there: one for each layer that admits it and wants new spans.
-fn new_notes(
-    alloc: Global,
-    rules: &Rules,
-    forest: &Forest,
-    new: &NewSpan<'_>,
-) -> Result<Vec<Note>, Fault>
-    ensures notes { IfOk result (λ notes. map plain_note notes.items
-        ≡ map (first_note_of forest.now.spans new.now)
-        (filter (is_told_new rules.now new.now.bits.0) (range_with_len 0 (length rules.now)))) }
-    ensures memory { IfErr result (λ fault. fault ≡ Fault.Memory) }
-{
-    let mut notes = Vec::new(alloc);
-    for layer in 0..rules.len() {
-        push_new_note(alloc, &mut notes, rules, forest, new, layer as u32)?;
-    }
-    Ok(notes)
 }

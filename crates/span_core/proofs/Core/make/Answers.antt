@@ -16,7 +16,7 @@ use Rattle.span_outlet.specs.Request.{made}
 use Rattle.span_core.specs.Happening.{at_span, notes_of_all}
 use Rattle.span_core.specs.Step.{IsStep, is_wanted, made_node, ParentIsOpen}
 use Rattle.span_core.specs.History.{issued}
-use Rattle.span_core.specs.inside.Sound.{first_note, is_told_new}
+use Rattle.span_core.specs.inside.Sound.{first_note, hears}
 use Rattle.span_core.specs.NextId.{next_id}
 use Rattle.span_core.specs.inside.Lent.{span_request}
 use Rattle.span_core.specs.Core.{CoreView}
@@ -67,7 +67,7 @@ told g c =
     (gone g c) c.open_spans_are_counted.ensures.parent (parent_open g c) (ap (λ f. f.spans) (forest_is g c))
     (c.in_ok-notes.ensures.notes
     ∙ (λ j. map (first_note c.self.inside.forest.spans c.args.new.now.worker (same_id g c j) c.args.new.now.parent (string_bytes c.args.new.now.meta.now.name) (plain_fields c.args.new.now.fields.now))
-    (filter (is_told_new c.self.inside.rules (bits_are g c j)) (range_with_len 0 (length c.self.inside.rules)))))
+    (filter (hears c.self.inside.rules (bits_are g c j) OnNew) (range_with_len 0 (length c.self.inside.rules)))))
 
 pub invariant_of-self-2 : goal.invariant_of-self-2
 invariant_of-self-2 g c =

@@ -1,8 +1,16 @@
+use Rattle.std.proofs.Common.{◌≡◌, ℕ, ◌++◌, length, map, subst}
+use Rattle.std.specs.Prelude.{OnOk, filter}
+use Rattle.std.specs.List.{range_with_len}
 use Rattle.span_id.specs.Meta.{plain_fields}
-use Rattle.span_core.specs.Happening.{at_span}
-use Rattle.span_core.proofs.Telling.{told_more}
+use Rattle.span_layers.specs.Note.{plain_note}
+use Rattle.span_core.specs.Happening.{at_span, note_of}
+use Rattle.span_core.specs.inside.Sound.{hears}
 use Rattle.span_core.proofs.notes.push_notes.Goals as goal
 
-pub loop-layer-preserved : goal.loop-layer-preserved
-loop-layer-preserved c =
-    told_more c.args.rules.now (at_span c.args.forest.now.spans c.args.what.now.kind c.args.what.now.id (plain_fields c.args.fields.now)) c.args.what.now.worker _ _ _ _ c.loop-layer.invariant c.in_ok-push_note.ensures.notes
+pub returns-clause-notes : goal.returns-clause-notes
+returns-clause-notes c =
+    let what = at_span c.args.forest.now.spans c.args.what.now.kind c.args.what.now.id (plain_fields c.args.fields.now) in
+    subst
+    (λ (bits : ℕ). OnOk c.push_told.result (map plain_note c.push_told.new.notes.items ≡ map plain_note c.args.notes.now.items
+    ++ map (note_of c.args.what.now.worker what) (filter (hears c.args.rules.now bits c.args.what.now.kind) (range_with_len 0 (length c.args.rules.now)))))
+    c.requires.bits c.push_told.ensures.notes

@@ -4,7 +4,7 @@ use Rattle.std.proofs.lemmas.Option.{IfSome_then}
 use Rattle.span_layers.specs.Note.{plain_note}
 use Rattle.span_core.specs.inside.ClosingPaths.{note_in, place_in}
 use Rattle.span_core.proofs.ClosingPaths.{tells_below}
-use Rattle.span_core.proofs.notes.closes.push_close_note.Goals as goal
+use Rattle.span_core.proofs.notes.closing.push_close_note.Goals as goal
 
 pub close_note-requires-clause-below : goal.close_note-requires-clause-below
 close_note-requires-clause-below c =

@@ -1,6 +1,6 @@
 use Rattle.std.proofs.Common.{◌≡◌, length, take, map, vec_len}
 use Rattle.std.specs.Prelude.{vec_capacity, string_bytes}
-use Rattle.span_core.proofs.notes.closes.copy_texts.Given as goal
+use Rattle.span_core.proofs.notes.closing.copy_texts.Given as goal
 
 abbrev pub invariant-loop-text : goal.invariant-loop-text
 invariant-loop-text l = record {

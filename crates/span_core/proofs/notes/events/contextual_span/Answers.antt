@@ -4,7 +4,7 @@ use Rattle.std.proofs.lemmas.Iterator.Consumers.{YieldsList-from_first}
 use Rattle.span_id.specs.Bits.{has_bit}
 use Rattle.span_stack.specs.Stack.{walk}
 use Rattle.span_core.specs.Happening.{bits_in}
-use Rattle.span_core.proofs.calls.events.contextual_span.Goals as goal
+use Rattle.span_core.proofs.notes.events.contextual_span.Goals as goal
 
 as_it_is : (o : Option ℕ) → o ≡ option_map (λ x. x) o
 as_it_is None = refl

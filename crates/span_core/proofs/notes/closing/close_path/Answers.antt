@@ -4,7 +4,7 @@ use Rattle.std.proofs.lemmas.Result.{IfOk-weaker}
 use Rattle.span_layers.specs.Note.{plain_note}
 use Rattle.span_forest.specs.Path.{path}
 use Rattle.span_core.specs.inside.ClosingPaths.{TellsBelow}
-use Rattle.span_core.proofs.notes.closes.close_path.Goals as goal
+use Rattle.span_core.proofs.notes.closing.close_path.Goals as goal
 
 pub returns-in-Some-clause-path : goal.returns-in-Some-clause-path
 returns-in-Some-clause-path c =

@@ -3,7 +3,7 @@ use Rattle.std.specs.Prelude.{flat_map}
 use Rattle.span_layers.specs.Note.{plain_note}
 use Rattle.span_core.specs.Happening.{close_of, notes_of}
 use Rattle.span_core.specs.inside.ClosingPaths.{IsChain, AreBelowFirst}
-use Rattle.span_core.proofs.notes.closes.push_closes.Given as goal
+use Rattle.span_core.proofs.notes.closing.push_closes.Given as goal
 
 -- the notes so far, with those of the spans that are left, are those of all; the places are at the next span
 abbrev pub invariant-loop-id : goal.invariant-loop-id

@@ -1,5 +1,5 @@
 use Rattle.span_core.proofs.ClosingPaths.{closing_chain}
-use Rattle.span_core.proofs.notes.closes.closing_lists_are_chains.Goals as goal
+use Rattle.span_core.proofs.notes.closing.closing_lists_are_chains.Goals as goal
 
 pub returns : goal.returns
 returns c =

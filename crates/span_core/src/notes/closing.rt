@@ -10,6 +10,7 @@ ghost use Rattle.span_forest.specs.Release.{closing_list};
 ghost use Rattle.span_core.specs.Happening.{close_of, is_told, note_of, notes_of};
 ghost use Rattle.span_core.specs.inside.ClosingPaths.{IsChain, TellsBelow, IsBelow, note_in, place_in, AreBelow};
 
+use crate::notes::{is_told, path_of};
 use span_forest::laws::{
     closing_list_begins_the_walk, held_ids_are_open, open_spans_are_counted, walks_end,
 };
@@ -75,9 +76,7 @@ fn no_places(alloc: Global, layers: usize) -> Result<Vec<Option<usize>>, Fault>
     ensures places { IfOk result (λ places. places.items ≡ replicate layers None) }
     ensures memory { IfErr result (λ fault. fault ≡ Fault.Memory) }
 {
-    let Ok(mut places) = Vec::with_capacity(alloc, layers) else {
-        return Err(Fault::Memory);
-    };
+    let mut places = Vec::with_capacity(alloc, layers)?;
     for _ in 0..layers {
         places.push_reserved(None);
     }
@@ -132,15 +131,13 @@ fn push_close_note(
         else places.old.items)) }
     ensures memory { IfErr result (λ fault. fault ≡ Fault.Memory) }
 {
-    if !(what.span.bits.has(layer) && rules.want(layer, Kind::OnClose)) {
+    if !is_told(rules, what.span.bits, Kind::OnClose, layer) {
         return Ok(());
     }
     let place = notes.len();
     let before = note_at(notes.as_slice(), places[layer as usize]);
     let note = close_note(alloc, forest, before, what, layer)?;
-    if notes.push(note).is_err() {
-        return Err(Fault::Memory);
-    }
+    notes.push(note)?;
     places[layer as usize] = Some(place);
     Ok(())
 }
@@ -193,10 +190,7 @@ fn close_path(
     if let Some(note) = before {
         return path_above(alloc, note);
     }
-    match forest.path(layer, id) {
-        Ok(path) => Ok(path),
-        Err(_) => Err(Fault::Memory),
-    }
+    path_of(forest, layer, id)
 }
 
 // The path of a note without its last name.
@@ -214,9 +208,7 @@ fn copy_texts(alloc: Global, texts: &[String]) -> Result<Vec<String>, Fault>
     ensures texts { IfOk result (λ copies. map string_bytes copies.items ≡ map string_bytes texts.now) }
     ensures memory { IfErr result (λ fault. fault ≡ Fault.Memory) }
 {
-    let Ok(mut copies) = Vec::with_capacity(alloc, texts.len()) else {
-        return Err(Fault::Memory);
-    };
+    let mut copies = Vec::with_capacity(alloc, texts.len())?;
     for text in texts {
         let copy = copy_text(alloc, text.as_str())?;
         copies.push_reserved(copy);

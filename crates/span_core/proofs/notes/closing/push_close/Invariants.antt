@@ -4,7 +4,7 @@ use Rattle.std.specs.List.{range_with_len}
 use Rattle.span_layers.specs.Note.{plain_note}
 use Rattle.span_core.specs.Happening.{close_of, is_told, note_of}
 use Rattle.span_core.specs.inside.ClosingPaths.{AreBelow, up_to}
-use Rattle.span_core.proofs.notes.closes.push_close.Given as goal
+use Rattle.span_core.proofs.notes.closing.push_close.Given as goal
 
 -- the notes of the layers so far, whose places are at the parent
 abbrev pub invariant-loop-layer : goal.invariant-loop-layer
