@@ -14,7 +14,7 @@ use Rattle.span_forest.specs.Spans.{Spans, find, IsOpen, parent_of}
 use Rattle.span_forest.specs.Walk.{walk, walk_within, Ends}
 use Rattle.span_forest.specs.Path.{path, names_for, name_for}
 use Rattle.span_forest.proofs.Ranks.{walk_more}
-use Rattle.span_core.specs.Step.{ParentIsOpen}
+use Rattle.span_core.specs.Step.{is_open_parent}
 use Rattle.span_core.specs.Happening.{bits_in, close_of, is_told, note_of, path_at}
 use Rattle.span_core.specs.inside.ClosingPaths.{GoesOn, IsChain, TellsBelow, IsBelow, AreBelow, AreBelowFirst, note_in, place_in, up_to}
 use Rattle.span_core.proofs.NewSpans.{ParentsOpen, parent_is_open, path_is}
@@ -25,7 +25,7 @@ walk_up zero spans id ends = absurd ends
 walk_up (suc n) spans id ends = ap (λ ids. id ∷ ids) (sym (walk_more n spans (parent_of spans id) ends))
 
 -- the first part of a walk is a chain
-chain_of_walk : (spans : Spans) → ((id : ℕ) → IsOpen spans id → Ends (length spans) spans (Some id)) → ParentsOpen spans → (n : ℕ) (o : Option ℕ) → ParentIsOpen spans o
+chain_of_walk : (spans : Spans) → ((id : ℕ) → IsOpen spans id → Ends (length spans) spans (Some id)) → ParentsOpen spans → (n : ℕ) (o : Option ℕ) → is_open_parent spans o ≡ true
     → GoesOn o (take n (walk_within (length spans) spans o)) × IsChain spans (take n (walk_within (length spans) spans o))
 chain_of_walk spans ends parents zero o there = (tt, tt)
 chain_of_walk spans ends parents (suc n) None there = (tt, tt)

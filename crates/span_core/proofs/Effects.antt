@@ -17,7 +17,7 @@ use Rattle.span_forest.specs.Release.{without_holder, closing_list, spans_left}
 use Rattle.span_stack.specs.Stack.{has}
 use Rattle.span_core.specs.World.{World, IsWorld, stack_of, workers_inside}
 use Rattle.span_outlet.specs.Request.{Request, new_span, clone_span, enter, exit, try_close, record_fields, event, Answer, made, cloned, entered, exited, released, recorded, told}
-use Rattle.span_core.specs.Step.{Changes, ParentIsOpen, stays_inside}
+use Rattle.span_core.specs.Step.{Changes, is_open_parent, stays_inside}
 use Rattle.span_core.specs.History.{id_issued}
 use Rattle.span_core.specs.ClosedSpans.{closed_by, spans_before_closing, gives_back}
 
@@ -87,7 +87,7 @@ inside_one stacks worker id there =
       | inr t ↦ absurd (false≢true (ap (λ stack. has stack id) (sym (get_or_past stacks worker [] t)) ∙ there))
     ]
 
-parent_open : (spans : Spans) (o : Option ℕ) → ParentIsOpen spans o → (p : ℕ) → o ≡ Some p → IsOpen spans p
+parent_open : (spans : Spans) (o : Option ℕ) → is_open_parent spans o ≡ true → (p : ℕ) → o ≡ Some p → IsOpen spans p
 parent_open spans None h p e = cc
 parent_open spans (Some q) h p e = (let same : q ≡ p = cc in rw (← same) h)
 

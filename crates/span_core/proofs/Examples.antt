@@ -185,7 +185,7 @@ legal : IsLegal [] 1 (made_a ∷ batch (try_close 0 1) (released (1 ∷ [])) ∷
 legal =
     more (batch (try_close 0 1) (released (1 ∷ [])))
     (more made_a none
-    (record { within = omega arith; changes = record { in_layout = (omega arith, omega arith); not_issued = refl; wanted = refl; parent_open = tt; after = refl }; notes_are = refl }) refl)
+    (record { within = omega arith; changes = record { in_layout = (omega arith, omega arith); not_issued = refl; wanted = refl; parent_open = refl; after = refl }; notes_are = refl }) refl)
     (record { within = omega arith; changes = record { held = omega arith; closed_are = refl; after = refl }; notes_are = refl })
     refl
 

@@ -28,7 +28,7 @@ use Rattle.span_forest.proofs.Slotted.{issue_more}
 use Rattle.span_core.specs.World.{IsWorld}
 use Rattle.span_outlet.specs.Request.{Request, new_span, made}
 use Rattle.span_outlet.specs.Batch.{PlainBatch}
-use Rattle.span_core.specs.Step.{ParentIsOpen, IsStep, is_wanted, made_node}
+use Rattle.span_core.specs.Step.{is_open_parent, IsStep, is_wanted, made_node}
 use Rattle.span_core.specs.History.{issued}
 use Rattle.span_core.specs.NextId.{with_answer, slots_after, next_id}
 use Rattle.span_core.specs.Happening.{at_span, is_told, note_of, notes_of, notes_of_all, path_at}
@@ -48,15 +48,15 @@ length-with_node (e ∷ es) id node =
 apart : (spans : Spans) (id j : ℕ) → find spans id ≡ None → IsOpen spans j → j ≢ id
 apart spans id j gone there same = absurd (false≢true (sym (ap is_some gone) ∙ subst (λ k. IsOpen spans k) same there))
 
-pub parent_is_open : (spans : Spans) (j : ℕ) → ParentsOpen spans → ParentIsOpen spans (parent_of spans j)
+pub parent_is_open : (spans : Spans) (j : ℕ) → ParentsOpen spans → is_open_parent spans (parent_of spans j) ≡ true
 parent_is_open spans j whole = by_case (parent_of spans j) refl
   where
-    by_case : (o : Option ℕ) → parent_of spans j ≡ o → ParentIsOpen spans o
-    by_case None is = tt
+    by_case : (o : Option ℕ) → parent_of spans j ≡ o → is_open_parent spans o ≡ true
+    by_case None is = refl
     by_case (Some p) is = whole j p is
 
 -- what stands above a span that was there before is as before
-names_before : (n : ℕ) (spans : Spans) (id : ℕ) (node : Node) (layer : ℕ) → find spans id ≡ None → ParentsOpen spans → (o : Option ℕ) → ParentIsOpen spans o
+names_before : (n : ℕ) (spans : Spans) (id : ℕ) (node : Node) (layer : ℕ) → find spans id ≡ None → ParentsOpen spans → (o : Option ℕ) → is_open_parent spans o ≡ true
     → names_for layer (with_node spans id node) (walk_within n (with_node spans id node) o) ≡ names_for layer spans (walk_within n spans o)
 names_before n spans id node layer gone whole None there = refl
 names_before zero spans id node layer gone whole (Some j) there = refl
@@ -70,7 +70,7 @@ path_is spans layer None = refl
 path_is spans layer (Some p) = refl
 
 -- the path of a new span is that of its parent, and its own name
-pub new_path : (spans : Spans) (id : ℕ) (node : Node) (layer : ℕ) → find spans id ≡ None → ParentsOpen spans → ParentIsOpen spans node.parent → has_bit node.bits layer ≡ true
+pub new_path : (spans : Spans) (id : ℕ) (node : Node) (layer : ℕ) → find spans id ≡ None → ParentsOpen spans → is_open_parent spans node.parent ≡ true → has_bit node.bits layer ≡ true
     → path layer (with_node spans id node) id ≡ path_at layer spans node.parent ++ node.name ∷ []
 new_path spans id node layer gone whole there admitted =
     let here : find (with_node spans id node) id ≡ Some node = find-with_same spans id node gone in
@@ -100,7 +100,7 @@ and_first false b h = h
 
 -- the notes of a new span
 pub new_notes : (rules : List Filter) (worker id : ℕ) (spans new_spans : Spans) (node : Node) (fields : List KeyValue) (notes : List PlainNote)
-    → find spans id ≡ None → ParentsOpen spans → ParentIsOpen spans node.parent → new_spans ≡ with_node spans id node
+    → find spans id ≡ None → ParentsOpen spans → is_open_parent spans node.parent ≡ true → new_spans ≡ with_node spans id node
     → notes ≡ map (first_note spans worker id node.parent node.name fields) (filter (hears rules node.bits OnNew) (range_with_len 0 (length rules)))
     → notes ≡ notes_of_all rules worker (at_span new_spans OnNew id fields ∷ [])
 new_notes rules worker id spans new_spans node fields notes gone whole there are told =
@@ -149,7 +149,7 @@ only_one id x h = same_key id x (sym (or_none (id == x)) ∙ h)
     or_none false = refl
 
 pub step_new : (rules : List Filter) (ids : List ℕ) (spans new_spans : Spans) (stacks : List (List ℕ)) (worker id : ℕ) (meta : PlainMeta) (fields : List KeyValue) (parent : Option ℕ) (notes : List PlainNote)
-    → worker < length stacks → IsId id → stands_in id ids ≡ false → is_wanted rules meta ≡ true → ParentIsOpen spans parent
+    → worker < length stacks → IsId id → stands_in id ids ≡ false → is_wanted rules meta ≡ true → is_open_parent spans parent ≡ true
     → new_spans ≡ with_node spans id (made_node rules meta fields parent)
     → notes ≡ notes_of_all rules worker (at_span new_spans OnNew id fields ∷ [])
     → IsStep rules ids (record { spans = spans; stacks = stacks }) (new_span worker meta fields parent) (made id) notes (record { spans = new_spans; stacks = stacks })
@@ -190,7 +190,7 @@ pub sound_new : (limits : Limits) (rules : List Filter) (forest new_forest : For
     → (generation_of id < slice_index forest.given (slot_of id) → ⊥)
     → generation_of id < slice_index new_forest.given (slot_of id)
     → is_wanted rules meta ≡ true
-    → ParentIsOpen forest.spans parent
+    → is_open_parent forest.spans parent ≡ true
     → find forest.spans id ≡ None
     → new_forest ≡ with_span forest id (made_node rules meta fields parent)
     → notes ≡ notes_of_all rules worker (at_span new_forest.spans OnNew id fields ∷ [])

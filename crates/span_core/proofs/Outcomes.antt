@@ -1,7 +1,7 @@
 -- The relations that the calls' contracts state leave no choice: what they allow is the outcome.
-use Rattle.std.proofs.Common.{◌≡◌, ℕ, ◌<◌, Bool, true, false, not, ◌&&◌, if◌then◌else◌, List, length, Option, Some, None, Decides, refl, sym, ap, ◌∙◌}
+use Rattle.std.proofs.Common.{◌≡◌, ℕ, ◌<◌, Bool, true, false, not, ◌&&◌, if◌then◌else◌, List, length, Option, Some, None, refl, sym, ap, ◌∙◌}
 use Rattle.std.specs.Prelude.{is_some, IfSome, slice_index}
-use Rattle.std.proofs.lemmas.Bool.{true≢false, false_from_ne_true}
+use Rattle.std.proofs.lemmas.Bool.{true≢false}
 use Rattle.span_id.specs.declared.fault.Fault.{Fault}
 use Rattle.span_id.specs.declared.fault.Fault.TheVariants.{Unknown, CountFull, Full, NotEntered, TooManyLayers, BadName, Backlog, BadLimits, Memory}
 use Rattle.span_id.specs.Id.{IsId}
@@ -13,20 +13,19 @@ use Rattle.span_outlet.specs.Request.{Request, new_span, clone_span, enter, exit
 use Rattle.span_core.specs.Happening.{id_at}
 use Rattle.span_core.specs.Step.{Changes, IsStep}
 use Rattle.span_core.specs.History.{issued, id_issued}
-use Rattle.span_core.specs.Core.{CoreView, AreNamed, is_wanted_call, IsKnown, MayCount, MaySend, HasSlot, IsInside, IsDue, WhyRefused, times_after, IsRefused, IsAccepted, IsNotWanted}
-use Rattle.span_core.specs.Core.{IsLate}
-use Rattle.span_core.specs.Outcome.{Outcome, refused, not_wanted, accepted, is_named, is_known, may_count, may_send, id_after, has_slot, is_inside, answer_to, world_after, notes_after, core_after, done, outcome, TakesNextId, IsNextIdNew, IsAllowed}
-use Rattle.span_core.proofs.Deciding.{same, decides_named, decides_known, decides_counts, decides_slot, decides_inside}
+use Rattle.span_core.specs.Core.{CoreView, is_named, is_wanted_call, is_known, may_count, may_send, id_after, has_slot, is_inside, IsDue, WhyRefused, IsLate, times_after, IsRefused, IsAccepted, IsNotWanted}
+use Rattle.span_core.specs.Outcome.{Outcome, refused, not_wanted, accepted, answer_to, world_after, notes_after, core_after, done, outcome, TakesNextId, IsNextIdNew, IsAllowed}
+use Rattle.span_core.proofs.Deciding.{held_from}
 
 -- ---- the conditions in their order
 
-passes : (b : Bool) {P : Type 0} → Decides b P → P → (x y : Outcome) → (if not b then x else y) ≡ y
-passes true d h x y = refl
-passes false d h x y = absurd (true≢false (sym (d.1 h)))
+passes : (b : Bool) → b ≡ true → (x y : Outcome) → (if not b then x else y) ≡ y
+passes true h x y = refl
+passes false h x y = absurd (true≢false (sym h))
 
-fails : (b : Bool) {P : Type 0} → Decides b P → (P → ⊥) → (x y : Outcome) → (if not b then x else y) ≡ x
-fails true d h x y = absurd (h (d.0 refl))
-fails false d h x y = refl
+fails : (b : Bool) → b ≡ false → (x y : Outcome) → (if not b then x else y) ≡ x
+fails true h x y = absurd (true≢false h)
+fails false h x y = refl
 
 -- what is done, from the answer on, from the next world on, and from the notes on
 abbrev noted : CoreView → Request → Answer → World → List PlainNote → Outcome
@@ -54,23 +53,23 @@ when_wanted core request = if not (is_known core request) then refused Unknown e
 abbrev when_named : CoreView → Request → Outcome
 when_named core request = if not (is_wanted_call core request) then not_wanted else when_wanted core request
 
-past_named : (core : CoreView) (request : Request) → AreNamed request → outcome core request ≡ when_named core request
-past_named core request h = passes (is_named request) (decides_named request) h (refused BadName) (when_named core request)
+past_named : (core : CoreView) (request : Request) → is_named request ≡ true → outcome core request ≡ when_named core request
+past_named core request h = passes (is_named request) h (refused BadName) (when_named core request)
 
 past_wanted : (core : CoreView) (request : Request) → is_wanted_call core request ≡ true → when_named core request ≡ when_wanted core request
-past_wanted core request h = passes (is_wanted_call core request) (same (is_wanted_call core request)) h not_wanted (when_wanted core request)
+past_wanted core request h = passes (is_wanted_call core request) h not_wanted (when_wanted core request)
 
-past_known : (core : CoreView) (request : Request) → IsKnown core request → when_wanted core request ≡ when_known core request
-past_known core request h = passes (is_known core request) (decides_known core request) h (refused Unknown) (when_known core request)
+past_known : (core : CoreView) (request : Request) → is_known core request ≡ true → when_wanted core request ≡ when_known core request
+past_known core request h = passes (is_known core request) h (refused Unknown) (when_known core request)
 
-past_counts : (core : CoreView) (request : Request) → MayCount core request × MaySend core → when_known core request ≡ when_counts core request
-past_counts core request h = passes (may_count core request && may_send core) (decides_counts core request) h (refused CountFull) (when_counts core request)
+past_counts : (core : CoreView) (request : Request) → (may_count core request && may_send core) ≡ true → when_known core request ≡ when_counts core request
+past_counts core request h = passes (may_count core request && may_send core) h (refused CountFull) (when_counts core request)
 
-past_slot : (core : CoreView) (request : Request) → HasSlot core request → when_counts core request ≡ when_slot core request
-past_slot core request h = passes (has_slot core request) (decides_slot core request) h (refused Full) (when_slot core request)
+past_slot : (core : CoreView) (request : Request) → has_slot core request ≡ true → when_counts core request ≡ when_slot core request
+past_slot core request h = passes (has_slot core request) h (refused Full) (when_slot core request)
 
-past_inside : (core : CoreView) (request : Request) → IsInside core request → when_slot core request ≡ done core request
-past_inside core request h = passes (is_inside core request) (decides_inside core request) h (refused NotEntered) (done core request)
+past_inside : (core : CoreView) (request : Request) → is_inside core request ≡ true → when_slot core request ≡ done core request
+past_inside core request h = passes (is_inside core request) h (refused NotEntered) (done core request)
 
 -- nothing stands against the call: it is done
 pub due_outcome : (core : CoreView) (request : Request) → IsDue core request → outcome core request ≡ done core request
@@ -170,21 +169,21 @@ refused_outcome old request fault new call judged = (by_fault fault call.why jud
     quiet _ judged = refl
 
     by_fault : (fault : Fault) → WhyRefused old request fault → (IsLate fault → ⊥) → outcome old request ≡ refused fault
-    by_fault BadName why judged = fails (is_named request) (decides_named request) why (refused BadName) (when_named old request)
-    by_fault Unknown why judged = past_named old request why.0 ∙ past_wanted old request why.1 ∙ fails (is_known old request) (decides_known old request) why.2 (refused Unknown) (when_known old request)
+    by_fault BadName why judged = fails (is_named request) why (refused BadName) (when_named old request)
+    by_fault Unknown why judged = past_named old request why.0 ∙ past_wanted old request why.1 ∙ fails (is_known old request) why.2 (refused Unknown) (when_known old request)
     by_fault CountFull why judged =
         past_named old request why.0 ∙ past_wanted old request why.1 ∙ past_known old request why.2
-        ∙ fails (may_count old request && may_send old) (decides_counts old request) why.3 (refused CountFull) (when_counts old request)
+        ∙ fails (may_count old request && may_send old) why.3 (refused CountFull) (when_counts old request)
     by_fault Full why judged =
         past_named old request why.0 ∙ past_wanted old request why.1 ∙ past_known old request why.2 ∙ past_counts old request why.3
-        ∙ fails (has_slot old request) (decides_slot old request) why.4 (refused Full) (when_slot old request)
+        ∙ fails (has_slot old request) why.4 (refused Full) (when_slot old request)
     by_fault NotEntered why judged = only_exits request why
       where
         only_exits : (request : Request) → WhyRefused old request NotEntered → outcome old request ≡ refused NotEntered
         only_exits (exit worker id) why =
-            past_named old (exit worker id) why.0 ∙ past_wanted old (exit worker id) refl ∙ past_known old (exit worker id) why.1 ∙ past_counts old (exit worker id) why.2 ∙ past_slot old (exit worker id) tt
-            ∙ fails (is_inside old (exit worker id)) (decides_inside old (exit worker id)) why.3 (refused NotEntered) (done old (exit worker id))
-        only_exits _ why = absurd (why.3 tt)
+            past_named old (exit worker id) why.0 ∙ past_wanted old (exit worker id) refl ∙ past_known old (exit worker id) why.1 ∙ past_counts old (exit worker id) why.2 ∙ past_slot old (exit worker id) refl
+            ∙ fails (is_inside old (exit worker id)) why.3 (refused NotEntered) (done old (exit worker id))
+        only_exits _ why = absurd (true≢false why.3)
     by_fault Backlog why judged = absurd (judged tt)
     by_fault Memory why judged = absurd (judged tt)
     by_fault TooManyLayers why judged = absurd why
@@ -202,13 +201,13 @@ late_outcome old request fault new call late = by_fault fault call.why late
 -- a span that no layer wants
 pub not_wanted_outcome : (old : CoreView) (request : Request) (new : CoreView) → IsNotWanted old request new → (outcome old request ≡ not_wanted) × (new ≡ old)
 not_wanted_outcome old request new call =
-    (past_named old request call.named ∙ fails (is_wanted_call old request) (same (is_wanted_call old request)) (λ yes. true≢false (sym yes ∙ call.not_wanted)) not_wanted (when_wanted old request), call.same)
+    (past_named old request call.named ∙ fails (is_wanted_call old request) call.not_wanted not_wanted (when_wanted old request), call.same)
 
 -- ---- the relations allow the outcome
 
-allowed_by : (b : Bool) {P : Type 0} (core : CoreView) (request : Request) → Decides b P → (x y : Outcome) → ((P → ⊥) → IsAllowed core request x) → (P → IsAllowed core request y) → IsAllowed core request (if not b then x else y)
-allowed_by true core request d x y failing holding = holding (d.0 refl)
-allowed_by false core request d x y failing holding = failing (λ h. true≢false (sym (d.1 h)))
+allowed_by : (b : Bool) (core : CoreView) (request : Request) (x y : Outcome) → (b ≡ false → IsAllowed core request x) → (b ≡ true → IsAllowed core request y) → IsAllowed core request (if not b then x else y)
+allowed_by true core request x y failing holding = holding refl
+allowed_by false core request x y failing holding = failing refl
 
 at_some : (Q : ℕ → Type 0) (o : Option ℕ) → is_some o ≡ true → IfSome o Q → Q (id_at o)
 at_some Q None some h = absurd (true≢false (sym some))
@@ -224,11 +223,11 @@ done_changes : (core : CoreView) (request : Request) → IsDue core request → 
 done_changes core (new_span worker meta fields parent) due new =
     let id_is = at_some (λ id. IsId id × (stands_in id (issued core.sent) ≡ false)) (id_after core) due.slot new in
     record { in_layout = id_is.0; not_issued = id_is.1; wanted = due.wanted; parent_open = due.known; after = refl }
-done_changes core (clone_span worker id) due new = record { held = due.known; after = refl }
-done_changes core (enter worker id) due new = record { held = due.known; first_is = refl; after = refl }
+done_changes core (clone_span worker id) due new = record { held = held_from core.world.spans id due.known; after = refl }
+done_changes core (enter worker id) due new = record { held = held_from core.world.spans id due.known; first_is = refl; after = refl }
 done_changes core (exit worker id) due new = record { inside = due.inside; closed_are = refl; after = refl }
-done_changes core (try_close worker id) due new = record { held = due.known; closed_are = refl; after = refl }
-done_changes core (record_fields worker id fields) due new = record { held = due.known; after = refl }
+done_changes core (try_close worker id) due new = record { held = held_from core.world.spans id due.known; closed_are = refl; after = refl }
+done_changes core (record_fields worker id fields) due new = record { held = held_from core.world.spans id due.known; after = refl }
 done_changes core (event worker meta message fields) due new = refl
 
 done_takes : (core : CoreView) (request : Request) → IsDue core request → TakesNextId core (answer_to core.world (id_at (id_after core)) request)
@@ -263,16 +262,16 @@ done_allowed core request within due new = (
 -- as it is in every sound core
 pub outcome_allowed : (core : CoreView) (request : Request) → worker_of request < length core.world.stacks → IsNextIdNew core → IsAllowed core request (outcome core request)
 outcome_allowed core request within new =
-    allowed_by (is_named request) core request (decides_named request) (refused BadName) (when_named core request)
+    allowed_by (is_named request) core request (refused BadName) (when_named core request)
     (λ unnamed. record { why = unnamed; unchanged = refl })
-    (λ named. allowed_by (is_wanted_call core request) core request (same (is_wanted_call core request)) not_wanted (when_wanted core request)
-    (λ unwanted. record { named = named; not_wanted = false_from_ne_true (is_wanted_call core request) unwanted; same = refl })
-    (λ wanted. allowed_by (is_known core request) core request (decides_known core request) (refused Unknown) (when_known core request)
+    (λ named. allowed_by (is_wanted_call core request) core request not_wanted (when_wanted core request)
+    (λ unwanted. record { named = named; not_wanted = unwanted; same = refl })
+    (λ wanted. allowed_by (is_known core request) core request (refused Unknown) (when_known core request)
     (λ unknown. record { why = (named, wanted, unknown); unchanged = refl })
-    (λ known. allowed_by (may_count core request && may_send core) core request (decides_counts core request) (refused CountFull) (when_counts core request)
+    (λ known. allowed_by (may_count core request && may_send core) core request (refused CountFull) (when_counts core request)
     (λ full. record { why = (named, wanted, known, full); unchanged = refl })
-    (λ counts. allowed_by (has_slot core request) core request (decides_slot core request) (refused Full) (when_slot core request)
+    (λ counts. allowed_by (has_slot core request) core request (refused Full) (when_slot core request)
     (λ none. record { why = (named, wanted, known, counts, none); unchanged = refl })
-    (λ slot. allowed_by (is_inside core request) core request (decides_inside core request) (refused NotEntered) (done core request)
+    (λ slot. allowed_by (is_inside core request) core request (refused NotEntered) (done core request)
     (λ outside. record { why = (named, known, counts, outside); unchanged = refl })
     (λ inside. done_allowed core request within (record { named = named; wanted = wanted; known = known; counts = counts; slot = slot; inside = inside }) new))))))

@@ -19,10 +19,11 @@ use Rattle.span_stack.specs.Stack.{has, without_last}
 use Rattle.span_core.specs.World.{World, IsWorld, empty_world, stack_of}
 use Rattle.span_outlet.specs.Request.{Request, new_span, clone_span, enter, exit, try_close, record_fields, event, Answer, worker_of}
 use Rattle.span_core.specs.Happening.{id_at}
-use Rattle.span_core.specs.Step.{made_node, ParentIsOpen, stays_inside}
+use Rattle.span_core.specs.Step.{made_node, is_open_parent, stays_inside}
 use Rattle.span_core.specs.NextId.{SlotsUsed, slots_after, with_answer}
-use Rattle.span_core.specs.Core.{CoreView, IsDue}
-use Rattle.span_core.specs.Outcome.{id_after, answer_to, world_after, core_after}
+use Rattle.span_core.specs.Core.{CoreView, id_after, IsDue}
+use Rattle.span_core.specs.Outcome.{answer_to, world_after, core_after}
+use Rattle.span_core.proofs.Deciding.{held_from}
 use Rattle.span_core.proofs.Soundness.{slots_more, nobody_inside}
 use Rattle.span_core.proofs.Worlds.{world_kept_handle, world_changed, world_released_handle, world_entered}
 use Rattle.span_core.proofs.NewSpans.{world_new}
@@ -67,7 +68,7 @@ left_open spans id holder j there =
     let live = kept_passes (is_live left) left j there in
     IsOpen-changed _ spans id j (subst (λ (o : Option Node). is_some o ≡ true) (passing_kept (is_live left) left j live) there)
 
-parent_open : (spans : Spans) (parent : Option ℕ) → ParentIsOpen spans parent → (p : ℕ) → parent ≡ Some p → IsOpen spans p
+parent_open : (spans : Spans) (parent : Option ℕ) → is_open_parent spans parent ≡ true → (p : ℕ) → parent ≡ Some p → IsOpen spans p
 parent_open spans None there p is = cc
 parent_open spans (Some q) there p is = let same : q ≡ p = cc in subst (λ (k : ℕ). IsOpen spans k) same there
 
@@ -135,7 +136,7 @@ steady_then core (clone_span worker id) notes steady low due =
     (agrees_fewer core.limits.slots spans (with_holder spans id Handle) (used_in core) (λ j there. IsOpen-changed _ spans id j there) steady.slots)
 steady_then core (enter worker id) notes steady low due =
     let spans = core.world.spans in
-    let there = held_open spans id Handle due.known in
+    let there = held_open spans id Handle (held_from spans id due.known) in
     let within : worker < length core.world.stacks = omega (arith, low, steady.stacks) in
     let stands = has (stack_of core.world worker) id in
     then_steady core (enter worker id) notes
@@ -159,7 +160,7 @@ steady_then core (try_close worker id) notes steady low due =
     (world_released_handle spans id core.world.stacks steady.world)
     steady.stacks
     (agrees_closed core.limits.slots core.limits.last_generation spans (spans_left spans id Handle) (used_in core) (closing_list spans id Handle) (left_open spans id Handle)
-    (listed_open spans steady.upheld.forest steady.upheld.positive id Handle (ap is_some (held_open spans id Handle due.known).1))
+    (listed_open spans steady.upheld.forest steady.upheld.positive id Handle (ap is_some (held_open spans id Handle (held_from spans id due.known)).1))
     steady.slots)
 steady_then core (record_fields worker id fields) notes steady low due =
     let spans = core.world.spans in

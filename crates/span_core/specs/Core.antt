@@ -1,23 +1,24 @@
 -- What contracts see of a core, and what a call does to it: it is accepted as one step, or refused and changes nothing.
-use Rattle.std.specs.Prelude.{◌≡◌, ℕ, ◌+◌, ◌-◌, ◌^◌, ◌<◌, ◌==◌, Bool, true, false, cond, List, [], ◌∷◌, ◌++◌, length, All, IsSome, MatchOption}
+use Rattle.std.specs.Prelude.{◌≡◌, ℕ, ◌-◌, ◌^◌, Bool, true, false, ◌&&◌, ◌||◌, nat_lt, List, [], ◌∷◌, ◌++◌, length, Option, Some, None, is_some}
+use Rattle.std.specs.List.{list_all}
 use Rattle.span_id.specs.declared.fault.Fault.{Fault}
 use Rattle.span_id.specs.declared.fault.Fault.TheVariants.{Unknown, CountFull, Full, NotEntered, TooManyLayers, BadName, Backlog, BadLimits, Memory}
 use Rattle.span_id.specs.declared.limits.Limits.{Limits}
-use Rattle.span_id.specs.Name.{IsName}
+use Rattle.span_id.specs.Name.{is_name}
 use Rattle.span_id.specs.Meta.{KeyValue}
 use Rattle.span_layers.specs.Note.{PlainNote}
 use Rattle.span_layers.specs.Filter.{Filter}
 use Rattle.span_layers.specs.declared.form.Form.{Form}
 use Rattle.span_forest.specs.declared.span.Holder.TheVariants.{Handle}
-use Rattle.span_forest.specs.Spans.{IsOpen}
+use Rattle.span_forest.specs.Spans.{Spans, find}
 use Rattle.span_forest.specs.Count.{reference_count}
-use Rattle.span_forest.specs.Holders.{IsHeld}
+use Rattle.span_forest.specs.Holders.{held_in}
 use Rattle.span_stack.specs.Stack.{has}
 use Rattle.span_core.specs.World.{World, stack_of}
 use Rattle.span_outlet.specs.Request.{Request, new_span, clone_span, enter, exit, try_close, record_fields, event, Answer}
 use Rattle.span_outlet.specs.Batch.{PlainBatch}
 use Rattle.span_outlet.specs.Outlet.{one_more}
-use Rattle.span_core.specs.Step.{IsStep, is_wanted, ParentIsOpen}
+use Rattle.span_core.specs.Step.{IsStep, is_wanted, is_open, is_open_parent}
 use Rattle.span_core.specs.History.{issued}
 use Rattle.span_core.specs.NextId.{next_id}
 
@@ -31,74 +32,102 @@ pub record CoreView : Type 0 where
   pub times_full : ℕ
   pub forms : List Form
 
--- the name of a span or an event and all keys of fields are names
-abbrev pub AreKeys : List KeyValue → Type 0
-AreKeys fields = All (λ field. IsName field.0) fields
+-- ---- the conditions of a call, as tests
 
-abbrev pub AreNamed : Request → Type 0
-AreNamed (new_span worker meta fields parent) = IsName meta.name × AreKeys fields
-AreNamed (record_fields worker id fields) = AreKeys fields
-AreNamed (event worker meta message fields) = IsName meta.name × AreKeys fields
-AreNamed _ = Unit {0}
+-- the keys of the fields are names
+abbrev pub are_keys : List KeyValue → Bool
+are_keys fields = list_all (λ field. is_name field.0) fields
+
+-- the name of a span or an event and all keys are names
+abbrev pub is_named : Request → Bool
+is_named (new_span worker meta fields parent) = is_name meta.name && are_keys fields
+is_named (record_fields worker id fields) = are_keys fields
+is_named (event worker meta message fields) = is_name meta.name && are_keys fields
+is_named _ = true
 
 -- a new span is wanted
 abbrev pub is_wanted_call : CoreView → Request → Bool
 is_wanted_call core (new_span worker meta fields parent) = is_wanted core.rules meta
 is_wanted_call core _ = true
 
+-- the span is open and has a handle
+abbrev pub has_handle : Spans → ℕ → Bool
+has_handle spans id = nat_lt 0 (held_in Handle (find spans id))
+
 -- what the call names is there: a parent and the span of an exit are open, the span of any other call has a handle
-abbrev pub IsKnown : CoreView → Request → Type 0
-IsKnown core (new_span worker meta fields parent) = ParentIsOpen core.world.spans parent
-IsKnown core (clone_span worker id) = IsHeld core.world.spans id Handle
-IsKnown core (enter worker id) = IsHeld core.world.spans id Handle
-IsKnown core (exit worker id) = IsOpen core.world.spans id
-IsKnown core (try_close worker id) = IsHeld core.world.spans id Handle
-IsKnown core (record_fields worker id fields) = IsHeld core.world.spans id Handle
-IsKnown core (event worker meta message fields) = Unit {0}
+abbrev pub is_known : CoreView → Request → Bool
+is_known core (new_span worker meta fields parent) = is_open_parent core.world.spans parent
+is_known core (clone_span worker id) = has_handle core.world.spans id
+is_known core (enter worker id) = has_handle core.world.spans id
+is_known core (exit worker id) = is_open core.world.spans id
+is_known core (try_close worker id) = has_handle core.world.spans id
+is_known core (record_fields worker id fields) = has_handle core.world.spans id
+is_known core (event worker meta message fields) = true
 
 -- the count of a span is below its greatest value
-abbrev pub IsBelowMax : CoreView → ℕ → Type 0
-IsBelowMax core id = reference_count core.world.spans id < core.limits.max_count
+abbrev pub is_below_max : ℕ → Spans → ℕ → Bool
+is_below_max max_count spans id = nat_lt (reference_count spans id) max_count
+
+-- a parent is none, or its count is below its greatest value
+abbrev pub is_parent_below_max : ℕ → Spans → Option ℕ → Bool
+is_parent_below_max max_count spans None = true
+is_parent_below_max max_count spans (Some id) = is_below_max max_count spans id
 
 -- the count that would rise may rise: that of a parent, of the span that is cloned, of the span that is
 -- entered where the entry is no duplicate
-abbrev pub MayCount : CoreView → Request → Type 0
-MayCount core (new_span worker meta fields parent) = MatchOption parent (Unit {0}) (λ id. IsBelowMax core id)
-MayCount core (clone_span worker id) = IsBelowMax core id
-MayCount core (enter worker id) = has (stack_of core.world worker) id ≡ false → IsBelowMax core id
-MayCount core _ = Unit {0}
+abbrev pub may_count : CoreView → Request → Bool
+may_count core (new_span worker meta fields parent) =
+    is_parent_below_max core.limits.max_count core.world.spans parent
+may_count core (clone_span worker id) = is_below_max core.limits.max_count core.world.spans id
+may_count core (enter worker id) =
+    has (stack_of core.world worker) id || is_below_max core.limits.max_count core.world.spans id
+may_count core _ = true
 
 -- one more call may be accepted
-abbrev pub MaySend : CoreView → Type 0
-MaySend core = length core.sent < 2 ^ 64 - 1
+abbrev pub may_send : CoreView → Bool
+may_send core = nat_lt (length core.sent) (2 ^ 64 - 1)
+
+-- the id that the next new span gets
+abbrev pub id_after : CoreView → Option ℕ
+id_after core = next_id core.limits.slots core.limits.last_generation core.sent
 
 -- a slot is free for a new span
-abbrev pub HasSlot : CoreView → Request → Type 0
-HasSlot core (new_span worker meta fields parent) = IsSome (next_id core.limits.slots core.limits.last_generation core.sent)
-HasSlot core _ = Unit {0}
+abbrev pub has_slot : CoreView → Request → Bool
+has_slot core (new_span worker meta fields parent) = is_some (id_after core)
+has_slot core _ = true
 
 -- the span of an exit stands in the caller's stack
-abbrev pub IsInside : CoreView → Request → Type 0
-IsInside core (exit worker id) = has (stack_of core.world worker) id ≡ true
-IsInside core _ = Unit {0}
+abbrev pub is_inside : CoreView → Request → Bool
+is_inside core (exit worker id) = has (stack_of core.world worker) id
+is_inside core _ = true
+
+-- ---- what the calls' contracts say of a call
 
 -- Nothing that the core itself decides stands against the call. A call is judged in this order.
 pub record IsDue (core : CoreView) (request : Request) : Type 0 where
-  pub named : AreNamed request
+  pub named : is_named request ≡ true
   pub wanted : is_wanted_call core request ≡ true
-  pub known : IsKnown core request
-  pub counts : MayCount core request × MaySend core
-  pub slot : HasSlot core request
-  pub inside : IsInside core request
+  pub known : is_known core request ≡ true
+  pub counts : (may_count core request && may_send core) ≡ true
+  pub slot : has_slot core request ≡ true
+  pub inside : is_inside core request ≡ true
 
 -- Why a call is refused: the first of these conditions that doesn't hold; else the outlet had no place,
 -- or memory was refused.
 abbrev pub WhyRefused : CoreView → Request → Fault → Type 0
-WhyRefused core request BadName = (AreNamed request → ⊥)
-WhyRefused core request Unknown = AreNamed request × (is_wanted_call core request ≡ true) × (IsKnown core request → ⊥)
-WhyRefused core request CountFull = AreNamed request × (is_wanted_call core request ≡ true) × IsKnown core request × (MayCount core request × MaySend core → ⊥)
-WhyRefused core request Full = AreNamed request × (is_wanted_call core request ≡ true) × IsKnown core request × (MayCount core request × MaySend core) × (HasSlot core request → ⊥)
-WhyRefused core request NotEntered = AreNamed request × IsKnown core request × (MayCount core request × MaySend core) × (IsInside core request → ⊥)
+WhyRefused core request BadName = is_named request ≡ false
+WhyRefused core request Unknown =
+    (is_named request ≡ true) × (is_wanted_call core request ≡ true)
+    × (is_known core request ≡ false)
+WhyRefused core request CountFull =
+    (is_named request ≡ true) × (is_wanted_call core request ≡ true) × (is_known core request ≡ true)
+    × ((may_count core request && may_send core) ≡ false)
+WhyRefused core request Full =
+    (is_named request ≡ true) × (is_wanted_call core request ≡ true) × (is_known core request ≡ true)
+    × ((may_count core request && may_send core) ≡ true) × (has_slot core request ≡ false)
+WhyRefused core request NotEntered =
+    (is_named request ≡ true) × (is_known core request ≡ true)
+    × ((may_count core request && may_send core) ≡ true) × (is_inside core request ≡ false)
 WhyRefused core request Backlog = IsDue core request
 WhyRefused core request Memory = IsDue core request
 WhyRefused core request TooManyLayers = ⊥
@@ -133,6 +162,6 @@ pub record IsAccepted (old : CoreView) (request : Request) (answer : Answer) (ne
 
 -- a span was not wanted: its name and keys are names, no layer admits it, and nothing changed
 pub record IsNotWanted (old : CoreView) (request : Request) (new : CoreView) : Type 0 where
-  pub named : AreNamed request
+  pub named : is_named request ≡ true
   pub not_wanted : is_wanted_call old request ≡ false
   pub same : new ≡ old

@@ -1,12 +1,12 @@
 -- One accepted call, as a step from a world to the next.
-use Rattle.std.specs.Prelude.{◌≡◌, ℕ, ◌<◌, ◌==◌, Bool, true, false, ◌||◌, not, cond, List, [], ◌∷◌, ◌++◌, length, Option, MatchOption}
+use Rattle.std.specs.Prelude.{◌≡◌, ℕ, ◌<◌, ◌==◌, Bool, true, false, ◌||◌, not, cond, List, [], ◌∷◌, ◌++◌, length, Option, Some, None, is_some}
 use Rattle.span_id.specs.Id.{IsId}
 use Rattle.span_id.specs.Meta.{KeyValue, PlainMeta}
 use Rattle.span_layers.specs.Note.{PlainNote}
 use Rattle.span_layers.specs.Filter.{Filter, admission_set}
 use Rattle.span_forest.specs.declared.span.Holder.TheVariants.{Handle, Entry}
 use Rattle.span_forest.specs.Node.{Node, with_fields}
-use Rattle.span_forest.specs.Spans.{Spans, IsOpen, with_node, with_change}
+use Rattle.span_forest.specs.Spans.{Spans, find, with_node, with_change}
 use Rattle.span_forest.specs.Live.{stands_in}
 use Rattle.span_forest.specs.Holders.{IsHeld}
 use Rattle.span_forest.specs.Keep.{with_holder}
@@ -75,16 +75,21 @@ world_recorded old id fields = record old { spans = with_change (with_fields fie
 
 -- ---- the steps
 
+-- the span is open
+abbrev pub is_open : Spans → ℕ → Bool
+is_open spans id = is_some (find spans id)
+
 -- a parent is none or open
-abbrev pub ParentIsOpen : Spans → Option ℕ → Type 0
-ParentIsOpen spans parent = MatchOption parent (Unit {0}) (λ id. IsOpen spans id)
+abbrev pub is_open_parent : Spans → Option ℕ → Bool
+is_open_parent spans None = true
+is_open_parent spans (Some id) = is_open spans id
 
 -- a span is made under an id that was never issued
 pub record MakesSpan (rules : List Filter) (issued : List ℕ) (old : World) (meta : PlainMeta) (fields : List KeyValue) (parent : Option ℕ) (id : ℕ) (new : World) : Type 0 where
   pub in_layout : IsId id
   pub not_issued : stands_in id issued ≡ false
   pub wanted : is_wanted rules meta ≡ true
-  pub parent_open : ParentIsOpen old.spans parent
+  pub parent_open : is_open_parent old.spans parent ≡ true
   pub after : new ≡ world_made rules old meta fields parent id
 
 -- one more handle of a span that has one

@@ -1,6 +1,6 @@
 -- The second part of the tidying: after it no span that a label names has a handle, so no span is open.
-use Rattle.std.proofs.Common.{◌≡◌, ℕ, zero, suc, ◌-◌, ◌^◌, ◌<◌, ◌≤◌, true, List, [], ◌∷◌, map, replicate, refl, sym, ap, ◌∙◌, subst, inl, inr, arith}
-use Rattle.std.proofs.lemmas.Bool.{cases_lt, false≢true}
+use Rattle.std.proofs.Common.{◌≡◌, ℕ, zero, suc, ◌-◌, ◌^◌, ◌<◌, ◌≤◌, true, List, [], ◌∷◌, length, map, replicate, refl, sym, ap, ◌∙◌, subst, inl, inr, arith}
+use Rattle.std.proofs.lemmas.Bool.{cases_lt, false≢true, lt-ltb}
 use Rattle.std.proofs.lemmas.Bool.Decides.{eqb_tells}
 use Rattle.span_forest.specs.declared.span.Holder.{Holder}
 use Rattle.span_forest.specs.declared.span.Holder.TheVariants.{Handle, Entry}
@@ -12,6 +12,7 @@ use Rattle.span_core.specs.World.{workers_inside}
 use Rattle.span_outlet.specs.Request as call
 use Rattle.span_core.specs.Core.{CoreView, IsDue}
 use Rattle.span_core.specs.Outcome.{Outcome}
+use Rattle.span_core.proofs.Deciding.{handle_from}
 use Rattle.span_core.proofs.Outcomes.{due_outcome}
 use Rattle.span_core.proofs.Holds.{handles-released_same, handles-released, total-none}
 use Rattle.span_core.proofs.Steady.{IsSteady}
@@ -41,7 +42,7 @@ close_done core labels id tracked low light held =
     (record { leads = done_leads core labels (call.try_close 0 id) tracked low (λ j e. cc) due; fewer = handles-released core.world.spans id; stacks = refl }, handles-released_same core.world.spans id)
   where
     due : IsDue core (call.try_close 0 id)
-    due = record { named = tt; wanted = refl; known = held; counts = (tt, omega (arith, light)); slot = tt; inside = tt }
+    due = record { named = refl; wanted = refl; known = handle_from core.world.spans id held; counts = lt-ltb (length core.sent) (2 ^ 64 - 1) (omega (arith, light)); slot = refl; inside = refl }
 
 closes_nowhere : (core : CoreView) (labels : Bound) → IsTracked core labels → Closes core labels core
 closes_nowhere core labels tracked = record { leads = leads_nowhere core labels 0 tracked; fewer = λ j. omega arith; stacks = refl }

@@ -2,7 +2,7 @@
 use Rattle.std.proofs.Common.{◌≡◌, ◌≢◌, ℕ, zero, suc, ◌+◌, ◌-◌, ◌^◌, ◌<◌, ◌≤◌, ◌==◌, Bool, true, false, ◌||◌, List, [], ◌∷◌, ◌++◌, length, map, reverse, get_or, set, refl, sym, ap, ◌∙◌, subst, inl, inr, arith}
 use Rattle.std.specs.Prelude.{is_some}
 use Rattle.std.specs.List.{range_with_len}
-use Rattle.std.proofs.lemmas.Bool.{cases_lt, eq-eqb, false≢true}
+use Rattle.std.proofs.lemmas.Bool.{cases_lt, eq-eqb, false≢true, lt-ltb}
 use Rattle.std.proofs.lemmas.Bool.Decides.{eqb_tells}
 use Rattle.std.proofs.lemmas.List.{get_or-set_same, get_or-set_other, get_or_past, reverse-append, reverse-reverse, append-nil}
 use Rattle.std.proofs.lemmas.List.Folds.{list_any-append}
@@ -51,7 +51,7 @@ exit_done core labels worker id tracked low light inside =
     there = ap is_some (held_open core.world.spans id Entry (inside_held core.world.spans core.world.stacks worker id tracked.steady.world within inside)).1
 
     due : IsDue core (call.exit worker id)
-    due = record { named = tt; wanted = refl; known = there; counts = (tt, omega (arith, light)); slot = tt; inside = inside }
+    due = record { named = refl; wanted = refl; known = there; counts = lt-ltb (length core.sent) (2 ^ 64 - 1) (omega (arith, light)); slot = refl; inside = inside }
 
 -- a worker leaves what it has entered
 record Leaves (core : CoreView) (labels : Bound) (worker : ℕ) (new : CoreView) : Type 0 where

@@ -6,9 +6,10 @@ use Rattle.span_id.specs.Meta.{KeyValue, PlainMeta}
 use Rattle.span_forest.specs.Spans.{find}
 use Rattle.span_forest.specs.Holders.{IsHeld, held_in}
 use Rattle.span_outlet.specs.Request.{Request, new_span, made, worker_of}
-use Rattle.span_core.specs.Core.{CoreView, IsDue}
+use Rattle.span_core.specs.Core.{CoreView, id_after, IsDue}
 use Rattle.span_core.specs.Happening.{id_at}
-use Rattle.span_core.specs.Outcome.{id_after, done, outcome}
+use Rattle.span_core.specs.Outcome.{done, outcome}
+use Rattle.span_core.proofs.Deciding.{handle_from}
 use Rattle.span_core.proofs.Steady.{IsSteady, answer_in, steady_then}
 use Rattle.span_core.proofs.Weights.{weight, most_more, weight_then, handle_before}
 use Rattle.span_core.proofs.OutcomeCases.{by_outcome}
@@ -95,5 +96,5 @@ made_leads core labels label worker meta fields parent tracked low free =
     apart : (id : ℕ) → IsHeld core.world.spans id Handle → (other : List ℕ) → id_in labels other ≡ Some id → other ≡ label → ⊥
     apart id before other named same =
         let here : id_in labels label ≡ Some id = ap (id_in labels) (sym same) ∙ named in
-        let taken : is_taken core.world.spans labels label ≡ true = ap (has_handles core.world.spans) here ∙ lt-ltb 0 (held_in Handle (find core.world.spans id)) before in
+        let taken : is_taken core.world.spans labels label ≡ true = ap (has_handles core.world.spans) here ∙ handle_from core.world.spans id before in
         true≢false (sym taken ∙ free)

@@ -6,12 +6,12 @@ use Rattle.std.specs.List.{enumerate_from}
 use Rattle.span_id.specs.declared.limits.Limits.{Limits}
 use Rattle.span_layers.specs.declared.form.Form.{Form}
 use Rattle.span_outlet.specs.Batch.{PlainBatch}
-use Rattle.span_core.specs.Core.{CoreView, is_wanted_call}
+use Rattle.span_core.specs.Core.{CoreView, is_named, is_wanted_call, is_known, may_count, may_send, has_slot, is_inside}
 use Rattle.span_outlet.specs.Lines.{PlainLine, plain_line, lines_of, lines_of_batch}
 use Rattle.span_outlet.specs.declared.line.Line.{Line}
 use Rattle.span_outlet.specs.Request as call
 use Rattle.span_id.specs.declared.fault.Fault.TheVariants.{Unknown, CountFull, Full, NotEntered, BadName}
-use Rattle.span_core.specs.Outcome.{Outcome, refused, not_wanted, accepted, is_named, is_known, may_count, may_send, has_slot, is_inside, outcome}
+use Rattle.span_core.specs.Outcome.{Outcome, refused, not_wanted, accepted, outcome}
 use Rattle.tracerun.specs.Answer.{answer_text}
 use Rattle.tracerun.specs.inside.Calls.{answer_for, IsMade, labels_given}
 use Rattle.tracerun.specs.Labels.{Bound}

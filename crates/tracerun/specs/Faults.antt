@@ -1,8 +1,7 @@
 -- The faults of a script that rest on its labels.
-use Rattle.std.specs.Prelude.{ℕ, Bool, false, if◌then◌else◌, nat_lt, List, Option, Some, None, Result, Ok, Err, ⊤}
+use Rattle.std.specs.Prelude.{ℕ, Bool, false, if◌then◌else◌, List, Option, Some, None, Result, Ok, Err, ⊤}
 use Rattle.span_forest.specs.Spans as forest
-use Rattle.span_forest.specs.Holders.{held_in}
-use Rattle.span_forest.specs.declared.span.Holder.TheVariants.{Handle}
+use Rattle.span_core.specs.Core.{has_handle}
 use Rattle.tracerun.specs.Labels.{Bound, id_in}
 use Rattle.span_script.specs.Operation.{SpanKey, by_label, by_id, Parent, current, root, named}
 use Rattle.span_script.specs.Reason.{or_fault}
@@ -17,7 +16,7 @@ id_of_key labels (by_id id) = Ok id
 -- a span that is open has handles that were not closed
 abbrev pub has_handles : forest.Spans → Option ℕ → Bool
 has_handles spans None = false
-has_handles spans (Some id) = nat_lt 0 (held_in Handle (forest.find spans id))
+has_handles spans (Some id) = has_handle spans id
 
 -- a label is taken while its span is open and has handles
 abbrev pub is_taken : forest.Spans → Bound → List ℕ → Bool

@@ -1,9 +1,10 @@
-ghost use Rattle.std.specs.Prelude.{◌≡◌, IfSome, IfNone, OnSome};
+ghost use Rattle.std.specs.Prelude.{◌≡◌, true, false, IfSome, IfNone, OnSome};
 ghost use Rattle.span_forest.specs.declared.span.Holder.TheVariants.{Handle};
-ghost use Rattle.span_forest.specs.Spans.{IsOpen};
 ghost use Rattle.span_forest.specs.Count.{reference_count};
 ghost use Rattle.span_forest.specs.Holders.{IsHeld};
 ghost use Rattle.span_core.specs.Happening.{bits_in};
+ghost use Rattle.span_core.specs.Step.{is_open};
+ghost use Rattle.span_core.specs.Core.{has_handle};
 
 use span_forest::Forest;
 use span_id::{Bits, Id};
@@ -20,7 +21,8 @@ pub(crate) fn held_span(forest: &Forest, id: Id) -> Option<Held>
     ensures held { OnSome result (IsHeld forest.now.spans id Handle) }
     ensures count { IfSome result (λ held. held.count ≡ reference_count forest.now.spans id) }
     ensures bits { IfSome result (λ held. held.bits.0 ≡ bits_in forest.now.spans id) }
-    ensures not_held { IfNone result (IsHeld forest.now.spans id Handle → ⊥) }
+    ensures known { OnSome result (has_handle forest.now.spans id ≡ true) }
+    ensures unknown { IfNone result (has_handle forest.now.spans id ≡ false) }
 {
     let span = forest.find(id)?;
     if span.handles == 0 {
@@ -34,9 +36,9 @@ pub(crate) fn held_span(forest: &Forest, id: Id) -> Option<Held>
 
 // The layers that admit a span, if it is open.
 pub(crate) fn open_bits(forest: &Forest, id: Id) -> Option<Bits>
-    ensures open { OnSome result (IsOpen forest.now.spans id) }
+    ensures open { OnSome result (is_open forest.now.spans id ≡ true) }
     ensures bits { IfSome result (λ bits. bits.0 ≡ bits_in forest.now.spans id) }
-    ensures not_open { IfNone result (IsOpen forest.now.spans id → ⊥) }
+    ensures not_open { IfNone result (is_open forest.now.spans id ≡ false) }
 {
     let span = forest.find(id)?;
     Some(span.bits)

@@ -1,14 +1,13 @@
 //! New spans.
-ghost use Rattle.std.specs.Prelude.{◌≡◌, ◌<◌, true, false, string_bytes, IfOk, OnOk, IfErr, IfSome, IfNone, OnSome, MatchOption, Some, None};
+ghost use Rattle.std.specs.Prelude.{◌≡◌, ◌<◌, true, false, not, string_bytes, IfOk, OnOk, IfErr, IfSome, IfNone, OnSome, Some, None};
 ghost use Rattle.span_layers.specs.Filter.{admission_set};
-ghost use Rattle.span_forest.specs.Count.{reference_count};
 ghost use Rattle.span_id.specs.Meta.{plain_meta, plain_fields};
 ghost use Rattle.span_outlet.specs.Request.{new_span, made, request_of};
 ghost use Rattle.span_core.specs.Parent.{parent_found};
-ghost use Rattle.span_core.specs.Step.{ParentIsOpen};
+ghost use Rattle.span_core.specs.Step.{is_open_parent};
 ghost use Rattle.span_core.specs.NextId.{next_id};
 ghost use Rattle.span_core.specs.inside.Lent.{span_request};
-ghost use Rattle.span_core.specs.Core.{IsDue, IsAccepted, IsRefused, IsNotWanted};
+ghost use Rattle.span_core.specs.Core.{is_parent_below_max, IsDue, IsAccepted, IsRefused, IsNotWanted};
 
 use crate::Core;
 use crate::calls::names::are_keys;
@@ -133,10 +132,9 @@ fn new_call(alloc: Global, new: &NewSpan<'_>) -> Result<Call, Fault>
 
 // Whether the count of a parent is at its greatest; none where the parent isn't open.
 fn parent_full(forest: &Forest, max_count: u32, parent: &Option<Id>) -> Option<bool>
-    ensures open { OnSome result (ParentIsOpen forest.now.spans parent.now) }
-    ensures absent { IfNone result (ParentIsOpen forest.now.spans parent.now → ⊥) }
-    ensures full { IfSome result (λ full. full ≡ true → MatchOption parent.now (Unit {0}) (λ id. reference_count forest.now.spans id < max_count) → ⊥) }
-    ensures below { IfSome result (λ full. full ≡ false → MatchOption parent.now (Unit {0}) (λ id. reference_count forest.now.spans id < max_count)) }
+    ensures open { OnSome result (is_open_parent forest.now.spans parent.now ≡ true) }
+    ensures absent { IfNone result (is_open_parent forest.now.spans parent.now ≡ false) }
+    ensures full { IfSome result (λ full. not full ≡ is_parent_below_max max_count forest.now.spans parent.now) }
 {
     match parent {
         None => Some(false),

@@ -14,7 +14,7 @@ use Rattle.span_stack.specs.Stack.{ids_of_each}
 use Rattle.span_id.specs.Meta.{plain_meta, plain_fields}
 use Rattle.span_outlet.specs.Request.{made}
 use Rattle.span_core.specs.Happening.{at_span, notes_of_all}
-use Rattle.span_core.specs.Step.{IsStep, is_wanted, made_node, ParentIsOpen}
+use Rattle.span_core.specs.Step.{IsStep, is_wanted, made_node, is_open_parent}
 use Rattle.span_core.specs.History.{issued}
 use Rattle.span_core.specs.inside.Sound.{first_note, hears}
 use Rattle.span_core.specs.NextId.{next_id}
@@ -29,8 +29,8 @@ use Rattle.span_core.proofs.Core.make.Goals.{After-put}
 wanted : (g : given.Over) (c : After-put g) → is_wanted c.self.inside.rules (plain_meta c.args.new.now.meta.now) ≡ true
 wanted g c = subst (λ (v : CoreView). is_wanted v.rules (plain_meta c.args.new.now.meta.now) ≡ true) (sym c.self.view_is) c.requires.due.wanted
 
-parent_open : (g : given.Over) (c : After-put g) → ParentIsOpen c.self.inside.forest.spans c.args.new.now.parent
-parent_open g c = subst (λ (v : CoreView). ParentIsOpen v.world.spans c.args.new.now.parent) (sym c.self.view_is) c.requires.due.known
+parent_open : (g : given.Over) (c : After-put g) → is_open_parent c.self.inside.forest.spans c.args.new.now.parent ≡ true
+parent_open g c = subst (λ (v : CoreView). is_open_parent v.world.spans c.args.new.now.parent ≡ true) (sym c.self.view_is) c.requires.due.known
 
 bits_are : (g : given.Over) (c : After-put g) → c.args.new.now.bits.0 ≡ admission_set c.self.inside.rules (string_bytes c.args.new.now.meta.now.target) c.args.new.now.meta.now.level
 bits_are g c = subst (λ (v : CoreView). c.args.new.now.bits.0 ≡ admission_set v.rules (string_bytes c.args.new.now.meta.now.target) c.args.new.now.meta.now.level) (sym c.self.view_is) c.requires.bits
