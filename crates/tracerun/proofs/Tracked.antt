@@ -1,10 +1,9 @@
 -- The core of a run, and the labels: what every call keeps.
 use Rattle.std.proofs.Common.{◌≡◌, ℕ, ◌+◌, ◌<◌, ◌≤◌, true, false, List, Option, Some, refl, sym, ap, ◌∙◌, inl, inr, arith}
-use Rattle.std.proofs.lemmas.Bool.{true≢false, lt-ltb}
+use Rattle.std.proofs.lemmas.Bool.{true≢false}
 use Rattle.span_forest.specs.declared.span.Holder.TheVariants.{Handle}
 use Rattle.span_id.specs.Meta.{KeyValue, PlainMeta}
-use Rattle.span_forest.specs.Spans.{find}
-use Rattle.span_forest.specs.Holders.{IsHeld, held_in}
+use Rattle.span_forest.specs.Holders.{IsHeld}
 use Rattle.span_outlet.specs.Request.{Request, new_span, made, worker_of}
 use Rattle.span_core.specs.Core.{CoreView, id_after, IsDue}
 use Rattle.span_core.specs.Happening.{id_at}
