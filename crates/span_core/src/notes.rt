@@ -102,7 +102,8 @@ fn where_seen(
     layer: u32,
 ) -> Result<Seen, Fault>
     ensures id { IfOk result (λ seen. seen.id ≡ id_told forest.now.spans subject.now layer) }
-    ensures path { IfOk result (λ seen. map string_bytes seen.path.items ≡ path_told forest.now.spans subject.now layer) }
+    ensures path { IfOk result (λ seen. map string_bytes seen.path.items
+        ≡ path_told forest.now.spans subject.now layer) }
     ensures memory { IfErr result (λ fault. fault ≡ Fault.Memory) }
 {
     match subject {
@@ -188,7 +189,8 @@ fn told(
     forest: &Forest,
     what: &Telling<'_>,
 ) -> Result<Vec<Note>, Fault>
-    ensures notes { IfOk result (λ notes. map plain_note notes.items ≡ told_below rules.now forest.now.spans what.now (length rules.now)) }
+    ensures notes { IfOk result (λ notes. map plain_note notes.items
+        ≡ told_below rules.now forest.now.spans what.now (length rules.now)) }
     ensures memory { IfErr result (λ fault. fault ≡ Fault.Memory) }
 {
     let mut notes = Vec::new(alloc);
@@ -207,7 +209,8 @@ pub(crate) fn push_notes(
 ) -> Result<(), Fault>
     requires bits { what.now.bits.0 ≡ bits_in forest.now.spans what.now.id }
     ensures notes { OnOk result (map plain_note notes.new.items ≡ map plain_note notes.old.items
-        ++ notes_of rules.now what.now.worker (at_span forest.now.spans what.now.kind what.now.id (plain_fields fields.now))) }
+        ++ notes_of rules.now what.now.worker
+        (at_span forest.now.spans what.now.kind what.now.id (plain_fields fields.now))) }
     ensures memory { IfErr result (λ fault. fault ≡ Fault.Memory) }
 {
     let what = Telling {
@@ -232,7 +235,8 @@ pub(crate) fn exit_notes(
     requires chain { IsChain forest.now.spans closing.now }
     requires bits { exit.now.bits.0 ≡ bits_in forest.now.spans exit.now.id }
     ensures notes { IfOk result (λ notes. map plain_note notes.items
-        ≡ notes_of_all rules.now exit.now.worker (at_span forest.now.spans OnExit exit.now.id [] ∷ map (close_of forest.now.spans) closing.now)) }
+        ≡ notes_of_all rules.now exit.now.worker
+        (at_span forest.now.spans OnExit exit.now.id [] ∷ map (close_of forest.now.spans) closing.now)) }
     ensures memory { IfErr result (λ fault. fault ≡ Fault.Memory) }
 {
     let mut notes = Vec::new(alloc);

@@ -21,7 +21,8 @@ pub(crate) fn empty_stacks(alloc: Global, workers: u32) -> Result<Vec<SpanStack>
 pub(crate) fn push_at(stacks: &mut Vec<SpanStack>, worker: u32, id: Id) -> Result<(), Fault>
     requires { worker < length stacks.old.items }
     ensures pushed { OnOk result (ids_of_each stacks.new.items
-        ≡ slice_set (ids_of_each stacks.old.items) worker (slice_index_or (ids_of_each stacks.old.items) worker [] ++ id ∷ [])) }
+        ≡ slice_set (ids_of_each stacks.old.items) worker
+        (slice_index_or (ids_of_each stacks.old.items) worker [] ++ id ∷ [])) }
     ensures unchanged { OnErr result (ids_of_each stacks.new.items ≡ ids_of_each stacks.old.items) }
     ensures memory { IfErr result (λ fault. fault ≡ Fault.Memory) }
 {
@@ -60,7 +61,8 @@ pub(crate) fn stays_inside(stacks: &[SpanStack], worker: u32, id: Id) -> bool
 pub(crate) fn pop_at(stacks: &mut Vec<SpanStack>, worker: u32, id: Id)
     requires { worker < length stacks.old.items }
     ensures { ids_of_each stacks.new.items
-        ≡ slice_set (ids_of_each stacks.old.items) worker (without_last (slice_index_or (ids_of_each stacks.old.items) worker []) id) }
+        ≡ slice_set (ids_of_each stacks.old.items) worker
+        (without_last (slice_index_or (ids_of_each stacks.old.items) worker []) id) }
 {
     let stack = &mut stacks[worker as usize];
     pop_one(stack, id);

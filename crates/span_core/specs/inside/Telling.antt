@@ -1,4 +1,4 @@
--- What the layers are told of one subject, as it can be said before the call is done: for the functions inside this crate.
+-- What the layers are told, as it can be said before the call is done, for the functions inside this crate.
 use Rattle.std.specs.Prelude.{ℕ, List, [], ◌∷◌, ◌++◌, map, filter, Option, Some, None}
 use Rattle.std.specs.List.{range_with_len}
 use Rattle.span_id.specs.Meta.{plain_fields}
@@ -43,4 +43,5 @@ told_to spans what layer = record {
 
 -- what the layers below this number are told, one note for each that is
 abbrev pub told_below : List Filter → Spans → Telling → ℕ → List PlainNote
-told_below rules spans what layers = map (told_to spans what) (filter (hears rules what.bits.0 what.kind) (range_with_len 0 layers))
+told_below rules spans what layers =
+    map (told_to spans what) (filter (hears rules what.bits.0 what.kind) (range_with_len 0 layers))

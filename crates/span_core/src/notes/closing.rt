@@ -94,11 +94,13 @@ fn push_close(
 ) -> Result<(), Fault>
     requires length { length places.old.items ≡ length rules.now }
     requires found { find forest.now.spans what.now.id ≡ Some (node_of what.now.span.now) }
-    requires below { AreBelow rules.now forest.now.spans (map plain_note notes.old.items) (λ layer. Some what.now.id) places.old.items }
+    requires below { AreBelow rules.now forest.now.spans (map plain_note notes.old.items)
+        (λ layer. Some what.now.id) places.old.items }
     ensures length { OnOk result (length places.new.items ≡ length rules.now) }
     ensures notes { OnOk result (map plain_note notes.new.items ≡ map plain_note notes.old.items
         ++ notes_of rules.now what.now.worker (close_of forest.now.spans what.now.id)) }
-    ensures below { OnOk result (AreBelow rules.now forest.now.spans (map plain_note notes.new.items) (λ layer. parent_of forest.now.spans what.now.id) places.new.items) }
+    ensures below { OnOk result (AreBelow rules.now forest.now.spans (map plain_note notes.new.items)
+        (λ layer. parent_of forest.now.spans what.now.id) places.new.items) }
     ensures memory { IfErr result (λ fault. fault ≡ Fault.Memory) }
 {
     walks_end(forest);
@@ -121,12 +123,14 @@ fn push_close_note(
     requires there { layer < length rules.now }
     requires length { length places.old.items ≡ length rules.now }
     requires found { find forest.now.spans what.now.id ≡ Some (node_of what.now.span.now) }
-    requires below { IsBelow forest.now.spans (map plain_note notes.old.items) layer (Some what.now.id) (place_in places.old.items layer) }
+    requires below { IsBelow forest.now.spans (map plain_note notes.old.items) layer
+        (Some what.now.id) (place_in places.old.items layer) }
     ensures notes { OnOk result (map plain_note notes.new.items ≡ map plain_note notes.old.items
         ++ (if is_told rules.now (close_of forest.now.spans what.now.id) layer
         then note_of what.now.worker (close_of forest.now.spans what.now.id) layer ∷ []
         else [])) }
-    ensures places { OnOk result (places.new.items ≡ (if is_told rules.now (close_of forest.now.spans what.now.id) layer
+    ensures places { OnOk result (places.new.items
+        ≡ (if is_told rules.now (close_of forest.now.spans what.now.id) layer
         then slice_set places.old.items layer (Some (length notes.old.items))
         else places.old.items)) }
     ensures memory { IfErr result (λ fault. fault ≡ Fault.Memory) }
@@ -158,8 +162,10 @@ fn close_note(
     layer: u32,
 ) -> Result<Note, Fault>
     requires found { find forest.now.spans what.now.id ≡ Some (node_of what.now.span.now) }
-    requires below { IfSome before (λ note. TellsBelow (path layer forest.now.spans what.now.id) (plain_note note.now)) }
-    ensures note { IfOk result (λ note. plain_note note ≡ note_of what.now.worker (close_of forest.now.spans what.now.id) layer) }
+    requires below { IfSome before (λ note.
+        TellsBelow (path layer forest.now.spans what.now.id) (plain_note note.now)) }
+    ensures note { IfOk result (λ note. plain_note note
+        ≡ note_of what.now.worker (close_of forest.now.spans what.now.id) layer) }
     ensures memory { IfErr result (λ fault. fault ≡ Fault.Memory) }
 {
     let path = close_path(alloc, forest, before, layer, what.id)?;
@@ -195,7 +201,8 @@ fn close_path(
 
 // The path of a note without its last name.
 fn path_above(alloc: Global, note: &Note) -> Result<Vec<String>, Fault>
-    ensures path { IfOk result (λ names. (path : List (List ℕ)) → TellsBelow path (plain_note note.now) → map string_bytes names.items ≡ path) }
+    ensures path { IfOk result (λ names. (path : List (List ℕ)) →
+        TellsBelow path (plain_note note.now) → map string_bytes names.items ≡ path) }
     ensures memory { IfErr result (λ fault. fault ≡ Fault.Memory) }
 {
     match note.path.as_slice().split_last() {

@@ -34,7 +34,8 @@ pub(crate) fn event_notes(
 ) -> Result<Vec<Note>, Fault>
     requires { event.now.worker < length stacks.now }
     ensures notes { IfOk result (λ notes. map plain_note notes.items
-        ≡ notes_of rules.now event.now.worker (event_seen forest.now.spans (slice_index_or (ids_of_each stacks.now) event.now.worker []) event.now)) }
+        ≡ notes_of rules.now event.now.worker
+        (event_seen forest.now.spans (slice_index_or (ids_of_each stacks.now) event.now.worker []) event.now)) }
     ensures memory { IfErr result (λ fault. fault ≡ Fault.Memory) }
 {
     let what = Telling {

@@ -13,7 +13,8 @@ use span_id::{Bits, Fault, Field, Id, Meta, copy_text};
 use span_layers::{Kind, Note, Rules};
 use std::alloc::Global;
 
-/// A new span: which worker makes it, the id that it gets, the layers that admit it, its parent, and what the caller lent.
+/// A new span: which worker makes it, the id that it gets, the layers that admit it, its parent, and what the caller
+/// lent.
 #[derive(Clone, Copy)]
 pub(crate) struct NewSpan<'a> {
     pub(crate) worker: u32,
@@ -58,7 +59,8 @@ pub(crate) fn new_path(
     parent: Option<Id>,
     name: &str,
 ) -> Result<Vec<String>, Fault>
-    ensures path { IfOk result (λ path. map string_bytes path.items ≡ path_at layer forest.now.spans parent ++ name.now ∷ []) }
+    ensures path { IfOk result (λ path. map string_bytes path.items
+        ≡ path_at layer forest.now.spans parent ++ name.now ∷ []) }
     ensures memory { IfErr result (λ fault. fault ≡ Fault.Memory) }
 {
     let mut path = seen_at(alloc, forest, layer, parent)?.path;
