@@ -82,8 +82,9 @@ fn three_spans_with_each_answer(rt: HostRuntime) -> Result<(), Fail> {
 fn a_list_that_was_told_is_closed(rt: HostRuntime) -> Result<(), Fail> {
     let mut forest = three(rt.alloc())?;
     release(&rt, rt.alloc(), &mut forest, 2, Holder::Handle, "")?;
-    let told = forest.closing(id(&rt, 3), Holder::Handle)?;
-    forest.release_closing(id(&rt, 3), Holder::Handle, told.as_slice());
+    let c = id(&rt, 3);
+    let told = forest.closing(c, Holder::Handle)?;
+    forest.release_closing(c, Holder::Handle, told.as_slice());
     assert_eq!(rt; listed(rt.alloc(), told.as_slice())?.as_str(), "3,2");
     let text = state(rt.alloc(), &forest)?;
     assert_eq!(rt;
