@@ -61,6 +61,7 @@ impl<O: Outlet, A> Model for Core<O, A> {
       sent = O.sent s.outlet;
       times_full = O.times_full s.outlet;
       forms = O.forms s.outlet;
+      name = O.name s.outlet;
     } };
 
     ghost invariant = { λ s. IsSound s.limits s.forest (ids_of_each s.stacks.items) s.rules s.calls (O.sent s.outlet) };
@@ -84,6 +85,7 @@ impl<O: Outlet + Drop, F: Drop> Core<O, Admitters<F>> {
           sent = [];
           times_full = O.times_full outlet;
           forms = O.forms outlet;
+          name = O.name outlet;
         }) }
         ensures memory { IfErr result (λ fault. fault ≡ Fault.Memory) }
     {
@@ -151,6 +153,7 @@ impl<O: Outlet, A> Core<O, A> {
         ensures sent { O.sent result.now ≡ self.now.sent }
         ensures times_full { O.times_full result.now ≡ self.now.times_full }
         ensures forms { O.forms result.now ≡ self.now.forms }
+        ensures name { O.name result.now ≡ self.now.name }
     {
         &self.outlet
     }
@@ -162,6 +165,7 @@ impl<O: Outlet, A: Drop> Core<O, A> {
         ensures sent { O.sent result ≡ self.sent }
         ensures times_full { O.times_full result ≡ self.times_full }
         ensures forms { O.forms result ≡ self.forms }
+        ensures name { O.name result ≡ self.name }
         ensures legal { IsLegal self.rules self.limits.workers self.sent self.world }
     {
         let Core {

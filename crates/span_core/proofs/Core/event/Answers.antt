@@ -42,4 +42,5 @@ returns-clause-accepted g c =
       sent = c.put.ensures.sent ∙ (λ j. sent_is j ++ (record { request = call_is j; answer = told; notes = map plain_note c.in_ok-notes.notes.items }) ∷ []);
       times_full = c.put.ensures.times_full ∙ c.in_ok-ask.ensures.times_full ∙ ap (λ (v : CoreView). v.times_full) c.self.view_is;
       forms = c.put.ensures.forms ∙ c.in_ok-ask.ensures.forms ∙ ap (λ (v : CoreView). v.forms) c.self.view_is;
+      name = c.put.ensures.name ∙ c.in_ok-ask.ensures.name ∙ ap (λ (v : CoreView). v.name) c.self.view_is;
     }
