@@ -13,9 +13,9 @@ pub(crate) fn ask<O: Outlet>(outlet: &mut O) -> Result<(), Fault>
     ensures times_full { OnOk result (O.times_full outlet.new ≡ O.times_full outlet.old) }
     ensures refused { IfErr result (λ fault. IsLate fault × (O.times_full outlet.new ≡ times_after fault (O.times_full outlet.old))) }
 {
-    match outlet.room() {
-        Ok(true) => Ok(()),
-        Ok(false) => Err(Fault::Backlog),
-        Err(_) => Err(Fault::Memory),
+    if outlet.room()? {
+        Ok(())
+    } else {
+        Err(Fault::Backlog)
     }
 }
