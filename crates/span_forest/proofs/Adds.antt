@@ -155,8 +155,8 @@ not_found es id h = find-nodes es id ∙ ap (option_map node_of) h
 pub found_open : (es : List (ℕ × Span)) (id : ℕ) (span : Span) → value_at es id ≡ Some span → IsOpen (nodes_of es) id
 found_open es id span h = rw (node_found es id span h) refl
 
-pub IsConsistent-empty : (max total : ℕ) → total ≡ 0 → 1 ≤ max → max ≤ 4294967295 → IsConsistent [] max total
-IsConsistent-empty max total none low high = record {
+pub IsConsistent-empty : (max total handles : ℕ) → total ≡ 0 → handles ≡ 0 → 1 ≤ max → max ≤ 4294967295 → IsConsistent [] max total handles
+IsConsistent-empty max total handles none no_handles low high = record {
   settled = record {
     forest = forest_from [] (record {
       apart = tt;
@@ -171,6 +171,7 @@ IsConsistent-empty max total none low high = record {
   };
   bounded = λ j. omega arith;
   total_is = none;
+  handles_is = no_handles;
   few = omega arith;
   max_low = low;
   max_high = high;

@@ -15,7 +15,7 @@ use Rattle.span_forest.specs.Forest.{ForestView}
 use Rattle.span_forest.specs.Holders.{held_by, held_in, IsHeld, with_less, with_more}
 use Rattle.span_forest.specs.Keep.{with_holder}
 use Rattle.span_forest.specs.Release.{without_holder, freed_after, spans_left, closing_list}
-use Rattle.span_forest.specs.inside.Invariant.{AreCounted, IsSettled, IsConsistent, span_less, span_more}
+use Rattle.span_forest.specs.inside.Invariant.{AreCounted, IsSettled, IsConsistent, span_less, span_more, handles_in}
 use Rattle.span_forest.specs.inside.Chain.{without, without_all, Chain, IsPending}
 use Rattle.span_forest.proofs.Ranks.{IsRanked}
 use Rattle.span_forest.specs.Forest.{IsForest}
@@ -23,8 +23,9 @@ use Rattle.span_forest.proofs.Finds.{no_child, is_some_id_same, find-without_oth
 use Rattle.std.proofs.lemmas.List.{take_more, drop_more, take_all, drop_all}
 use Rattle.span_forest.proofs.Chains.{written_without, IsPending-without, chain_end}
 use Rattle.span_forest.proofs.Totals.{total-changed, total-without, total_le, length-nodes, length-changed}
-use Rattle.span_forest.specs.Count.{total_held}
-use Rattle.span_forest.proofs.Along.{without_all_more, Along_none}
+use Rattle.span_forest.proofs.Handles.{handles-kept, handles-released, handles_le}
+use Rattle.span_forest.specs.Count.{total_held, total_handles}
+use Rattle.span_forest.proofs.Along.{without_all_more, Along_none, released_by}
 use Rattle.span_forest.proofs.Nodes.{find-nodes, without-nodes, value_of_open, written-taken_same, written-taken_other, held_open, find-changed_same, find-changed_other, children-changed, IsForest-changed, IsOpen-changed}
 
 pub value_at-with_value_same : (es : List (ℕ × Span)) (id : ℕ) (span new : Span) → value_at es id ≡ Some span → value_at (with_value es id new) id ≡ Some new
@@ -335,8 +336,8 @@ pub nodes_more : (es : List (ℕ × Span)) (id : ℕ) (holder : Holder) (span : 
 nodes_more es id holder span a h = nodes-written (with_more holder) es id span (span_more holder span) a h (node_more holder span)
 
 -- a forest with one more holder
-pub IsConsistent-kept : (es : List (ℕ × Span)) (max total more id : ℕ) (holder : Holder) (span : Span) → IsConsistent es max total → value_at es id ≡ Some span → span.count < max → more ≡ total + 1 → IsConsistent (with_value es id (span_more holder span)) max more
-IsConsistent-kept es max total more id holder span w h low one =
+pub IsConsistent-kept : (es : List (ℕ × Span)) (max total more handles more_handles id : ℕ) (holder : Holder) (span : Span) → IsConsistent es max total handles → value_at es id ≡ Some span → span.count < max → more ≡ total + 1 → more_handles ≡ handles + handles_in holder → IsConsistent (with_value es id (span_more holder span)) max more more_handles
+IsConsistent-kept es max total more handles more_handles id holder span w h low one also =
     let n = nodes_more es id holder span w.settled.forest.ids_apart h in
     let f = node_found es id span h in
     let c0 = w.settled.counted id span h in
@@ -363,6 +364,7 @@ IsConsistent-kept es max total more id holder span w h low one =
         | inr t ↦ (let d = written-kept_other (nodes_of es) id j holder t.1 in omega arith)
       ]);
       total_is = rw n (let q = total-changed (with_more holder) (nodes_of es) id (node_of span) w.settled.forest.ids_apart f in let k = more_holders holder (node_of span) in let z = w.total_is in omega arith);
+      handles_is = rw n (let q = handles-kept (nodes_of es) id holder (node_of span) w.settled.forest.ids_apart f in let z = w.handles_is in omega (arith, q, z, also));
       few = (let a = ap length n in let b = length-nodes es in let d = length-nodes (with_value es id (span_more holder span)) in let e = length-changed (with_more holder) (nodes_of es) id in let q = w.few in omega arith);
       max_low = w.max_low;
       max_high = w.max_high;
@@ -386,13 +388,19 @@ held_part es id holder w h =
     (s.0, s.1, (omega arith, b))
 
 -- all holders are few enough to be counted in 64 bits
-pub total_fits : (es : List (ℕ × Span)) (max total : ℕ) → IsConsistent es max total → total < 18446744073709551615
-total_fits es max total w =
+pub total_fits : (es : List (ℕ × Span)) (max total handles : ℕ) → IsConsistent es max total handles → total < 18446744073709551615
+total_fits es max total handles w =
     let t = total_le (nodes_of es) w.settled.forest.ids_apart (λ id. let b = w.bounded id in let h = w.max_high in omega arith) in
     let n = length-nodes es in
     let few = w.few in
     let same = w.total_is in
     omega arith
+
+-- so are all handles
+pub handles_fit : (es : List (ℕ × Span)) (max total handles : ℕ) → IsConsistent es max total handles → handles < 18446744073709551615
+handles_fit es max total handles w =
+    let fits = total_fits es max total handles w in
+    omega (arith, fits, handles_le (nodes_of es), w.total_is, w.handles_is)
 
 less_by_one : (holder : Holder) (node : Node) → 0 < held_by holder node → holders (with_less holder node) + 1 ≡ holders node
 less_by_one Handle node h = omega arith
@@ -424,8 +432,8 @@ length-closed-le [] spans = omega arith
 length-closed-le (x ∷ xs) spans = let r = length-closed-le xs (without spans x) in let q = length-without-le spans x in omega arith
 
 -- a forest after a release
-pub IsConsistent-released : (es new : List (ℕ × Span)) (max total : ℕ) (id : ℕ) (holder : Holder) (xs : List ℕ) → IsConsistent es max total → IsHeld (nodes_of es) id holder → Chain (without_holder (nodes_of es) id holder) (Some id) xs → IsSettled new → nodes_of new ≡ without_all (without_holder (nodes_of es) id holder) xs → IsConsistent new max (total - 1)
-IsConsistent-released es new max total id holder xs w h c s n =
+pub IsConsistent-released : (es new : List (ℕ × Span)) (max total handles fewer : ℕ) (id : ℕ) (holder : Holder) (xs : List ℕ) → IsConsistent es max total handles → IsHeld (nodes_of es) id holder → Chain (without_holder (nodes_of es) id holder) (Some id) xs → IsSettled new → nodes_of new ≡ without_all (without_holder (nodes_of es) id holder) xs → fewer ≡ handles - handles_in holder → IsConsistent new max (total - 1) fewer
+IsConsistent-released es new max total handles fewer id holder xs w h c s n less =
     let spans = nodes_of es in
     let p = (Along_none es id holder w.settled h).pending in
     let one = total-taken es id holder w.settled h in
@@ -435,10 +443,21 @@ IsConsistent-released es new max total id holder xs w h c s n =
       settled = s;
       bounded = λ j. (let a = written_left_le spans id holder xs j h in let b = w.bounded j in rw n (omega arith));
       total_is = rw n (omega arith);
+      handles_is =
+          (let left = (released_by es id holder xs w.settled h c).left in
+          let is = ap total_handles (n ∙ sym left) in
+          let taken = handles-released spans id holder w.settled.forest h in
+          omega (arith, is, taken, less, w.handles_is));
       few = (let a = ap length n in let b = length-nodes es in let d = length-nodes new in let e = length-changed (with_less holder) spans id in let f = length-closed-le xs (without_holder spans id holder) in let q = w.few in omega arith);
       max_low = w.max_low;
       max_high = w.max_high;
     }
 
-pub total_positive : (es : List (ℕ × Span)) (max total id : ℕ) (holder : Holder) → IsConsistent es max total → IsHeld (nodes_of es) id holder → 0 < total
-total_positive es max total id holder w h = let a = total-taken es id holder w.settled h in let t = w.total_is in omega arith
+pub total_positive : (es : List (ℕ × Span)) (max total handles id : ℕ) (holder : Holder) → IsConsistent es max total handles → IsHeld (nodes_of es) id holder → 0 < total
+total_positive es max total handles id holder w h = let a = total-taken es id holder w.settled h in let t = w.total_is in omega arith
+
+-- a handle that is given back is one of them
+pub handles_enough : (es : List (ℕ × Span)) (max total handles id : ℕ) (holder : Holder) → IsConsistent es max total handles → IsHeld (nodes_of es) id holder → handles_in holder ≤ handles
+handles_enough es max total handles id holder w h =
+    let taken = handles-released (nodes_of es) id holder w.settled.forest h in
+    omega (arith, taken, w.handles_is)

@@ -13,13 +13,15 @@ use Rattle.span_forest.specs.Node.{node_of}
 use Rattle.span_forest.specs.Spans.{find, IsOpen, AreApart, with_node, nodes_of}
 use Rattle.span_forest.specs.Count.{holders, is_some_id, reference_count}
 use Rattle.span_forest.specs.Forest.{IsForest, ForestView}
-use Rattle.span_forest.specs.Add.{WhyNoChild, WhyNotAdded, HasRoomAbove, IsNew}
+use Rattle.span_forest.specs.Add.{WhyNotAdded}
+use Rattle.span_forest.specs.inside.Adding.{WhyNoChild, HasRoomAbove, IsNew}
 use Rattle.span_forest.specs.inside.Invariant.{IsSettled, IsConsistent, counts_more}
 use Rattle.span_forest.proofs.Ranks.{ranked}
 use Rattle.span_forest.proofs.Walks.{forest_from}
 use Rattle.span_forest.proofs.Finds.{is_some_id_true}
 use Rattle.span_forest.proofs.Counts.{nodes_kept}
 use Rattle.span_forest.proofs.Totals.{total-with}
+use Rattle.span_forest.proofs.Handles.{handles-with}
 use Rattle.span_forest.proofs.Adds.{nodes-with, value_at-with_other, AreApart-with, IsRanked-with, not_found, found_open, written_new, written_old, counted_new_root, counted_new_child, open_back}
 
 no_id : (id : ℕ) → None ≡ Some id → ⊥
@@ -146,9 +148,9 @@ own_parent es max id (Some p) absent room =
     ne_eqb p id (λ s. some_none (sym up.1 ∙ (ap (value_at es) s ∙ absent)))
 
 -- what every forest keeps holds with a new span too
-pub IsConsistent-added : (es new : List (ℕ × Span)) (max total id : ℕ) (span : Span) → IsConsistent es max total → value_at es id ≡ None → IsNew span → HasRoomAbove es max span.parent → IsSettled new → nodes_of new ≡ with_node (nodes_of es) id (node_of span) → length new ≤ 4294967295 → IsConsistent new max (total + 1)
+pub IsConsistent-added : (es new : List (ℕ × Span)) (max total handles id : ℕ) (span : Span) → IsConsistent es max total handles → value_at es id ≡ None → IsNew span → HasRoomAbove es max span.parent → IsSettled new → nodes_of new ≡ with_node (nodes_of es) id (node_of span) → length new ≤ 4294967295 → IsConsistent new max (total + 1) (handles + 1)
 unfolding as_one
-IsConsistent-added es new max total id span w absent fresh room s n few =
+IsConsistent-added es new max total handles id span w absent fresh room s n few =
     let one = one_count span fresh in
     record {
       settled = s;
@@ -166,6 +168,7 @@ IsConsistent-added es new max total id span w absent fresh room s n few =
             ])
       ]);
       total_is = rw n (let k = total-with (nodes_of es) id (node_of span) in let b = w.total_is in let c = fresh.count in omega arith);
+      handles_is = rw n (let k = handles-with (nodes_of es) id (node_of span) in omega (arith, k, w.handles_is, fresh.handles));
       few = few;
       max_low = w.max_low;
       max_high = w.max_high;

@@ -91,7 +91,8 @@ none_open (Some n) e h = cc
 held_node : (node : Node) → 0 < holders node → is_held node ≡ true
 held_node node h = grind (arith, nat_tests)
 
-held_live : (spans : Spans) (s : ℕ) → IsRanked spans → 0 < holders_in (find spans s) → is_live spans s ≡ true
+-- a span that has a holder is live
+pub held_live : (spans : Spans) (s : ℕ) → IsRanked spans → 0 < holders_in (find spans s) → is_live spans s ≡ true
 held_live spans s w h = held_at (find spans s) refl h where
   held_at : (o : Option Node) → find spans s ≡ o → 0 < holders_in o → is_live spans s ≡ true
   held_at None e k = absurd (omega arith)

@@ -15,6 +15,7 @@ use Rattle.span_forest.specs.inside.Invariant.{IsSettled, IsConsistent}
 use Rattle.span_forest.proofs.Nodes.{find-changed_same, find-changed_other, children-changed, IsOpen-changed, IsForest-changed}
 use Rattle.span_forest.proofs.Counts.{value_at-with_value_same, value_at-with_value_other, nodes-written, changed_none, some_same}
 use Rattle.span_forest.proofs.Totals.{length-nodes, length-changed}
+use Rattle.span_forest.proofs.Handles.{handles-same}
 
 holders_map : (f : Node → Node) → ((n : Node) → holders (f n) ≡ holders n) → (o : Option Node) → holders_in (option_map f o) ≡ holders_in o
 holders_map f k None = refl
@@ -54,22 +55,24 @@ module _ (f : Node → Node) (same_parent : (n : Node) → (f n).parent ≡ n.pa
       let k = same_holders e.1 in
       elim (eqb_tells e.0 id) [ inl t ↦ rw t.0 (omega arith) | inr t ↦ rw t.0 (omega arith) ]
 
-  pub IsConsistent-written : (es new : List (ℕ × Span)) (max total id : ℕ) → IsConsistent es max total → IsSettled new → nodes_of new ≡ with_change f (nodes_of es) id → IsConsistent new max total
-  IsConsistent-written es new max total id w s n = record {
+  pub IsConsistent-written : (es new : List (ℕ × Span)) (max total handles id : ℕ) → ((n : Node) → (f n).handles ≡ n.handles) → IsConsistent es max total handles → IsSettled new → nodes_of new ≡ with_change f (nodes_of es) id → IsConsistent new max total handles
+  IsConsistent-written es new max total handles id same_handles w s n = record {
     settled = s;
     bounded = λ j. rw n (let k = written-changed (nodes_of es) id j in let b = w.bounded j in omega arith);
     total_is = rw n (let k = total-written (nodes_of es) id in let b = w.total_is in omega arith);
+    handles_is = rw n (let k = handles-same f same_handles (nodes_of es) id in omega (arith, k, w.handles_is));
     few = (let a = ap length n in let b = length-nodes es in let d = length-nodes new in let e = length-changed f (nodes_of es) id in let q = w.few in omega arith);
     max_low = w.max_low;
     max_high = w.max_high;
   }
 
 -- a forest of the same nodes
-pub IsConsistent-same : (es new : List (ℕ × Span)) (max total : ℕ) → IsConsistent es max total → IsSettled new → nodes_of new ≡ nodes_of es → IsConsistent new max total
-IsConsistent-same es new max total w s n = record {
+pub IsConsistent-same : (es new : List (ℕ × Span)) (max total handles : ℕ) → IsConsistent es max total handles → IsSettled new → nodes_of new ≡ nodes_of es → IsConsistent new max total handles
+IsConsistent-same es new max total handles w s n = record {
   settled = s;
   bounded = λ j. rw n (w.bounded j);
   total_is = rw n w.total_is;
+  handles_is = rw n w.handles_is;
   few = (let a = ap length n in let b = length-nodes es in let d = length-nodes new in let q = w.few in omega arith);
   max_low = w.max_low;
   max_high = w.max_high;
@@ -114,9 +117,9 @@ module _ (es : List (ℕ × Span)) (id : ℕ) (span : Span) (new : Vec Field Glo
   refused_appended (Err v) w f h = nodes-written (λ n. n) es id span (refielded span new) w.forest.ids_apart f (kept_node h) ∙ changed_none (nodes_of es) id
 
 -- a forest after an append, or after one that was refused
-pub IsConsistent-appended : {R E : Type 0} (r : Result R E) (es new : List (ℕ × Span)) (max total id : ℕ) (more : List (List ℕ × List ℕ)) → IsConsistent es max total → IsSettled new → OnOk r (nodes_of new ≡ with_change (with_fields more) (nodes_of es) id) → OnErr r (nodes_of new ≡ nodes_of es) → IsConsistent new max total
-IsConsistent-appended (Ok v) es new max total id more w s h k = IsConsistent-written (with_fields more) (with_fields-parent more) (with_fields-holders more) es new max total id w s h
-IsConsistent-appended (Err v) es new max total id more w s h k = IsConsistent-same es new max total w s k
+pub IsConsistent-appended : {R E : Type 0} (r : Result R E) (es new : List (ℕ × Span)) (max total handles id : ℕ) (more : List (List ℕ × List ℕ)) → IsConsistent es max total handles → IsSettled new → OnOk r (nodes_of new ≡ with_change (with_fields more) (nodes_of es) id) → OnErr r (nodes_of new ≡ nodes_of es) → IsConsistent new max total handles
+IsConsistent-appended (Ok v) es new max total handles id more w s h k = IsConsistent-written (with_fields more) (with_fields-parent more) (with_fields-holders more) es new max total handles id (λ n. refl) w s h
+IsConsistent-appended (Err v) es new max total handles id more w s h k = IsConsistent-same es new max total handles w s k
 
 pub on_ok : {R E P : Type 0} (r : Result R E) → P → OnOk r P
 on_ok (Ok v) h = h

@@ -1,10 +1,9 @@
 -- A new span.
 use Rattle.std.specs.Prelude.{ℕ, ◌≡◌, ◌<◌, List, Option, None, IsSome, IsSomeAnd, MatchOption, drop}
-use Rattle.span_slots.specs.Table.{issue, value_at}
+use Rattle.span_slots.specs.Table.{issue}
 use Rattle.span_id.specs.Id.{slot_of}
 use Rattle.span_id.specs.declared.fault.Fault.{Fault}
 use Rattle.span_id.specs.declared.fault.Fault.TheVariants.{Unknown, CountFull, Full, Memory}
-use Rattle.span_forest.specs.declared.span.Span.{Span}
 use Rattle.span_forest.specs.Node.{Node}
 use Rattle.span_forest.specs.Spans.{Spans, find, IsOpen, with_node}
 use Rattle.span_forest.specs.Count.{reference_count}
@@ -32,21 +31,3 @@ WhyNotAdded forest parent CountFull =
 WhyNotAdded forest parent Full = CanHaveChild forest.spans forest.max_count parent × (next_span_id forest ≡ None)
 WhyNotAdded forest parent Memory = CanHaveChild forest.spans forest.max_count parent × IsSome (next_span_id forest)
 WhyNotAdded forest parent _ = ⊥
-
--- the first two reasons, for the functions inside this crate
-abbrev pub WhyNoChild : Spans → ℕ → Option ℕ → Fault → Type 0
-WhyNoChild spans max_count parent Unknown = IsSomeAnd parent (λ p. find spans p ≡ None)
-WhyNoChild spans max_count parent CountFull =
-    IsSomeAnd parent (λ p. IsOpen spans p × (reference_count spans p ≡ max_count))
-WhyNoChild spans max_count parent _ = ⊥
-
--- the same of the code's spans
-abbrev pub HasRoomAbove : List (ℕ × Span) → ℕ → Option ℕ → Type 0
-HasRoomAbove entries max_count parent =
-    MatchOption parent (Unit {0}) (λ p. IsSomeAnd (value_at entries p) (λ above. above.count < max_count))
-
--- one handle alone holds the span
-pub record IsNew (span : Span) : Type 0 where
-  pub handles : span.handles ≡ 1
-  pub entries : span.entries ≡ 0
-  pub count : span.count ≡ 1

@@ -31,3 +31,8 @@ reference_count spans id = holders_in (find spans id) + children spans id
 abbrev pub total_held : Spans → ℕ
 total_held [] = 0
 total_held (e ∷ es) = holders e.1 + total_held es
+
+-- how many handles all spans have
+abbrev pub total_handles : Spans → ℕ
+total_handles [] = 0
+total_handles (e ∷ es) = e.1.handles + total_handles es

@@ -1,3 +1,4 @@
 -- What only the proofs of this crate need: no public clause cites it.
 pub mod Invariant
 pub mod Chain
+pub mod Adding

@@ -5,7 +5,8 @@ ghost use Rattle.span_forest.specs.Node.{node_of};
 ghost use Rattle.span_forest.specs.Spans.{nodes_of, with_node};
 ghost use Rattle.span_forest.specs.Count.{reference_count};
 ghost use Rattle.span_forest.specs.inside.Invariant.{AreCounted, IsSettled};
-ghost use Rattle.span_forest.specs.Add.{CanHaveChild, WhyNoChild, IsNew, HasRoomAbove};
+ghost use Rattle.span_forest.specs.Add.{CanHaveChild};
+ghost use Rattle.span_forest.specs.inside.Adding.{WhyNoChild, IsNew, HasRoomAbove};
 
 use crate::holders::raise;
 use crate::span::Span;

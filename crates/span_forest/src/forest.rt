@@ -4,7 +4,7 @@ ghost use Rattle.span_slots.specs.Table.{IsIssued};
 ghost use Rattle.span_id.specs.Meta.{plain_fields};
 ghost use Rattle.span_forest.specs.Node.{Node, node_of, new_node, with_fields};
 ghost use Rattle.span_forest.specs.Spans.{find, IsOpen, with_change, WhyNotFound};
-ghost use Rattle.span_forest.specs.Count.{reference_count, total_held};
+ghost use Rattle.span_forest.specs.Count.{reference_count, total_held, total_handles};
 ghost use Rattle.span_forest.specs.Path.{path};
 ghost use Rattle.span_forest.specs.Forest.{next_span_id, table_of};
 ghost use Rattle.span_forest.specs.Holders.{IsHeld};
@@ -16,7 +16,7 @@ pub mod laws;
 
 use crate::adding::{checked_parent, place};
 use crate::closing::{chain, let_go};
-use crate::holders::{count_of, is_held, is_open, raise_holder};
+use crate::holders::{count_of, handles_in, is_held, is_open, raise_holder};
 use crate::span::{Holder, Span};
 use crate::writing::{append_fields, names_of};
 use span_id::{Bits, Checked, Fault, Field, Id, Meta, copy_fields};
@@ -32,8 +32,9 @@ use std::marker::Model;
 #[derive(Debug, Drop)]
 pub struct Forest {
     slots: Slots<Span>,
-    // How many holders all spans have.
+    // How many holders all spans have, and how many of these are handles.
     total: u64,
+    handles: u64,
     max_count: u32,
     alloc: Global,
 }
@@ -55,7 +56,7 @@ impl Model for Forest {
       freed = f.slots.freed;
     } };
 
-    ghost invariant = { λ f. IsConsistent f.slots.entries f.max_count f.total };
+    ghost invariant = { λ f. IsConsistent f.slots.entries f.max_count f.total f.handles };
 }
 
 impl Forest {
@@ -76,6 +77,7 @@ impl Forest {
         Ok(Forest {
             slots,
             total: 0,
+            handles: 0,
             max_count,
             alloc,
         })
@@ -111,6 +113,13 @@ impl Forest {
         ensures { result ≡ total_held self.now.spans }
     {
         self.total
+    }
+
+    /// How many handles all spans have, without the entries.
+    pub fn handles(&self) -> u64
+        ensures { result ≡ total_handles self.now.spans }
+    {
+        self.handles
     }
 
     /// The id that the next span gets: None where no slot is free.
@@ -161,6 +170,7 @@ impl Forest {
             count: 1,
         };
         self.total += 1;
+        self.handles += 1;
         Ok(place(&mut self.slots, span))
     }
 
@@ -183,6 +193,7 @@ impl Forest {
         }
         raise_holder(&mut self.slots, id, holder);
         self.total += 1;
+        self.handles += handles_in(holder);
         Ok(())
     }
 
@@ -216,17 +227,26 @@ impl Forest {
         ensures refused { IfErr result (λ fault. WhyNotReleased self.old.spans id holder fault) }
         ensures unchanged { OnErr result (self.new ≡ self.old) }
     {
-        if !is_held(&self.slots, id, holder) {
-            return Err(Fault::Unknown);
-        }
-        match chain(&self.slots, self.alloc, id, holder) {
-            Ok(closed) => {
-                let_go(&mut self.slots, id, holder, closed.as_slice());
-                self.total -= 1;
-                Ok(closed)
-            }
-            Err(_) => Err(Fault::Memory),
-        }
+        let closed = self.closing(id, holder)?;
+        self.release_closing(id, holder, closed.as_slice());
+        Ok(closed)
+    }
+
+    /// Does what `release` does, for a caller that already has the list that `closing` gave for this holder.
+    ///
+    /// It takes no memory and is never refused.
+    pub fn release_closing(&mut self, id: Id, holder: Holder, closing: &[Id])
+        requires held { IsHeld self.old.spans id holder }
+        requires list { closing.now ≡ closing_list self.old.spans id holder }
+        ensures { self.new ≡ record self.old {
+          spans = spans_left self.old.spans id holder;
+          freed = freed_after self.old.last_generation self.old.given self.old.freed
+              (closing_list self.old.spans id holder);
+        } }
+    {
+        let_go(&mut self.slots, id, holder, closing);
+        self.total -= 1;
+        self.handles -= handles_in(holder);
     }
 
     /// Appends copies of the fields to those of a span, in their order.
@@ -244,10 +264,8 @@ impl Forest {
             return Err(Fault::Unknown);
         }
         let copies = copy_fields(self.alloc, fields)?;
-        match append_fields(&mut self.slots, id, copies) {
-            Ok(()) => Ok(()),
-            Err(_) => Err(Fault::Memory),
-        }
+        append_fields(&mut self.slots, id, copies)?;
+        Ok(())
     }
 
     /// The names of a span and its ancestors, root first, without those that the layer doesn't admit.

@@ -4,7 +4,7 @@ ghost use Rattle.span_forest.specs.declared.span.Span.{Span};
 ghost use Rattle.span_forest.specs.Node.{node_of};
 ghost use Rattle.span_forest.specs.Spans.{nodes_of, IsOpen};
 ghost use Rattle.span_forest.specs.Holders.{IsHeld, held_by};
-ghost use Rattle.span_forest.specs.inside.Invariant.{span_less, span_more, counts_more};
+ghost use Rattle.span_forest.specs.inside.Invariant.{handles_in, span_less, span_more, counts_more};
 
 use crate::span::{Holder, Span};
 use span_id::Id;
@@ -37,6 +37,16 @@ pub(crate) fn count_of(slots: &Slots<Span>, id: Id) -> u32
     match slots.get(id) {
         None => 0,
         Some(span) => span.count,
+    }
+}
+
+// How many handles a holder is: one, or none.
+pub(crate) fn handles_in(holder: Holder) -> u64
+    ensures { result ≡ handles_in holder }
+{
+    match holder {
+        Holder::Handle => 1,
+        Holder::Entry => 0,
     }
 }
 

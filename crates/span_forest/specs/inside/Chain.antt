@@ -1,4 +1,4 @@
--- How a release goes up along the parents, for the functions inside this crate.
+-- How a release goes up along the parents, for the functions inside this crate: no public clause cites it.
 use Rattle.std.specs.Prelude.{ℕ, ◌<◌, ◌≡◌, ◌==◌, not, filter, List, [], ◌∷◌, Option, Some, None}
 use Rattle.span_forest.specs.Spans.{Spans, IsOpen, parent_of}
 use Rattle.span_forest.specs.Count.{reference_count}

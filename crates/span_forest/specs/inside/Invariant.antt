@@ -1,11 +1,11 @@
--- What is always true of a forest and of the counts that its spans keep.
+-- What is always true of a forest and of the counts that its spans keep: no public clause cites it.
 use Rattle.std.specs.Prelude.{ℕ, ◌+◌, ◌-◌, ◌<◌, ◌≤◌, ◌≡◌, List, length, Some}
 use Rattle.span_slots.specs.Table.{value_at}
 use Rattle.span_forest.specs.declared.span.Span.{Span}
 use Rattle.span_forest.specs.declared.span.Holder.{Holder}
 use Rattle.span_forest.specs.declared.span.Holder.TheVariants.{Handle, Entry}
 use Rattle.span_forest.specs.Spans.{IsOpen, nodes_of}
-use Rattle.span_forest.specs.Count.{reference_count, total_held}
+use Rattle.span_forest.specs.Count.{reference_count, total_held, total_handles}
 use Rattle.span_forest.specs.Forest.{IsForest}
 
 -- the `count` of each span is its written count
@@ -18,12 +18,13 @@ pub record IsSettled (entries : List (ℕ × Span)) : Type 0 where
   pub counted : AreCounted entries
   pub positive : (id : ℕ) → IsOpen (nodes_of entries) id → 0 < reference_count (nodes_of entries) id
 
--- what is true of every forest: it is settled, no count is above the greatest one, and the number of all
--- holders is written beside it
-pub record IsConsistent (entries : List (ℕ × Span)) (max_count total : ℕ) : Type 0 where
+-- what is true of every forest: it is settled, no count is above the greatest one, and the numbers of all
+-- holders and of all handles are written beside it
+pub record IsConsistent (entries : List (ℕ × Span)) (max_count total handles : ℕ) : Type 0 where
   pub settled : IsSettled entries
   pub bounded : (id : ℕ) → reference_count (nodes_of entries) id ≤ max_count
   pub total_is : total ≡ total_held (nodes_of entries)
+  pub handles_is : handles ≡ total_handles (nodes_of entries)
   pub few : length entries ≤ 4294967295
   pub max_low : 1 ≤ max_count
   pub max_high : max_count ≤ 4294967295
@@ -40,3 +41,8 @@ span_more Entry span = record span { entries = span.entries + 1; count = span.co
 -- the span with one child more
 abbrev pub counts_more : Span → Span
 counts_more span = record span { count = span.count + 1 }
+
+-- how many handles a holder is
+abbrev pub handles_in : Holder → ℕ
+handles_in Handle = 1
+handles_in Entry = 0

@@ -1,5 +1,5 @@
--- How the cells of a slot table stand for what contracts see. A row is a cell as a pair: how many ids
--- the slot has given, and the value that stands in it under the last of them.
+-- How the cells of a slot table stand for what contracts see: no public clause cites it. A row is a cell as
+-- a pair: how many ids the slot has given, and the value that stands in it under the last of them.
 use Rattle.std.specs.Prelude.{ℕ, zero, suc, ◌+◌, ◌-◌, ◌<◌, ◌≤◌, ◌≡◌, Bool, cond, ◌&&◌, ◌==◌, nat_le, List, [], ◌∷◌, length, Option, Some, None, is_none}
 use Rattle.span_id.specs.Id.{id_of, slots_in_layout}
 

@@ -1,4 +1,4 @@
-use Rattle.std.proofs.Common.{◌≡◌, ◌+◌, ◌<◌, ◌≤◌, refl, sym, subst, arith}
+use Rattle.std.proofs.Common.{◌≡◌, ◌+◌, ◌<◌, ◌≤◌, refl, sym, ap, subst, arith}
 use Rattle.std.specs.Option.{IsSomeAnd}
 use Rattle.span_slots.specs.Table.{Table, with_value}
 use Rattle.span_forest.specs.declared.span.Span.{Span}
@@ -8,7 +8,8 @@ use Rattle.span_forest.specs.Spans.{nodes_of}
 use Rattle.span_forest.specs.Count.{reference_count}
 use Rattle.span_forest.specs.Holders.{IsHeld, held_by}
 use Rattle.span_forest.specs.inside.Invariant.{IsConsistent, span_more}
-use Rattle.span_forest.proofs.Counts.{held_part, nodes_more, IsConsistent-kept, kept_view, total_fits}
+use Rattle.span_forest.proofs.Counts.{held_part, nodes_more, IsConsistent-kept, kept_view, total_fits, handles_fit}
+use Rattle.span_forest.proofs.Handles.{handles_in_le}
 use Rattle.span_forest.proofs.forest.Forest.keep.Goals as goal
 
 pub returns-then-count_of-self-clause-refused : goal.returns-then-count_of-self-clause-refused
@@ -40,7 +41,7 @@ invariant_of-self c =
     let s = held_part i.slots.entries c.args.id c.args.holder v.settled held in
     let e = c.count_of.ensures s.0 s.1 in
     let low : s.0.count < i.max_count = omega (arith, c.if-count_of-self.false) in
-    subst (λ (t : Table Span). IsConsistent t.entries i.max_count (i.total + 1)) (sym (c.raise_holder.ensures s.0 s.1)) (IsConsistent-kept i.slots.entries i.max_count i.total (i.total + 1) c.args.id c.args.holder s.0 v s.1 low refl)
+    subst (λ (t : Table Span). IsConsistent t.entries i.max_count (i.total + 1) (i.handles + c.handles_in.result)) (sym (c.raise_holder.ensures s.0 s.1)) (IsConsistent-kept i.slots.entries i.max_count i.total (i.total + 1) i.handles (i.handles + c.handles_in.result) c.args.id c.args.holder s.0 v s.1 low refl (ap (λ n. i.handles + n) c.handles_in.ensures))
 
 pub returns-clause-forest : goal.returns-clause-forest
 returns-clause-forest c =
@@ -53,7 +54,7 @@ returns-clause-forest c =
 pub overflow_add-self : goal.overflow_add-self
 overflow_add-self c =
     let i = c.self.inside in
-    let fits = total_fits i.slots.entries i.max_count i.total c.self.invariant in
+    let fits = total_fits i.slots.entries i.max_count i.total i.handles c.self.invariant in
     omega arith
 
 pub returns-clause-accepted : goal.returns-clause-accepted
@@ -65,3 +66,9 @@ returns-clause-accepted c =
     let e = c.count_of.ensures s.0 s.1 in
     let low : reference_count (nodes_of i.slots.entries) c.args.id < i.max_count = omega (arith, c.if-count_of-self.false, s.2.1) in
     rw (← c.self.view_is) (held, low)
+
+pub overflow_add-self-2 : goal.overflow_add-self-2
+overflow_add-self-2 c =
+    let i = c.self.inside in
+    let fits = handles_fit i.slots.entries i.max_count i.total i.handles c.self.invariant in
+    omega (arith, fits, c.handles_in.ensures, handles_in_le c.args.holder)
