@@ -22,8 +22,10 @@ ghost use Rattle.span_core.specs.ClosedSpans.{closed_by, closed_in, gives_back, 
 pub mod outcome;
 
 use crate::Core;
-use span_forest::laws::full_where_each_slot_is_used_up as full_where_no_slot_is_left;
-use span_forest::laws::{each_slot_has_one_open_id, open_slots_are_in_range};
+use span_forest::laws::{
+    each_slot_has_one_open_id, full_where_each_slot_is_used_up as full_where_no_slot_is_left,
+    open_slots_are_in_range,
+};
 use span_outlet::Outlet;
 
 /// The open spans are a forest: each parent is open, and each walk ends at a root. Each open span is live: it stands on
@@ -135,7 +137,7 @@ pub fn the_named_span_closes_first<O: Outlet, A>(core: &Core<O, A>)
 }
 
 /// Whichever new span is accepted next: its id finds it, and every other id finds what it found before.
-pub fn a_new_id_finds_its_span<O: Outlet, A>(core: &Core<O, A>)
+pub fn new_id_finds_its_span<O: Outlet, A>(core: &Core<O, A>)
     ensures new { (worker id : ℕ) (meta : PlainMeta) (fields : List KeyValue) (parent : Option ℕ) (new : CoreView) →
         IsAccepted core.now (new_span worker meta fields parent) (made id) new →
         find new.world.spans id ≡ Some (made_node core.now.rules meta fields parent) }
@@ -162,7 +164,7 @@ pub fn handles_follow_the_calls<O: Outlet, A>(core: &Core<O, A>)
 pub fn full_where_each_slot_is_used_up<O: Outlet, A>(core: &Core<O, A>)
     ensures { (next_id core.now.limits.slots core.now.limits.last_generation core.now.sent ≡ None)
         ↔ ((slot : ℕ) → slot < core.now.limits.slots →
-            IsTrue (is_used_up core.now.limits.last_generation core.now.world.spans core.now.sent slot)) }
+        IsTrue (is_used_up core.now.limits.last_generation core.now.world.spans core.now.sent slot)) }
 {
     core.limits.limits();
     full_where_no_slot_is_left(&core.forest);

@@ -132,9 +132,9 @@ impl<O: Outlet, A> Core<O, A> {
         ensures ids { IfOk result (λ closed. with_ids ≡ true → closed.ids.items ≡ closing_list self.old.world.spans id Handle) }
         ensures refused { IfErr result (λ fault. IsRefused self.old (try_close worker id) fault self.new) }
     {
-        if held_span(&self.forest, id).is_none() {
+        let Some(_) = held_span(&self.forest, id) else {
             return Err(Fault::Unknown);
-        }
+        };
         if self.calls == u64::MAX {
             return Err(Fault::CountFull);
         }
