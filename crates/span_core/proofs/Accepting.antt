@@ -1,5 +1,5 @@
 -- What each accepted call leaves of a core's parts.
-use Rattle.std.proofs.Common.{◌≡◌, true, false, ℕ, ◌+◌, ◌<◌, Bool, cond, not, List, [], ◌∷◌, ◌++◌, length, map, get_or, set, Option, Some, None, refl, sym, ap, ◌∙◌, subst, arith}
+use Rattle.std.proofs.Common.{◌≡◌, true, false, ℕ, ◌+◌, ◌<◌, Bool, cond, not, List, [], ◌∷◌, ◌++◌, length, map, get_or, set, Option, Some, None, refl, sym, ap, ◌∙◌, subst, inl, arith}
 use Rattle.std.proofs.lemmas.List.{length-set}
 use Rattle.span_id.specs.declared.limits.Limits.{Limits}
 use Rattle.span_layers.specs.declared.note.Kind.TheVariants.{OnExit, OnRecord, OnEnter}
@@ -92,6 +92,7 @@ sound_close limits rules forest new_forest stacks calls old mid new worker id cl
     ∙ ap (λ ids. forest_with limits new_forest.spans (with_closed limits.last_generation (slots_after limits.last_generation old) ids)) (sym closed_are))
     (λ x there. cc)
     (λ x before. rw given_is before)
+    (λ x fits low. inl (rw given_is at low))
     refl
     (subst (λ (spans : Spans). IsWorld (record { spans = spans; stacks = stacks })) (sym spans_are) (world_released_handle forest.spans id stacks sound.world))
     (record {
@@ -174,6 +175,7 @@ sound_exit limits rules forest new_forest stacks new_stacks calls old mid new wo
     ∙ ap (λ ids. forest_with limits new_forest.spans (with_closed limits.last_generation (slots_after limits.last_generation old) ids)) (sym closed_are))
     (λ x there. cc)
     (λ x before. rw given_is before)
+    (λ x fits low. inl (rw given_is at low))
     (ap length stacks_are ∙ length-set stacks worker _)
     (subst (λ (w : World). IsWorld w) (λ j. record { spans = (sym spans_are) j; stacks = (sym stacks_are) j })
     (world_after_exit forest.spans stacks worker id stays within stands (sym stays_is) sound.world))

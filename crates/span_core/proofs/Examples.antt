@@ -233,6 +233,7 @@ core_of sent = record {
   sent = sent;
   times_full = 0;
   forms = [];
+  name = None;
 }
 
 -- one batch more, and this world

@@ -134,7 +134,7 @@ stands_either id xs ys P h left right = either (stands_in id xs) (stands_in id y
 stands_single : (id x : ℕ) → stands_in id (x ∷ []) ≡ true → x ≡ id
 stands_single id x h = elim (eqb_tells x id) [ inl t ↦ t.1 | inr t ↦ absurd (let h2 = rw t.0 at h in false≢true h2) ]
 
-stands_itself : (id : ℕ) → stands_in id (id ∷ []) ≡ true
+pub stands_itself : (id : ℕ) → stands_in id (id ∷ []) ≡ true
 stands_itself id = elim (eqb_tells id id) [ inl t ↦ rw t.0 refl | inr t ↦ absurd (t.1 refl) ]
 
 stands_at : (xs : List ℕ) (k d : ℕ) → k < length xs → stands_in (get_or xs k d) xs ≡ true

@@ -17,6 +17,11 @@ pub mod Announcing
 pub mod ToldOnce
 pub mod UsedSlots
 pub mod Holds
+pub mod Made
+pub mod Refusals
+pub mod Named
+pub mod Follows
+pub mod UsedUp
 pub mod Steady
 pub mod Weights
 pub mod OutcomeCases

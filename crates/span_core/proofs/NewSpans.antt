@@ -1,6 +1,6 @@
 -- A new span: its path and its notes, as they can be said before it is there.
 use Rattle.std.proofs.Common.{◌≡◌, ◌≢◌, ℕ, zero, suc, ◌+◌, ◌<◌, ◌==◌, Bool, true, false, cond, ◌&&◌, ◌||◌, List, [], ◌∷◌, ◌++◌, length, map, filter, reverse, Option, Some, None, refl, sym, ap, ◌∙◌, subst, inl, inr}
-use Rattle.std.specs.Prelude.{is_some, IfSome, slice_index, nat_lt}
+use Rattle.std.specs.Prelude.{◌⊎◌, is_some, IfSome, slice_index, nat_lt}
 use Rattle.std.specs.Option.{option_map_or}
 use Rattle.std.specs.List.{range_with_len}
 use Rattle.std.proofs.lemmas.Bool.{cases_Bool, false≢true}
@@ -40,7 +40,7 @@ use Rattle.span_core.proofs.Telling.{one_happening}
 abbrev pub ParentsOpen : Spans → Type 0
 ParentsOpen spans = (id parent : ℕ) → parent_of spans id ≡ Some parent → IsOpen spans parent
 
-length-with_node : (spans : Spans) (id : ℕ) (node : Node) → length (with_node spans id node) ≡ suc (length spans)
+pub length-with_node : (spans : Spans) (id : ℕ) (node : Node) → length (with_node spans id node) ≡ suc (length spans)
 length-with_node [] id node = refl
 length-with_node (e ∷ es) id node =
     elim (cases_Bool (nat_lt (slot_of id) (slot_of e.0))) [ inl t ↦ rw t refl | inr t ↦ rw t (ap suc (length-with_node es id node)) ]
@@ -189,6 +189,7 @@ pub sound_new : (limits : Limits) (rules : List Filter) (forest new_forest : For
     → IsId id
     → (generation_of id < slice_index forest.given (slot_of id) → ⊥)
     → generation_of id < slice_index new_forest.given (slot_of id)
+    → ((x : ℕ) → IsId x → generation_of x < slice_index new_forest.given (slot_of x) → (generation_of x < slice_index forest.given (slot_of x)) ⊎ (stands_in x (id ∷ []) ≡ true))
     → is_wanted rules meta ≡ true
     → is_open_parent forest.spans parent ≡ true
     → find forest.spans id ≡ None
@@ -197,7 +198,7 @@ pub sound_new : (limits : Limits) (rules : List Filter) (forest new_forest : For
     → written ≡ new_span worker meta fields parent
     → mid ≡ old → new ≡ mid ++ (record { request = written; answer = made id; notes = notes }) ∷ []
     → IsSound limits new_forest stacks rules (calls + 1) new
-sound_new limits rules forest new_forest stacks calls old mid new worker id meta fields parent written notes sound within in_layout never now_issued wanted there gone forest_is notes_are written_is same sent =
+sound_new limits rules forest new_forest stacks calls old mid new worker id meta fields parent written notes sound within in_layout never now_issued no_other wanted there gone forest_is notes_are written_is same sent =
     let node = made_node rules meta fields parent in
     let spans_are = ap (λ f. f.spans) forest_is in
     let given_is : new_forest.given ≡ issue forest.given (slot_of id) = ap (λ f. f.given) forest_is in
@@ -206,6 +207,7 @@ sound_new limits rules forest new_forest stacks calls old mid new worker id meta
     ∙ ap (λ s. forest_with limits s (with_answer limits.last_generation (slots_after limits.last_generation old) (made id))) (sym spans_are))
     (λ x there_x. subst (λ (y : ℕ). generation_of y < slice_index new_forest.given (slot_of y)) (only_one id x there_x) now_issued)
     (λ x before. rw given_is (issue_more forest.given (slot_of id) (slot_of x) (generation_of x) before))
+    no_other
     refl
     (subst (λ (spans : Spans). IsWorld (record { spans = spans; stacks = stacks })) (sym spans_are) (world_new forest.spans id node stacks gone refl sound.world))
     (step_new rules (issued old) forest.spans new_forest.spans stacks worker id meta fields parent notes within in_layout (not_in_history limits rules forest stacks calls old id sound never) wanted there spans_are notes_are)

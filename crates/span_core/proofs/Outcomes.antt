@@ -158,6 +158,7 @@ accepted_outcome old request answer new call next =
       sent = call.sent i;
       times_full = call.times_full i;
       forms = call.forms i;
+      name = call.name i;
     }
 
 -- a refused call is the outcome, and changes nothing, unless the outlet had no place or memory was refused
@@ -250,6 +251,7 @@ done_allowed core request within due new = (
     sent = refl;
     times_full = refl;
     forms = refl;
+    name = refl;
   },
   refl,
   done_takes core request due,

@@ -1,12 +1,12 @@
 -- The parts of a core agree at the start, and after each accepted call.
-use Rattle.std.proofs.Common.{◌≡◌, ℕ, ◌+◌, ◌<◌, ◌==◌, Bool, true, false, cond, ◌||◌, List, [], ◌∷◌, ◌++◌, length, replicate, refl, sym, ap, ◌∙◌, arith, length-append}
-use Rattle.std.specs.Prelude.{slice_index}
-use Rattle.std.proofs.lemmas.List.{length-replicate}
+use Rattle.std.proofs.Common.{◌≡◌, ℕ, ◌+◌, ◌<◌, ◌==◌, Bool, true, false, cond, ◌||◌, List, [], ◌∷◌, ◌++◌, length, replicate, refl, sym, ap, ◌∙◌, inl, inr, arith, length-append}
+use Rattle.std.specs.Prelude.{◌⊎◌, slice_index}
+use Rattle.std.proofs.lemmas.List.{length-replicate, get_or_past}
 use Rattle.std.proofs.lemmas.List.Folds.{sum_by-replicate, list_any-append}
 use Rattle.std.proofs.lemmas.List.Sums.{fold-append}
 use Rattle.std.proofs.lemmas.List.Concat.{flat_map-append}
 use Rattle.span_id.specs.declared.limits.Limits.{Limits}
-use Rattle.span_id.specs.Id.{slot_of, generation_of}
+use Rattle.span_id.specs.Id.{slot_of, generation_of, IsId}
 use Rattle.span_layers.specs.Filter.{Filter}
 use Rattle.span_forest.specs.Spans.{Spans}
 use Rattle.span_forest.specs.Forest.{ForestView}
@@ -31,6 +31,7 @@ sound_start limits rules forest stacks sent nothing empty alone =
       calls_are = refl;
       forest_is = refl;
       counted = λ id there. cc;
+      given = λ id fits low. absurd (let none = get_or_past {X = ℕ} [] (slot_of id) 0 (omega arith) in omega (arith, low, none));
       stacks_are = length-replicate limits.workers [];
       world = record { entered = λ id. sym (nobody_inside limits.workers id) };
       legal = none;
@@ -57,18 +58,26 @@ either : (a b : Bool) (P : Type 0) → (a || b) ≡ true → (a ≡ true → P) 
 either true b P h left right = left refl
 either false b P h left right = right h
 
+or_left : (a b : Bool) → a ≡ true → (a || b) ≡ true
+or_left a b h = rw h refl
+
+or_right : (a b : Bool) → b ≡ true → (a || b) ≡ true
+or_right true b h = refl
+or_right false b h = h
+
 -- after a call that was accepted
 pub sound_more : (limits : Limits) (rules : List Filter) (forest new_forest : ForestView) (stacks new_stacks : List (List ℕ)) (calls : ℕ) (old mid new : List PlainBatch) (batch : PlainBatch)
     → IsSound limits forest stacks rules calls old
     → new_forest ≡ forest_with limits new_forest.spans (with_answer limits.last_generation (slots_after limits.last_generation old) batch.answer)
     → ((id : ℕ) → stands_in id (id_issued batch.answer) ≡ true → generation_of id < slice_index new_forest.given (slot_of id))
     → ((id : ℕ) → generation_of id < slice_index forest.given (slot_of id) → generation_of id < slice_index new_forest.given (slot_of id))
+    → ((id : ℕ) → IsId id → generation_of id < slice_index new_forest.given (slot_of id) → (generation_of id < slice_index forest.given (slot_of id)) ⊎ (stands_in id (id_issued batch.answer) ≡ true))
     → length new_stacks ≡ length stacks
     → IsWorld (record { spans = new_forest.spans; stacks = new_stacks })
     → IsStep rules (issued old) (record { spans = forest.spans; stacks = stacks }) batch.request batch.answer batch.notes (record { spans = new_forest.spans; stacks = new_stacks })
     → mid ≡ old → new ≡ mid ++ batch ∷ []
     → IsSound limits new_forest new_stacks rules (calls + 1) new
-sound_more limits rules forest new_forest stacks new_stacks calls old mid new batch sound forest_is first_issue still_issued lengths world step same sent =
+sound_more limits rules forest new_forest stacks new_stacks calls old mid new batch sound forest_is first_issue still_issued no_other lengths world step same sent =
     let new_is : new ≡ old ++ batch ∷ [] = sent ∙ ap (λ history. history ++ batch ∷ []) same in
     record {
       calls_are = rw new_is (omega (arith, sound.calls_are, length-append old (batch ∷ [])));
@@ -78,6 +87,12 @@ sound_more limits rules forest new_forest stacks new_stacks calls old mid new ba
           (sym (ap (λ history. stands_in id (issued history)) new_is ∙ ap (stands_in id) (issued_more old batch) ∙ list_any-append (λ x. x == id) (issued old) (id_issued batch.answer)) ∙ there)
           (λ before. still_issued id (sound.counted id before))
           (first_issue id);
+      given = λ id fits low.
+          ap (λ history. stands_in id (issued history)) new_is ∙ ap (stands_in id) (issued_more old batch) ∙ list_any-append (λ x. x == id) (issued old) (id_issued batch.answer)
+          ∙ elim (no_other id fits low) [
+            | inl before ↦ or_left (stands_in id (issued old)) (stands_in id (id_issued batch.answer)) (sound.given id fits before)
+            | inr now ↦ or_right (stands_in id (issued old)) (stands_in id (id_issued batch.answer)) now
+          ];
       stacks_are = lengths ∙ sound.stacks_are;
       world = world;
       legal = more batch sound.legal step new_is;
@@ -100,6 +115,7 @@ sound_quiet limits rules forest new_forest stacks new_stacks calls old mid new b
     (forest_is ∙ ap (λ (f : ForestView). record f { spans = new_forest.spans }) sound.forest_is ∙ ap (λ used. forest_with limits new_forest.spans used) (sym used))
     (λ id there. absurd (let t = rw nothing at there in cc))
     (λ id before. rw given_is before)
+    (λ id fits low. inl (rw given_is at low))
     lengths world step same sent
 
 -- a forest of which only the spans changed

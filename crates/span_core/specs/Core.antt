@@ -17,13 +17,14 @@ use Rattle.span_stack.specs.Stack.{has}
 use Rattle.span_core.specs.World.{World, stack_of}
 use Rattle.span_outlet.specs.Request.{Request, new_span, clone_span, enter, exit, try_close, record_fields, event, Answer}
 use Rattle.span_outlet.specs.Batch.{PlainBatch}
-use Rattle.span_outlet.specs.Outlet.{one_more}
+use Rattle.span_outlet.specs.Outlet.{RingName, one_more}
 use Rattle.span_core.specs.Step.{IsStep, is_wanted, is_open, is_open_parent}
 use Rattle.span_core.specs.History.{issued}
 use Rattle.span_core.specs.NextId.{next_id}
 
 -- the limits, the filters of the layers, the world, and of the outlet the batches that were sent to it,
--- how often it had no place for one, and the forms in which it writes notes
+-- how often it had no place for one, the forms in which it writes notes, and the ring that it puts them into, if
+-- there is one
 pub record CoreView : Type 0 where
   pub limits : Limits
   pub rules : List Filter
@@ -31,6 +32,7 @@ pub record CoreView : Type 0 where
   pub sent : List PlainBatch
   pub times_full : ℕ
   pub forms : List Form
+  pub name : Option RingName
 
 -- ---- the conditions of a call, as tests
 
@@ -159,6 +161,7 @@ pub record IsAccepted (old : CoreView) (request : Request) (answer : Answer) (ne
   pub sent : new.sent ≡ old.sent ++ (record { request = request; answer = answer; notes = notes }) ∷ []
   pub times_full : new.times_full ≡ old.times_full
   pub forms : new.forms ≡ old.forms
+  pub name : new.name ≡ old.name
 
 -- a span was not wanted: its name and keys are names, no layer admits it, and nothing changed
 pub record IsNotWanted (old : CoreView) (request : Request) (new : CoreView) : Type 0 where

@@ -7,4 +7,5 @@ pub mod NextId
 pub mod Core
 pub mod Outcome
 pub mod ClosedSpans
+pub mod Handles
 pub mod inside

@@ -1,11 +1,15 @@
 -- Which id a new span gets after a history.
-use Rattle.std.specs.Prelude.{ℕ, List, [], fold, length, drop, Option, slice_index}
+use Rattle.std.specs.Prelude.{ℕ, Bool, ◌||◌, ◌==◌, List, [], fold, length, drop, Option, slice_index}
+use Rattle.std.specs.List.{list_any}
 use Rattle.std.specs.Option.{option_map}
 use Rattle.span_id.specs.Id.{id_of, slot_of}
 use Rattle.span_slots.specs.Table.{issue, next_slot_of}
+use Rattle.span_forest.specs.Spans.{Spans}
+use Rattle.span_forest.specs.Live.{stands_in}
 use Rattle.span_forest.specs.Release.{freed_after}
 use Rattle.span_outlet.specs.Request.{Answer, made, cloned, entered, exited, released, recorded, told}
 use Rattle.span_outlet.specs.Batch.{PlainBatch}
+use Rattle.span_core.specs.History.{issued}
 
 -- how many ids each slot has given, and the slots that were freed and may be given again, the one freed last first
 pub record SlotsUsed : Type 0 where
@@ -37,3 +41,11 @@ next_id_from slots used = option_map (λ slot. id_of slot (slice_index used.give
 
 abbrev pub next_id : ℕ → ℕ → List PlainBatch → Option ℕ
 next_id slots last_generation history = next_id_from slots (slots_after last_generation history)
+
+-- an open span has the slot
+abbrev pub is_occupied : Spans → ℕ → Bool
+is_occupied spans slot = list_any (λ e. slot_of e.0 == slot) spans
+
+-- the slot can give no id: an open span has it, or the history issued its id of the last generation
+abbrev pub is_used_up : ℕ → Spans → List PlainBatch → ℕ → Bool
+is_used_up last_generation spans history slot = is_occupied spans slot || stands_in (id_of slot last_generation) (issued history)

@@ -1,24 +1,31 @@
 //! What every registry promises, in plain words: each function does nothing, and its contract is the promise.
-ghost use Rattle.std.specs.Prelude.{◌≡◌, ◌≢◌, ◌≤◌, ◌<◌, ℕ, true, false, ◌&&◌, ◌↔◌, if◌then◌else◌, [], Some, None, IsTrue, All, AllPairs, count_by};
+ghost use Rattle.std.specs.Prelude.{◌≡◌, ◌≢◌, ◌≤◌, ◌<◌, ◌+◌, ℕ, nat_lt, true, false, ◌&&◌, ◌↔◌, if◌then◌else◌, [], List, length, Option, Some, None, IsTrue, All, AllPairs, count_by};
 ghost use Rattle.span_id.specs.Id.{slot_of, IsId};
+ghost use Rattle.span_id.specs.Meta.{KeyValue, PlainMeta};
 ghost use Rattle.span_layers.specs.Filter.{admission_set};
 ghost use Rattle.span_forest.specs.Node.{Node};
 ghost use Rattle.span_forest.specs.Spans.{find, IsOpen, parent_of};
 ghost use Rattle.span_forest.specs.declared.span.Holder.TheVariants.{Handle};
-ghost use Rattle.span_forest.specs.Count.{total_held};
+ghost use Rattle.span_forest.specs.Count.{total_held, total_handles};
 ghost use Rattle.span_forest.specs.Holders.{held_in};
 ghost use Rattle.span_forest.specs.Live.{stands_in, is_live};
 ghost use Rattle.span_forest.specs.Forest.{IsForest};
 ghost use Rattle.span_core.specs.World.{IsWorld};
-ghost use Rattle.span_outlet.specs.Request.{Request, Answer};
+ghost use Rattle.span_outlet.specs.Request.{Request, new_span, exit, try_close, Answer, made, exited, released};
 ghost use Rattle.span_core.specs.Core.{CoreView, IsAccepted};
+ghost use Rattle.span_core.specs.Step.{made_node};
 ghost use Rattle.span_core.specs.History.{issued};
+ghost use Rattle.span_core.specs.NextId.{next_id, is_used_up};
+ghost use Rattle.span_core.specs.Handles.{handles_given_out, handles_given_back};
 ghost use Rattle.span_core.specs.ClosedSpans.{closed_by, closed_in, gives_back, spans_before_closing, tells_close, hears_close, notes_in};
 
 pub mod outcome;
 
 use crate::Core;
-use span_forest::laws::{each_slot_has_one_open_id, open_slots_are_in_range};
+use span_forest::laws::{
+    each_slot_has_one_open_id, full_where_each_slot_is_used_up as full_where_no_slot_is_left,
+    open_slots_are_in_range,
+};
 use span_outlet::Outlet;
 
 /// The open spans are a forest: each parent is open, and each walk ends at a root. Each open span is live: it stands on
@@ -107,6 +114,60 @@ pub fn open_spans_were_made_and_not_closed<O: Outlet, A>(core: &Core<O, A>)
         find core.now.world.spans id ≡ None }
 {
     core.calls();
+}
+
+/// As many spans are open as were made and didn't close.
+pub fn made_spans_are_open_or_closed<O: Outlet, A>(core: &Core<O, A>)
+    ensures { length (issued core.now.sent) ≡ length (closed_in core.now.sent) + length core.now.world.spans }
+{
+    core.calls();
+}
+
+/// Whichever release or exit is accepted next: where it closes any span, it closes the one that it names.
+pub fn the_named_span_closes_first<O: Outlet, A>(core: &Core<O, A>)
+    ensures try_close { (worker id : ℕ) (closed : List ℕ) (new : CoreView) →
+        IsAccepted core.now (try_close worker id) (released closed) new →
+        (IsTrue (nat_lt 0 (length closed)) ↔ (find new.world.spans id ≡ None)) }
+    ensures exit { (worker id : ℕ) (closed : List ℕ) (new : CoreView) →
+        IsAccepted core.now (exit worker id) (exited closed) new →
+        (IsTrue (nat_lt 0 (length closed)) ↔ (find new.world.spans id ≡ None)) }
+{
+    entries_are_the_workers_inside(core);
+    core.calls();
+}
+
+/// Whichever new span is accepted next: its id finds it, and every other id finds what it found before.
+pub fn new_id_finds_its_span<O: Outlet, A>(core: &Core<O, A>)
+    ensures new { (worker id : ℕ) (meta : PlainMeta) (fields : List KeyValue) (parent : Option ℕ) (new : CoreView) →
+        IsAccepted core.now (new_span worker meta fields parent) (made id) new →
+        find new.world.spans id ≡ Some (made_node core.now.rules meta fields parent) }
+    ensures others { (worker id other : ℕ) (meta : PlainMeta) (fields : List KeyValue) (parent : Option ℕ) (new : CoreView) →
+        IsAccepted core.now (new_span worker meta fields parent) (made id) new → other ≢ id →
+        find new.world.spans other ≡ find core.now.world.spans other }
+{
+    core.calls();
+}
+
+/// Whichever call is accepted next: a new span and one more handle make the handles of all spans one more, a handle
+/// that is given back makes them one less, and no other call changes how many there are.
+pub fn handles_follow_the_calls<O: Outlet, A>(core: &Core<O, A>)
+    ensures { (request : Request) (answer : Answer) (new : CoreView) →
+        IsAccepted core.now request answer new →
+        total_handles new.world.spans + handles_given_back request
+        ≡ total_handles core.now.world.spans + handles_given_out request }
+{
+    core.calls();
+}
+
+/// There is no id for a new span exactly where each slot is used up: an open span has it, or the id of its last
+/// generation was issued.
+pub fn full_where_each_slot_is_used_up<O: Outlet, A>(core: &Core<O, A>)
+    ensures { (next_id core.now.limits.slots core.now.limits.last_generation core.now.sent ≡ None)
+        ↔ ((slot : ℕ) → slot < core.now.limits.slots →
+        IsTrue (is_used_up core.now.limits.last_generation core.now.world.spans core.now.sent slot)) }
+{
+    core.limits.limits();
+    full_where_no_slot_is_left(&core.forest);
 }
 
 /// The layers that admit an open span are those whose rule admits its target and its level.

@@ -6,9 +6,10 @@
 ghost use Rattle.std.specs.Prelude.{◌≡◌, ◌<◌, [], length, IfOk, IfErr, IfSome, IfNone, Some, None};
 ghost use Rattle.span_forest.specs.Node.{node_of};
 ghost use Rattle.span_forest.specs.Spans.{find};
-ghost use Rattle.span_forest.specs.Count.{total_held, reference_count};
+ghost use Rattle.span_forest.specs.Count.{total_held, total_handles, reference_count};
 ghost use Rattle.span_core.specs.World.{empty_world, stack_of, IsCounted};
-ghost use Rattle.span_core.specs.History.{IsLegal};
+ghost use Rattle.span_core.specs.History.{issued, IsLegal};
+ghost use Rattle.span_core.specs.ClosedSpans.{closed_in};
 
 mod calls;
 pub mod laws;
@@ -17,10 +18,11 @@ mod stacks;
 #[cfg(test)]
 mod tests;
 
+use crate::laws::made_spans_are_open_or_closed;
 use crate::stacks::empty_stacks;
 use span_forest::laws::open_spans_are_counted;
 use span_forest::{Forest, Span};
-use span_id::{Checked, Fault, Id};
+use span_id::{Checked, Fault, Id, Limits};
 use span_layers::{Admitters, Filters, Rules};
 use span_outlet::Outlet;
 use span_stack::SpanStack;
@@ -39,8 +41,9 @@ pub struct Core<O: Outlet, A = Admitters> {
     pub(crate) forest: Forest,
     pub(crate) stacks: Vec<SpanStack>,
     pub(crate) rules: Rules,
-    // How many calls were accepted.
+    // How many calls were accepted, and how many of them made a span.
     pub(crate) calls: u64,
+    pub(crate) made: u64,
     pub(crate) outlet: O,
     // Applies the layers' rules.
     pub(crate) admitters: A,
@@ -52,6 +55,8 @@ impl<O: Outlet, A> Model for Core<O, A> {
 
     ghost Value = { CoreView };
 
+    ghost use Rattle.std.specs.Prelude.{◌≡◌, length};
+    ghost use Rattle.span_core.specs.History.{issued};
     ghost use Rattle.span_core.specs.inside.Sound.{IsSound};
 
     ghost view = { λ s. record {
@@ -61,9 +66,11 @@ impl<O: Outlet, A> Model for Core<O, A> {
       sent = O.sent s.outlet;
       times_full = O.times_full s.outlet;
       forms = O.forms s.outlet;
+      name = O.name s.outlet;
     } };
 
-    ghost invariant = { λ s. IsSound s.limits s.forest (ids_of_each s.stacks.items) s.rules s.calls (O.sent s.outlet) };
+    ghost invariant = { λ s. IsSound s.limits s.forest (ids_of_each s.stacks.items) s.rules s.calls (O.sent s.outlet)
+        × (s.made ≡ length (issued (O.sent s.outlet))) };
 }
 
 impl<O: Outlet + Drop, F: Drop> Core<O, Admitters<F>> {
@@ -84,6 +91,7 @@ impl<O: Outlet + Drop, F: Drop> Core<O, Admitters<F>> {
           sent = [];
           times_full = O.times_full outlet;
           forms = O.forms outlet;
+          name = O.name outlet;
         }) }
         ensures memory { IfErr result (λ fault. fault ≡ Fault.Memory) }
     {
@@ -97,6 +105,7 @@ impl<O: Outlet + Drop, F: Drop> Core<O, Admitters<F>> {
             stacks,
             rules,
             calls: 0,
+            made: 0,
             outlet,
             admitters,
         })
@@ -138,6 +147,35 @@ impl<O: Outlet, A> Core<O, A> {
         self.forest.total()
     }
 
+    /// How many handles all spans have, without the entries.
+    pub fn handles(&self) -> u64
+        ensures { result ≡ total_handles self.now.world.spans }
+    {
+        self.forest.handles()
+    }
+
+    /// How many spans were made so far.
+    pub fn made(&self) -> u64
+        ensures { result ≡ length (issued self.now.sent) }
+    {
+        self.made
+    }
+
+    /// How many spans have closed so far: those that were made and aren't open.
+    pub fn closed(&self) -> u64
+        ensures { result ≡ length (closed_in self.now.sent) }
+    {
+        made_spans_are_open_or_closed(self);
+        self.made - u64::from(self.len())
+    }
+
+    /// The limits that the core was made with.
+    pub fn limits(&self) -> &Limits
+        ensures { result.now ≡ self.now.limits }
+    {
+        self.limits.limits()
+    }
+
     /// How many calls were accepted: the batches sent. They are a legal history, which leaves this world.
     pub fn calls(&self) -> u64
         ensures calls { result ≡ length self.now.sent }
@@ -151,6 +189,7 @@ impl<O: Outlet, A> Core<O, A> {
         ensures sent { O.sent result.now ≡ self.now.sent }
         ensures times_full { O.times_full result.now ≡ self.now.times_full }
         ensures forms { O.forms result.now ≡ self.now.forms }
+        ensures name { O.name result.now ≡ self.now.name }
     {
         &self.outlet
     }
@@ -162,6 +201,7 @@ impl<O: Outlet, A: Drop> Core<O, A> {
         ensures sent { O.sent result ≡ self.sent }
         ensures times_full { O.times_full result ≡ self.times_full }
         ensures forms { O.forms result ≡ self.forms }
+        ensures name { O.name result ≡ self.name }
         ensures legal { IsLegal self.rules self.limits.workers self.sent self.world }
     {
         let Core {
@@ -171,6 +211,7 @@ impl<O: Outlet, A: Drop> Core<O, A> {
             stacks: _,
             rules: _,
             calls: _,
+            made: _,
             outlet,
             admitters: _,
         } = self;

@@ -1,5 +1,5 @@
 //! The outlet that keeps the batches and writes their notes at once.
-ghost use Rattle.std.specs.Prelude.{◌≡◌, ◌+◌, ◌-◌, ◌^◌, ◌<◌, ◌≤◌, ◌++◌, ◌∷◌, [], List, true, false, Some, IfSome, IfOk, OnErr, map, length, min, All};
+ghost use Rattle.std.specs.Prelude.{◌≡◌, ◌+◌, ◌-◌, ◌^◌, ◌<◌, ◌≤◌, ◌++◌, ◌∷◌, [], List, true, false, Some, None, IfSome, IfOk, OnErr, map, length, min, All};
 ghost use Rattle.span_layers.specs.Note.{plain_note};
 ghost use Rattle.span_outlet.specs.Batch.{plain_batch};
 ghost use Rattle.span_outlet.specs.Lines.{lines_of, line_of, plain_line};
@@ -180,6 +180,8 @@ impl<V: Say> Outlet for Kept<V> {
     ghost times_full = { λ k. 0 };
 
     ghost forms = { λ k. k.forms };
+
+    ghost name = { λ k. None };
 
     /// There is always a place for one more batch, unless memory is refused. No line comes or goes.
     fn room(&mut self) -> Result<bool, AllocError>

@@ -1,7 +1,7 @@
-ghost use Rattle.std.specs.Prelude.{◌≡◌, ◌++◌, ◌∷◌, [], ◌<◌, ◌-◌, ◌^◌, ℕ, List, Bool, true, false, IfOk, OnErr, length, if◌then◌else◌};
+ghost use Rattle.std.specs.Prelude.{◌≡◌, ◌++◌, ◌∷◌, [], ◌<◌, ◌-◌, ◌^◌, ℕ, List, Option, Bool, true, false, IfOk, OnErr, length, if◌then◌else◌};
 ghost use Rattle.span_layers.specs.declared.form.Form.{Form};
 ghost use Rattle.span_outlet.specs.Batch.{PlainBatch, plain_batch};
-ghost use Rattle.span_outlet.specs.Outlet.{one_more};
+ghost use Rattle.span_outlet.specs.Outlet.{RingName, one_more};
 
 use crate::batch::Batch;
 use std::alloc::AllocError;
@@ -21,10 +21,14 @@ pub trait Outlet {
     /// that writes no text has none.
     ghost forms: { Self → List Form };
 
+    /// The ring into which the outlet puts the batches; an outlet that keeps them itself has none. No call changes it.
+    ghost name: { Self → Option RingName };
+
     /// Whether there is a place for one more batch. The error is want of memory.
     fn room(&mut self) -> Result<bool, AllocError>
         ensures sent { sent self.new ≡ sent self.old }
         ensures forms { forms self.new ≡ forms self.old }
+        ensures name { name self.new ≡ name self.old }
         ensures ready { IfOk result (λ yes. ready self.new ≡ yes) }
         ensures counted { IfOk result (λ yes. times_full self.new ≡ (if yes then times_full self.old else one_more (times_full self.old))) }
         ensures not_ready { OnErr result (ready self.new ≡ false) }
@@ -36,6 +40,7 @@ pub trait Outlet {
         requires countable { length (sent self.old) < 2 ^ 64 - 1 }
         ensures sent { sent self.new ≡ sent self.old ++ plain_batch batch ∷ [] }
         ensures forms { forms self.new ≡ forms self.old }
+        ensures name { name self.new ≡ name self.old }
         ensures ready { ready self.new ≡ false }
         ensures times_full { times_full self.new ≡ times_full self.old };
 }

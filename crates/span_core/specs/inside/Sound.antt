@@ -1,7 +1,7 @@
 -- What is always true of a core's parts. No public clause cites it.
 use Rattle.std.specs.Prelude.{◌≡◌, ℕ, ◌<◌, Bool, true, ◌&&◌, List, [], ◌∷◌, ◌++◌, length, slice_index, Option, None}
 use Rattle.span_id.specs.declared.limits.Limits.{Limits}
-use Rattle.span_id.specs.Id.{slot_of, generation_of}
+use Rattle.span_id.specs.Id.{slot_of, generation_of, IsId}
 use Rattle.span_id.specs.Bits.{has_bit}
 use Rattle.span_layers.specs.declared.note.Kind.{Kind}
 use Rattle.span_layers.specs.declared.note.Kind.TheVariants.{OnNew}
@@ -29,12 +29,13 @@ forest_with limits spans used = record {
 }
 
 -- the parts agree: the number of calls is that of the batches sent, the forest has the slots that the
--- history used, each issued id is counted there, each worker has a stack, and the history is legal and
--- leaves this world
+-- history used, each issued id and no other is counted there, each worker has a stack, and the history is
+-- legal and leaves this world
 pub record IsSound (limits : Limits) (forest : ForestView) (stacks : List (List ℕ)) (rules : List Filter) (calls : ℕ) (sent : List PlainBatch) : Type 0 where
   pub calls_are : calls ≡ length sent
   pub forest_is : forest ≡ forest_with limits forest.spans (slots_after limits.last_generation sent)
   pub counted : (id : ℕ) → stands_in id (issued sent) ≡ true → generation_of id < slice_index forest.given (slot_of id)
+  pub given : (id : ℕ) → IsId id → generation_of id < slice_index forest.given (slot_of id) → stands_in id (issued sent) ≡ true
   pub stacks_are : length stacks ≡ limits.workers
   pub world : IsWorld (record { spans = forest.spans; stacks = stacks })
   pub legal : IsLegal rules limits.workers sent (record { spans = forest.spans; stacks = stacks })

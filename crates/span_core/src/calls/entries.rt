@@ -1,6 +1,7 @@
 //! The calls that change a worker's stack.
-ghost use Rattle.std.specs.Prelude.{◌≡◌, ◌≢◌, ◌<◌, true, false, if◌then◌else◌, [], nat_lt, length, IfOk, IfErr, OnOk, OnErr};
+ghost use Rattle.std.specs.Prelude.{◌≡◌, ◌≢◌, ◌<◌, ◌↔◌, true, false, if◌then◌else◌, [], nat_lt, length, None, IsTrue, IfOk, IfErr, OnOk};
 ghost use Rattle.span_forest.specs.declared.span.Holder.TheVariants.{Handle, Entry};
+ghost use Rattle.span_forest.specs.Spans.{find};
 ghost use Rattle.span_forest.specs.Count.{reference_count};
 ghost use Rattle.span_forest.specs.Holders.{IsHeld};
 ghost use Rattle.span_forest.specs.Keep.{with_holder};
@@ -11,9 +12,10 @@ ghost use Rattle.span_core.specs.Step.{closed_by_exit};
 ghost use Rattle.span_core.specs.Core.{IsAccepted, IsRefused};
 
 use crate::Core;
-use crate::calls::held::{held_span, open_bits};
+use crate::calls::closed::{Closed, closed_of};
+use crate::calls::held::{closing_of, held_span, open_bits};
 use crate::calls::room::ask;
-use crate::notes::closing::closing_lists_are_chains;
+use crate::laws::the_named_span_closes_first;
 use crate::notes::{Happening, exit_notes, push_notes};
 use crate::stacks::{is_inside, pop_at, push_at, stays_inside};
 use span_forest::{Forest, Holder};
@@ -76,16 +78,30 @@ impl<O: Outlet, A> Core<O, A> {
         requires { worker < self.old.limits.workers }
         ensures accepted { OnOk result (IsAccepted self.old (exit worker id) (exited (closed_by_exit self.old.world worker id)) self.new) }
         ensures closed { IfOk result (λ closed. closed ≡ nat_lt 0 (length (closed_by_exit self.old.world worker id))) }
+        ensures gone { IfOk result (λ closed. IsTrue closed ↔ (find self.new.world.spans id ≡ None)) }
         ensures refused { IfErr result (λ fault. IsRefused self.old (exit worker id) fault self.new) }
     {
-        Ok(!self.leave(worker, id)?.is_empty())
+        the_named_span_closes_first(self);
+        Ok(self.step_out(worker, id, false)?.any)
     }
 
-    /// The same, answering the ids of the spans that closed.
+    /// A worker leaves a span, as `exit` does and with the same refusals. It answers the ids of the spans that closed,
+    /// child first: none where the span stays open.
     pub fn leave(&mut self, worker: u32, id: Id) -> Result<Vec<Id>, Fault>
         requires { worker < self.old.limits.workers }
         ensures accepted { OnOk result (IsAccepted self.old (exit worker id) (exited (closed_by_exit self.old.world worker id)) self.new) }
         ensures closed { IfOk result (λ closed. closed.items ≡ closed_by_exit self.old.world worker id) }
+        ensures refused { IfErr result (λ fault. IsRefused self.old (exit worker id) fault self.new) }
+    {
+        Ok(self.step_out(worker, id, true)?.ids)
+    }
+
+    // A worker leaves a span. The list of the spans that close is moved into the batch.
+    fn step_out(&mut self, worker: u32, id: Id, with_ids: bool) -> Result<Closed, Fault>
+        requires { worker < self.old.limits.workers }
+        ensures accepted { OnOk result (IsAccepted self.old (exit worker id) (exited (closed_by_exit self.old.world worker id)) self.new) }
+        ensures any { IfOk result (λ closed. closed.any ≡ nat_lt 0 (length (closed_by_exit self.old.world worker id))) }
+        ensures ids { IfOk result (λ closed. with_ids ≡ true → closed.ids.items ≡ closed_by_exit self.old.world worker id) }
         ensures refused { IfErr result (λ fault. IsRefused self.old (exit worker id) fault self.new) }
     {
         let Some(bits) = open_bits(&self.forest, id) else {
@@ -100,6 +116,7 @@ impl<O: Outlet, A> Core<O, A> {
         let stays = stays_inside(self.stacks.as_slice(), worker, id);
         ask(&mut self.outlet)?;
         let closing = closing_on_exit(self.alloc, &self.forest, stays, id)?;
+        let closed = closed_of(self.alloc, closing.as_slice(), with_ids)?;
         let what = Happening {
             worker,
             kind: Kind::OnExit,
@@ -113,15 +130,15 @@ impl<O: Outlet, A> Core<O, A> {
             &what,
             closing.as_slice(),
         )?;
-        let closed = release_on_exit(self.alloc, &mut self.forest, stays, id)?;
+        release_on_exit(&mut self.forest, stays, id, closing.as_slice());
         pop_at(&mut self.stacks, worker, id);
         self.calls += 1;
         self.outlet.put(Batch {
             call: Call::Exit { worker, id },
-            reply: Reply::Exited(closed),
+            reply: Reply::Exited(closing),
             notes,
         });
-        Ok(closing)
+        Ok(closed)
     }
 }
 
@@ -148,35 +165,20 @@ fn closing_on_exit(alloc: Global, forest: &Forest, stays: bool, id: Id) -> Resul
     if stays {
         return Ok(Vec::new(alloc));
     }
-    closing_lists_are_chains(forest);
-    match forest.closing(id, Holder::Entry) {
-        Ok(closing) => Ok(closing),
-        Err(_) => Err(Fault::Memory),
-    }
+    closing_of(forest, id, Holder::Entry)
 }
 
-// Gives the entry back, unless the span stays in the worker's stack, and answers the spans that closed.
-fn release_on_exit(
-    alloc: Global,
-    forest: &mut Forest,
-    stays: bool,
-    id: Id,
-) -> Result<Vec<Id>, Fault>
+// Gives the entry back, unless the span stays in the worker's stack; these are the spans that close.
+fn release_on_exit(forest: &mut Forest, stays: bool, id: Id, closing: &[Id])
     requires held { stays ≡ false → IsHeld forest.old.spans id Entry }
-    ensures list { IfOk result (λ ids. ids.items ≡ if stays then [] else closing_list forest.old.spans id Entry) }
-    ensures forest { OnOk result (forest.new ≡ record forest.old {
+    requires list { closing.now ≡ if stays then [] else closing_list forest.old.spans id Entry }
+    ensures { forest.new ≡ record forest.old {
       spans = if stays then forest.old.spans else spans_left forest.old.spans id Entry;
       freed = freed_after forest.old.last_generation forest.old.given forest.old.freed
           (if stays then [] else closing_list forest.old.spans id Entry);
-    }) }
-    ensures unchanged { OnErr result (forest.new ≡ forest.old) }
-    ensures memory { IfErr result (λ fault. fault ≡ Fault.Memory) }
+    } }
 {
-    if stays {
-        return Ok(Vec::new(alloc));
-    }
-    match forest.release(id, Holder::Entry) {
-        Ok(closed) => Ok(closed),
-        Err(_) => Err(Fault::Memory),
+    if !stays {
+        forest.release_closing(id, Holder::Entry, closing);
     }
 }

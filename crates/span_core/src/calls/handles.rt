@@ -1,16 +1,19 @@
 //! The calls on a handle that enter no stack: one more handle, fields appended, a handle given back.
-ghost use Rattle.std.specs.Prelude.{◌≡◌, ◌<◌, nat_lt, length, OnOk, IfOk, IfErr};
+ghost use Rattle.std.specs.Prelude.{◌≡◌, ◌<◌, ◌↔◌, true, nat_lt, length, None, IsTrue, OnOk, IfOk, IfErr};
 ghost use Rattle.span_forest.specs.declared.span.Holder.TheVariants.{Handle};
+ghost use Rattle.span_forest.specs.Spans.{find};
 ghost use Rattle.span_forest.specs.Release.{closing_list};
 ghost use Rattle.span_id.specs.Meta.{plain_fields};
 ghost use Rattle.span_outlet.specs.Request.{clone_span, cloned, record_fields, recorded, try_close, released, request_of};
 ghost use Rattle.span_core.specs.Core.{IsAccepted, IsRefused};
 
 use crate::Core;
-use crate::calls::held::held_span;
+use crate::calls::closed::{Closed, closed_of};
+use crate::calls::held::{closing_of, held_span};
 use crate::calls::names::are_keys;
 use crate::calls::room::ask;
-use crate::notes::closing::{closing_lists_are_chains, push_closes};
+use crate::laws::the_named_span_closes_first;
+use crate::notes::closing::push_closes;
 use crate::notes::{Happening, push_notes};
 use span_forest::Holder;
 use span_id::{Fault, Field, Id, copy_fields};
@@ -103,29 +106,41 @@ impl<O: Outlet, A> Core<O, A> {
         requires { worker < self.old.limits.workers }
         ensures accepted { OnOk result (IsAccepted self.old (try_close worker id) (released (closing_list self.old.world.spans id Handle)) self.new) }
         ensures closed { IfOk result (λ closed. closed ≡ nat_lt 0 (length (closing_list self.old.world.spans id Handle))) }
+        ensures gone { IfOk result (λ closed. IsTrue closed ↔ (find self.new.world.spans id ≡ None)) }
         ensures refused { IfErr result (λ fault. IsRefused self.old (try_close worker id) fault self.new) }
     {
-        Ok(!self.give_back(worker, id)?.is_empty())
+        the_named_span_closes_first(self);
+        Ok(self.release(worker, id, false)?.any)
     }
 
-    /// The same, answering the ids of the spans that closed.
+    /// Gives a handle of a span back, as `try_close` does and with the same refusals, and answers the ids of the spans
+    /// that closed, child first: none where the span stays open.
     pub fn give_back(&mut self, worker: u32, id: Id) -> Result<Vec<Id>, Fault>
         requires { worker < self.old.limits.workers }
         ensures accepted { OnOk result (IsAccepted self.old (try_close worker id) (released (closing_list self.old.world.spans id Handle)) self.new) }
         ensures closed { IfOk result (λ closed. closed.items ≡ closing_list self.old.world.spans id Handle) }
         ensures refused { IfErr result (λ fault. IsRefused self.old (try_close worker id) fault self.new) }
     {
-        if held_span(&self.forest, id).is_none() {
+        Ok(self.release(worker, id, true)?.ids)
+    }
+
+    // Gives a handle back. The list of the spans that close is moved into the batch.
+    fn release(&mut self, worker: u32, id: Id, with_ids: bool) -> Result<Closed, Fault>
+        requires { worker < self.old.limits.workers }
+        ensures accepted { OnOk result (IsAccepted self.old (try_close worker id) (released (closing_list self.old.world.spans id Handle)) self.new) }
+        ensures any { IfOk result (λ closed. closed.any ≡ nat_lt 0 (length (closing_list self.old.world.spans id Handle))) }
+        ensures ids { IfOk result (λ closed. with_ids ≡ true → closed.ids.items ≡ closing_list self.old.world.spans id Handle) }
+        ensures refused { IfErr result (λ fault. IsRefused self.old (try_close worker id) fault self.new) }
+    {
+        let Some(_) = held_span(&self.forest, id) else {
             return Err(Fault::Unknown);
-        }
+        };
         if self.calls == u64::MAX {
             return Err(Fault::CountFull);
         }
         ask(&mut self.outlet)?;
-        let Ok(closing) = self.forest.closing(id, Holder::Handle) else {
-            return Err(Fault::Memory);
-        };
-        closing_lists_are_chains(&self.forest);
+        let closing = closing_of(&self.forest, id, Holder::Handle)?;
+        let closed = closed_of(self.alloc, closing.as_slice(), with_ids)?;
         let mut notes = Vec::new(self.alloc);
         push_closes(
             self.alloc,
@@ -135,16 +150,15 @@ impl<O: Outlet, A> Core<O, A> {
             worker,
             closing.as_slice(),
         )?;
-        let Ok(closed) = self.forest.release(id, Holder::Handle) else {
-            return Err(Fault::Memory);
-        };
+        self.forest
+            .release_closing(id, Holder::Handle, closing.as_slice());
         self.calls += 1;
         self.outlet.put(Batch {
             call: Call::TryClose { worker, id },
-            reply: Reply::Released(closed),
+            reply: Reply::Released(closing),
             notes,
         });
-        Ok(closing)
+        Ok(closed)
     }
 }
 

@@ -8,13 +8,14 @@ use span_outlet::Outlet;
 pub(crate) fn ask<O: Outlet>(outlet: &mut O) -> Result<(), Fault>
     ensures sent { O.sent outlet.new ≡ O.sent outlet.old }
     ensures forms { O.forms outlet.new ≡ O.forms outlet.old }
+    ensures name { O.name outlet.new ≡ O.name outlet.old }
     ensures ready { OnOk result (O.ready outlet.new ≡ true) }
     ensures times_full { OnOk result (O.times_full outlet.new ≡ O.times_full outlet.old) }
     ensures refused { IfErr result (λ fault. IsLate fault × (O.times_full outlet.new ≡ times_after fault (O.times_full outlet.old))) }
 {
-    match outlet.room() {
-        Ok(true) => Ok(()),
-        Ok(false) => Err(Fault::Backlog),
-        Err(_) => Err(Fault::Memory),
+    if outlet.room()? {
+        Ok(())
+    } else {
+        Err(Fault::Backlog)
     }
 }

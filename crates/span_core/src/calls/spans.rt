@@ -106,6 +106,7 @@ impl<O: Outlet, A: Admit> Core<O, A> {
             return Err(Fault::Memory);
         };
         self.calls += 1;
+        self.made += 1;
         self.outlet.put(Batch {
             call,
             reply: Reply::Made(id),

@@ -1,5 +1,5 @@
 //! A script as far as its calls have run: the registry, the labels, and how many lines of notes were written.
-ghost use Rattle.std.specs.Prelude.{◌≡◌, ◌<◌, ◌≤◌, ◌++◌, [], ℕ, IfOk, IfErr, OnOk, length, flat_map, drop, map, reverse, string_bytes};
+ghost use Rattle.std.specs.Prelude.{◌≡◌, ◌<◌, ◌≤◌, ◌++◌, [], None, ℕ, IfOk, IfErr, OnOk, length, flat_map, drop, map, reverse, string_bytes};
 ghost use Rattle.span_core.specs.Happening.{id_at};
 ghost use Rattle.span_outlet.specs.Lines.{lines_of};
 ghost use Rattle.tracerun.specs.Faults.{id_of_key};
@@ -64,6 +64,7 @@ impl<V: Say> Script<V> {
           sent = [];
           times_full = 0;
           forms = kept.forms;
+          name = None;
         }) }
         ensures labels { IfOk result (λ script. labels_in script ≡ []) }
         ensures written { IfOk result (λ script. IsWritten script) }

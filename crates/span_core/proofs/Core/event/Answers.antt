@@ -1,10 +1,11 @@
-use Rattle.std.proofs.Common.{rules, ◌≡◌, ◌∙◌, ◌<◌, List, [], ◌∷◌, ◌++◌, length, get_or, ap, map, subst, arith}
+use Rattle.std.proofs.Common.{rules, ◌≡◌, ◌∙◌, ◌<◌, List, [], ◌∷◌, ◌++◌, length, get_or, ap, map, subst, refl, arith}
 use Rattle.span_layers.specs.Note.{plain_note}
 use Rattle.span_stack.specs.Stack.{Stack, ids_of_each}
 use Rattle.span_id.specs.Meta.{plain_meta, plain_fields}
 use Rattle.span_outlet.specs.Request.{event, told}
 use Rattle.span_core.specs.Happening.{event_told, notes_of_all}
 use Rattle.span_core.specs.Core.{CoreView, IsDue}
+use Rattle.span_core.proofs.Made.{none_made}
 use Rattle.span_core.proofs.Accepting.{sound_event}
 use Rattle.span_core.proofs.Telling.{event_notes}
 use Rattle.span_core.proofs.Core.event.Given as given
@@ -17,12 +18,14 @@ notes_told g c =
     (ap (λ (ss : List Stack). get_or (ids_of_each ss) c.args.worker []) c.as_slice-stacks.ensures.value) c.bits.ensures.value c.in_ok-notes.ensures.notes
 
 within : (g : given.Over) (c : After-put g) → c.args.worker < length (ids_of_each c.self.inside.stacks.items)
-within g c = omega (arith, c.requires, ap (λ (v : CoreView). v.limits.workers) c.self.view_is, c.self.invariant.stacks_are)
+within g c = omega (arith, c.requires, ap (λ (v : CoreView). v.limits.workers) c.self.view_is, c.self.invariant.0.stacks_are)
 
 pub invariant_of-self-2 : goal.invariant_of-self-2
-invariant_of-self-2 g c =
-    sound_event _ _ _ _ _ _ _ _ c.args.worker (plain_meta c.args.meta.now) c.args.message.now (plain_fields c.args.fields.now) _ _ c.self.invariant (within g c) (notes_told g c)
-    c.in_ok-call.ensures.call c.in_ok-ask.ensures.sent c.put.ensures.sent
+invariant_of-self-2 g c = (
+  sound_event _ _ _ _ _ _ _ _ c.args.worker (plain_meta c.args.meta.now) c.args.message.now (plain_fields c.args.fields.now) _ _ c.self.invariant.0 (within g c) (notes_told g c)
+      c.in_ok-call.ensures.call c.in_ok-ask.ensures.sent c.put.ensures.sent,
+  none_made _ _ _ _ _ c.self.invariant.1 refl c.in_ok-ask.ensures.sent c.put.ensures.sent,
+)
 
 pub returns-clause-accepted : goal.returns-clause-accepted
 returns-clause-accepted g c =
@@ -42,4 +45,5 @@ returns-clause-accepted g c =
       sent = c.put.ensures.sent ∙ (λ j. sent_is j ++ (record { request = call_is j; answer = told; notes = map plain_note c.in_ok-notes.notes.items }) ∷ []);
       times_full = c.put.ensures.times_full ∙ c.in_ok-ask.ensures.times_full ∙ ap (λ (v : CoreView). v.times_full) c.self.view_is;
       forms = c.put.ensures.forms ∙ c.in_ok-ask.ensures.forms ∙ ap (λ (v : CoreView). v.forms) c.self.view_is;
+      name = c.put.ensures.name ∙ c.in_ok-ask.ensures.name ∙ ap (λ (v : CoreView). v.name) c.self.view_is;
     }

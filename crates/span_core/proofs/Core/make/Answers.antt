@@ -1,5 +1,5 @@
-use Rattle.std.proofs.Common.{◌≡◌, ◌∙◌, ◌<◌, ℕ, true, [], ◌∷◌, ◌++◌, map, filter, length, Option, Some, None, ap, sym, refl, subst, inr, arith}
-use Rattle.std.specs.Prelude.{string_bytes, IfSome, slice_index}
+use Rattle.std.proofs.Common.{◌≡◌, ◌∙◌, ◌<◌, ℕ, true, [], ◌∷◌, ◌++◌, map, filter, length, Option, Some, None, ap, sym, refl, subst, inl, inr, arith}
+use Rattle.std.specs.Prelude.{◌⊎◌, string_bytes, IfSome, slice_index}
 use Rattle.std.specs.List.{range_with_len}
 use Rattle.span_id.specs.Id.{IsId, slot_of, generation_of}
 use Rattle.span_slots.specs.Table.{IsIssued}
@@ -10,6 +10,7 @@ use Rattle.span_forest.specs.Node.{new_node}
 use Rattle.span_forest.specs.Spans.{find}
 use Rattle.span_forest.specs.Forest.{table_of, next_span_id}
 use Rattle.span_forest.specs.Add.{with_span}
+use Rattle.span_forest.specs.Live.{stands_in}
 use Rattle.span_stack.specs.Stack.{ids_of_each}
 use Rattle.span_id.specs.Meta.{plain_meta, plain_fields}
 use Rattle.span_outlet.specs.Request.{made}
@@ -20,6 +21,8 @@ use Rattle.span_core.specs.inside.Sound.{first_note, hears}
 use Rattle.span_core.specs.NextId.{next_id}
 use Rattle.span_core.specs.inside.Lent.{span_request}
 use Rattle.span_core.specs.Core.{CoreView}
+use Rattle.span_core.proofs.Legal.{stands_itself}
+use Rattle.span_core.proofs.Made.{few_made, one_made}
 use Rattle.span_core.proofs.NewSpans.{sound_new, step_new, new_notes, not_open, not_in_history}
 use Rattle.span_core.proofs.Core.make.Given as given
 use Rattle.span_core.proofs.Core.make.Goals as goal
@@ -36,14 +39,14 @@ bits_are : (g : given.Over) (c : After-put g) → c.args.new.now.bits.0 ≡ admi
 bits_are g c = subst (λ (v : CoreView). c.args.new.now.bits.0 ≡ admission_set v.rules (string_bytes c.args.new.now.meta.now.target) c.args.new.now.meta.now.level) (sym c.self.view_is) c.requires.bits
 
 within : (g : given.Over) (c : After-put g) → c.args.new.now.worker < length (ids_of_each c.self.inside.stacks.items)
-within g c = omega (arith, c.requires.within, ap (λ (v : CoreView). v.limits.workers) c.self.view_is, c.self.invariant.stacks_are)
+within g c = omega (arith, c.requires.within, ap (λ (v : CoreView). v.limits.workers) c.self.view_is, c.self.invariant.0.stacks_are)
 
 -- the id that the forest gives is the one that the history gives
 same_id : (g : given.Over) (c : After-put g) → c.args.new.now.id ≡ c.in-Ok.id
 same_id g c =
     some_same _ _ (sym c.requires.next
     ∙ ap (λ (v : CoreView). next_id v.limits.slots v.limits.last_generation v.sent) (sym c.self.view_is)
-    ∙ ap next_span_id (sym c.self.invariant.forest_is)
+    ∙ ap next_span_id (sym c.self.invariant.0.forest_is)
     ∙ c.in-Ok.ensures.id)
   where
     some_same : (a b : ℕ) → Some a ≡ Some b → a ≡ b
@@ -58,6 +61,13 @@ gone g c = not_open c.self.inside.forest.spans c.in-Ok.id (IsIssued (table_of c.
 now_issued : (g : given.Over) (c : After-put g) → generation_of c.in-Ok.id < slice_index c.add.new.self.given (slot_of c.in-Ok.id)
 now_issued g c = (c.in-Ok.ensures.issued c.in-Ok.id (in_layout g c)).1 (inr refl)
 
+no_other : (g : given.Over) (c : After-put g) → (x : ℕ) → IsId x → generation_of x < slice_index c.add.new.self.given (slot_of x) → (generation_of x < slice_index c.self.inside.forest.given (slot_of x)) ⊎ (stands_in x (c.in-Ok.id ∷ []) ≡ true)
+no_other g c x fits low =
+    elim ((c.in-Ok.ensures.issued x fits).0 low) [
+      | inl before ↦ inl before
+      | inr same ↦ inr (subst (λ (j : ℕ). stands_in x (j ∷ []) ≡ true) (sym same) (stands_itself x))
+    ]
+
 forest_is : (g : given.Over) (c : After-put g) → c.add.new.self ≡ with_span c.self.inside.forest c.in-Ok.id (made_node c.self.inside.rules (plain_meta c.args.new.now.meta.now) (plain_fields c.args.new.now.fields.now) c.args.new.now.parent)
 forest_is g c = c.in-Ok.ensures.forest ∙ ap (λ b. with_span c.self.inside.forest c.in-Ok.id (new_node c.args.new.now.meta.now c.args.new.now.fields.now c.args.new.now.parent b)) (bits_are g c)
 
@@ -69,11 +79,19 @@ told g c =
     ∙ (λ j. map (first_note c.self.inside.forest.spans c.args.new.now.worker (same_id g c j) c.args.new.now.parent (string_bytes c.args.new.now.meta.now.name) (plain_fields c.args.new.now.fields.now))
     (filter (hears c.self.inside.rules (bits_are g c j) OnNew) (range_with_len 0 (length c.self.inside.rules)))))
 
+pub overflow_add-self-2 : goal.overflow_add-self-2
+overflow_add-self-2 g c =
+    let few = few_made _ _ _ _ c.self.invariant.0.legal in
+    let same = ap (λ (v : CoreView). length v.sent) c.self.view_is in
+    omega (arith, few, same, c.self.invariant.1, c.requires.due.counts.1)
+
 pub invariant_of-self-2 : goal.invariant_of-self-2
-invariant_of-self-2 g c =
-    sound_new _ _ _ _ _ _ _ _ _ c.args.new.now.worker c.in-Ok.id (plain_meta c.args.new.now.meta.now) (plain_fields c.args.new.now.fields.now) c.args.new.now.parent _ _
-    c.self.invariant (within g c) (in_layout g c) c.in-Ok.ensures.never_issued (now_issued g c) (wanted g c) (parent_open g c) (gone g c) (forest_is g c) (told g c)
-    c.in_ok-call.ensures.call c.in_ok-ask.ensures.sent c.put.ensures.sent
+invariant_of-self-2 g c = (
+  sound_new _ _ _ _ _ _ _ _ _ c.args.new.now.worker c.in-Ok.id (plain_meta c.args.new.now.meta.now) (plain_fields c.args.new.now.fields.now) c.args.new.now.parent _ _
+      c.self.invariant.0 (within g c) (in_layout g c) c.in-Ok.ensures.never_issued (now_issued g c) (no_other g c) (wanted g c) (parent_open g c) (gone g c) (forest_is g c) (told g c)
+      c.in_ok-call.ensures.call c.in_ok-ask.ensures.sent c.put.ensures.sent,
+  one_made _ _ _ _ _ _ c.self.invariant.1 refl c.in_ok-ask.ensures.sent c.put.ensures.sent,
+)
 
 pub returns-clause-made : goal.returns-clause-made
 returns-clause-made g c =
@@ -82,7 +100,7 @@ returns-clause-made g c =
     let sent_is : g.O.Outlet.sent c.ask.new.outlet ≡ c.args.self.now.sent = c.in_ok-ask.ensures.sent ∙ ap (λ (v : CoreView). v.sent) c.self.view_is in
     let step : IsStep c.self.inside.rules (issued (g.O.Outlet.sent c.self.inside.outlet)) (record { spans = c.self.inside.forest.spans; stacks = ids_of_each c.self.inside.stacks.items }) request (made c.in-Ok.id) (map plain_note c.in_ok-notes.notes.items) (record { spans = c.add.new.self.spans; stacks = ids_of_each c.self.inside.stacks.items }) =
     step_new c.self.inside.rules (issued (g.O.Outlet.sent c.self.inside.outlet)) c.self.inside.forest.spans c.add.new.self.spans (ids_of_each c.self.inside.stacks.items) c.args.new.now.worker c.in-Ok.id (plain_meta c.args.new.now.meta.now) (plain_fields c.args.new.now.fields.now) c.args.new.now.parent _
-    (within g c) (in_layout g c) (not_in_history _ _ _ _ _ _ c.in-Ok.id c.self.invariant c.in-Ok.ensures.never_issued) (wanted g c) (parent_open g c) (ap (λ f. f.spans) (forest_is g c)) (told g c) in
+    (within g c) (in_layout g c) (not_in_history _ _ _ _ _ _ c.in-Ok.id c.self.invariant.0 c.in-Ok.ensures.never_issued) (wanted g c) (parent_open g c) (ap (λ f. f.spans) (forest_is g c)) (told g c) in
     let same = sym (same_id g c) in
     record {
       due = c.requires.due;
@@ -94,4 +112,5 @@ returns-clause-made g c =
       sent = c.put.ensures.sent ∙ (λ j. sent_is j ++ (record { request = call_is j; answer = made (same j); notes = map plain_note c.in_ok-notes.notes.items }) ∷ []);
       times_full = c.put.ensures.times_full ∙ c.in_ok-ask.ensures.times_full ∙ ap (λ (v : CoreView). v.times_full) c.self.view_is;
       forms = c.put.ensures.forms ∙ c.in_ok-ask.ensures.forms ∙ ap (λ (v : CoreView). v.forms) c.self.view_is;
+      name = c.put.ensures.name ∙ c.in_ok-ask.ensures.name ∙ ap (λ (v : CoreView). v.name) c.self.view_is;
     }

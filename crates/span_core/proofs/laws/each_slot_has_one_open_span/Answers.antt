@@ -16,4 +16,4 @@ returns-clause-in_layout g c =
 pub returns-clause-in_range : goal.returns-clause-in_range
 returns-clause-in_range g c =
     subst (λ (v : CoreView). (id : ℕ) → IsOpen v.world.spans id → slot_of id < v.limits.slots) c.core.view_is
-    (subst (λ (k : ℕ). (id : ℕ) → IsOpen c.core.inside.forest.spans id → slot_of id < k) (ap (λ (f : ForestView). f.slots) c.core.invariant.forest_is) c.open_slots_are_in_range.ensures)
+    (subst (λ (k : ℕ). (id : ℕ) → IsOpen c.core.inside.forest.spans id → slot_of id < k) (ap (λ (f : ForestView). f.slots) c.core.invariant.0.forest_is) c.open_slots_are_in_range.ensures)
