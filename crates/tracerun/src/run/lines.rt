@@ -2,7 +2,7 @@
 ghost use Rattle.std.specs.Prelude.{◌≡◌, ◌+◌, ◌^◌, ◌<◌, ◌≤◌, ℕ, [], false, length, IfOk, IfErr, IfSome, IfNone, OnOk, Ok};
 ghost use Rattle.std.specs.Option.{option_map};
 ghost use Rattle.serde_json.specs.View.{view};
-ghost use Rattle.tracerun.specs.Counted.{inner_of, failed_of};
+ghost use Rattle.tracerun.specs.Counted.{inner_of, failed_of, flushes_of};
 ghost use Rattle.tracerun.specs.Meaning.{last_part, line_turn, run, value_turn};
 ghost use Rattle.span_script.specs.Operation.{Stage, is_setup, running};
 ghost use Rattle.span_script.specs.Reason.{StopsFor};
@@ -45,6 +45,7 @@ pub fn run_rest<V: Say, W: Write>(
         Runs (resumed_run hooks rest.now.number (opened_state checked.now filters.rules kept.forms stage) (option_map view rest.now.value) rest.now.lines.now)
         (W.contents (inner_of output.old)) (W.contents (inner_of output.new)) result }
     ensures counts { EndsAsCounted 0 0 (failed_of output.old) (failed_of output.new) result }
+    ensures flushes { flushes_of output.new ≡ flushes_of output.old }
 {
     let Ok(mut script) = Script::new(alloc, checked, filters, kept) else {
         return Err(RunFault::Memory);
@@ -75,6 +76,7 @@ fn run_first<V: Say, W: Write>(
         Fails (resumed_run hooks rest.now.number (state_at script.old stage) (option_map view rest.now.value) rest.now.lines.now)
         (W.contents (inner_of output.old)) (W.contents (inner_of output.new)) fault) }
     ensures counts { EndsAsCounted 0 0 (failed_of output.old) (failed_of output.new) result }
+    ensures flushes { flushes_of output.new ≡ flushes_of output.old }
 {
     let Some(value) = &rest.value else {
         return Ok(());
@@ -103,6 +105,7 @@ fn run_lines<V: Say, W: Write>(
     ensures err { IfErr result (λ fault. (hooks : ℕ) → Fails (run hooks first (state_at script.old running) (lines_of lines.now))
         (W.contents (inner_of output.old)) (W.contents (inner_of output.new)) fault) }
     ensures counts { EndsAsCounted 0 0 (failed_of output.old) (failed_of output.new) result }
+    ensures flushes { flushes_of output.new ≡ flushes_of output.old }
 {
     let mut rest = lines;
     let mut number = first;
@@ -134,6 +137,7 @@ fn run_line<V: Say, W: Write>(
     ensures err { IfErr result (λ fault. (hooks : ℕ) → TurnFails (line_turn hooks (state_at script.old running) line.now) number
         (W.contents (inner_of output.old)) (W.contents (inner_of output.new)) fault) }
     ensures counts { EndsAsCounted 0 0 (failed_of output.old) (failed_of output.new) result }
+    ensures flushes { flushes_of output.new ≡ flushes_of output.old }
 {
     if is_skipped(line) {
         return Ok(());
@@ -161,6 +165,7 @@ fn run_value<V: Say, W: Write>(
     ensures err { IfErr result (λ fault. (hooks : ℕ) → TurnFails (value_turn hooks (state_at script.old running) (view line.now)) number
         (W.contents (inner_of output.old)) (W.contents (inner_of output.new)) fault) }
     ensures counts { EndsAsCounted 0 0 (failed_of output.old) (failed_of output.new) result }
+    ensures flushes { flushes_of output.new ≡ flushes_of output.old }
 {
     match call(alloc, line, script, text) {
         Ok(()) => write_text(output, text.as_slice()),

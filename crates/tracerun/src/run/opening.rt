@@ -3,7 +3,7 @@ ghost use Rattle.std.specs.Prelude.{◌≡◌, ◌+◌, ◌^◌, ◌<◌, ◌≤
 ghost use Rattle.std.specs.Option.{option_map};
 ghost use Rattle.std.specs.Io.KnownBytes.{Keeps};
 ghost use Rattle.serde_json.specs.View.{view};
-ghost use Rattle.tracerun.specs.Counted.{inner_of, failed_of};
+ghost use Rattle.tracerun.specs.Counted.{inner_of, failed_of, flushes_of};
 ghost use Rattle.tracerun.specs.Meaning.{line_turn, run, value_turn};
 ghost use Rattle.span_script.specs.Operation.{is_setup};
 ghost use Rattle.tracerun.specs.Replayed.{Fails};
@@ -51,6 +51,7 @@ pub fn open<'s, W: Write>(
     ensures err { IfErr result (Fails (run (hooks_in setup.old) 1 (setup_state setup.old) (lines_of script.now))
         (W.contents (inner_of output.old)) (W.contents (inner_of output.new))) }
     ensures counts { EndsAsCounted 0 0 (failed_of output.old) (failed_of output.new) result }
+    ensures flushes { flushes_of output.new ≡ flushes_of output.old }
 {
     let mut lines = script;
     let mut number = 1u64;
@@ -98,6 +99,7 @@ fn open_line<W: Write>(
     ensures err { IfErr result (TurnFails (line_turn (hooks_in setup.old) (setup_state setup.old) line.now) number
         (W.contents (inner_of output.old)) (W.contents (inner_of output.new))) }
     ensures counts { EndsAsCounted 0 0 (failed_of output.old) (failed_of output.new) result }
+    ensures flushes { flushes_of output.new ≡ flushes_of output.old }
 {
     if is_skipped(line) {
         return Ok(None);

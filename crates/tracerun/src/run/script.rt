@@ -37,11 +37,11 @@ impl<V: Say> Script<V> {
     ghost use Rattle.span_forest.specs.Holders.{held_in};
     ghost use Rattle.span_forest.specs.Spans.{find};
     ghost use Rattle.span_stack.specs.Stack.{current};
-    ghost use Rattle.span_outlet.specs.Request.{try_close, exit};
     ghost use Rattle.span_core.specs.World.{stack_of, empty_world};
     ghost use Rattle.tracerun.specs.Answer.{answer_text};
     ghost use Rattle.tracerun.specs.Faults.{is_taken, parent_of_key};
     ghost use Rattle.tracerun.specs.Meaning.{turn_of};
+    ghost use Rattle.tracerun.specs.Requests.{request_of_call};
     ghost use Rattle.span_script.specs.Operation.{Stage, make, on_span, record_fields, tell, find as look_up};
     ghost use Rattle.tracerun.specs.inside.Running.{core_in, labels_in, state_at, IsWritten, RunsAs, IsWrittenCall};
     ghost use Rattle.span_id.specs.Meta.{key_value};
@@ -111,31 +111,26 @@ impl<V: Say> Script<V> {
         }
     }
 
-    /// A worker leaves a span, as by `exit`. The only error is `Memory`: then the run has to end.
-    pub fn leave(&mut self, worker: u32, id: Id, text: &mut Vec<u8>) -> Result<(), Stop>
+    /// A worker's call on a span. Its notes and its answer are appended to the text.
+    ///
+    /// The only error is `Memory`: then the run has to end.
+    pub fn call(
+        &mut self,
+        call: SpanCall,
+        worker: u32,
+        id: Id,
+        text: &mut Vec<u8>,
+    ) -> Result<(), Stop>
         requires worker { worker < self.old.workers }
         requires written { IsWritten self.old }
-        ensures call { OnOk result (IsWrittenCall (core_in self.old) text.old.items (exit worker id) (core_in self.new) text.new.items) }
+        ensures call { OnOk result (IsWrittenCall (core_in self.old) text.old.items
+            (request_of_call call worker id) (core_in self.new) text.new.items) }
         ensures written { OnOk result (IsWritten self.new) }
         ensures workers { self.new.workers ≡ self.old.workers }
         ensures labels { labels_in self.new ≡ labels_in self.old }
         ensures memory { IfErr result (λ stop. stop ≡ Stop.Memory) }
     {
-        let answer = calls::call(&mut self.core, SpanCall::Exit, worker, id)?;
-        self.answer(answer, text)
-    }
-
-    /// Worker 0 closes a handle of a span, as by `close`. The only error is `Memory`: then the run has to end.
-    pub fn close(&mut self, id: Id, text: &mut Vec<u8>) -> Result<(), Stop>
-        requires worker { 0 < self.old.workers }
-        requires written { IsWritten self.old }
-        ensures call { OnOk result (IsWrittenCall (core_in self.old) text.old.items (try_close 0 id) (core_in self.new) text.new.items) }
-        ensures written { OnOk result (IsWritten self.new) }
-        ensures workers { self.new.workers ≡ self.old.workers }
-        ensures labels { labels_in self.new ≡ labels_in self.old }
-        ensures memory { IfErr result (λ stop. stop ≡ Stop.Memory) }
-    {
-        let answer = calls::call(&mut self.core, SpanCall::Close, 0, id)?;
+        let answer = calls::call(&mut self.core, call, worker, id)?;
         self.answer(answer, text)
     }
 
