@@ -35,9 +35,9 @@ KeepsUnread old new (Device Write) = Unit {0}
 abbrev pub IsWhole : ℕ → Option (List ℕ) → Option (List ℕ) → Option (List ℕ) → Type 0
 IsWhole hooks script old new = IfSome script (λ bytes. Appends old new (meaning hooks bytes).text)
 
--- The one flush. A run flushes its writer by one call, once the whole text is written, and that flush ends it: well, or by
--- the fault of the script, or by its own failure. Where memory was refused or a device failed before, it flushes never.
--- The numbers of flushes are those before and after, and the last test is whether the writer is flushed at the end.
+-- The one flush. A run flushes its writer by one call, once the whole text is written, and ends with it: well, or by
+-- the fault of the script, or because the flush fails. Where memory is refused or a device fails before, it never does.
+-- The numbers are how many flushes there were before and after; the test is whether the writer is flushed at the end.
 abbrev pub FlushesOnce : Type 0 → ℕ → ℕ → Bool → Result ℕ RunFault → Type 0
 FlushesOnce Whole flushes flushes' flushed (Ok left) = Whole × (flushes' ≡ one_more flushes) × (flushed ≡ true)
 FlushesOnce Whole flushes flushes' flushed (Err (Script number reason)) =

@@ -86,7 +86,8 @@ impl<R: Read> Read for Counted<R> {
 
     fn read(&mut self, buf: &mut [u8]) -> io::Result<usize>
         ensures bound { ReadsAtMost result buf.new }
-        ensures bytes { ReadConsumes (R.remaining (inner_of self.old)) (R.remaining (inner_of self.new)) result buf.new }
+        ensures bytes { ReadConsumes (R.remaining (inner_of self.old)) (R.remaining (inner_of self.new)) result
+            buf.new }
         ensures calls { calls_of self.new ≡ one_more (calls_of self.old) }
         ensures ok { OnOk result (failed_of self.new ≡ failed_of self.old) }
         ensures err { OnErr result (failed_of self.new ≡ one_more (failed_of self.old)) }

@@ -21,7 +21,8 @@ const MOST_BYTES: usize = 16_777_216;
 pub fn read_script<R: Read>(alloc: Global, input: &mut Counted<R>) -> Result<Vec<u8>, RunFault>
     requires calls { calls_of input.old < 2 ^ 63 }
     requires failed { failed_of input.old < 2 ^ 63 }
-    ensures all { IfOk result (λ v. Consumes (R.remaining (inner_of input.old)) (R.remaining (inner_of input.new)) v.items) }
+    ensures all { IfOk result
+        (λ v. Consumes (R.remaining (inner_of input.old)) (R.remaining (inner_of input.new)) v.items) }
     ensures end { OnOk result (IsAtEnd (R.remaining (inner_of input.new))) }
     ensures fits { IfOk result (λ v. vec_len v ≤ most_bytes) }
     ensures err { IfErr result (ReadFails (R.remaining (inner_of input.old)) (R.remaining (inner_of input.new))) }
@@ -52,7 +53,8 @@ pub fn read_script<R: Read>(alloc: Global, input: &mut Counted<R>) -> Result<Vec
 pub fn write_text<W: Write>(output: &mut Counted<W>, text: &[u8]) -> Result<(), RunFault>
     requires { failed_of output.old < 2 ^ 63 }
     ensures ok { OnOk result (Appends (W.contents (inner_of output.old)) (W.contents (inner_of output.new)) text.now) }
-    ensures front { OnErr result (AppendsFront (W.contents (inner_of output.old)) (W.contents (inner_of output.new)) text.now) }
+    ensures front { OnErr result
+        (AppendsFront (W.contents (inner_of output.old)) (W.contents (inner_of output.new)) text.now) }
     ensures device { IfErr result (λ e. e ≡ RunFault.Device Side.Write) }
     ensures counts { EndsAsCounted 0 0 (failed_of output.old) (failed_of output.new) result }
     ensures flushes { flushes_of output.new ≡ flushes_of output.old }

@@ -44,7 +44,8 @@ pub fn open<'s, W: Write>(
     requires fits { length script.now ≤ most_bytes }
     ensures sent { IfOk result (λ rest. Sent (W.contents (inner_of output.old)) (W.contents (inner_of output.new))
         (run (hooks_in setup.old) 1 (setup_state setup.old) (lines_of script.now))
-        (resumed_run (hooks_in setup.old) rest.number (setup_state setup.new) (option_map view rest.value) rest.lines.now)) }
+        (resumed_run (hooks_in setup.old) rest.number (setup_state setup.new) (option_map view rest.value)
+        rest.lines.now)) }
     ensures call { IfOk result (λ rest. IfSome rest.value (λ value. is_setup (view value) ≡ false)) }
     ensures done { IfOk result (λ rest. IfNone rest.value (rest.lines.now ≡ [])) }
     ensures place { IfOk result (λ rest. rest.number + length rest.lines.now ≤ most_bytes + 1) }
@@ -88,11 +89,15 @@ fn open_line<W: Write>(
     output: &mut Counted<W>,
 ) -> Result<Option<Value>, RunFault>
     requires { failed_of output.old < 2 ^ 63 }
-    ensures turned { IfOk result (λ value. IfNone value (HasTurned (line_turn (hooks_in setup.old) (setup_state setup.old) line.now) (setup_state setup.new)
+    ensures turned { IfOk result
+        (λ value. IfNone value (HasTurned (line_turn (hooks_in setup.old) (setup_state setup.old) line.now)
+        (setup_state setup.new)
         (W.contents (inner_of output.old)) (W.contents (inner_of output.new)))) }
     ensures same { IfOk result (λ value. IfSome value (λ value. setup_state setup.new ≡ setup_state setup.old)) }
-    ensures kept { IfOk result (λ value. IfSome value (λ value. Keeps (W.contents (inner_of output.old)) (W.contents (inner_of output.new)))) }
-    ensures value { IfOk result (λ value. IfSome value (λ value. line_turn (hooks_in setup.old) (setup_state setup.old) line.now
+    ensures kept { IfOk result
+        (λ value. IfSome value (λ value. Keeps (W.contents (inner_of output.old)) (W.contents (inner_of output.new)))) }
+    ensures value { IfOk result
+        (λ value. IfSome value (λ value. line_turn (hooks_in setup.old) (setup_state setup.old) line.now
         ≡ value_turn (hooks_in setup.old) (setup_state setup.old) (view value))) }
     ensures call { IfOk result (λ value. IfSome value (λ value. is_setup (view value) ≡ false)) }
     ensures hooks { OnOk result (hooks_in setup.new ≡ hooks_in setup.old) }
