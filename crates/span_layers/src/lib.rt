@@ -2,7 +2,6 @@
 #![tactic(auto)]
 
 mod compact;
-pub mod example;
 mod filters;
 mod form;
 mod hooks;

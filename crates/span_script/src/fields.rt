@@ -16,7 +16,8 @@ use std::alloc::{AllocError, Global};
 
 /// The fields that a line gives, none where it has no such key.
 pub fn fields(alloc: Global, line: &Value) -> Result<Vec<Field>, Stop>
-    ensures { AnswersOrStops (λ fields. map key_value fields.items) result (optional Key.Fields fields_in [] (view line.now)) }
+    ensures { AnswersOrStops (λ fields. map key_value fields.items) result
+        (optional Key.Fields fields_in [] (view line.now)) }
 {
     let Some(value) = line.get(Key::Fields.text()) else {
         return Ok(Vec::new(alloc));
@@ -29,7 +30,8 @@ pub fn fields(alloc: Global, line: &Value) -> Result<Vec<Field>, Stop>
 
 /// The fields that the values of a list are.
 fn all_fields(alloc: Global, list: &[Value]) -> Result<Vec<Field>, Stop>
-    ensures { AnswersOrStops (λ fields. map key_value fields.items) result (or_fault (all_of field_in (items_view list.now)) (Reason.BadKey Key.Fields)) }
+    ensures { AnswersOrStops (λ fields. map key_value fields.items) result
+        (or_fault (all_of field_in (items_view list.now)) (Reason.BadKey Key.Fields)) }
 {
     let mut fields = Vec::new(alloc);
     for value in list {

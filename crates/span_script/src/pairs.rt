@@ -9,7 +9,8 @@ use serde_json::Value;
 
 /// The values of a list of two.
 pub fn pair(value: &Value) -> Option<(&Value, &Value)>
-    ensures { option_map (λ pair. (view pair.0.now, view pair.1.now)) result ≡ option_and_then two_in (as_array (view value.now)) }
+    ensures { option_map (λ pair. (view pair.0.now, view pair.1.now)) result
+        ≡ option_and_then two_in (as_array (view value.now)) }
 {
     let pair = value.as_array()?;
     if pair.len() != 2 {

@@ -34,7 +34,8 @@ pub fn rule(alloc: Global, line: &Value) -> Result<Rule, Stop>
 
 /// The rule whose pairs the values of a list are.
 fn all_pairs(alloc: Global, list: &[Value]) -> Result<Rule, Stop>
-    ensures { AnswersOrStops pairs_of result (or_fault (all_of prefix_in (items_view list.now)) (Reason.BadKey Key.Rule)) }
+    ensures { AnswersOrStops pairs_of result
+        (or_fault (all_of prefix_in (items_view list.now)) (Reason.BadKey Key.Rule)) }
 {
     let mut pairs = Vec::new(alloc);
     for value in list {

@@ -12,8 +12,8 @@ use Rattle.span_outlet.specs.declared.batch.ParentOf.TheVariants.{Root, Of}
 use Rattle.span_core.specs.Core.{IsLate}
 use Rattle.span_core.specs.Outcome.{TakesNextId}
 use Rattle.span_core.proofs.Outcomes.{accepted_outcome, refused_outcome, not_wanted_outcome}
-use Rattle.tracerun.specs.inside.Calls.{answer_for, IsMade}
-use Rattle.tracerun.specs.Written.{answer_of, core_left}
+use Rattle.tracerun.specs.inside.Calls.{IsMade}
+use Rattle.tracerun.specs.Written.{answer_for, answer_of, core_left}
 use Rattle.tracerun.specs.declared.run.answer.Answer.{Answer}
 use Rattle.tracerun.specs.declared.run.answer.Answer.TheVariants.{Made, NotWanted, Refused}
 use Rattle.span_script.specs.declared.stop.Stop.{Stop}

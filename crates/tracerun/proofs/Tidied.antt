@@ -1,13 +1,21 @@
 -- The calls of the tidying, one after another.
 use Rattle.std.proofs.Common.{◌≡◌, ℕ, zero, suc, ◌+◌, ◌-◌, ◌<◌, ◌≤◌, List, [], ◌∷◌, ◌++◌, refl, ap, sym, ◌∙◌, subst, append_assoc, append-nil, arith}
+use Rattle.std.proofs.Common.{length, map, drop, get_or, reverse, replicate, drop_of_length-le}
+use Rattle.std.proofs.lemmas.List.{drop_more}
 use Rattle.std.specs.Io.KnownBytes.{Appends}
+use Rattle.span_forest.specs.declared.span.Holder.TheVariants.{Handle}
+use Rattle.span_forest.specs.Holders.{held_in}
+use Rattle.span_forest.specs.Spans.{find}
+use Rattle.span_core.specs.World.{stack_of}
+use Rattle.span_script.specs.declared.operations.SpanCall.TheVariants.{Close, Exit}
+use Rattle.tracerun.specs.Requests.{request_of_call}
 use Rattle.std.specs.List.{range_with_len}
 use Rattle.std.proofs.KnownBytes.{Appends-nil, Appends-trans}
 use Rattle.span_core.specs.Core.{CoreView}
 use Rattle.span_outlet.specs.Request as call
 use Rattle.tracerun.specs.Device.{AppendsFront}
 use Rattle.tracerun.specs.inside.Turns.{AreMade, ArePartlyMade, TextFails}
-use Rattle.tracerun.specs.Written.{Written, written_after, call_written, calls_written, each_written}
+use Rattle.tracerun.specs.Written.{Written, written_after, call_written, calls_written, each_written, exits, closes}
 use Rattle.tracerun.specs.declared.run.fault.RunFault.{RunFault}
 use Rattle.tracerun.specs.declared.run.fault.RunFault.TheVariants.{Script, Memory, Device}
 use Rattle.tracerun.proofs.Written.{Known, front_after, front_more}
@@ -65,6 +73,13 @@ one_fails a b c whole core all more request e s is p =
 pub none_left : (a b : Known) (whole : Written) (core : CoreView) (all : List call.Request) → ArePartlyMade a b whole (calls_written core all) → all ≡ [] → AreMade whole core a b
 none_left a b whole core all s e = part_ends a b whole core (subst (ArePartlyMade a b whole) (ap (calls_written core) e ∙ calls_none core) s)
 
+-- the call on the next of some ids, and none after the last
+pub next_call : (make : ℕ → call.Request) (i id : ℕ) (ids : List ℕ) → i < length ids → id ≡ get_or ids i id → map make (drop i ids) ≡ make id ∷ map make (drop (i + 1) ids)
+next_call make i id ids h e = ap (map make) (drop_more ids i id h) ∙ ap (λ x. make x ∷ map make (drop (i + 1) ids)) (sym e)
+
+pub no_call : (make : ℕ → call.Request) (i : ℕ) (ids : List ℕ) → length ids ≤ i → map make (drop i ids) ≡ []
+no_call make i ids h = ap (map make) (drop_of_length-le ids h)
+
 -- ---- one number more
 
 each_more : (calls : CoreView → ℕ → List call.Request) (core : CoreView) (n : ℕ) (ns : List ℕ) → each_written calls core (n ∷ ns)
@@ -97,6 +112,24 @@ one_worker i n h = let left : n - i ≡ suc (n - (i + 1)) = omega (arith, h) in 
 
 pub no_worker : (i n : ℕ) → n ≤ i → range_with_len i (n - i) ≡ []
 no_worker i n h = let left : n - i ≡ zero = omega (arith, h) in rw left refl
+
+-- ---- what the entries and the handles of a span come to
+
+pub exits_made : (core : CoreView) (worker : ℕ) (ids : List ℕ) → ids ≡ reverse (stack_of core.world worker) → map (request_of_call Exit worker) ids ≡ exits core worker
+exits_made core worker ids is = ap (map (call.exit worker)) is
+
+map_same : (make : ℕ → call.Request) (n id : ℕ) → map make (replicate n id) ≡ replicate n (make id)
+map_same make zero id = refl
+map_same make (suc n) id = ap (λ rest. make id ∷ rest) (map_same make n id)
+
+pub closes_made : (core : CoreView) (id : ℕ) (ids : List ℕ) → ids ≡ replicate (held_in Handle (find core.world.spans id)) id → map (request_of_call Close 0) ids ≡ closes core id
+closes_made core id ids is = ap (map (call.try_close 0)) is ∙ map_same (call.try_close 0) _ id
+
+pub made_as : (core new : CoreView) (requests meant : List call.Request) (a b : Known) → requests ≡ meant → AreMade (calls_written core requests) new a b → AreMade (calls_written core meant) new a b
+made_as core new requests meant a b is p = subst (λ rs. AreMade (calls_written core rs) new a b) is p
+
+pub fails_as : (core : CoreView) (requests meant : List call.Request) (a b : Known) (e : RunFault) → requests ≡ meant → TextFails (calls_written core requests).text a b e → TextFails (calls_written core meant).text a b e
+fails_as core requests meant a b e is p = subst (λ rs. TextFails (calls_written core rs).text a b e) is p
 
 -- ---- a call's text and the buffer
 

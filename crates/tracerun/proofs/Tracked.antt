@@ -15,7 +15,7 @@ use Rattle.span_core.proofs.OutcomeCases.{by_outcome}
 use Rattle.tracerun.specs.Labels.{Bound, id_in}
 use Rattle.tracerun.specs.Faults.{is_taken, has_handles}
 use Rattle.tracerun.specs.Meaning.{labels_after}
-use Rattle.tracerun.specs.Written.{core_left}
+use Rattle.tracerun.specs.Written.{answer_for, core_left}
 use Rattle.tracerun.proofs.Bindings.{bound_same, bound_other}
 
 -- the core is steady, and a label names each span that has a handle
@@ -72,9 +72,9 @@ call_leads core labels request tracked low none =
 -- a new span: where one is made, the label names it, and what the label named before had no handle
 pub made_leads : (core : CoreView) (labels : Bound) (label : List ℕ) (worker : ℕ) (meta : PlainMeta) (fields : List KeyValue) (parent : Option ℕ)
     → IsTracked core labels → worker < core.limits.workers → is_taken core.world.spans labels label ≡ false
-    → Leads core (core_left core (outcome core (new_span worker meta fields parent))) (labels_after labels label (outcome core (new_span worker meta fields parent))) 3
+    → Leads core (core_left core (outcome core (new_span worker meta fields parent))) (labels_after labels label (answer_for (outcome core (new_span worker meta fields parent)))) 3
 made_leads core labels label worker meta fields parent tracked low free =
-    by_outcome (λ o. Leads core (core_left core o) (labels_after labels label o) 3) core request
+    by_outcome (λ o. Leads core (core_left core o) (labels_after labels label (answer_for o)) 3) core request
     (λ fault. leads_nowhere core labels 3 tracked)
     (leads_nowhere core labels 3 tracked)
     (λ due. record {

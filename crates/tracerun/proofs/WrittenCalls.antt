@@ -13,7 +13,7 @@ use Rattle.span_outlet.specs.Request as call
 use Rattle.span_id.specs.declared.fault.Fault.TheVariants.{Unknown, CountFull, Full, NotEntered, BadName}
 use Rattle.span_core.specs.Outcome.{Outcome, refused, not_wanted, accepted, outcome}
 use Rattle.tracerun.specs.Answer.{answer_text}
-use Rattle.tracerun.specs.inside.Calls.{answer_for, IsMade, labels_given}
+use Rattle.tracerun.specs.inside.Calls.{IsMade}
 use Rattle.tracerun.specs.Labels.{Bound}
 use Rattle.tracerun.specs.Faults.{parent_of_key, is_taken}
 use Rattle.tracerun.specs.Meaning.{Turn, call_turn, made_turn, labels_after, new_turn, turn_of}
@@ -25,7 +25,7 @@ use Rattle.span_core.specs.World.{stack_of}
 use Rattle.span_script.specs.declared.reason.Reason.TheVariants.{LabelTaken}
 use Rattle.tracerun.specs.inside.Running.{StopsAs, RunsAs, IsWrittenCall, IsWritten, core_in}
 use Rattle.tracerun.specs.State.{State}
-use Rattle.tracerun.specs.Written.{note_line, outcome_text, core_left, call_written}
+use Rattle.tracerun.specs.Written.{answer_for, note_line, outcome_text, core_left, call_written}
 use Rattle.tracerun.specs.declared.run.answer.Answer.{Answer}
 use Rattle.span_script.specs.declared.reason.Reason.{Reason}
 use Rattle.tracerun.specs.declared.run.script.Script.{Script}
@@ -140,21 +140,10 @@ turn_made (Err stop) meant state new request answer mid written text text' is ma
 
 -- ---- a new span
 
-labels_are : (labels : Bound) (label : List ℕ) (o : Outcome) → labels_given labels label (answer_for o) ≡ labels_after labels label o
-labels_are labels label (refused fault) = refl
-labels_are labels label not_wanted = refl
-labels_are labels label (accepted (call.made id) notes new) = refl
-labels_are labels label (accepted call.cloned notes new) = refl
-labels_are labels label (accepted (call.entered first) notes new) = refl
-labels_are labels label (accepted (call.exited closed) notes new) = refl
-labels_are labels label (accepted (call.released closed) notes new) = refl
-labels_are labels label (accepted call.recorded notes new) = refl
-labels_are labels label (accepted call.told notes new) = refl
-
 pub turn_new : (result : Result ⊤ Stop) (meant : Result Turn Reason) (state new : State) (label : List ℕ) (request : call.Request) (answer : Answer) (mid : CoreView) (written : ℕ) (text text' : List ℕ)
     → meant ≡ Ok (made_turn state label request)
     → IsMade state.core request answer mid → written ≡ length (lines_in state.core)
-    → new ≡ record state { core = mid; labels = labels_given state.labels label answer }
+    → new ≡ record state { core = mid; labels = labels_after state.labels label answer }
     → OnOk result (text' ≡ text ++ (flat_map note_line (drop written (lines_in mid)) ++ answer_text answer))
     → IfErr result (λ stop. stop ≡ Memory)
     → RunsAs meant state text new text' result
@@ -165,8 +154,8 @@ turn_new (Ok _) meant state new label request answer mid written text text' is m
       (sym (same ∙ (λ i. record state { core = made.core_is i; labels = labels i })));
 }
   where
-    labels : labels_given state.labels label answer ≡ labels_after state.labels label (outcome state.core request)
-    labels = ap (labels_given state.labels label) made.answer_is ∙ labels_are state.labels label (outcome state.core request)
+    labels : labels_after state.labels label answer ≡ labels_after state.labels label (answer_for (outcome state.core request))
+    labels = ap (labels_after state.labels label) made.answer_is
 turn_new (Err stop) meant state new label request answer mid written text text' is made all same text_is memory = stops meant state new text text' stop memory
 
 -- ---- the outlet's lines

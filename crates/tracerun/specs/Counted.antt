@@ -14,6 +14,10 @@ calls_of c = c.calls
 abbrev pub failed_of : {T : Type 0} → Counted T → ℕ
 failed_of c = c.failed
 
+-- how many of those calls flushed, or tried to
+abbrev pub flushes_of : {T : Type 0} → Counted T → ℕ
+flushes_of c = c.flushes
+
 -- whether a flush that succeeded came after the last write
 abbrev pub flushed_of : {T : Type 0} → Counted T → Bool
 flushed_of c = c.flushed

@@ -11,16 +11,17 @@ use Rattle.span_stack.specs.Stack as stack
 use Rattle.span_core.specs.World.{empty_world, stack_of}
 use Rattle.span_outlet.specs.Request as call
 use Rattle.span_core.specs.Core.{CoreView}
-use Rattle.span_core.specs.Outcome.{Outcome, accepted, outcome}
+use Rattle.span_core.specs.Outcome.{outcome}
 use Rattle.tracerun.specs.Answer.{answer_text, left_text}
 use Rattle.tracerun.specs.Faults.{id_of_key, parent_of_key, free_label}
 use Rattle.tracerun.specs.Labels.{Bound, with_label}
 use Rattle.span_script.specs.Operation.{NewLayer, NewSpan, Stage, in_setup, running, Operation, set_limits, add_layer, make, on_span, record_fields, tell, find, json_of, operation_of}
 use Rattle.span_script.specs.Reason.{◌>>=◌}
 use Rattle.tracerun.specs.Requests.{request_of_call, request_of_new, request_of_event}
-use Rattle.tracerun.specs.Written.{Written, call_written, find_text, exits, closes, each_written}
+use Rattle.tracerun.specs.Written.{Written, answer_for, call_written, find_text, exits, closes, each_written}
 use Rattle.span_script.specs.Script.{lines_of, most_bytes, is_skipped}
 use Rattle.tracerun.specs.State.{State, first_state}
+use Rattle.tracerun.specs.declared.run.answer.Answer.{Answer}
 use Rattle.tracerun.specs.declared.run.answer.Answer.TheVariants as answer
 use Rattle.span_script.specs.declared.reason.Reason.{Reason}
 use Rattle.span_script.specs.declared.reason.Reason.TheVariants.{TooLong}
@@ -73,15 +74,18 @@ abbrev pub call_turn : State → call.Request → Turn
 call_turn state request = written_turn state (call_written state.core request)
 
 -- a label names the id that its last accepted `new` got
-abbrev pub labels_after : Bound → List ℕ → Outcome → Bound
-labels_after labels label (accepted (call.made id) notes new) = with_label labels label id
+abbrev pub labels_after : Bound → List ℕ → Answer → Bound
+labels_after labels label (answer.Made id) = with_label labels label id
 labels_after labels label _ = labels
 
 -- a call that makes a span, and binds its label where it is accepted
 abbrev pub made_turn : State → List ℕ → call.Request → Turn
 made_turn state label request = record {
   text = (call_written state.core request).text;
-  state = record state { core = (call_written state.core request).core; labels = labels_after state.labels label (outcome state.core request) };
+  state = record state {
+    core = (call_written state.core request).core;
+    labels = labels_after state.labels label (answer_for (outcome state.core request));
+  };
 }
 
 -- ---- one line

@@ -1,6 +1,7 @@
 -- What a run leaves in the writer, and what it answers.
-use Rattle.std.specs.Prelude.{◌≡◌, ℕ, Bool, true, List, Option, Result, Ok, Err, MatchResult}
+use Rattle.std.specs.Prelude.{◌≡◌, ℕ, Bool, true, ◌⊎◌, List, Option, Result, Ok, Err, IfSome, MatchResult}
 use Rattle.std.specs.Io.KnownBytes.{Appends, Keeps}
+use Rattle.tracerun.specs.Counted.{one_more}
 use Rattle.tracerun.specs.Device.{AppendsFront}
 use Rattle.tracerun.specs.Meaning.{Transcript, finished, faulty, meaning}
 use Rattle.tracerun.specs.declared.run.fault.RunFault.{RunFault}
@@ -30,9 +31,18 @@ KeepsUnread old new Memory = Unit {0}
 KeepsUnread old new (Device Read) = Keeps old new
 KeepsUnread old new (Device Write) = Unit {0}
 
--- the writer is flushed at the end, after a fault of the script too
-abbrev pub EndsFlushed : Bool → Result ℕ RunFault → Type 0
-EndsFlushed flushed (Ok left) = flushed ≡ true
-EndsFlushed flushed (Err (Script number reason)) = flushed ≡ true
-EndsFlushed flushed (Err Memory) = Unit {0}
-EndsFlushed flushed (Err (Device side)) = Unit {0}
+-- the whole text that is meant was written, where the script's bytes are known
+abbrev pub IsWhole : ℕ → Option (List ℕ) → Option (List ℕ) → Option (List ℕ) → Type 0
+IsWhole hooks script old new = IfSome script (λ bytes. Appends old new (meaning hooks bytes).text)
+
+-- The one flush. A run flushes its writer by one call, once the whole text is written, and ends with it: well, or by
+-- the fault of the script, or because the flush fails. Where memory is refused or a device fails before, it never does.
+-- The numbers are how many flushes there were before and after; the test is whether the writer is flushed at the end.
+abbrev pub FlushesOnce : Type 0 → ℕ → ℕ → Bool → Result ℕ RunFault → Type 0
+FlushesOnce Whole flushes flushes' flushed (Ok left) = Whole × (flushes' ≡ one_more flushes) × (flushed ≡ true)
+FlushesOnce Whole flushes flushes' flushed (Err (Script number reason)) =
+    Whole × (flushes' ≡ one_more flushes) × (flushed ≡ true)
+FlushesOnce Whole flushes flushes' flushed (Err Memory) = flushes' ≡ flushes
+FlushesOnce Whole flushes flushes' flushed (Err (Device Read)) = flushes' ≡ flushes
+FlushesOnce Whole flushes flushes' flushed (Err (Device Write)) =
+    (flushes' ≡ flushes) ⊎ (Whole × (flushes' ≡ one_more flushes))

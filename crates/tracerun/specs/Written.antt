@@ -36,6 +36,12 @@ answer_of (call.released closed) = Closed (nat_lt 0 (length closed))
 answer_of call.recorded = Recorded
 answer_of call.told = Told
 
+-- the answer that is written after the notes
+abbrev pub answer_for : Outcome → Answer
+answer_for (refused fault) = Refused fault
+answer_for not_wanted = NotWanted
+answer_for (accepted answer notes new) = answer_of answer
+
 -- what is written for a call: the notes of its batch, and then its answer
 abbrev pub outcome_text : CoreView → call.Request → Outcome → List ℕ
 outcome_text core request (refused fault) = answer_text (Refused fault)

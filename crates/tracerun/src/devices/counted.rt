@@ -2,20 +2,21 @@
 ghost use Rattle.std.specs.Prelude.{◌≡◌, ◌<◌, true, false, IfOk, OnOk, OnErr};
 ghost use Rattle.std.specs.Io.{ReadsAtMost, WritesAtMost};
 ghost use Rattle.std.specs.Io.KnownBytes.{Keeps, ReadConsumes, WriteAppends};
-ghost use Rattle.tracerun.specs.Counted.{inner_of, calls_of, failed_of, flushed_of, one_more};
+ghost use Rattle.tracerun.specs.Counted.{inner_of, calls_of, failed_of, flushes_of, flushed_of, one_more};
 
 use std::io;
 use std::io::{Read, Write};
 
-/// A reader or a writer, with the number of its calls and of those that failed.
+/// A reader or a writer, with the number of its calls, of those that failed and of those that flush.
 ///
-/// A call that was interrupted and a write that took no byte count as failed.
-/// Both numbers stay at their greatest value. Whether a writer is flushed is known too: all that it took went out.
+/// A call that was interrupted and a write that took no byte count as failed. The numbers stay at their greatest
+/// value. Whether a writer is flushed is known too: all that it took went out.
 #[derive(Debug, Drop)]
 pub struct Counted<T> {
     inner: T,
     calls: u64,
     failed: u64,
+    flushes: u64,
     flushed: bool,
 }
 
@@ -25,12 +26,14 @@ impl<T> Counted<T> {
         ensures inner { inner_of result ≡ inner }
         ensures calls { calls_of result ≡ 0 }
         ensures failed { failed_of result ≡ 0 }
+        ensures flushes { flushes_of result ≡ 0 }
         ensures flushed { flushed_of result ≡ false }
     {
         Counted {
             inner,
             calls: 0,
             failed: 0,
+            flushes: 0,
             flushed: false,
         }
     }
@@ -43,6 +46,7 @@ impl<T> Counted<T> {
             inner,
             calls: _,
             failed: _,
+            flushes: _,
             flushed: _,
         } = self;
         inner
@@ -62,6 +66,13 @@ impl<T> Counted<T> {
         self.failed
     }
 
+    /// How many of the calls were of `flush`.
+    pub fn flushes(&self) -> u64
+        ensures { result ≡ flushes_of self.now }
+    {
+        self.flushes
+    }
+
     /// Whether a flush that succeeded came after the last `write`.
     pub fn is_flushed(&self) -> bool
         ensures { result ≡ flushed_of self.now }
@@ -75,7 +86,8 @@ impl<R: Read> Read for Counted<R> {
 
     fn read(&mut self, buf: &mut [u8]) -> io::Result<usize>
         ensures bound { ReadsAtMost result buf.new }
-        ensures bytes { ReadConsumes (R.remaining (inner_of self.old)) (R.remaining (inner_of self.new)) result buf.new }
+        ensures bytes { ReadConsumes (R.remaining (inner_of self.old)) (R.remaining (inner_of self.new)) result
+            buf.new }
         ensures calls { calls_of self.new ≡ one_more (calls_of self.old) }
         ensures ok { OnOk result (failed_of self.new ≡ failed_of self.old) }
         ensures err { OnErr result (failed_of self.new ≡ one_more (failed_of self.old)) }
@@ -98,6 +110,7 @@ impl<W: Write> Write for Counted<W> {
         ensures calls { calls_of self.new ≡ one_more (calls_of self.old) }
         ensures ok { IfOk result (λ n. 0 < n → failed_of self.new ≡ failed_of self.old) }
         ensures none { IfOk result (λ n. n ≡ 0 → failed_of self.new ≡ one_more (failed_of self.old)) }
+        ensures flushes { flushes_of self.new ≡ flushes_of self.old }
         ensures flushed { flushed_of self.new ≡ false }
         ensures err { OnErr result (failed_of self.new ≡ one_more (failed_of self.old)) }
     {
@@ -115,10 +128,12 @@ impl<W: Write> Write for Counted<W> {
         ensures calls { calls_of self.new ≡ one_more (calls_of self.old) }
         ensures ok { OnOk result (failed_of self.new ≡ failed_of self.old) }
         ensures err { OnErr result (failed_of self.new ≡ one_more (failed_of self.old)) }
+        ensures flushes { flushes_of self.new ≡ one_more (flushes_of self.old) }
         ensures flushed { OnOk result (flushed_of self.new ≡ true) }
         ensures not_flushed { OnErr result (flushed_of self.new ≡ false) }
     {
         self.calls = self.calls.saturating_add(1);
+        self.flushes = self.flushes.saturating_add(1);
         let answer = self.inner.flush();
         self.flushed = answer.is_ok();
         if answer.is_err() {

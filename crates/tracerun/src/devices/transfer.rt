@@ -1,7 +1,7 @@
 //! Reading a script to its end, and writing text, each by a loop over single calls.
 ghost use Rattle.std.specs.Prelude.{◌≡◌, true, ◌+◌, ◌^◌, ◌<◌, ◌≤◌, IfOk, IfErr, OnOk, OnErr, vec_len};
 ghost use Rattle.std.specs.Io.KnownBytes.{Appends, Consumes, IsAtEnd, Keeps};
-ghost use Rattle.tracerun.specs.Counted.{inner_of, calls_of, failed_of, flushed_of};
+ghost use Rattle.tracerun.specs.Counted.{inner_of, calls_of, failed_of, flushes_of, flushed_of, one_more};
 ghost use Rattle.tracerun.specs.Device.{AppendsFront, ReadFails};
 ghost use Rattle.span_script.specs.Script.{most_bytes};
 ghost use Rattle.tracerun.specs.RunFault.{EndsAsCounted};
@@ -21,7 +21,8 @@ const MOST_BYTES: usize = 16_777_216;
 pub fn read_script<R: Read>(alloc: Global, input: &mut Counted<R>) -> Result<Vec<u8>, RunFault>
     requires calls { calls_of input.old < 2 ^ 63 }
     requires failed { failed_of input.old < 2 ^ 63 }
-    ensures all { IfOk result (λ v. Consumes (R.remaining (inner_of input.old)) (R.remaining (inner_of input.new)) v.items) }
+    ensures all { IfOk result
+        (λ v. Consumes (R.remaining (inner_of input.old)) (R.remaining (inner_of input.new)) v.items) }
     ensures end { OnOk result (IsAtEnd (R.remaining (inner_of input.new))) }
     ensures fits { IfOk result (λ v. vec_len v ≤ most_bytes) }
     ensures err { IfErr result (ReadFails (R.remaining (inner_of input.old)) (R.remaining (inner_of input.new))) }
@@ -52,9 +53,11 @@ pub fn read_script<R: Read>(alloc: Global, input: &mut Counted<R>) -> Result<Vec
 pub fn write_text<W: Write>(output: &mut Counted<W>, text: &[u8]) -> Result<(), RunFault>
     requires { failed_of output.old < 2 ^ 63 }
     ensures ok { OnOk result (Appends (W.contents (inner_of output.old)) (W.contents (inner_of output.new)) text.now) }
-    ensures front { OnErr result (AppendsFront (W.contents (inner_of output.old)) (W.contents (inner_of output.new)) text.now) }
+    ensures front { OnErr result
+        (AppendsFront (W.contents (inner_of output.old)) (W.contents (inner_of output.new)) text.now) }
     ensures device { IfErr result (λ e. e ≡ RunFault.Device Side.Write) }
     ensures counts { EndsAsCounted 0 0 (failed_of output.old) (failed_of output.new) result }
+    ensures flushes { flushes_of output.new ≡ flushes_of output.old }
 {
     let mut done = 0;
     while done < text.len() {
@@ -71,6 +74,7 @@ pub fn write_text<W: Write>(output: &mut Counted<W>, text: &[u8]) -> Result<(), 
 pub fn flush<W: Write>(output: &mut Counted<W>) -> Result<(), RunFault>
     requires { failed_of output.old < 2 ^ 63 }
     ensures keeps { Keeps (W.contents (inner_of output.old)) (W.contents (inner_of output.new)) }
+    ensures once { flushes_of output.new ≡ one_more (flushes_of output.old) }
     ensures flushed { OnOk result (flushed_of output.new ≡ true) }
     ensures device { IfErr result (λ e. e ≡ RunFault.Device Side.Write) }
     ensures counts { EndsAsCounted 0 0 (failed_of output.old) (failed_of output.new) result }

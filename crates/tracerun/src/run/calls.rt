@@ -75,7 +75,8 @@ pub fn record<V: Say>(
     fields: &[Field],
 ) -> Result<Answer, Stop>
     requires { worker < core.old.limits.workers }
-    ensures made { IfOk result (λ answer. IsMade core.old (record_fields worker id (map key_value fields.now)) answer core.new) }
+    ensures made { IfOk result
+        (λ answer. IsMade core.old (record_fields worker id (map key_value fields.now)) answer core.new) }
     ensures memory { IfErr result (λ stop. stop ≡ Stop.Memory) }
 {
     match core.record(worker, id, fields) {

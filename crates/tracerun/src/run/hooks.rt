@@ -5,8 +5,8 @@ ghost use Rattle.std.specs.Result.{ForOk};
 ghost use Rattle.span_layers.specs.Note.{plain_note};
 ghost use Rattle.span_layers.specs.Rule.{pairs_of, is_admitted};
 ghost use Rattle.span_layers.specs.Text.{text_of};
-ghost use Rattle.tracerun.specs.Counted.{inner_of, calls_of, failed_of, flushed_of};
-ghost use Rattle.tracerun.specs.Replayed.{EndsFlushed, IsReplayed, KeepsUnread};
+ghost use Rattle.tracerun.specs.Counted.{inner_of, calls_of, failed_of, flushes_of, flushed_of};
+ghost use Rattle.tracerun.specs.Replayed.{FlushesOnce, IsReplayed, IsWhole, KeepsUnread};
 ghost use Rattle.tracerun.specs.RunFault.{EndsAsCounted};
 
 use crate::devices::counted::Counted;
@@ -32,9 +32,13 @@ pub fn replay_with_layers<R: Read, W: Write>(
         IsReplayed layers bytes (W.contents (inner_of output.old)) (W.contents (inner_of output.new)) result) }
     ensures whole { OnOk result (IsAtEnd (R.remaining (inner_of input.new))) }
     ensures unread { IfErr result (KeepsUnread (W.contents (inner_of output.old)) (W.contents (inner_of output.new))) }
-    ensures flushed { EndsFlushed (flushed_of output.new) result }
+    ensures flushed { FlushesOnce
+        (IsWhole layers (R.remaining (inner_of input.old))
+        (W.contents (inner_of output.old)) (W.contents (inner_of output.new)))
+        (flushes_of output.old) (flushes_of output.new) (flushed_of output.new) result }
     ensures left { IfSome (R.remaining (inner_of input.old)) (λ bytes. IfOk result (λ left. left ≡ 0)) }
-    ensures counts { EndsAsCounted (failed_of input.old) (failed_of input.new) (failed_of output.old) (failed_of output.new) result }
+    ensures counts { EndsAsCounted
+        (failed_of input.old) (failed_of input.new) (failed_of output.old) (failed_of output.new) result }
     ensures reads { calls_of input.new ≤ calls_of input.old + 16777217 }
 {
     let mut hooks = Vec::new(alloc);

@@ -2,7 +2,7 @@
 ghost use Rattle.std.specs.Prelude.{◌≡◌, ◌+◌, ◌^◌, ◌<◌, ◌≤◌, ℕ, [], false, length, IfOk, IfErr, IfSome, IfNone, OnOk, Ok};
 ghost use Rattle.std.specs.Option.{option_map};
 ghost use Rattle.serde_json.specs.View.{view};
-ghost use Rattle.tracerun.specs.Counted.{inner_of, failed_of};
+ghost use Rattle.tracerun.specs.Counted.{inner_of, failed_of, flushes_of};
 ghost use Rattle.tracerun.specs.Meaning.{last_part, line_turn, run, value_turn};
 ghost use Rattle.span_script.specs.Operation.{Stage, is_setup, running};
 ghost use Rattle.span_script.specs.Reason.{StopsFor};
@@ -42,9 +42,11 @@ pub fn run_rest<V: Say, W: Write>(
     requires done { IfNone rest.now.value (rest.now.lines.now ≡ []) }
     requires place { rest.now.number + length rest.now.lines.now ≤ most_bytes + 1 }
     ensures runs { (hooks : ℕ) (stage : Stage) →
-        Runs (resumed_run hooks rest.now.number (opened_state checked.now filters.rules kept.forms stage) (option_map view rest.now.value) rest.now.lines.now)
+        Runs (resumed_run hooks rest.now.number (opened_state checked.now filters.rules kept.forms stage)
+        (option_map view rest.now.value) rest.now.lines.now)
         (W.contents (inner_of output.old)) (W.contents (inner_of output.new)) result }
     ensures counts { EndsAsCounted 0 0 (failed_of output.old) (failed_of output.new) result }
+    ensures flushes { flushes_of output.new ≡ flushes_of output.old }
 {
     let Ok(mut script) = Script::new(alloc, checked, filters, kept) else {
         return Err(RunFault::Memory);
@@ -68,13 +70,17 @@ fn run_first<V: Say, W: Write>(
     requires call { IfSome rest.now.value (λ value. is_setup (view value) ≡ false) }
     requires done { IfNone rest.now.value (rest.now.lines.now ≡ []) }
     requires place { rest.now.number + length rest.now.lines.now ≤ most_bytes + 1 }
-    ensures sent { OnOk result ((hooks : ℕ) (stage : Stage) → Sent (W.contents (inner_of output.old)) (W.contents (inner_of output.new))
-        (resumed_run hooks rest.now.number (state_at script.old stage) (option_map view rest.now.value) rest.now.lines.now) (last_part (state_at script.new running))) }
+    ensures sent { OnOk result
+        ((hooks : ℕ) (stage : Stage) → Sent (W.contents (inner_of output.old)) (W.contents (inner_of output.new))
+        (resumed_run hooks rest.now.number (state_at script.old stage) (option_map view rest.now.value)
+        rest.now.lines.now) (last_part (state_at script.new running))) }
     ensures written { OnOk result (IsWritten script.new) }
     ensures err { IfErr result (λ fault. (hooks : ℕ) (stage : Stage) →
-        Fails (resumed_run hooks rest.now.number (state_at script.old stage) (option_map view rest.now.value) rest.now.lines.now)
+        Fails (resumed_run hooks rest.now.number (state_at script.old stage) (option_map view rest.now.value)
+        rest.now.lines.now)
         (W.contents (inner_of output.old)) (W.contents (inner_of output.new)) fault) }
     ensures counts { EndsAsCounted 0 0 (failed_of output.old) (failed_of output.new) result }
+    ensures flushes { flushes_of output.new ≡ flushes_of output.old }
 {
     let Some(value) = &rest.value else {
         return Ok(());
@@ -98,11 +104,14 @@ fn run_lines<V: Say, W: Write>(
     requires written { IsWritten script.old }
     requires place { first + length lines.now ≤ most_bytes + 2 }
     ensures sent { OnOk result ((hooks : ℕ) → Sent (W.contents (inner_of output.old)) (W.contents (inner_of output.new))
-        (run hooks first (state_at script.old running) (lines_of lines.now)) (last_part (state_at script.new running))) }
+        (run hooks first (state_at script.old running) (lines_of lines.now))
+        (last_part (state_at script.new running))) }
     ensures written { OnOk result (IsWritten script.new) }
-    ensures err { IfErr result (λ fault. (hooks : ℕ) → Fails (run hooks first (state_at script.old running) (lines_of lines.now))
+    ensures err { IfErr result
+        (λ fault. (hooks : ℕ) → Fails (run hooks first (state_at script.old running) (lines_of lines.now))
         (W.contents (inner_of output.old)) (W.contents (inner_of output.new)) fault) }
     ensures counts { EndsAsCounted 0 0 (failed_of output.old) (failed_of output.new) result }
+    ensures flushes { flushes_of output.new ≡ flushes_of output.old }
 {
     let mut rest = lines;
     let mut number = first;
@@ -128,12 +137,15 @@ fn run_line<V: Say, W: Write>(
 ) -> Result<(), RunFault>
     requires failed { failed_of output.old < 2 ^ 63 }
     requires written { IsWritten script.old }
-    ensures turned { OnOk result ((hooks : ℕ) → HasTurned (line_turn hooks (state_at script.old running) line.now) (state_at script.new running)
+    ensures turned { OnOk result
+        ((hooks : ℕ) → HasTurned (line_turn hooks (state_at script.old running) line.now) (state_at script.new running)
         (W.contents (inner_of output.old)) (W.contents (inner_of output.new))) }
     ensures written { OnOk result (IsWritten script.new) }
-    ensures err { IfErr result (λ fault. (hooks : ℕ) → TurnFails (line_turn hooks (state_at script.old running) line.now) number
+    ensures err { IfErr result
+        (λ fault. (hooks : ℕ) → TurnFails (line_turn hooks (state_at script.old running) line.now) number
         (W.contents (inner_of output.old)) (W.contents (inner_of output.new)) fault) }
     ensures counts { EndsAsCounted 0 0 (failed_of output.old) (failed_of output.new) result }
+    ensures flushes { flushes_of output.new ≡ flushes_of output.old }
 {
     if is_skipped(line) {
         return Ok(());
@@ -155,12 +167,16 @@ fn run_value<V: Say, W: Write>(
 ) -> Result<(), RunFault>
     requires failed { failed_of output.old < 2 ^ 63 }
     requires written { IsWritten script.old }
-    ensures turned { OnOk result ((hooks : ℕ) → HasTurned (value_turn hooks (state_at script.old running) (view line.now)) (state_at script.new running)
+    ensures turned { OnOk result
+        ((hooks : ℕ) → HasTurned (value_turn hooks (state_at script.old running) (view line.now))
+        (state_at script.new running)
         (W.contents (inner_of output.old)) (W.contents (inner_of output.new))) }
     ensures written { OnOk result (IsWritten script.new) }
-    ensures err { IfErr result (λ fault. (hooks : ℕ) → TurnFails (value_turn hooks (state_at script.old running) (view line.now)) number
+    ensures err { IfErr result
+        (λ fault. (hooks : ℕ) → TurnFails (value_turn hooks (state_at script.old running) (view line.now)) number
         (W.contents (inner_of output.old)) (W.contents (inner_of output.new)) fault) }
     ensures counts { EndsAsCounted 0 0 (failed_of output.old) (failed_of output.new) result }
+    ensures flushes { flushes_of output.new ≡ flushes_of output.old }
 {
     match call(alloc, line, script, text) {
         Ok(()) => write_text(output, text.as_slice()),
@@ -179,7 +195,8 @@ fn call<V: Say>(
     ensures turned { OnOk result ((hooks : ℕ) → value_turn hooks (state_at script.old running) (view line.now)
         ≡ Ok (record { text = text.new.items; state = state_at script.new running })) }
     ensures written { OnOk result (IsWritten script.new) }
-    ensures err { IfErr result (λ stop. (hooks : ℕ) → StopsFor (value_turn hooks (state_at script.old running) (view line.now)) stop) }
+    ensures err { IfErr result
+        (λ stop. (hooks : ℕ) → StopsFor (value_turn hooks (state_at script.old running) (view line.now)) stop) }
 {
     text.clear();
     let operation = match operation(

@@ -3,7 +3,7 @@ ghost use Rattle.std.specs.Prelude.{◌≡◌, ◌+◌, ◌^◌, ◌<◌, ◌≤
 ghost use Rattle.std.specs.Option.{option_map};
 ghost use Rattle.std.specs.Io.KnownBytes.{Keeps};
 ghost use Rattle.serde_json.specs.View.{view};
-ghost use Rattle.tracerun.specs.Counted.{inner_of, failed_of};
+ghost use Rattle.tracerun.specs.Counted.{inner_of, failed_of, flushes_of};
 ghost use Rattle.tracerun.specs.Meaning.{line_turn, run, value_turn};
 ghost use Rattle.span_script.specs.Operation.{is_setup};
 ghost use Rattle.tracerun.specs.Replayed.{Fails};
@@ -44,13 +44,15 @@ pub fn open<'s, W: Write>(
     requires fits { length script.now ≤ most_bytes }
     ensures sent { IfOk result (λ rest. Sent (W.contents (inner_of output.old)) (W.contents (inner_of output.new))
         (run (hooks_in setup.old) 1 (setup_state setup.old) (lines_of script.now))
-        (resumed_run (hooks_in setup.old) rest.number (setup_state setup.new) (option_map view rest.value) rest.lines.now)) }
+        (resumed_run (hooks_in setup.old) rest.number (setup_state setup.new) (option_map view rest.value)
+        rest.lines.now)) }
     ensures call { IfOk result (λ rest. IfSome rest.value (λ value. is_setup (view value) ≡ false)) }
     ensures done { IfOk result (λ rest. IfNone rest.value (rest.lines.now ≡ [])) }
     ensures place { IfOk result (λ rest. rest.number + length rest.lines.now ≤ most_bytes + 1) }
     ensures err { IfErr result (Fails (run (hooks_in setup.old) 1 (setup_state setup.old) (lines_of script.now))
         (W.contents (inner_of output.old)) (W.contents (inner_of output.new))) }
     ensures counts { EndsAsCounted 0 0 (failed_of output.old) (failed_of output.new) result }
+    ensures flushes { flushes_of output.new ≡ flushes_of output.old }
 {
     let mut lines = script;
     let mut number = 1u64;
@@ -87,17 +89,22 @@ fn open_line<W: Write>(
     output: &mut Counted<W>,
 ) -> Result<Option<Value>, RunFault>
     requires { failed_of output.old < 2 ^ 63 }
-    ensures turned { IfOk result (λ value. IfNone value (HasTurned (line_turn (hooks_in setup.old) (setup_state setup.old) line.now) (setup_state setup.new)
+    ensures turned { IfOk result
+        (λ value. IfNone value (HasTurned (line_turn (hooks_in setup.old) (setup_state setup.old) line.now)
+        (setup_state setup.new)
         (W.contents (inner_of output.old)) (W.contents (inner_of output.new)))) }
     ensures same { IfOk result (λ value. IfSome value (λ value. setup_state setup.new ≡ setup_state setup.old)) }
-    ensures kept { IfOk result (λ value. IfSome value (λ value. Keeps (W.contents (inner_of output.old)) (W.contents (inner_of output.new)))) }
-    ensures value { IfOk result (λ value. IfSome value (λ value. line_turn (hooks_in setup.old) (setup_state setup.old) line.now
+    ensures kept { IfOk result
+        (λ value. IfSome value (λ value. Keeps (W.contents (inner_of output.old)) (W.contents (inner_of output.new)))) }
+    ensures value { IfOk result
+        (λ value. IfSome value (λ value. line_turn (hooks_in setup.old) (setup_state setup.old) line.now
         ≡ value_turn (hooks_in setup.old) (setup_state setup.old) (view value))) }
     ensures call { IfOk result (λ value. IfSome value (λ value. is_setup (view value) ≡ false)) }
     ensures hooks { OnOk result (hooks_in setup.new ≡ hooks_in setup.old) }
     ensures err { IfErr result (TurnFails (line_turn (hooks_in setup.old) (setup_state setup.old) line.now) number
         (W.contents (inner_of output.old)) (W.contents (inner_of output.new))) }
     ensures counts { EndsAsCounted 0 0 (failed_of output.old) (failed_of output.new) result }
+    ensures flushes { flushes_of output.new ≡ flushes_of output.old }
 {
     if is_skipped(line) {
         return Ok(None);

@@ -1,9 +1,9 @@
 //! Running a whole script: reading it, its lines, the tidying and the last line, and writing out.
 ghost use Rattle.std.specs.Prelude.{◌≡◌, ◌+◌, ◌^◌, ◌<◌, ◌≤◌, IfOk, IfErr, IfSome, OnOk, length, vec_len};
 ghost use Rattle.std.specs.Io.KnownBytes.{IsAtEnd};
-ghost use Rattle.tracerun.specs.Counted.{inner_of, calls_of, failed_of, flushed_of};
+ghost use Rattle.tracerun.specs.Counted.{inner_of, calls_of, failed_of, flushes_of, flushed_of};
 ghost use Rattle.tracerun.specs.Meaning.{run};
-ghost use Rattle.tracerun.specs.Replayed.{EndsFlushed, IsReplayed, KeepsUnread, Runs};
+ghost use Rattle.tracerun.specs.Replayed.{FlushesOnce, IsReplayed, IsWhole, KeepsUnread, Runs};
 ghost use Rattle.tracerun.specs.RunFault.{EndsAsCounted};
 ghost use Rattle.span_script.specs.Script.{lines_of, most_bytes};
 ghost use Rattle.tracerun.specs.State.{first_state};
@@ -24,8 +24,8 @@ use std::io::{Read, Write};
 /// The input is read to its end first. Each layer takes one of the hooks, in their order. Where the result is `Ok`, what
 /// was written is the notes and the answer of each line, those of the tidying, and then how many spans are left open,
 /// which is the result, and which is 0. After a fault of the script the text of the lines before it stands. After `Memory`
-/// and `Device` a front of the text went out, and nothing where it was the reader that failed. The output is flushed but
-/// after these two.
+/// and `Device` a front of the text went out, and nothing where it was the reader that failed. The output is flushed by one
+/// call, which is the last: where memory is refused or a device fails before it, there is none.
 pub fn replay<R: Read, W: Write>(
     alloc: Global,
     input: &mut Counted<R>,
@@ -36,12 +36,17 @@ pub fn replay<R: Read, W: Write>(
     requires reads_failed { failed_of input.old < 2 ^ 63 }
     requires failed { failed_of output.old < 2 ^ 63 }
     ensures replayed { IfSome (R.remaining (inner_of input.old)) (λ bytes.
-        IsReplayed (vec_len hooks) bytes (W.contents (inner_of output.old)) (W.contents (inner_of output.new)) result) }
+        IsReplayed (vec_len hooks) bytes
+        (W.contents (inner_of output.old)) (W.contents (inner_of output.new)) result) }
     ensures whole { OnOk result (IsAtEnd (R.remaining (inner_of input.new))) }
     ensures unread { IfErr result (KeepsUnread (W.contents (inner_of output.old)) (W.contents (inner_of output.new))) }
-    ensures flushed { EndsFlushed (flushed_of output.new) result }
+    ensures flushed { FlushesOnce
+        (IsWhole (vec_len hooks) (R.remaining (inner_of input.old))
+        (W.contents (inner_of output.old)) (W.contents (inner_of output.new)))
+        (flushes_of output.old) (flushes_of output.new) (flushed_of output.new) result }
     ensures left { IfSome (R.remaining (inner_of input.old)) (λ bytes. IfOk result (λ left. left ≡ 0)) }
-    ensures counts { EndsAsCounted (failed_of input.old) (failed_of input.new) (failed_of output.old) (failed_of output.new) result }
+    ensures counts { EndsAsCounted
+        (failed_of input.old) (failed_of input.new) (failed_of output.old) (failed_of output.new) result }
     ensures reads { calls_of input.new ≤ calls_of input.old + 16777217 }
 {
     match perform(alloc, input, output, hooks) {
@@ -53,7 +58,8 @@ pub fn replay<R: Read, W: Write>(
             Ok(()) => Err(RunFault::Script(number, reason)),
             Err(fault) => Err(fault),
         },
-        Err(fault) => Err(fault),
+        Err(RunFault::Memory) => Err(RunFault::Memory),
+        Err(RunFault::Device(side)) => Err(RunFault::Device(side)),
     }
 }
 
@@ -68,10 +74,13 @@ fn perform<R: Read, W: Write>(
     requires reads_failed { failed_of input.old < 2 ^ 63 }
     requires failed { failed_of output.old < 2 ^ 63 }
     ensures replayed { IfSome (R.remaining (inner_of input.old)) (λ bytes.
-        IsReplayed (vec_len hooks) bytes (W.contents (inner_of output.old)) (W.contents (inner_of output.new)) result) }
+        IsReplayed (vec_len hooks) bytes
+        (W.contents (inner_of output.old)) (W.contents (inner_of output.new)) result) }
     ensures whole { OnOk result (IsAtEnd (R.remaining (inner_of input.new))) }
     ensures unread { IfErr result (KeepsUnread (W.contents (inner_of output.old)) (W.contents (inner_of output.new))) }
-    ensures counts { EndsAsCounted (failed_of input.old) (failed_of input.new) (failed_of output.old) (failed_of output.new) result }
+    ensures counts { EndsAsCounted
+        (failed_of input.old) (failed_of input.new) (failed_of output.old) (failed_of output.new) result }
+    ensures flushes { flushes_of output.new ≡ flushes_of output.old }
     ensures reads { calls_of input.new ≤ calls_of input.old + 16777217 }
 {
     match read_script(alloc, input) {
@@ -89,8 +98,10 @@ fn run_script<W: Write>(
 ) -> Result<u64, RunFault>
     requires failed { failed_of output.old < 2 ^ 63 }
     requires fits { length script.now ≤ most_bytes }
-    ensures runs { Runs (run (vec_len hooks) 1 first_state (lines_of script.now)) (W.contents (inner_of output.old)) (W.contents (inner_of output.new)) result }
+    ensures runs { Runs (run (vec_len hooks) 1 first_state (lines_of script.now))
+        (W.contents (inner_of output.old)) (W.contents (inner_of output.new)) result }
     ensures counts { EndsAsCounted 0 0 (failed_of output.old) (failed_of output.new) result }
+    ensures flushes { flushes_of output.new ≡ flushes_of output.old }
 {
     let mut setup = Setup::new(alloc, hooks);
     let mut text = Vec::new(alloc);

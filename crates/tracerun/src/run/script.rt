@@ -3,7 +3,7 @@ ghost use Rattle.std.specs.Prelude.{◌≡◌, ◌<◌, ◌≤◌, ◌++◌, [],
 ghost use Rattle.span_core.specs.Happening.{id_at};
 ghost use Rattle.span_outlet.specs.Lines.{lines_of};
 ghost use Rattle.tracerun.specs.Faults.{id_of_key};
-ghost use Rattle.tracerun.specs.inside.Calls.{labels_given};
+ghost use Rattle.tracerun.specs.Meaning.{labels_after};
 ghost use Rattle.span_script.specs.Reason.{Answers};
 ghost use Rattle.span_script.specs.Views.{key_seen};
 ghost use Rattle.tracerun.specs.Written.{note_line};
@@ -37,11 +37,11 @@ impl<V: Say> Script<V> {
     ghost use Rattle.span_forest.specs.Holders.{held_in};
     ghost use Rattle.span_forest.specs.Spans.{find};
     ghost use Rattle.span_stack.specs.Stack.{current};
-    ghost use Rattle.span_outlet.specs.Request.{try_close, exit};
     ghost use Rattle.span_core.specs.World.{stack_of, empty_world};
     ghost use Rattle.tracerun.specs.Answer.{answer_text};
     ghost use Rattle.tracerun.specs.Faults.{is_taken, parent_of_key};
     ghost use Rattle.tracerun.specs.Meaning.{turn_of};
+    ghost use Rattle.tracerun.specs.Requests.{request_of_call};
     ghost use Rattle.span_script.specs.Operation.{Stage, make, on_span, record_fields, tell, find as look_up};
     ghost use Rattle.tracerun.specs.inside.Running.{core_in, labels_in, state_at, IsWritten, RunsAs, IsWrittenCall};
     ghost use Rattle.span_id.specs.Meta.{key_value};
@@ -93,7 +93,8 @@ impl<V: Say> Script<V> {
         requires worker { NamesWorker operation.now self.old.workers }
         requires written { IsWritten self.old }
         ensures turn { (hooks : ℕ) (stage : Stage) →
-            RunsAs (turn_of hooks (state_at self.old stage) (operation_seen operation.now)) (state_at self.old stage) text.old.items (state_at self.new stage) text.new.items result }
+            RunsAs (turn_of hooks (state_at self.old stage) (operation_seen operation.now)) (state_at self.old stage)
+            text.old.items (state_at self.new stage) text.new.items result }
         ensures written { OnOk result (IsWritten self.new) }
         ensures workers { self.new.workers ≡ self.old.workers }
     {
@@ -112,31 +113,26 @@ impl<V: Say> Script<V> {
         }
     }
 
-    /// A worker leaves a span, as by `exit`. The only error is `Memory`: then the run has to end.
-    pub fn leave(&mut self, worker: u32, id: Id, text: &mut Vec<u8>) -> Result<(), Stop>
+    /// A worker's call on a span. Its notes and its answer are appended to the text.
+    ///
+    /// The only error is `Memory`: then the run has to end.
+    pub fn call(
+        &mut self,
+        call: SpanCall,
+        worker: u32,
+        id: Id,
+        text: &mut Vec<u8>,
+    ) -> Result<(), Stop>
         requires worker { worker < self.old.workers }
         requires written { IsWritten self.old }
-        ensures call { OnOk result (IsWrittenCall (core_in self.old) text.old.items (exit worker id) (core_in self.new) text.new.items) }
+        ensures call { OnOk result (IsWrittenCall (core_in self.old) text.old.items
+            (request_of_call call worker id) (core_in self.new) text.new.items) }
         ensures written { OnOk result (IsWritten self.new) }
         ensures workers { self.new.workers ≡ self.old.workers }
         ensures labels { labels_in self.new ≡ labels_in self.old }
         ensures memory { IfErr result (λ stop. stop ≡ Stop.Memory) }
     {
-        let answer = calls::call(&mut self.core, SpanCall::Exit, worker, id)?;
-        self.answer(answer, text)
-    }
-
-    /// Worker 0 closes a handle of a span, as by `close`. The only error is `Memory`: then the run has to end.
-    pub fn close(&mut self, id: Id, text: &mut Vec<u8>) -> Result<(), Stop>
-        requires worker { 0 < self.old.workers }
-        requires written { IsWritten self.old }
-        ensures call { OnOk result (IsWrittenCall (core_in self.old) text.old.items (try_close 0 id) (core_in self.new) text.new.items) }
-        ensures written { OnOk result (IsWritten self.new) }
-        ensures workers { self.new.workers ≡ self.old.workers }
-        ensures labels { labels_in self.new ≡ labels_in self.old }
-        ensures memory { IfErr result (λ stop. stop ≡ Stop.Memory) }
-    {
-        let answer = calls::call(&mut self.core, SpanCall::Close, 0, id)?;
+        let answer = calls::call(&mut self.core, call, worker, id)?;
         self.answer(answer, text)
     }
 
@@ -172,7 +168,8 @@ impl<V: Say> Script<V> {
         requires worker { new.now.worker < self.old.workers }
         requires written { IsWritten self.old }
         ensures turn { (hooks : ℕ) (stage : Stage) →
-            RunsAs (turn_of hooks (state_at self.old stage) (make (new_seen new.now))) (state_at self.old stage) text.old.items (state_at self.new stage) text.new.items result }
+            RunsAs (turn_of hooks (state_at self.old stage) (make (new_seen new.now))) (state_at self.old stage)
+            text.old.items (state_at self.new stage) text.new.items result }
         ensures written { OnOk result (IsWritten self.new) }
         ensures workers { self.new.workers ≡ self.old.workers }
     {
@@ -197,7 +194,8 @@ impl<V: Say> Script<V> {
         requires worker { worker < self.old.workers }
         requires written { IsWritten self.old }
         ensures turn { (hooks : ℕ) (stage : Stage) →
-            RunsAs (turn_of hooks (state_at self.old stage) (on_span call (key_seen span.now) worker)) (state_at self.old stage) text.old.items (state_at self.new stage) text.new.items result }
+            RunsAs (turn_of hooks (state_at self.old stage) (on_span call (key_seen span.now) worker))
+            (state_at self.old stage) text.old.items (state_at self.new stage) text.new.items result }
         ensures written { OnOk result (IsWritten self.new) }
         ensures workers { self.new.workers ≡ self.old.workers }
     {
@@ -218,7 +216,9 @@ impl<V: Say> Script<V> {
         requires worker { worker < self.old.workers }
         requires written { IsWritten self.old }
         ensures turn { (hooks : ℕ) (stage : Stage) →
-            RunsAs (turn_of hooks (state_at self.old stage) (record_fields (key_seen span.now) (map key_value fields.now) worker)) (state_at self.old stage) text.old.items (state_at self.new stage) text.new.items result }
+            RunsAs (turn_of hooks (state_at self.old stage)
+            (record_fields (key_seen span.now) (map key_value fields.now) worker)) (state_at self.old stage)
+            text.old.items (state_at self.new stage) text.new.items result }
         ensures written { OnOk result (IsWritten self.new) }
         ensures workers { self.new.workers ≡ self.old.workers }
     {
@@ -233,7 +233,8 @@ impl<V: Say> Script<V> {
         requires worker { event.now.worker < self.old.workers }
         requires written { IsWritten self.old }
         ensures turn { (hooks : ℕ) (stage : Stage) →
-            RunsAs (turn_of hooks (state_at self.old stage) (tell (event_seen event.now))) (state_at self.old stage) text.old.items (state_at self.new stage) text.new.items result }
+            RunsAs (turn_of hooks (state_at self.old stage) (tell (event_seen event.now))) (state_at self.old stage)
+            text.old.items (state_at self.new stage) text.new.items result }
         ensures written { OnOk result (IsWritten self.new) }
         ensures workers { self.new.workers ≡ self.old.workers }
     {
@@ -245,7 +246,8 @@ impl<V: Say> Script<V> {
     // Looks a span up.
     fn find(&self, span: &SpanKey<'_>, text: &mut Vec<u8>) -> Result<(), Stop>
         ensures turn { (hooks : ℕ) (stage : Stage) →
-            RunsAs (turn_of hooks (state_at self.now stage) (look_up (key_seen span.now))) (state_at self.now stage) text.old.items (state_at self.now stage) text.new.items result }
+            RunsAs (turn_of hooks (state_at self.now stage) (look_up (key_seen span.now))) (state_at self.now stage)
+            text.old.items (state_at self.now stage) text.new.items result }
     {
         let id = id_of(&self.labels, span)?;
         match self.core.find(id) {
@@ -256,7 +258,7 @@ impl<V: Say> Script<V> {
 
     // Binds the label of a span, where it was made.
     fn give_label(&mut self, alloc: Global, label: &str, answer: &Answer) -> Result<(), AllocError>
-        ensures labels { OnOk result (labels_in self.new ≡ labels_given (labels_in self.old) label.now answer.now) }
+        ensures labels { OnOk result (labels_in self.new ≡ labels_after (labels_in self.old) label.now answer.now) }
         ensures core { core_in self.new ≡ core_in self.old }
         ensures written { self.new.written ≡ self.old.written }
         ensures workers { self.new.workers ≡ self.old.workers }
@@ -271,7 +273,9 @@ impl<V: Say> Script<V> {
     fn parent(&self, worker: u32, parent: &Parent<'_>) -> Result<Option<Id>, Reason>
         requires worker { worker < self.now.workers }
         requires written { IsWritten self.now }
-        ensures { Answers (λ id. id) result (parent_of_key (labels_in self.now) (current (stack_of (core_in self.now).world worker)) (parent_seen parent.now)) }
+        ensures { Answers (λ id. id) result
+            (parent_of_key (labels_in self.now) (current (stack_of (core_in self.now).world worker))
+            (parent_seen parent.now)) }
     {
         match parent {
             Parent::Current => Ok(self.core.stack(worker).current()),
@@ -297,8 +301,10 @@ impl<V: Say> Script<V> {
     fn answer(&mut self, answer: Answer, text: &mut Vec<u8>) -> Result<(), Stop>
         requires { self.old.written ≤ length (lines_of (core_in self.old).forms (core_in self.old).sent) }
         ensures text { OnOk result (text.new.items ≡ text.old.items
-            ++ (flat_map note_line (drop self.old.written (lines_of (core_in self.old).forms (core_in self.old).sent)) ++ answer_text answer)) }
-        ensures written { OnOk result (self.new.written ≡ length (lines_of (core_in self.old).forms (core_in self.old).sent)) }
+            ++ (flat_map note_line (drop self.old.written (lines_of (core_in self.old).forms (core_in self.old).sent))
+            ++ answer_text answer)) }
+        ensures written { OnOk result
+            (self.new.written ≡ length (lines_of (core_in self.old).forms (core_in self.old).sent)) }
         ensures core { core_in self.new ≡ core_in self.old }
         ensures labels { labels_in self.new ≡ labels_in self.old }
         ensures workers { self.new.workers ≡ self.old.workers }
@@ -322,7 +328,8 @@ fn worker_number(worker: usize, workers: u32) -> u32
 // the outlet had none.
 fn write_notes<V: Say>(kept: &Kept<V>, from: usize, text: &mut Vec<u8>) -> Result<usize, Stop>
     requires { from ≤ length (lines_of kept.now.forms kept.now.sent) }
-    ensures text { OnOk result (text.new.items ≡ text.old.items ++ flat_map note_line (drop from (lines_of kept.now.forms kept.now.sent))) }
+    ensures text { OnOk result
+        (text.new.items ≡ text.old.items ++ flat_map note_line (drop from (lines_of kept.now.forms kept.now.sent))) }
     ensures written { IfOk result (λ written. written ≡ length (lines_of kept.now.forms kept.now.sent)) }
     ensures memory { IfErr result (λ stop. stop ≡ Stop.Memory) }
 {

@@ -52,7 +52,8 @@ impl Setup {
     /// Runs a line of `limits` or `layer`. The text is its answer.
     pub fn run(&mut self, alloc: Global, line: &Value, text: &mut Vec<u8>) -> Result<(), Stop>
         requires { is_setup (view line.now) ≡ true }
-        ensures ok { OnOk result (value_turn (hooks_in self.old) (setup_state self.old) (view line.now) ≡ Ok (record { text = text.new.items; state = setup_state self.new })) }
+        ensures ok { OnOk result (value_turn (hooks_in self.old) (setup_state self.old) (view line.now)
+            ≡ Ok (record { text = text.new.items; state = setup_state self.new })) }
         ensures err { IfErr result (StopsFor (value_turn (hooks_in self.old) (setup_state self.old) (view line.now))) }
         ensures hooks { OnOk result (hooks_in self.new ≡ hooks_in self.old) }
     {
@@ -70,7 +71,9 @@ impl Setup {
     /// Runs `limits` or `layer`.
     fn obey(&mut self, operation: Operation<'_>) -> Result<Answer, Stop>
         requires { SetsUp (operation_seen operation) }
-        ensures ok { IfOk result (λ answer. turn_of (hooks_in self.old) (setup_state self.old) (operation_seen operation.entry) ≡ Ok (record { text = answer_text answer; state = setup_state self.new })) }
+        ensures ok { IfOk result (λ answer. turn_of (hooks_in self.old) (setup_state self.old)
+            (operation_seen operation.entry)
+            ≡ Ok (record { text = answer_text answer; state = setup_state self.new })) }
         ensures memory { IfErr result (λ stop. stop ≡ Stop.Memory) }
         ensures hooks { OnOk result (hooks_in self.new ≡ hooks_in self.old) }
     {
@@ -83,7 +86,8 @@ impl Setup {
 
     /// Takes these limits, where they are in their ranges.
     fn set_limits(&mut self, limits: Limits) -> Answer
-        ensures state { limits_turn (setup_state self.old) limits ≡ record { text = answer_text result; state = setup_state self.new } }
+        ensures state { limits_turn (setup_state self.old) limits
+            ≡ record { text = answer_text result; state = setup_state self.new } }
         ensures hooks { hooks_in self.new ≡ hooks_in self.old }
     {
         match limits.check() {
@@ -97,7 +101,8 @@ impl Setup {
 
     /// Adds a layer with the next hooks, where there are some left and the layers are fewer than 64.
     fn add_layer(&mut self, layer: NewLayer) -> Result<Answer, Stop>
-        ensures ok { IfOk result (λ answer. layer_turn (hooks_in self.old) (setup_state self.old) (layer_seen layer) ≡ record { text = answer_text answer; state = setup_state self.new }) }
+        ensures ok { IfOk result (λ answer. layer_turn (hooks_in self.old) (setup_state self.old) (layer_seen layer)
+            ≡ record { text = answer_text answer; state = setup_state self.new }) }
         ensures memory { IfErr result (λ stop. stop ≡ Stop.Memory) }
         ensures hooks { OnOk result (hooks_in self.new ≡ hooks_in self.old) }
     {

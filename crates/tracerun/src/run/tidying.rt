@@ -2,12 +2,12 @@
 ghost use Rattle.std.specs.Prelude.{◌≡◌, ◌^◌, ◌<◌, ℕ, map, IfOk, IfErr, OnOk};
 ghost use Rattle.std.specs.List.{range_with_len};
 ghost use Rattle.std.specs.Io.KnownBytes.{Appends};
-ghost use Rattle.span_outlet.specs.Request.{exit, try_close};
 ghost use Rattle.tracerun.specs.Answer.{left_text};
-ghost use Rattle.tracerun.specs.Counted.{inner_of, failed_of};
+ghost use Rattle.tracerun.specs.Counted.{inner_of, failed_of, flushes_of};
 ghost use Rattle.tracerun.specs.Meaning.{last_part};
 ghost use Rattle.span_script.specs.Operation.{Stage};
 ghost use Rattle.tracerun.specs.Replayed.{Runs};
+ghost use Rattle.tracerun.specs.Requests.{request_of_call};
 ghost use Rattle.tracerun.specs.RunFault.{EndsAsCounted};
 ghost use Rattle.tracerun.specs.inside.Running.{IsWritten, core_in, labels_in, state_at};
 ghost use Rattle.tracerun.specs.inside.Turns.{TextFails, AreMade};
@@ -22,6 +22,7 @@ use crate::run::labels::Labels;
 use crate::run::script::Script;
 use span_id::Id;
 use span_layers::Say;
+use span_script::SpanCall;
 use std::alloc::Global;
 use std::io::Write;
 use std::mem;
@@ -36,20 +37,22 @@ pub fn tidy<V: Say, W: Write>(
 ) -> Result<u64, RunFault>
     requires failed { failed_of output.old < 2 ^ 63 }
     requires written { IsWritten script }
-    ensures runs { (stage : Stage) → Runs (last_part (state_at script stage)) (W.contents (inner_of output.old)) (W.contents (inner_of output.new)) result }
+    ensures runs { (stage : Stage) → Runs (last_part (state_at script stage))
+        (W.contents (inner_of output.old)) (W.contents (inner_of output.new)) result }
     ensures counts { EndsAsCounted 0 0 (failed_of output.old) (failed_of output.new) result }
+    ensures flushes { flushes_of output.new ≡ flushes_of output.old }
 {
     if let Err(fault) = leave_all(alloc, &mut script, text, output) {
         return Err(fault);
     }
     let labels = mem::replace(&mut script.labels, Labels::new(alloc));
-    if let Err(fault) = close_all(&mut script, &labels, text, output) {
+    if let Err(fault) = close_all(alloc, &mut script, &labels, text, output) {
         return Err(fault);
     }
     finish(script.open_spans(), text, output)
 }
 
-/// Leaves what the workers have entered, worker by worker.
+/// Leaves what the workers have entered, worker by worker, the last entry first.
 fn leave_all<V: Say, W: Write>(
     alloc: Global,
     script: &mut Script<V>,
@@ -58,83 +61,32 @@ fn leave_all<V: Say, W: Write>(
 ) -> Result<(), RunFault>
     requires failed { failed_of output.old < 2 ^ 63 }
     requires written { IsWritten script.old }
-    ensures made { OnOk result (AreMade (each_written exits (core_in script.old) (range_with_len 0 script.old.workers)) (core_in script.new)
-        (W.contents (inner_of output.old)) (W.contents (inner_of output.new))) }
+    ensures made { OnOk result (AreMade
+        (each_written exits (core_in script.old) (range_with_len 0 script.old.workers))
+        (core_in script.new) (W.contents (inner_of output.old)) (W.contents (inner_of output.new))) }
     ensures written { OnOk result (IsWritten script.new) }
     ensures labels { labels_in script.new ≡ labels_in script.old }
     ensures workers { script.new.workers ≡ script.old.workers }
-    ensures err { IfErr result (TextFails (each_written exits (core_in script.old) (range_with_len 0 script.old.workers)).text
+    ensures err { IfErr result (TextFails
+        (each_written exits (core_in script.old) (range_with_len 0 script.old.workers)).text
         (W.contents (inner_of output.old)) (W.contents (inner_of output.new))) }
     ensures counts { EndsAsCounted 0 0 (failed_of output.old) (failed_of output.new) result }
+    ensures flushes { flushes_of output.new ≡ flushes_of output.old }
 {
     for worker in 0..script.workers {
-        if let Err(fault) = leave(alloc, worker, script, text, output) {
+        let Ok(ids) = script.entered(alloc, worker) else {
+            return Err(RunFault::Memory);
+        };
+        if let Err(fault) = call_all(SpanCall::Exit, worker, &ids, script, text, output) {
             return Err(fault);
         }
     }
     Ok(())
 }
 
-/// Leaves what a worker has entered, the last entry first.
-fn leave<V: Say, W: Write>(
-    alloc: Global,
-    worker: u32,
-    script: &mut Script<V>,
-    text: &mut Vec<u8>,
-    output: &mut Counted<W>,
-) -> Result<(), RunFault>
-    requires worker { worker < script.old.workers }
-    requires failed { failed_of output.old < 2 ^ 63 }
-    requires written { IsWritten script.old }
-    ensures made { OnOk result (AreMade (calls_written (core_in script.old) (exits (core_in script.old) worker)) (core_in script.new)
-        (W.contents (inner_of output.old)) (W.contents (inner_of output.new))) }
-    ensures written { OnOk result (IsWritten script.new) }
-    ensures labels { labels_in script.new ≡ labels_in script.old }
-    ensures workers { script.new.workers ≡ script.old.workers }
-    ensures err { IfErr result (TextFails (calls_written (core_in script.old) (exits (core_in script.old) worker)).text
-        (W.contents (inner_of output.old)) (W.contents (inner_of output.new))) }
-    ensures counts { EndsAsCounted 0 0 (failed_of output.old) (failed_of output.new) result }
-{
-    let Ok(ids) = script.entered(alloc, worker) else {
-        return Err(RunFault::Memory);
-    };
-    for id in &ids {
-        if let Err(fault) = leave_one(worker, *id, script, text, output) {
-            return Err(fault);
-        }
-    }
-    Ok(())
-}
-
-/// Leaves one entry, and writes the notes and the answer.
-fn leave_one<V: Say, W: Write>(
-    worker: u32,
-    id: Id,
-    script: &mut Script<V>,
-    text: &mut Vec<u8>,
-    output: &mut Counted<W>,
-) -> Result<(), RunFault>
-    requires worker { worker < script.old.workers }
-    requires failed { failed_of output.old < 2 ^ 63 }
-    requires written { IsWritten script.old }
-    ensures made { OnOk result (AreMade (call_written (core_in script.old) (exit worker id)) (core_in script.new)
-        (W.contents (inner_of output.old)) (W.contents (inner_of output.new))) }
-    ensures written { OnOk result (IsWritten script.new) }
-    ensures labels { labels_in script.new ≡ labels_in script.old }
-    ensures workers { script.new.workers ≡ script.old.workers }
-    ensures err { IfErr result (TextFails (call_written (core_in script.old) (exit worker id)).text
-        (W.contents (inner_of output.old)) (W.contents (inner_of output.new))) }
-    ensures counts { EndsAsCounted 0 0 (failed_of output.old) (failed_of output.new) result }
-{
-    text.clear();
-    match script.leave(worker, id, text) {
-        Ok(()) => write_text(output, text.as_slice()),
-        Err(_) => Err(RunFault::Memory),
-    }
-}
-
-/// Closes what the labels name, label by label.
+/// Closes what the labels name, label by label, as often as it has handles.
 fn close_all<V: Say, W: Write>(
+    alloc: Global,
     script: &mut Script<V>,
     labels: &Labels,
     text: &mut Vec<u8>,
@@ -143,66 +95,84 @@ fn close_all<V: Say, W: Write>(
     requires worker { 0 < script.old.workers }
     requires failed { failed_of output.old < 2 ^ 63 }
     requires written { IsWritten script.old }
-    ensures made { OnOk result (AreMade (each_written closes (core_in script.old) (map (λ entry. entry.1) labels.now)) (core_in script.new)
-        (W.contents (inner_of output.old)) (W.contents (inner_of output.new))) }
-    ensures err { IfErr result (TextFails (each_written closes (core_in script.old) (map (λ entry. entry.1) labels.now)).text
+    ensures made { OnOk result (AreMade
+        (each_written closes (core_in script.old) (map (λ entry. entry.1) labels.now))
+        (core_in script.new) (W.contents (inner_of output.old)) (W.contents (inner_of output.new))) }
+    ensures err { IfErr result (TextFails
+        (each_written closes (core_in script.old) (map (λ entry. entry.1) labels.now)).text
         (W.contents (inner_of output.old)) (W.contents (inner_of output.new))) }
     ensures counts { EndsAsCounted 0 0 (failed_of output.old) (failed_of output.new) result }
+    ensures flushes { flushes_of output.new ≡ flushes_of output.old }
 {
     for id in labels.ids() {
-        if let Err(fault) = close(*id, script, text, output) {
+        let Ok(ids) = vec![in alloc; *id; script.handles(*id) as usize] else {
+            return Err(RunFault::Memory);
+        };
+        if let Err(fault) = call_all(SpanCall::Close, 0, &ids, script, text, output) {
             return Err(fault);
         }
     }
     Ok(())
 }
 
-/// Closes a span as often as it has handles.
-fn close<V: Say, W: Write>(
-    id: Id,
+/// Makes a worker's call on these spans, one after another.
+fn call_all<V: Say, W: Write>(
+    call: SpanCall,
+    worker: u32,
+    ids: &[Id],
     script: &mut Script<V>,
     text: &mut Vec<u8>,
     output: &mut Counted<W>,
 ) -> Result<(), RunFault>
-    requires worker { 0 < script.old.workers }
+    requires worker { worker < script.old.workers }
     requires failed { failed_of output.old < 2 ^ 63 }
     requires written { IsWritten script.old }
-    ensures made { OnOk result (AreMade (calls_written (core_in script.old) (closes (core_in script.old) id)) (core_in script.new)
-        (W.contents (inner_of output.old)) (W.contents (inner_of output.new))) }
+    ensures made { OnOk result (AreMade
+        (calls_written (core_in script.old) (map (request_of_call call worker) ids.now))
+        (core_in script.new) (W.contents (inner_of output.old)) (W.contents (inner_of output.new))) }
     ensures written { OnOk result (IsWritten script.new) }
+    ensures labels { labels_in script.new ≡ labels_in script.old }
     ensures workers { script.new.workers ≡ script.old.workers }
-    ensures err { IfErr result (TextFails (calls_written (core_in script.old) (closes (core_in script.old) id)).text
+    ensures err { IfErr result (TextFails
+        (calls_written (core_in script.old) (map (request_of_call call worker) ids.now)).text
         (W.contents (inner_of output.old)) (W.contents (inner_of output.new))) }
     ensures counts { EndsAsCounted 0 0 (failed_of output.old) (failed_of output.new) result }
+    ensures flushes { flushes_of output.new ≡ flushes_of output.old }
 {
-    for _ in 0..script.handles(id) {
-        if let Err(fault) = close_one(id, script, text, output) {
+    for id in ids {
+        if let Err(fault) = call_one(call, worker, *id, script, text, output) {
             return Err(fault);
         }
     }
     Ok(())
 }
 
-/// Closes one handle, and writes the notes and the answer.
-fn close_one<V: Say, W: Write>(
+/// Makes a worker's call on a span, and writes its notes and its answer.
+fn call_one<V: Say, W: Write>(
+    call: SpanCall,
+    worker: u32,
     id: Id,
     script: &mut Script<V>,
     text: &mut Vec<u8>,
     output: &mut Counted<W>,
 ) -> Result<(), RunFault>
-    requires worker { 0 < script.old.workers }
+    requires worker { worker < script.old.workers }
     requires failed { failed_of output.old < 2 ^ 63 }
     requires written { IsWritten script.old }
-    ensures made { OnOk result (AreMade (call_written (core_in script.old) (try_close 0 id)) (core_in script.new)
-        (W.contents (inner_of output.old)) (W.contents (inner_of output.new))) }
+    ensures made { OnOk result (AreMade
+        (call_written (core_in script.old) (request_of_call call worker id))
+        (core_in script.new) (W.contents (inner_of output.old)) (W.contents (inner_of output.new))) }
     ensures written { OnOk result (IsWritten script.new) }
+    ensures labels { labels_in script.new ≡ labels_in script.old }
     ensures workers { script.new.workers ≡ script.old.workers }
-    ensures err { IfErr result (TextFails (call_written (core_in script.old) (try_close 0 id)).text
+    ensures err { IfErr result (TextFails
+        (call_written (core_in script.old) (request_of_call call worker id)).text
         (W.contents (inner_of output.old)) (W.contents (inner_of output.new))) }
     ensures counts { EndsAsCounted 0 0 (failed_of output.old) (failed_of output.new) result }
+    ensures flushes { flushes_of output.new ≡ flushes_of output.old }
 {
     text.clear();
-    match script.close(id, text) {
+    match script.call(call, worker, id, text) {
         Ok(()) => write_text(output, text.as_slice()),
         Err(_) => Err(RunFault::Memory),
     }
@@ -211,9 +181,12 @@ fn close_one<V: Say, W: Write>(
 /// Writes the last line: how many spans are open.
 fn finish<W: Write>(left: u32, text: &mut Vec<u8>, output: &mut Counted<W>) -> Result<u64, RunFault>
     requires { failed_of output.old < 2 ^ 63 }
-    ensures ok { IfOk result (λ n. (n ≡ left) × Appends (W.contents (inner_of output.old)) (W.contents (inner_of output.new)) (left_text left)) }
-    ensures err { IfErr result (TextFails (left_text left) (W.contents (inner_of output.old)) (W.contents (inner_of output.new))) }
+    ensures ok { IfOk result (λ n. (n ≡ left)
+        × Appends (W.contents (inner_of output.old)) (W.contents (inner_of output.new)) (left_text left)) }
+    ensures err { IfErr result (TextFails (left_text left)
+        (W.contents (inner_of output.old)) (W.contents (inner_of output.new))) }
     ensures counts { EndsAsCounted 0 0 (failed_of output.old) (failed_of output.new) result }
+    ensures flushes { flushes_of output.new ≡ flushes_of output.old }
 {
     text.clear();
     if write_left(text, left).is_err() {

@@ -3,10 +3,10 @@ ghost use Rattle.std.specs.Prelude.{◌≡◌};
 ghost use Rattle.tracerun.specs.Counted.{failed_of};
 
 use crate::devices::counted::Counted;
-use crate::hook_tests::hooks;
 use crate::run::fault::RunFault;
 use crate::run::hooks::replay_with_layers;
 use crate::run::replay::replay;
+use crate::tests::hooks::hooks;
 use std::alloc::{AllocError, Global};
 use std::io;
 use std::io::{ErrorKind, Read, Write};
@@ -78,7 +78,8 @@ fn ended_so(
         Ok(left) => left.to_string(alloc)?,
         Err(fault) => fault.to_string(alloc)?,
     };
-    Ok(told.as_str() == end && output.into_inner().flushes == flushes)
+    let counted = output.flushes() == flushes && output.into_inner().flushes == flushes;
+    Ok(told.as_str() == end && counted)
 }
 
 #[test]

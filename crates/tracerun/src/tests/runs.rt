@@ -8,6 +8,29 @@ use std::alloc::{AllocError, Global};
 use std::io;
 use std::io::{ErrorKind, Read, Write};
 
+/// The first words of what help and the version say.
+#[test]
+fn tells_help_and_the_version(rt: HostRuntime) -> io::Result<()> {
+    let rows = [
+        (["tracerun", "--version"].as_slice(), "tracerun 0.1.0\n"),
+        (
+            ["tracerun", "--help"].as_slice(),
+            "Runs scripts of calls on the span registry.\n",
+        ),
+        (
+            ["tracerun", "replay", "--help"].as_slice(),
+            "Runs the script of standard input,",
+        ),
+    ];
+    for (words, start) in rows {
+        match order(rt.alloc(), words) {
+            Ok(_) => assert!(rt; false),
+            Err(error) => assert!(rt; error.to_string(rt.alloc())?.starts_with(start)),
+        }
+    }
+    Ok(())
+}
+
 /// A reader that gives at most seven bytes a call, and fails after so many calls.
 #[derive(Drop)]
 struct FailingReader<'a> {
@@ -398,6 +421,8 @@ fn reads_orders(rt: HostRuntime) -> io::Result<()> {
         ["tracerun"].as_slice(),
         ["tracerun", "replay", "x"].as_slice(),
         ["tracerun", "--help"].as_slice(),
+        ["tracerun", "--version"].as_slice(),
+        ["tracerun", "replay", "--help"].as_slice(),
     ];
     for words in wrong {
         match order(rt.alloc(), words) {

@@ -1,4 +1,4 @@
-use Rattle.std.proofs.Common.{◌≡◌, ◌+◌, ◌-◌, length, take, drop, arith, sym, List, ℕ, rules, take-append-drop, append-nil, []}
+use Rattle.std.proofs.Common.{◌≡◌, ◌+◌, ◌-◌, ◌∙◌, length, take, drop, arith, sym, List, ℕ, rules, take-append-drop, append-nil, []}
 use Rattle.std.specs.Io.KnownBytes.{Appends, Keeps}
 use Rattle.std.specs.Prelude.{Option}
 use Rattle.std.proofs.KnownBytes.{Appends-trans, Appends-kept}
@@ -20,6 +20,7 @@ loop-done-preserved g c =
       in_range = omega (arith, e.bound);
       taken = more_taken _ _ _ c.args.text.now c.loop-done.done c.in-Ok.n c.loop-done.invariant.taken e.bytes;
       failed = search (rules, e.ok, c.loop-done.invariant.failed);
+      flushes = e.flushes ∙ c.loop-done.invariant.flushes;
     }
 
 failed_front : (a b c : Option (List ℕ)) (text : List ℕ) (done : ℕ) → Appends a b (take done text) → Keeps b c → AppendsFront a c text

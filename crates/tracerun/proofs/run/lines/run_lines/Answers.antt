@@ -3,7 +3,7 @@ use Rattle.tracerun.proofs.Written.{sent_none, loop_more, loop_fails, loop_ends}
 use Rattle.tracerun.proofs.run.lines.run_lines.Goals as goal
 
 pub loop-rest-init : goal.loop-rest-init
-loop-rest-init g c = record { sent = λ hooks. sent_none _ _; written = c.requires.written; failed = refl; place = c.requires.place }
+loop-rest-init g c = record { sent = λ hooks. sent_none _ _; written = c.requires.written; failed = refl; flushes = refl; place = c.requires.place }
 
 pub returns-in-Err-clause-err : goal.returns-in-Err-clause-err
 returns-in-Err-clause-err g c = λ hooks.
@@ -17,6 +17,7 @@ loop-rest-preserved g c =
       sent = λ hooks. loop_more hooks _ _ _ _ _ _ _ _ c.cut_line.result.0.now c.cut_line.result.1.now (before.sent hooks) c.cut_line.ensures.line (c.in_default.ensures.turned hooks);
       written = c.in_default.ensures.written;
       failed = c.in_default.ensures.counts.1 ∙ before.failed;
+      flushes = c.in_default.ensures.flushes ∙ before.flushes;
       place = let place = before.place in omega (arith, place, shorter);
     }
 

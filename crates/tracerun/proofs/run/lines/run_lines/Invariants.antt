@@ -1,5 +1,5 @@
 use Rattle.std.proofs.Common.{◌≡◌, ◌+◌, ◌≤◌, ℕ, length}
-use Rattle.tracerun.specs.Counted.{inner_of, failed_of}
+use Rattle.tracerun.specs.Counted.{inner_of, failed_of, flushes_of}
 use Rattle.tracerun.specs.Meaning.{run}
 use Rattle.span_script.specs.Operation.{running}
 use Rattle.tracerun.specs.inside.Running.{IsWritten, state_at}
@@ -15,6 +15,7 @@ invariant-loop-rest g l = record {
       (run hooks l.number (state_at l.script running) (lines_of l.rest));
   written : IsWritten l.script;
   failed : failed_of l.output ≡ failed_of l.initial.output;
+  flushes : flushes_of l.output ≡ flushes_of l.initial.output;
   place : l.number + length l.rest ≤ most_bytes + 2;
 }
 

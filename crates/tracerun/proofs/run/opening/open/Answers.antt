@@ -4,7 +4,7 @@ use Rattle.tracerun.proofs.Openings.{when_some, when_none, opened_more, opened_f
 use Rattle.tracerun.proofs.run.opening.open.Goals as goal
 
 pub loop-alloc-init : goal.loop-alloc-init
-loop-alloc-init g c = record { sent = sent_none _ _; hooks = refl; failed = refl; count = omega arith }
+loop-alloc-init g c = record { sent = sent_none _ _; hooks = refl; failed = refl; flushes = refl; count = omega arith }
 
 pub returns-in-Ok-Some-clause-sent : goal.returns-in-Ok-Some-clause-sent
 returns-in-Ok-Some-clause-sent g c =
@@ -26,5 +26,6 @@ loop-alloc-preserved g c =
       sent = opened_more _ _ _ _ _ _ _ _ _ _ _ _ before.hooks before.sent c.cut_line.ensures.line (when_none _ c.in-Ok-None.field-0-is c.in-Ok-None.ensures.turned);
       hooks = c.in-Ok-None.ensures.hooks ∙ before.hooks;
       failed = c.in-Ok-None.ensures.counts.1 ∙ before.failed;
+      flushes = c.in-Ok-None.ensures.flushes ∙ before.flushes;
       count = let count = before.count in omega (arith, count, shorter);
     }

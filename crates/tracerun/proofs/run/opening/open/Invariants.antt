@@ -1,5 +1,5 @@
 use Rattle.std.proofs.Common.{◌≡◌, ◌+◌, ◌≤◌, length}
-use Rattle.tracerun.specs.Counted.{inner_of, failed_of}
+use Rattle.tracerun.specs.Counted.{inner_of, failed_of, flushes_of}
 use Rattle.tracerun.specs.Meaning.{run}
 use Rattle.span_script.specs.Script.{lines_of}
 use Rattle.tracerun.specs.inside.Setup.{hooks_in, setup_state}
@@ -14,6 +14,7 @@ invariant-loop-alloc g l = record {
       (run (hooks_in l.initial.setup) l.number (setup_state l.setup) (lines_of l.lines));
   hooks : hooks_in l.setup ≡ hooks_in l.initial.setup;
   failed : failed_of l.output ≡ failed_of l.initial.output;
+  flushes : flushes_of l.output ≡ flushes_of l.initial.output;
   count : l.number + length l.lines ≤ length l.script + 1;
 }
 

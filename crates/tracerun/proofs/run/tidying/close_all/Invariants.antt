@@ -1,5 +1,5 @@
 use Rattle.std.proofs.Common.{◌≡◌, map}
-use Rattle.tracerun.specs.Counted.{inner_of, failed_of}
+use Rattle.tracerun.specs.Counted.{inner_of, failed_of, flushes_of}
 use Rattle.tracerun.specs.inside.Running.{IsWritten, core_in}
 use Rattle.tracerun.specs.inside.Turns.{ArePartlyMade}
 use Rattle.tracerun.specs.Written.{closes, each_written}
@@ -13,4 +13,5 @@ invariant-loop-id g l = record {
   written : IsWritten l.script;
   workers : l.script.workers ≡ l.initial.script.workers;
   failed : failed_of l.output ≡ failed_of l.initial.output;
+  flushes : flushes_of l.output ≡ flushes_of l.initial.output;
 }

@@ -1,6 +1,6 @@
 use Rattle.std.proofs.Common.{◌≡◌, ◌-◌}
 use Rattle.std.specs.List.{range_with_len}
-use Rattle.tracerun.specs.Counted.{inner_of, failed_of}
+use Rattle.tracerun.specs.Counted.{inner_of, failed_of, flushes_of}
 use Rattle.tracerun.specs.inside.Running.{IsWritten, core_in, labels_in}
 use Rattle.tracerun.specs.inside.Turns.{ArePartlyMade}
 use Rattle.tracerun.specs.Written.{each_written, exits}
@@ -15,4 +15,5 @@ invariant-loop-worker g l = record {
   labels : labels_in l.script ≡ labels_in l.initial.script;
   workers : l.script.workers ≡ l.initial.script.workers;
   failed : failed_of l.output ≡ failed_of l.initial.output;
+  flushes : flushes_of l.output ≡ flushes_of l.initial.output;
 }
