@@ -1,0 +1,11 @@
+use Rattle.std.proofs.Common.{◌≡◌, ℕ, List, [], replicate, sym, ◌∙◌, subst}
+use Rattle.atomic_table.specs.Table.{opening}
+use Rattle.span_seats.specs.SeatView.{first_view}
+use Rattle.span_seats.specs.SeatRule.{Holds}
+use Rattle.span_seats.proofs.Moves.{begins}
+use Rattle.span_seats.proofs.table.SeatTable.new.Goals as goal
+
+pub of_words-requires : goal.of_words-requires
+of_words-requires c =
+    let same : c.as_slice.result.now ≡ replicate c.args.slots 0 = c.as_slice.ensures.value ∙ c.in_ok-zeros.ensures.items_if_clones_equal (λ y e. e) in
+    rw (same, c.from.ensures) (begins c.args.slots)
