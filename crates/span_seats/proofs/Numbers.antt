@@ -1,5 +1,5 @@
 -- Lemmas of the sets of numbers, which are one list.
-use Rattle.std.proofs.Common.{◌≡◌, ◌≢◌, ◌⊎◌, ℕ, ◌+◌, ◌<◌, ◌≤◌, List, [], ◌∷◌, true, refl, subst, arith}
+use Rattle.std.proofs.Common.{◌≡◌, ◌≢◌, ◌⊎◌, ℕ, ◌+◌, ◌<◌, ◌≤◌, List, [], ◌∷◌, true, refl, sym, subst, arith}
 use mathlib.Core.Logic.{dite}
 use native.Mathlib.Decide.{ℕ_discrete}
 use Rattle.std.specs.Prelude.{if◌then◌else◌, ◌==◌}
@@ -43,3 +43,24 @@ times_new n (t ∷ ts) below = let r = times_new n ts (λ x k h. below x k (late
 
 pub times_with : (n next : ℕ) (id : ℕ) (handles : List HandleView) → times_given next handles ≡ 0 → times_given n handles ≤ 1 → times_given n (record { id = id; number = next } ∷ handles) ≤ 1
 times_with n next id handles new old = dite (ℕ_discrete next n) (λ e. let z : times_given n handles ≡ 0 = subst (λ (k : ℕ). times_given k handles ≡ 0) e new in grind (arith, nat_tests)) (λ e. grind (arith, nat_tests))
+
+-- an id whose set isn't empty has a number in it
+pub some_number : (x : ℕ) (handles : List HandleView) → 0 < handle_count x handles → (n : ℕ) × (has_number x n handles ≡ true)
+some_number x [] h = absurd (omega arith)
+some_number x (t ∷ ts) h = dite (ℕ_discrete t.id x) (λ e. (t.number, grind (arith, nat_tests))) (λ e. let r = some_number x ts (grind (arith, nat_tests)) in (r.0, let s = r.1 in grind (arith, nat_tests)))
+
+number_stands : (x n : ℕ) (handles : List HandleView) → has_number x n handles ≡ true → 0 < times_given n handles
+number_stands x n [] h = absurd (cc)
+number_stands x n (t ∷ ts) h = let r = number_stands x n ts in grind (arith, nat_tests, r)
+
+times_less : (x n : ℕ) (handles : List HandleView) → has_number x n handles ≡ true → times_given n handles ≡ 1 + times_given n (without x n handles)
+times_less x n [] h = absurd (cc)
+times_less x n (t ∷ ts) h = let r = times_less x n ts in grind (arith, nat_tests, r)
+
+-- two handles that are joined one after the other have two numbers
+pub joined_apart : (x n y m : ℕ) (handles : List HandleView) → ((k : ℕ) → times_given k handles ≤ 1) → has_number x n handles ≡ true → has_number y m (without x n handles) ≡ true → n ≢ m
+joined_apart x n y m handles once first second e =
+    let again : 0 < times_given n (without x n handles) = subst (λ (k : ℕ). 0 < times_given k (without x n handles)) (sym e) (number_stands y m (without x n handles) second) in
+    let less = times_less x n handles first in
+    let one = once n in
+    omega arith

@@ -1,11 +1,11 @@
 -- Each kind of step keeps the root's view well formed.
-use Rattle.std.proofs.Common.{◌≡◌, ◌≢◌, ◌⊎◌, ℕ, ◌+◌, ◌<◌, ◌≤◌, List, [], ◌∷◌, Bool, true, false, true≢false, refl, sym, ◌∙◌, subst, ⊎_elim, arith, get_or-set_other}
+use Rattle.std.proofs.Common.{◌≡◌, ◌≢◌, ℕ, ◌+◌, ◌<◌, List, ◌∷◌, Bool, true, false, true≢false, refl, sym, ap, ◌∙◌, subst, ⊎_elim, arith, get_or, get_or-set_other}
 use Rattle.std.proofs.lemmas.Bool.Decides.{nat_tests}
-use Rattle.span_id.specs.Id.{slot_of}
+use Rattle.span_id.specs.Id.{slot_of, generation_of}
 use Rattle.span_seats.specs.declared.view.HandleView.{HandleView}
 use Rattle.span_seats.specs.declared.view.RootView.{RootView}
-use Rattle.span_seats.specs.RootView.{empty_table, has_number, IsOpenIn, HasNoHandle, stored, with_number, without_number, IsWellFormed}
-use Rattle.span_seats.proofs.Numbers.{has_before, has_cons, times_without, times_new, times_with}
+use Rattle.span_seats.specs.RootView.{empty_table, has_number, handle_count, IsOpenIn, HasNoHandle, stored, with_number, without_number, IsWellFormed}
+use Rattle.span_seats.proofs.Numbers.{some_number, has_before, has_cons, times_without, times_new, times_with}
 
 pub off : {b : Bool} → b ≡ false → b ≡ true → ⊥
 off f t = true≢false (sym t ∙ f)
@@ -50,3 +50,15 @@ without_well_formed r y m h = record {
   below = λ id number is. h.below id number (has_before id number y m r.handles is);
   once = λ n. let old = h.once n in let fewer = times_without n y m r.handles in omega arith;
 }
+
+-- an id whose set isn't empty is open
+pub counted_opens : (r : RootView) → IsWellFormed r → (id : ℕ) → 0 < handle_count id r.handles → IsOpenIn r.words id
+counted_opens r h id some = let n = some_number id r.handles some in h.opened id n.0 n.1
+
+-- so two ids of one slot whose sets aren't empty are one
+pub one_id_of_slot : (r : RootView) → IsWellFormed r → (a b : ℕ) → 0 < a → 0 < b → 0 < handle_count a r.handles → 0 < handle_count b r.handles → slot_of a ≡ slot_of b → a ≡ b
+one_id_of_slot r h a b some_a some_b counts_a counts_b same =
+    let first : get_or r.words (slot_of a) 0 ≡ generation_of a + 1 = counted_opens r h a counts_a in
+    let second : get_or r.words (slot_of b) 0 ≡ generation_of b + 1 = counted_opens r h b counts_b in
+    let there = ap (λ (s : ℕ). get_or r.words s 0) same in
+    omega arith

@@ -1,5 +1,5 @@
 -- The views of seats, and what a split and a join do to them.
-use Rattle.std.specs.Prelude.{ℕ, [], true, false, Bool, ◌&&◌}
+use Rattle.std.specs.Prelude.{ℕ, true, false, Bool, ◌&&◌}
 use Rattle.span_seats.specs.declared.view.HandleView.{HandleView}
 use Rattle.span_seats.specs.declared.view.RootView.{RootView}
 use Rattle.span_seats.specs.declared.view.SeatView.{SeatView}

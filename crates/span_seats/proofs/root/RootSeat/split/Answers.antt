@@ -1,6 +1,5 @@
 use Rattle.std.proofs.Common.{sym, ◌∙◌}
 use Rattle.span_seats.specs.RootView.{IsOpenIn}
-use Rattle.span_seats.proofs.WellFormed.{with_well_formed}
 use Rattle.span_seats.proofs.Moves.{splits_at}
 use Rattle.span_seats.proofs.root.RootSeat.split.Goals as goal
 

@@ -1,7 +1,6 @@
 use Rattle.std.proofs.Common.{ℕ, ◌<◌, length, sym, ap, ◌∙◌, subst}
 use Rattle.span_seats.specs.declared.view.RootView.{RootView}
 use Rattle.span_seats.specs.RootView.{HasNoHandle}
-use Rattle.span_seats.proofs.WellFormed.{stored_well_formed}
 use Rattle.span_seats.proofs.Moves.{stores_at}
 use Rattle.span_seats.proofs.root.RootSeat.store.Goals as goal
 

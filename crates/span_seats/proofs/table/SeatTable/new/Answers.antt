@@ -1,7 +1,4 @@
-use Rattle.std.proofs.Common.{◌≡◌, ℕ, List, [], replicate, sym, ◌∙◌, subst}
-use Rattle.atomic_table.specs.Table.{opening}
-use Rattle.span_seats.specs.SeatView.{first_view}
-use Rattle.span_seats.specs.SeatRule.{Holds}
+use Rattle.std.proofs.Common.{◌≡◌, replicate, ◌∙◌}
 use Rattle.span_seats.proofs.Moves.{begins}
 use Rattle.span_seats.proofs.table.SeatTable.new.Goals as goal
 

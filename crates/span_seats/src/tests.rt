@@ -1,0 +1,52 @@
+//! Steps in a table of two slots.
+ghost use Rattle.std.specs.Prelude.{◌≡◌, [], ◌∷◌};
+
+use crate::{HandleSeat, RootSeat, SeatTable, TableName};
+use span_id::{Fault, Id};
+use std::marker::Brand;
+use std::test::Fail;
+
+fn is_send<T: Send>(_value: &T) {}
+
+// A span is opened and has two handles, one of which is shown and gets its seat back.
+fn opened<T: TableName + Send>(root: &mut RootSeat<T>, id: Id) -> (HandleSeat<T>, HandleSeat<T>)
+    requires empty { root.old ≡ record { handles = []; next_number = 0; words = 0 ∷ 0 ∷ []; split_id = 0 } }
+    requires id { id ≡ 2 }
+    ensures words { root.new.words ≡ 0 ∷ 1 ∷ [] }
+    ensures handles { root.new.handles ≡ record { id = 2; number = 2 } ∷ record { id = 2; number = 1 } ∷ [] }
+    ensures next_number { root.new.next_number ≡ 3 }
+    ensures one { result.0 ≡ record { id = 2; number = 2 } }
+    ensures other { result.1 ≡ record { id = 2; number = 1 } }
+{
+    is_send(root);
+    root.open(id);
+    let one = root.split();
+    is_send(&one);
+    let other = root.split();
+    root.join(one);
+    (root.split(), other)
+}
+
+// Both handles are given back, the span is closed, and its slot is given again at the next generation.
+fn given_again<T: TableName + Send>(table: SeatTable)
+    requires named { table ≡ T.table }
+    requires slots { table.words ≡ 2 }
+{
+    let mut root = table.named::<T>();
+    let first = Id::pack(1, 0);
+    let (one, other) = opened(&mut root, first);
+    root.join(other);
+    root.join(one);
+    root.close(&[first]);
+    root.open(Id::pack(1, 1));
+    let again = root.split();
+    root.join(again);
+}
+
+#[test]
+fn gives_a_slot_again(rt: HostRuntime) -> Result<(), Fail> {
+    let table = SeatTable::new(rt.alloc(), 2)?;
+    assert_eq!(rt; table.slots(), 2);
+    given_again::<Brand>(table);
+    Ok(())
+}
