@@ -1,8 +1,9 @@
 //! Steps in a table of two slots.
 ghost use Rattle.std.specs.Prelude.{◌≡◌, [], ◌∷◌};
 
+use crate::laws::two_handles_have_two_numbers;
 use crate::{HandleSeat, RootSeat, SeatTable, TableName};
-use span_id::{Fault, Id};
+use span_id::Id;
 use std::marker::Brand;
 use std::test::Fail;
 
@@ -28,25 +29,51 @@ fn opened<T: TableName + Send>(root: &mut RootSeat<T>, id: Id) -> (HandleSeat<T>
 }
 
 // Both handles are given back, the span is closed, and its slot is given again at the next generation.
-fn given_again<T: TableName + Send>(table: SeatTable)
+fn closed_and_opened_again<T: TableName>(
+    root: &mut RootSeat<T>,
+    one: HandleSeat<T>,
+    other: HandleSeat<T>,
+) -> HandleSeat<T>
+    requires words { root.old.words ≡ 0 ∷ 1 ∷ [] }
+    requires handles { root.old.handles ≡ record { id = 2; number = 2 } ∷ record { id = 2; number = 1 } ∷ [] }
+    requires next_number { root.old.next_number ≡ 3 }
+    requires one { one ≡ record { id = 2; number = 2 } }
+    requires other { other ≡ record { id = 2; number = 1 } }
+    ensures words { root.new.words ≡ 0 ∷ 2 ∷ [] }
+    ensures handles { root.new.handles ≡ record { id = 16777218; number = 3 } ∷ [] }
+    ensures again { result ≡ record { id = 16777218; number = 3 } }
+{
+    root.join(other);
+    root.join(one);
+    root.close(&[Id::pack(1, 0)]);
+    root.open(Id::pack(1, 1));
+    root.split()
+}
+
+fn steps<T: TableName + Send>(table: SeatTable)
     requires named { table ≡ T.table }
     requires slots { table.words ≡ 2 }
 {
     let mut root = table.named::<T>();
-    let first = Id::pack(1, 0);
-    let (one, other) = opened(&mut root, first);
-    root.join(other);
-    root.join(one);
-    root.close(&[first]);
-    root.open(Id::pack(1, 1));
-    let again = root.split();
-    root.join(again);
+    let (one, other) = opened(&mut root, Id::pack(1, 0));
+    let again = closed_and_opened_again(&mut root, one, other);
+    two_handles(&mut root, again);
+}
+
+// Two handles of one id are told apart.
+fn two_handles<T: TableName>(root: &mut RootSeat<T>, first: HandleSeat<T>)
+    ensures { root.new.words ≡ root.old.words }
+{
+    root.join(first);
+    let one = root.split();
+    let other = root.split();
+    two_handles_have_two_numbers(root, one, other);
 }
 
 #[test]
 fn gives_a_slot_again(rt: HostRuntime) -> Result<(), Fail> {
     let table = SeatTable::new(rt.alloc(), 2)?;
     assert_eq!(rt; table.slots(), 2);
-    given_again::<Brand>(table);
+    steps::<Brand>(table);
     Ok(())
 }
