@@ -6,7 +6,8 @@ use Rattle.std.proofs.lemmas.List.{take_more}
 use Rattle.std.proofs.lemmas.Grind.{get_or_default_zero}
 use Rattle.std.proofs.lemmas.Bool.Decides.{nat_tests}
 use Rattle.span_id.specs.Id.{slot_of}
-use Rattle.span_seats.specs.RootView.{closed_words}
+use Rattle.span_seats.specs.declared.view.RootView.{RootView}
+use Rattle.span_seats.specs.RootView.{stored, closed_words}
 use Rattle.span_seats.specs.OpenSpans.{among}
 
 among_at : (ids : List ℕ) (k : ℕ) → k < length ids → among (get_or ids k 0) ids ≡ true
@@ -22,11 +23,24 @@ closed_snoc : (words ids : List ℕ) (id : ℕ) → closed_words words (ids ++ i
 closed_snoc words [] id = refl
 closed_snoc words (x ∷ xs) id = closed_snoc (set words (slot_of x) 0) xs id
 
--- one round of the loop
-pub closed_more : (words ids : List ℕ) (k x : ℕ) → k < length ids → x ≡ get_or ids k x → closed_words words (take (k + 1) ids) ≡ set (closed_words words (take k ids)) (slot_of x) 0
+closed_more : (words ids : List ℕ) (k x : ℕ) → k < length ids → x ≡ get_or ids k x → closed_words words (take (k + 1) ids) ≡ set (closed_words words (take k ids)) (slot_of x) 0
 closed_more words ids k x h is =
     let more : take (k + 1) ids ≡ take k ids ++ x ∷ [] = take_more ids k x h ∙ ap (λ v. take k ids ++ v ∷ []) (sym is) in
     ap (λ (xs : List ℕ). closed_words words xs) more ∙ closed_snoc words (take k ids) x
+
+-- what the loop has done after the first k of the ids
+abbrev pub Closed : RootView → List ℕ → ℕ → RootView → Type 0
+Closed start ids k r = (r.handles ≡ start.handles) × (r.next_number ≡ start.next_number) × (r.words ≡ closed_words start.words (take k ids))
+
+-- one round
+pub closed_round : (start : RootView) (ids : List ℕ) (k x slot : ℕ) (r r₁ : RootView) → k < length ids → x ≡ get_or ids k x → slot ≡ slot_of x → Closed start ids k r → r₁ ≡ stored r slot 0 → Closed start ids (k + 1) r₁
+closed_round start ids k x slot r r₁ h is at so_far e = (
+  ap (λ (y : RootView). y.handles) e ∙ so_far.0,
+  ap (λ (y : RootView). y.next_number) e ∙ so_far.1,
+  ap (λ (y : RootView). y.words) e
+      ∙ (ap (λ (s : ℕ). set r.words s 0) at
+      ∙ (ap (λ (ws : List ℕ). set ws (slot_of x) 0) so_far.2 ∙ sym (closed_more start.words ids k x h is))),
+)
 
 pub length-closed : (words ids : List ℕ) → length (closed_words words ids) ≡ length words
 length-closed words [] = refl

@@ -1,12 +1,16 @@
--- Worked cases of the definitions, by computation alone, in a table of two slots. The id of slot 1 is 2 at generation 0
+-- Worked cases of the definitions, in a table of two slots. The id of slot 1 is 2 at generation 0
 -- and 16777218 at generation 1.
-use Rattle.std.proofs.Common.{◌≡◌, ℕ, [], ◌∷◌, true, false, refl}
+use Rattle.std.proofs.Common.{◌≡◌, ℕ, [], ◌∷◌, true, false, true≢false, refl, sym, arith}
+use Rattle.std.specs.Prelude.{if◌then◌else◌, ◌==◌}
+use Rattle.std.proofs.lemmas.Bool.Decides.{nat_tests}
 use Rattle.span_seats.specs.declared.view.HandleView.{HandleView}
 use Rattle.span_seats.specs.declared.view.RootView.{RootView}
 use Rattle.span_seats.specs.declared.view.SeatView.{SeatView}
-use Rattle.span_seats.specs.RootView.{empty_table, IsOpenIn, has_number, handle_count, times_given, stored, with_number, without_number, closed_words}
-use Rattle.span_seats.specs.SeatView.{first_view, handle_seat, root_after_split, handle_of_split, root_after_join}
-use Rattle.span_seats.specs.OpenSpans.{among}
+use Rattle.span_seats.specs.RootView.{empty_table, IsOpenIn, has_number, handle_count, stored, with_number, without_number, closed_words}
+use Rattle.span_seats.specs.inside.WellFormed.{times_given}
+use Rattle.span_seats.specs.inside.SeatView.{first_view, handle_seat, root_after_split, handle_of_split, root_after_join}
+use Rattle.span_seats.specs.OpenSpans.{OpenSpans, among, IsSound, IsAdded, IsCloned, IsReleased, Agree}
+use Rattle.span_seats.proofs.Agreed.{made_agrees, added_agrees}
 
 abbrev handle : ℕ → ℕ → HandleView
 handle id number = record { id = id; number = number }
@@ -73,3 +77,49 @@ one_among = refl
 
 none_among : among 2 (3 ∷ 1 ∷ []) ≡ false
 none_among = refl
+
+-- a core in which no span is open, and one in which 2 alone is, with so many handles
+abbrev none_open : OpenSpans
+none_open = record { is_open = λ _. false; handles = λ _. 0 }
+
+abbrev one_open : ℕ → OpenSpans
+one_open handles = record { is_open = λ x. 2 == x; handles = λ x. if 2 == x then handles else 0 }
+
+made : Agree (empty_table 2) 2 none_open
+made = made_agrees 2 none_open (λ _. refl) (λ _. refl)
+
+none_is_sound : IsSound none_open
+none_is_sound = record {
+  held = λ id h. absurd (omega arith);
+  positive = λ id h. absurd (true≢false (sym h));
+  alone = λ a b h. absurd (true≢false (sym h));
+}
+
+one_is_sound : IsSound (one_open 1)
+one_is_sound = record {
+  held = λ id h. grind (arith, nat_tests);
+  positive = λ id h. grind (arith, nat_tests);
+  alone = λ a b h k e. grind (arith, nat_tests);
+}
+
+first_span : IsAdded 2 2 none_open (one_open 1)
+first_span = record {
+  positive = omega arith;
+  slot_in = omega arith;
+  free = λ x h. absurd (true≢false (sym h));
+  rest = λ x. grind arith;
+  one_more = λ x. grind arith;
+}
+
+first_agrees : Agree (with_number (stored (empty_table 2) 1 1)) 2 (one_open 1)
+first_agrees = added_agrees 2 2 none_open (one_open 1) none_is_sound first_span (empty_table 2) made (stored (empty_table 2) 1 1) (with_number (stored (empty_table 2) 1 1)) refl refl
+
+first_clone : IsCloned 2 (one_open 1) (one_open 2)
+first_clone = record { rest = λ x. refl; one_more = λ x. grind (arith, nat_tests) }
+
+last_handle : IsReleased true 2 (2 ∷ []) (one_open 1) none_open
+last_handle = record {
+  fewer = λ x. grind (arith, nat_tests);
+  rest = λ x. grind (arith, nat_tests);
+  were = λ x h. grind (arith, nat_tests);
+}

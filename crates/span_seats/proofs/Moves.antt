@@ -6,8 +6,8 @@ use Rattle.atomic_table.specs.Table.{State, Me, step, keeps, opening, Allows, Sp
 use Rattle.atomic_table.proofs.Lists.{at_set, set_else, set_again}
 use Rattle.span_seats.specs.declared.view.SeatView.{SeatView}
 use Rattle.span_seats.specs.RootView.{has_number, IsOpenIn, HasNoHandle, stored}
-use Rattle.span_seats.specs.SeatView.{root_seat, joined_seat, first_view, root_after_split, handle_of_split, root_after_join}
-use Rattle.span_seats.specs.SeatRule.{FitsSeats, Holds, Stored, Looked}
+use Rattle.span_seats.specs.inside.SeatView.{root_seat, joined_seat, first_view, root_after_split, handle_of_split, root_after_join}
+use Rattle.span_seats.specs.inside.SeatRule.{FitsSeats, Holds, Stored, Looked}
 use Rattle.span_seats.proofs.Numbers.{has_other}
 use Rattle.span_seats.proofs.WellFormed.{off, empty_well_formed, stored_well_formed, with_well_formed, without_well_formed, first_has, later_has}
 

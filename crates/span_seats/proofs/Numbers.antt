@@ -5,7 +5,8 @@ use native.Mathlib.Decide.{ℕ_discrete}
 use Rattle.std.specs.Prelude.{if◌then◌else◌, ◌==◌}
 use Rattle.std.proofs.lemmas.Bool.Decides.{nat_tests}
 use Rattle.span_seats.specs.declared.view.HandleView.{HandleView}
-use Rattle.span_seats.specs.RootView.{has_number, without, handle_count, times_given}
+use Rattle.span_seats.specs.RootView.{has_number, without, handle_count}
+use Rattle.span_seats.specs.inside.WellFormed.{times_given}
 
 pub has_other : (x n y m : ℕ) (handles : List HandleView) → has_number x n handles ≡ true → n ≢ m → has_number x n (without y m handles) ≡ true
 has_other x n y m [] h ne = h

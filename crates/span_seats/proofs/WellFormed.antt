@@ -4,7 +4,8 @@ use Rattle.std.proofs.lemmas.Bool.Decides.{nat_tests}
 use Rattle.span_id.specs.Id.{slot_of, generation_of}
 use Rattle.span_seats.specs.declared.view.HandleView.{HandleView}
 use Rattle.span_seats.specs.declared.view.RootView.{RootView}
-use Rattle.span_seats.specs.RootView.{empty_table, has_number, handle_count, IsOpenIn, HasNoHandle, stored, with_number, without_number, IsWellFormed}
+use Rattle.span_seats.specs.RootView.{empty_table, has_number, handle_count, IsOpenIn, HasNoHandle, stored, with_number, without_number}
+use Rattle.span_seats.specs.inside.WellFormed.{IsWellFormed}
 use Rattle.span_seats.proofs.Numbers.{some_number, has_before, has_cons, times_without, times_new, times_with}
 
 pub off : {b : Bool} → b ≡ false → b ≡ true → ⊥

@@ -1,5 +1,4 @@
 pub mod TableName
 pub mod RootView
-pub mod SeatView
-pub mod SeatRule
 pub mod OpenSpans
+pub mod inside

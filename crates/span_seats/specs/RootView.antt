@@ -1,5 +1,5 @@
 -- What the root knows: the id and the number of each handle, and the word of each slot.
-use Rattle.std.specs.Prelude.{◌≡◌, ◌≢◌, ℕ, ◌+◌, ◌-◌, ◌<◌, ◌≤◌, List, [], ◌∷◌, Bool, true, false, ◌&&◌, ◌||◌, if◌then◌else◌, ◌==◌, replicate, slice_index, slice_set}
+use Rattle.std.specs.Prelude.{◌≡◌, ◌≢◌, ℕ, ◌+◌, ◌-◌, List, [], ◌∷◌, Bool, true, false, ◌&&◌, ◌||◌, if◌then◌else◌, ◌==◌, replicate, slice_index, slice_set}
 use Rattle.span_id.specs.Id.{id_of, slot_of, generation_of}
 use Rattle.span_seats.specs.declared.view.HandleView.{HandleView}
 use Rattle.span_seats.specs.declared.view.RootView.{RootView}
@@ -27,11 +27,6 @@ abbrev pub handle_count : ℕ → List HandleView → ℕ
 handle_count id [] = 0
 handle_count id (h ∷ hs) = (if h.id == id then 1 else 0) + handle_count id hs
 
--- how often the number stands in all sets
-abbrev pub times_given : ℕ → List HandleView → ℕ
-times_given number [] = 0
-times_given number (h ∷ hs) = (if h.number == number then 1 else 0) + times_given number hs
-
 -- no id of the slot has a handle
 abbrev pub HasNoHandle : List HandleView → ℕ → Type 0
 HasNoHandle handles slot = (id number : ℕ) → has_number id number handles ≡ true → slot_of id ≢ slot
@@ -47,15 +42,6 @@ with_number root = record { handles = record { id = root.split_id; number = root
 -- a join: the number leaves the id's set, and the next split is of that id
 abbrev pub without_number : RootView → ℕ → ℕ → RootView
 without_number root id number = record { handles = without id number root.handles; next_number = root.next_number; words = root.words; split_id = id }
-
--- what is always true of the root's view
-pub record IsWellFormed (root : RootView) : Type 0 where
-  -- an id whose set isn't empty is open
-  pub opened : (id number : ℕ) → has_number id number root.handles ≡ true → IsOpenIn root.words id
-  -- the next number is above them all
-  pub below : (id number : ℕ) → has_number id number root.handles ≡ true → number < root.next_number
-  -- no two handles have one number
-  pub once : (number : ℕ) → times_given number root.handles ≤ 1
 
 -- the words after the slots of these ids are set to 0
 abbrev pub closed_words : List ℕ → List ℕ → List ℕ

@@ -19,7 +19,7 @@ pub struct HandleSeat<T: TableName> {
 impl<T: TableName> Model for HandleSeat<T> {
     ghost use Rattle.std.specs.Prelude.{◌≡◌, []};
     ghost use Rattle.span_seats.specs.declared.view.HandleView.{HandleView};
-    ghost use Rattle.span_seats.specs.SeatView.{handle_seat};
+    ghost use Rattle.span_seats.specs.inside.SeatView.{handle_seat};
 
     ghost Value = { HandleView };
 

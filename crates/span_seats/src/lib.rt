@@ -12,6 +12,5 @@ mod view;
 
 pub use handle::HandleSeat;
 pub use root::RootSeat;
-pub use rule::{Hand, Look, SeatRule, Store};
 pub use table::{SeatTable, TableName};
-pub use view::{HandleView, RootView, SeatView};
+pub use view::{HandleView, RootView};

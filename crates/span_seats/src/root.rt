@@ -24,8 +24,8 @@ pub struct RootSeat<T: TableName> {
 impl<T: TableName> Model for RootSeat<T> {
     ghost use Rattle.std.specs.Prelude.{◌≡◌, ◌<◌, [], length, true};
     ghost use Rattle.span_seats.specs.declared.view.RootView.{RootView};
-    ghost use Rattle.span_seats.specs.RootView.{IsWellFormed};
-    ghost use Rattle.span_seats.specs.SeatView.{root_seat};
+    ghost use Rattle.span_seats.specs.inside.WellFormed.{IsWellFormed};
+    ghost use Rattle.span_seats.specs.inside.SeatView.{root_seat};
 
     ghost Value = { RootView };
 

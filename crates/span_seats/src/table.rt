@@ -39,7 +39,7 @@ pub struct SeatTable {
 impl Model for SeatTable {
     ghost use Rattle.std.specs.Prelude.{◌≡◌, ◌<◌, []};
     ghost use Rattle.atomic_table.specs.Seated.{TableId};
-    ghost use Rattle.span_seats.specs.SeatView.{first_view};
+    ghost use Rattle.span_seats.specs.inside.SeatView.{first_view};
 
     ghost Value = { TableId };
 

@@ -23,7 +23,7 @@ pub struct RootView {
 }
 
 /// What a seat knows: the root's, a handle's, or one that was joined to the root's.
-pub struct SeatView {
+pub(crate) struct SeatView {
     /// What the root knows.
     pub root: RootView,
     /// Of the root: whether each join found the handle's number in the set of its id.

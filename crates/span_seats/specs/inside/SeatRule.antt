@@ -4,8 +4,9 @@ use mathlib.Core.Option.{some}
 use lib.ListN.{get_elem?}
 use Rattle.atomic_table.specs.Table.{State, Me, Step}
 use Rattle.span_seats.specs.declared.view.SeatView.{SeatView}
-use Rattle.span_seats.specs.RootView.{has_number, stored, IsWellFormed}
-use Rattle.span_seats.specs.SeatView.{root_seat}
+use Rattle.span_seats.specs.RootView.{has_number, stored}
+use Rattle.span_seats.specs.inside.WellFormed.{IsWellFormed}
+use Rattle.span_seats.specs.inside.SeatView.{root_seat}
 
 -- how the root's view and the views of all seats fit together
 pub record FitsSeats (root : SeatView) (views : List SeatView) : Type 0 where
