@@ -51,7 +51,7 @@ impl<T: TableName> RootSeat<T> {
     /// Writes down that the span of this id is open: its slot's word becomes its generation plus 1.
     ///
     /// Keeps what `store` keeps.
-    pub fn open(&mut self, id: Id)
+    pub fn mark_open(&mut self, id: Id)
         requires slot { slot_of id < length self.old.words }
         requires free { HasNoHandle self.old.handles (slot_of id) }
         ensures { self.new ≡ stored self.old (slot_of id) (generation_of id + 1) }
@@ -62,7 +62,7 @@ impl<T: TableName> RootSeat<T> {
     /// Writes down that these spans are closed: the words of their slots become 0.
     ///
     /// Keeps what `store` keeps.
-    pub fn close(&mut self, closed: &[Id])
+    pub fn mark_closed(&mut self, closed: &[Id])
         requires { (id : ℕ) → among id closed.now ≡ true → (slot_of id < length self.old.words) × HasNoHandle self.old.handles (slot_of id) }
         ensures handles { self.new.handles ≡ self.old.handles }
         ensures next_number { self.new.next_number ≡ self.old.next_number }

@@ -20,7 +20,7 @@ fn opened<T: TableName + Send>(root: &mut RootSeat<T>, id: Id) -> (HandleSeat<T>
     ensures other { result.1 ≡ record { id = 2; number = 1 } }
 {
     is_send(root);
-    root.open(id);
+    root.mark_open(id);
     let one = root.split();
     is_send(&one);
     let other = root.split();
@@ -45,8 +45,8 @@ fn closed_and_opened_again<T: TableName>(
 {
     root.join(other);
     root.join(one);
-    root.close(&[Id::pack(1, 0)]);
-    root.open(Id::pack(1, 1));
+    root.mark_closed(&[Id::pack(1, 0)]);
+    root.mark_open(Id::pack(1, 1));
     root.split()
 }
 

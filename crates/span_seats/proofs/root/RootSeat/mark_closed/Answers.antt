@@ -1,6 +1,6 @@
 use Rattle.std.proofs.Common.{take}
 use Rattle.span_seats.proofs.Closing.{among_item, closed_round, length-closed}
-use Rattle.span_seats.proofs.root.RootSeat.close.Goals as goal
+use Rattle.span_seats.proofs.root.RootSeat.mark_closed.Goals as goal
 
 pub store-requires-clause-slot : goal.store-requires-clause-slot
 store-requires-clause-slot g c =
