@@ -1,0 +1,4 @@
+pub mod TableName
+pub mod RootView
+pub mod OpenSpans
+pub mod inside

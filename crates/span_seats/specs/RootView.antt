@@ -1,0 +1,49 @@
+-- What the root knows: the id and the number of each handle, and the word of each slot.
+use Rattle.std.specs.Prelude.{◌≡◌, ◌≢◌, ℕ, ◌+◌, ◌-◌, List, [], ◌∷◌, Bool, true, false, ◌&&◌, ◌||◌, if◌then◌else◌, ◌==◌, replicate, slice_index, slice_set}
+use Rattle.span_id.specs.Id.{id_of, slot_of, generation_of}
+use Rattle.span_seats.specs.declared.view.HandleView.{HandleView}
+use Rattle.span_seats.specs.declared.view.RootView.{RootView}
+
+-- a table in which no span is open: no handle, and each word 0
+abbrev pub empty_table : ℕ → RootView
+empty_table slots = record { handles = []; next_number = 0; words = replicate slots 0; split_id = 0 }
+
+-- the span of this id is open: its slot's word is its generation plus 1
+abbrev pub IsOpenIn : List ℕ → ℕ → Type 0
+IsOpenIn words id = slice_index words (slot_of id) ≡ generation_of id + 1
+
+-- the number stands in the id's set
+abbrev pub has_number : ℕ → ℕ → List HandleView → Bool
+has_number id number [] = false
+has_number id number (h ∷ hs) = ((h.id == id) && (h.number == number)) || has_number id number hs
+
+-- the sets after the number has left the id's set
+abbrev pub without : ℕ → ℕ → List HandleView → List HandleView
+without id number [] = []
+without id number (h ∷ hs) = if (h.id == id) && (h.number == number) then hs else h ∷ without id number hs
+
+-- the size of the id's set
+abbrev pub handle_count : ℕ → List HandleView → ℕ
+handle_count id [] = 0
+handle_count id (h ∷ hs) = (if h.id == id then 1 else 0) + handle_count id hs
+
+-- no id of the slot has a handle
+abbrev pub HasNoHandle : List HandleView → ℕ → Type 0
+HasNoHandle handles slot = (id number : ℕ) → has_number id number handles ≡ true → slot_of id ≢ slot
+
+-- a slot's word is stored, and the next split is of the id that slot and word name
+abbrev pub stored : RootView → ℕ → ℕ → RootView
+stored root slot word = record { handles = root.handles; next_number = root.next_number; words = slice_set root.words slot word; split_id = id_of slot (word - 1) }
+
+-- a split: the next number joins the id's set
+abbrev pub with_number : RootView → RootView
+with_number root = record { handles = record { id = root.split_id; number = root.next_number } ∷ root.handles; next_number = root.next_number + 1; words = root.words; split_id = root.split_id }
+
+-- a join: the number leaves the id's set, and the next split is of that id
+abbrev pub without_number : RootView → ℕ → ℕ → RootView
+without_number root id number = record { handles = without id number root.handles; next_number = root.next_number; words = root.words; split_id = id }
+
+-- the words after the slots of these ids are set to 0
+abbrev pub closed_words : List ℕ → List ℕ → List ℕ
+closed_words words [] = words
+closed_words words (id ∷ ids) = closed_words (slice_set words (slot_of id) 0) ids
