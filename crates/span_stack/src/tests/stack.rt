@@ -1,10 +1,5 @@
-ghost use Rattle.std.specs.Prelude.{◌≤◌};
-
-use crate::entry::Entry;
 use crate::{IN_PLACE, SpanStack};
-use smallvec::SmallVec;
-use span_id::{Id, SLOTS};
-use std::alloc::{AllocError, Global};
+use span_id::Id;
 use std::test::Fail;
 
 #[test]
@@ -63,31 +58,20 @@ fn grows_past_the_places_in_the_value(rt: HostRuntime) -> Result<(), Fail> {
     Ok(())
 }
 
-// Its ids come from `push` by no search, so that many are made at once.
-fn entered_once(alloc: Global, count: u32) -> Result<SpanStack, AllocError>
-    requires { count ≤ SLOTS }
-{
-    let mut entries = SmallVec::with_capacity(alloc, count as usize)?;
-    for slot in 0..count {
-        entries.push_reserved(Entry {
-            id: Id::pack(slot, 0),
-            duplicate: false,
-        });
-    }
-    Ok(SpanStack { entries })
-}
-
 // A walk that looked for each entry among those below it would take minutes here.
 #[test]
 fn walks_a_deep_stack_at_once(rt: HostRuntime) -> Result<(), Fail> {
-    let mut stack = entered_once(rt.alloc(), 100000)?;
-    for _ in 0..100 {
-        assert_eq!(rt; stack.walk().count(), 100000);
+    let mut stack = SpanStack::new(rt.alloc());
+    for slot in 0..30000 {
+        assert!(rt; stack.reserve(1).is_ok());
+        assert!(rt; stack.push(Id::pack(slot, 0)));
+    }
+    for _ in 0..300 {
+        assert_eq!(rt; stack.walk().count(), 30000);
     }
     assert_eq!(rt; stack.walk().last(), Some(Id::pack(0, 0)));
-    assert_eq!(rt; stack.current(), Some(Id::pack(99999, 0)));
-    assert_eq!(rt; stack.pop(Id::pack(99999, 0)), Some(true));
+    assert_eq!(rt; stack.pop(Id::pack(29999, 0)), Some(true));
     assert!(rt; stack.has(Id::pack(0, 0)));
-    assert_eq!(rt; stack.current(), Some(Id::pack(99998, 0)));
+    assert_eq!(rt; stack.current(), Some(Id::pack(29998, 0)));
     Ok(())
 }
