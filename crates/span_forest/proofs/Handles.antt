@@ -1,5 +1,5 @@
 -- How many handles all spans have, through each change of the spans.
-use Rattle.std.proofs.Common.{◌≡◌, ℕ, ◌+◌, ◌<◌, ◌≤◌, [], ◌∷◌, Option, Some, None, refl, sym, ap, ◌∙◌, inl, inr, arith}
+use Rattle.std.proofs.Common.{◌≡◌, ℕ, ◌+◌, ◌<◌, ◌≤◌, [], ◌∷◌, Option, Some, None, refl, ap, ◌∙◌, arith}
 use Rattle.std.specs.Prelude.{List}
 use Rattle.span_id.specs.Meta.{KeyValue}
 use Rattle.span_forest.specs.declared.span.Holder.{Holder}

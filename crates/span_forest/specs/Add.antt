@@ -1,5 +1,5 @@
 -- A new span.
-use Rattle.std.specs.Prelude.{ℕ, ◌≡◌, ◌<◌, List, Option, None, IsSome, IsSomeAnd, MatchOption, drop}
+use Rattle.std.specs.Prelude.{ℕ, ◌≡◌, ◌<◌, Option, None, IsSome, IsSomeAnd, MatchOption, drop}
 use Rattle.span_slots.specs.Table.{issue}
 use Rattle.span_id.specs.Id.{slot_of}
 use Rattle.span_id.specs.declared.fault.Fault.{Fault}

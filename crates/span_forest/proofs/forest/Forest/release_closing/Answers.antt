@@ -2,7 +2,7 @@ use Rattle.std.proofs.Common.{◌≡◌, ◌-◌, Some, sym, ap, subst, ◌∙�
 use Rattle.span_forest.specs.Spans.{nodes_of}
 use Rattle.span_forest.specs.Holders.{IsHeld}
 use Rattle.span_forest.specs.Release.{without_holder, closing_list}
-use Rattle.span_forest.specs.inside.Chain.{Chain, without_all}
+use Rattle.span_forest.specs.inside.Chain.{Chain}
 use Rattle.span_forest.proofs.Along.{closing_chain, released_by}
 use Rattle.span_forest.proofs.Counts.{release_view, IsConsistent-released, total_positive, handles_enough}
 use Rattle.span_forest.proofs.forest.Forest.release_closing.Goals as goal
