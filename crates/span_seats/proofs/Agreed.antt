@@ -6,8 +6,8 @@ use Rattle.std.proofs.lemmas.Bool.Decides.{nat_tests}
 use Rattle.span_id.specs.Id.{id_of, slot_of, generation_of}
 use Rattle.span_seats.specs.declared.view.HandleView.{HandleView}
 use Rattle.span_seats.specs.declared.view.RootView.{RootView}
-use Rattle.span_seats.specs.RootView.{handle_count, has_number, without, IsOpenIn, HasNoHandle, empty_table, stored, with_number, without_number, closed_words}
-use Rattle.span_seats.specs.OpenSpans.{OpenSpans, among, IsSound, IsAdded, IsCloned, IsReleased, Agree}
+use Rattle.span_seats.specs.RootView.{among, handle_count, has_number, without, IsOpenIn, HasNoHandle, MayClose, empty_table, stored, with_number, without_number, closed_words}
+use Rattle.span_seats.specs.OpenSpans.{OpenSpans, IsSound, IsAdded, IsCloned, IsReleased, Agree}
 use Rattle.span_seats.proofs.Numbers.{number_counts, count_without}
 use Rattle.span_seats.proofs.Closing.{length-closed, closed_else, closed_zero}
 
@@ -90,8 +90,8 @@ module _ (with_handle : Bool) (id : ℕ) (closed : List ℕ) (before after : Ope
   one_of_slot x y in_closed is e = subst (λ (z : ℕ). among z closed ≡ true) (sound.alone x y (released.were x in_closed) is e) in_closed
 
   -- no id of a closed span's slot has a handle
-  pub closed_free : (x : ℕ) → among x closed ≡ true → (slot_of x < length r₁.words) × HasNoHandle r₁.handles (slot_of x)
-  closed_free x in_closed = (rw (same, a.sized) (a.opened x (released.were x in_closed)).0, free)
+  pub may_close : MayClose r₁ closed
+  may_close x in_closed = (rw (same, a.sized) (a.opened x (released.were x in_closed)).0, free)
     where
       free : HasNoHandle r₁.handles (slot_of x)
       free y n there e =

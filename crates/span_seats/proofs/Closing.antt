@@ -7,8 +7,7 @@ use Rattle.std.proofs.lemmas.Grind.{get_or_default_zero}
 use Rattle.std.proofs.lemmas.Bool.Decides.{nat_tests}
 use Rattle.span_id.specs.Id.{slot_of}
 use Rattle.span_seats.specs.declared.view.RootView.{RootView}
-use Rattle.span_seats.specs.RootView.{stored, closed_words}
-use Rattle.span_seats.specs.OpenSpans.{among}
+use Rattle.span_seats.specs.RootView.{among, stored, closed_words}
 
 among_at : (ids : List ℕ) (k : ℕ) → k < length ids → among (get_or ids k 0) ids ≡ true
 among_at [] k h = absurd (omega arith)

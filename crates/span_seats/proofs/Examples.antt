@@ -6,10 +6,10 @@ use Rattle.std.proofs.lemmas.Bool.Decides.{nat_tests}
 use Rattle.span_seats.specs.declared.view.HandleView.{HandleView}
 use Rattle.span_seats.specs.declared.view.RootView.{RootView}
 use Rattle.span_seats.specs.declared.view.SeatView.{SeatView}
-use Rattle.span_seats.specs.RootView.{empty_table, IsOpenIn, has_number, handle_count, stored, with_number, without_number, closed_words}
+use Rattle.span_seats.specs.RootView.{among, empty_table, IsOpenIn, has_number, handle_count, stored, with_number, without_number, closed_words}
 use Rattle.span_seats.specs.inside.WellFormed.{times_given}
 use Rattle.span_seats.specs.inside.SeatView.{first_view, handle_seat, root_after_split, handle_of_split, root_after_join}
-use Rattle.span_seats.specs.OpenSpans.{OpenSpans, among, IsSound, IsAdded, IsCloned, IsReleased, Agree}
+use Rattle.span_seats.specs.OpenSpans.{OpenSpans, IsSound, IsAdded, IsCloned, IsReleased, Agree}
 use Rattle.span_seats.proofs.Agreed.{made_agrees, added_agrees}
 
 abbrev handle : ℕ → ℕ → HandleView

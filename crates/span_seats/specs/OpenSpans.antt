@@ -1,18 +1,14 @@
 -- What the seats ask of a core, which they see by two functions of an id.
-use Rattle.std.specs.Prelude.{◌≡◌, ◌≢◌, ℕ, ◌+◌, ◌<◌, List, [], ◌∷◌, Bool, true, false, not, ◌&&◌, ◌||◌, if◌then◌else◌, ◌==◌, length, slice_index}
+use Rattle.std.specs.Prelude.{◌≡◌, ◌≢◌, ℕ, ◌+◌, ◌<◌, List, length, slice_index}
+use Rattle.std.specs.Prelude.{Bool, true, not, ◌&&◌, ◌||◌, if◌then◌else◌, ◌==◌}
 use Rattle.span_id.specs.Id.{slot_of}
 use Rattle.span_seats.specs.declared.view.RootView.{RootView}
-use Rattle.span_seats.specs.RootView.{handle_count, IsOpenIn}
+use Rattle.span_seats.specs.RootView.{handle_count, among, IsOpenIn}
 
 -- which ids are open, and how many handles each has
 pub record OpenSpans : Type 0 where
   pub is_open : ℕ → Bool
   pub handles : ℕ → ℕ
-
--- the id is among these
-abbrev pub among : ℕ → List ℕ → Bool
-among id [] = false
-among id (x ∷ xs) = (x == id) || among id xs
 
 -- an id with a handle is open, and no two open ids have one slot
 pub record IsSound (spans : OpenSpans) : Type 0 where

@@ -1,5 +1,6 @@
 -- What the root knows: the id and the number of each handle, and the word of each slot.
-use Rattle.std.specs.Prelude.{◌≡◌, ◌≢◌, ℕ, ◌+◌, ◌-◌, List, [], ◌∷◌, Bool, true, false, ◌&&◌, ◌||◌, if◌then◌else◌, ◌==◌, replicate, slice_index, slice_set}
+use Rattle.std.specs.Prelude.{◌≡◌, ◌≢◌, ℕ, ◌+◌, ◌-◌, ◌<◌, List, [], ◌∷◌, length, replicate, slice_index, slice_set}
+use Rattle.std.specs.Prelude.{Bool, true, false, ◌&&◌, ◌||◌, if◌then◌else◌, ◌==◌}
 use Rattle.span_id.specs.Id.{id_of, slot_of, generation_of}
 use Rattle.span_seats.specs.declared.view.HandleView.{HandleView}
 use Rattle.span_seats.specs.declared.view.RootView.{RootView}
@@ -33,15 +34,27 @@ HasNoHandle handles slot = (id number : ℕ) → has_number id number handles �
 
 -- a slot's word is stored, and the next split is of the id that slot and word name
 abbrev pub stored : RootView → ℕ → ℕ → RootView
-stored root slot word = record { handles = root.handles; next_number = root.next_number; words = slice_set root.words slot word; split_id = id_of slot (word - 1) }
+stored root slot word = record root { words = slice_set root.words slot word; split_id = id_of slot (word - 1) }
 
 -- a split: the next number joins the id's set
 abbrev pub with_number : RootView → RootView
-with_number root = record { handles = record { id = root.split_id; number = root.next_number } ∷ root.handles; next_number = root.next_number + 1; words = root.words; split_id = root.split_id }
+with_number root =
+    let handle : HandleView = record { id = root.split_id; number = root.next_number } in
+    record root { handles = handle ∷ root.handles; next_number = root.next_number + 1 }
 
 -- a join: the number leaves the id's set, and the next split is of that id
 abbrev pub without_number : RootView → ℕ → ℕ → RootView
-without_number root id number = record { handles = without id number root.handles; next_number = root.next_number; words = root.words; split_id = id }
+without_number root id number = record root { handles = without id number root.handles; split_id = id }
+
+-- the id is among these
+abbrev pub among : ℕ → List ℕ → Bool
+among id [] = false
+among id (x ∷ xs) = (x == id) || among id xs
+
+-- the slots of these ids are in the table, and no id of them has a handle
+abbrev pub MayClose : RootView → List ℕ → Type 0
+MayClose root ids =
+    (id : ℕ) → among id ids ≡ true → (slot_of id < length root.words) × HasNoHandle root.handles (slot_of id)
 
 -- the words after the slots of these ids are set to 0
 abbrev pub closed_words : List ℕ → List ℕ → List ℕ

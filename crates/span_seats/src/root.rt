@@ -1,8 +1,8 @@
 //! The root's seat, with the table.
-ghost use Rattle.std.specs.Prelude.{◌≡◌, ℕ, ◌+◌, ◌<◌, length, true};
+ghost use Rattle.std.specs.Prelude.{◌≡◌, ◌+◌, ◌<◌, length, true};
 ghost use Rattle.span_id.specs.Id.{slot_of, generation_of};
-ghost use Rattle.span_seats.specs.RootView.{has_number, IsOpenIn, HasNoHandle, stored, with_number, without_number, closed_words};
-ghost use Rattle.span_seats.specs.OpenSpans.{among};
+ghost use Rattle.span_seats.specs.RootView.{has_number, IsOpenIn, HasNoHandle, MayClose};
+ghost use Rattle.span_seats.specs.RootView.{stored, with_number, without_number, closed_words};
 
 use crate::handle::HandleSeat;
 use crate::rule::{Hand, Look, Store};
@@ -31,7 +31,10 @@ impl<T: TableName> Model for RootSeat<T> {
 
     ghost view = { λ r. r.seat.me.0.root };
 
-    ghost invariant = { λ r. (r.table.shared.table_id ≡ T.table) × (r.seat.table_id ≡ T.table) × (0 < r.table.shared.table_id.words) × (length r.seat.me.0.root.words ≡ r.table.shared.table_id.words) × (r.seat.id ≡ 0) × (r.seat.me ≡ (root_seat r.seat.me.0.root true, [])) × IsWellFormed r.seat.me.0.root };
+    ghost invariant = { λ r.
+        (r.table.shared.table_id ≡ T.table) × (r.seat.table_id ≡ T.table) × (0 < r.table.shared.table_id.words)
+        × (length r.seat.me.0.root.words ≡ r.table.shared.table_id.words) × (r.seat.id ≡ 0)
+        × (r.seat.me ≡ (root_seat r.seat.me.0.root true, [])) × IsWellFormed r.seat.me.0.root };
 }
 
 impl<T: TableName> RootSeat<T> {
@@ -63,7 +66,7 @@ impl<T: TableName> RootSeat<T> {
     ///
     /// Keeps what `store` keeps.
     pub fn mark_closed(&mut self, closed: &[Id])
-        requires { (id : ℕ) → among id closed.now ≡ true → (slot_of id < length self.old.words) × HasNoHandle self.old.handles (slot_of id) }
+        requires { MayClose self.old closed.now }
         ensures handles { self.new.handles ≡ self.old.handles }
         ensures next_number { self.new.next_number ≡ self.old.next_number }
         ensures words { self.new.words ≡ closed_words self.old.words closed.now }

@@ -45,7 +45,9 @@ impl Model for SeatTable {
 
     ghost view = { λ t. t.table.shared.table_id };
 
-    ghost invariant = { λ t. (t.seat.table_id ≡ t.table.shared.table_id) × (0 < t.table.shared.table_id.words) × (t.seat.id ≡ 0) × (t.seat.me ≡ (first_view t.table.shared.table_id.words, [])) };
+    ghost invariant = { λ t.
+        (t.seat.table_id ≡ t.table.shared.table_id) × (0 < t.table.shared.table_id.words) × (t.seat.id ≡ 0)
+        × (t.seat.me ≡ (first_view t.table.shared.table_id.words, [])) };
 }
 
 impl SeatTable {

@@ -14,9 +14,11 @@ pub record FitsSeats (root : SeatView) (views : List SeatView) : Type 0 where
   pub is_root : root.is_handle ≡ false
   pub well_formed : IsWellFormed root.root
   -- a handle's number stands in the root's set of its id
-  pub in_set : (k : ℕ) (v : SeatView) → get_elem? views k ≡ some v → v.is_handle ≡ true → has_number v.handle.id v.handle.number root.root.handles ≡ true
+  pub in_set : (k : ℕ) (v : SeatView) → get_elem? views k ≡ some v → v.is_handle ≡ true
+      → has_number v.handle.id v.handle.number root.root.handles ≡ true
   -- no two handles' views have one number
-  pub apart : (j k : ℕ) (v w : SeatView) → get_elem? views j ≡ some v → get_elem? views k ≡ some w → v.is_handle ≡ true → w.is_handle ≡ true → v.handle.number ≡ w.handle.number → j ≡ k
+  pub apart : (j k : ℕ) (v w : SeatView) → get_elem? views j ≡ some v → get_elem? views k ≡ some w
+      → v.is_handle ≡ true → w.is_handle ≡ true → v.handle.number ≡ w.handle.number → j ≡ k
 
 module _ {S : Type 0} where
   -- the root's view stands first among the views, and each word is what it says

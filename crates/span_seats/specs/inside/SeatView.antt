@@ -35,4 +35,6 @@ handle_of_split seat = handle_seat (record { id = seat.root.split_id; number = s
 -- the root's view after a join, which writes down whether the number was found
 abbrev pub root_after_join : SeatView → SeatView → SeatView
 root_after_join seat joined =
-    root_seat (without_number seat.root joined.handle.id joined.handle.number) (seat.all_found && has_number joined.handle.id joined.handle.number seat.root.handles)
+    root_seat
+    (without_number seat.root joined.handle.id joined.handle.number)
+    (seat.all_found && has_number joined.handle.id joined.handle.number seat.root.handles)
