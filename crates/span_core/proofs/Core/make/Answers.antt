@@ -1,5 +1,6 @@
-use Rattle.std.proofs.Common.{◌≡◌, ◌∙◌, ◌<◌, ℕ, true, [], ◌∷◌, ◌++◌, map, filter, length, Option, Some, None, ap, sym, refl, subst, inl, inr, arith}
+use Rattle.std.proofs.Common.{◌≡◌, ◌∙◌, ◌<◌, ◌-◌, ◌^◌, ℕ, Bool, ◌&&◌, true, false, [], ◌∷◌, ◌++◌, map, filter, length, Option, Some, None, ap, sym, refl, subst, inl, inr, arith}
 use Rattle.std.specs.Prelude.{◌⊎◌, string_bytes, IfSome, slice_index}
+use Rattle.std.proofs.lemmas.Bool.{false≢true, ltb-true}
 use Rattle.std.specs.List.{range_with_len}
 use Rattle.span_id.specs.Id.{IsId, slot_of, generation_of}
 use Rattle.span_slots.specs.Table.{IsIssued}
@@ -79,11 +80,16 @@ told g c =
     ∙ (λ j. map (first_note c.self.inside.forest.spans c.args.new.now.worker (same_id g c j) c.args.new.now.parent (string_bytes c.args.new.now.meta.now.name) (plain_fields c.args.new.now.fields.now))
     (filter (hears c.self.inside.rules (bits_are g c j) OnNew) (range_with_len 0 (length c.self.inside.rules)))))
 
+and_second : (p q : Bool) → (p && q) ≡ true → q ≡ true
+and_second true q h = h
+and_second false q h = absurd (false≢true h)
+
 pub overflow_add-self-2 : goal.overflow_add-self-2
 overflow_add-self-2 g c =
     let few = few_made _ _ _ _ c.self.invariant.0.legal in
     let same = ap (λ (v : CoreView). length v.sent) c.self.view_is in
-    omega (arith, few, same, c.self.invariant.1, c.requires.due.counts.1)
+    let may : length c.args.self.now.sent < 2 ^ 64 - 1 = ltb-true _ _ (and_second _ _ c.requires.due.counts) in
+    omega (arith, few, same, c.self.invariant.1, may)
 
 pub invariant_of-self-2 : goal.invariant_of-self-2
 invariant_of-self-2 g c = (
