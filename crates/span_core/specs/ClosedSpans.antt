@@ -27,7 +27,8 @@ closed_in history = flat_map (λ batch. closed_by batch.answer) history
 -- The spans once the call has given its holder back, and before any of them closes: a worker that leaves a
 -- span gives an entry back, `try_close` a handle, and no other call gives a holder back.
 abbrev pub spans_before_closing : World → Request → Spans
-spans_before_closing old (exit worker id) = cond (stays_inside old worker id) old.spans (without_holder old.spans id Entry)
+spans_before_closing old (exit worker id) =
+    cond (stays_inside old worker id) old.spans (without_holder old.spans id Entry)
 spans_before_closing old (try_close worker id) = without_holder old.spans id Handle
 spans_before_closing old _ = old.spans
 

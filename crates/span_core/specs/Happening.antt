@@ -73,10 +73,12 @@ event_told rules world worker meta message fields =
 abbrev pub happenings : List Filter → World → Request → Answer → World → List Happening
 happenings rules old (new_span worker meta fields parent) (made id) new = at_span new.spans OnNew id fields ∷ []
 happenings rules old (enter worker id) answer new = at_span old.spans OnEnter id [] ∷ []
-happenings rules old (exit worker id) (exited closed) new = at_span old.spans OnExit id [] ∷ map (close_of old.spans) closed
+happenings rules old (exit worker id) (exited closed) new =
+    at_span old.spans OnExit id [] ∷ map (close_of old.spans) closed
 happenings rules old (try_close worker id) (released closed) new = map (close_of old.spans) closed
 happenings rules old (record_fields worker id fields) answer new = at_span old.spans OnRecord id fields ∷ []
-happenings rules old (event worker meta message fields) answer new = event_told rules old worker meta message fields ∷ []
+happenings rules old (event worker meta message fields) answer new =
+    event_told rules old worker meta message fields ∷ []
 happenings rules old _ _ new = []
 
 -- the layers that are told of a happening, ascending: those that admit it and want notes of its kind

@@ -19,4 +19,6 @@ issued history = flat_map (λ batch. id_issued batch.answer) history
 -- batch is a step from the empty world, each further one from the world that the one before it left.
 pub data IsLegal (rules : List Filter) (workers : ℕ) : List PlainBatch → World → Type 0 where
   none : IsLegal rules workers [] (empty_world workers)
-  more : {before : List PlainBatch} {old : World} (batch : PlainBatch) {new : World} {history : List PlainBatch} → IsLegal rules workers before old → IsStep rules (issued before) old batch.request batch.answer batch.notes new → history ≡ before ++ batch ∷ [] → IsLegal rules workers history new
+  more : {before : List PlainBatch} {old : World} (batch : PlainBatch) {new : World} {history : List PlainBatch}
+      → IsLegal rules workers before old → IsStep rules (issued before) old batch.request batch.answer batch.notes new
+      → history ≡ before ++ batch ∷ [] → IsLegal rules workers history new

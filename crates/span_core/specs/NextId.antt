@@ -18,11 +18,13 @@ pub record SlotsUsed : Type 0 where
 
 -- after spans closed, in this order: each slot is freed, unless it has given its last id
 abbrev pub with_closed : ℕ → SlotsUsed → List ℕ → SlotsUsed
-with_closed last_generation slots closed = record slots { freed = freed_after last_generation slots.given slots.freed closed }
+with_closed last_generation slots closed =
+    record slots { freed = freed_after last_generation slots.given slots.freed closed }
 
 -- after an answer: a new span takes the slot freed last, if there is one, and closed spans free theirs
 abbrev pub with_answer : ℕ → SlotsUsed → Answer → SlotsUsed
-with_answer last_generation slots (made id) = record { given = issue slots.given (slot_of id); freed = drop 1 slots.freed }
+with_answer last_generation slots (made id) =
+    record { given = issue slots.given (slot_of id); freed = drop 1 slots.freed }
 with_answer last_generation slots (exited closed) = with_closed last_generation slots closed
 with_answer last_generation slots (released closed) = with_closed last_generation slots closed
 with_answer last_generation slots cloned = slots
@@ -32,12 +34,14 @@ with_answer last_generation slots told = slots
 
 -- after a history
 abbrev pub slots_after : ℕ → List PlainBatch → SlotsUsed
-slots_after last_generation history = fold (λ slots batch. with_answer last_generation slots batch.answer) (record { given = []; freed = [] }) history
+slots_after last_generation history =
+    fold (λ slots batch. with_answer last_generation slots batch.answer) (record { given = []; freed = [] }) history
 
 -- The id of the next new span: the slot that was freed last, else the lowest never used, at the number
 -- of ids that it has given. There is none where no slot is free.
 abbrev pub next_id_from : ℕ → SlotsUsed → Option ℕ
-next_id_from slots used = option_map (λ slot. id_of slot (slice_index used.given slot)) (next_slot_of slots (length used.given) used.freed)
+next_id_from slots used =
+    option_map (λ slot. id_of slot (slice_index used.given slot)) (next_slot_of slots (length used.given) used.freed)
 
 abbrev pub next_id : ℕ → ℕ → List PlainBatch → Option ℕ
 next_id slots last_generation history = next_id_from slots (slots_after last_generation history)
@@ -48,4 +52,5 @@ is_occupied spans slot = list_any (λ e. slot_of e.0 == slot) spans
 
 -- the slot can give no id: an open span has it, or the history issued its id of the last generation
 abbrev pub is_used_up : ℕ → Spans → List PlainBatch → ℕ → Bool
-is_used_up last_generation spans history slot = is_occupied spans slot || stands_in (id_of slot last_generation) (issued history)
+is_used_up last_generation spans history slot =
+    is_occupied spans slot || stands_in (id_of slot last_generation) (issued history)

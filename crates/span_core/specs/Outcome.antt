@@ -47,7 +47,8 @@ world_after rules old _ answer = old
 
 -- the notes of a call with this answer that leaves this world
 abbrev pub notes_after : List Filter → World → Request → Answer → World → List PlainNote
-notes_after rules old request answer new = notes_of_all rules (worker_of request) (happenings rules old request answer new)
+notes_after rules old request answer new =
+    notes_of_all rules (worker_of request) (happenings rules old request answer new)
 
 -- the core after a call with this answer and these notes, which leaves this world: one batch more was sent
 abbrev pub core_after : CoreView → Request → Answer → List PlainNote → World → CoreView
@@ -91,4 +92,5 @@ IsNextIdNew core = IfSome (id_after core) (λ id. IsId id × (stands_in id (issu
 abbrev pub IsAllowed : CoreView → Request → Outcome → Type 0
 IsAllowed core request (refused fault) = IsRefused core request fault core
 IsAllowed core request not_wanted = IsNotWanted core request core
-IsAllowed core request (accepted answer notes new) = (call : IsAccepted core request answer new) × (call.notes ≡ notes) × TakesNextId core answer
+IsAllowed core request (accepted answer notes new) =
+    (call : IsAccepted core request answer new) × (call.notes ≡ notes) × TakesNextId core answer

@@ -37,7 +37,8 @@ made_node rules meta fields parent = record {
 
 -- one span more
 abbrev pub world_made : List Filter → World → PlainMeta → List KeyValue → Option ℕ → ℕ → World
-world_made rules old meta fields parent id = record old { spans = with_node old.spans id (made_node rules meta fields parent) }
+world_made rules old meta fields parent id =
+    record old { spans = with_node old.spans id (made_node rules meta fields parent) }
 
 -- one handle more
 abbrev pub world_cloned : World → ℕ → World
@@ -123,7 +124,8 @@ pub record RecordsFields (old : World) (id : ℕ) (fields : List KeyValue) (new 
 
 -- what a call with this answer does to the world; no other pairs of call and answer are given
 abbrev pub Changes : List Filter → List ℕ → World → Request → Answer → World → Type 0
-Changes rules issued old (new_span worker meta fields parent) (made id) new = MakesSpan rules issued old meta fields parent id new
+Changes rules issued old (new_span worker meta fields parent) (made id) new =
+    MakesSpan rules issued old meta fields parent id new
 Changes rules issued old (clone_span worker id) cloned new = ClonesSpan old id new
 Changes rules issued old (enter worker id) (entered first) new = EntersSpan old worker id first new
 Changes rules issued old (exit worker id) (exited closed) new = ExitsSpan old worker id closed new

@@ -141,7 +141,8 @@ pub fn new_id_finds_its_span<O: Outlet, A>(core: &Core<O, A>)
     ensures new { (worker id : ℕ) (meta : PlainMeta) (fields : List KeyValue) (parent : Option ℕ) (new : CoreView) →
         IsAccepted core.now (new_span worker meta fields parent) (made id) new →
         find new.world.spans id ≡ Some (made_node core.now.rules meta fields parent) }
-    ensures others { (worker id other : ℕ) (meta : PlainMeta) (fields : List KeyValue) (parent : Option ℕ) (new : CoreView) →
+    ensures others { (worker id other : ℕ) (meta : PlainMeta) (fields : List KeyValue) (parent : Option ℕ)
+        (new : CoreView) →
         IsAccepted core.now (new_span worker meta fields parent) (made id) new → other ≢ id →
         find new.world.spans other ≡ find core.now.world.spans other }
 {

@@ -29,7 +29,8 @@ closing_list spans id holder = gone_on_walk (without_holder spans id holder) id
 abbrev pub freed_after : ℕ → List ℕ → List ℕ → List ℕ → List ℕ
 freed_after last_generation given freed [] = freed
 freed_after last_generation given freed (id ∷ ids) =
-    freed_after last_generation given (cond (nat_le (slice_index given (slot_of id)) last_generation) (slot_of id ∷ freed) freed) ids
+    freed_after last_generation given (cond (nat_le (slice_index given (slot_of id)) last_generation)
+    (slot_of id ∷ freed) freed) ids
 
 -- why a release is refused: the span has no holder of this kind, else there was no memory for the list
 abbrev pub WhyNotReleased : Spans → ℕ → Holder → Fault → Type 0

@@ -50,7 +50,8 @@ pub(crate) fn let_go(slots: &mut Slots<Span>, id: Id, holder: Holder, closed: &[
     requires held { IsHeld (nodes_of slots.old.entries) id holder }
     requires chain { Chain (without_holder (nodes_of slots.old.entries) id holder) (Some id) closed.now }
     ensures settled { IsSettled slots.new.entries }
-    ensures nodes { nodes_of slots.new.entries ≡ without_all (without_holder (nodes_of slots.old.entries) id holder) closed.now }
+    ensures nodes { nodes_of slots.new.entries
+        ≡ without_all (without_holder (nodes_of slots.old.entries) id holder) closed.now }
     ensures table { slots.new ≡ record slots.old {
       entries = slots.new.entries;
       freed = freed_after slots.old.last_generation slots.old.given slots.old.freed closed.now;

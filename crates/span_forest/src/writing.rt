@@ -21,7 +21,8 @@ pub(crate) fn append_fields(
     requires settled { IsSettled slots.old.entries }
     ensures settled { IsSettled slots.new.entries }
     ensures written { OnOk result
-        (nodes_of slots.new.entries ≡ with_change (with_fields (plain_fields fields.items)) (nodes_of slots.old.entries) id) }
+        (nodes_of slots.new.entries ≡ with_change (with_fields (plain_fields fields.items))
+        (nodes_of slots.old.entries) id) }
     ensures refused { OnErr result (nodes_of slots.new.entries ≡ nodes_of slots.old.entries) }
     ensures table { slots.new ≡ record slots.old { entries = slots.new.entries } }
 {

@@ -11,4 +11,5 @@ pub record PlainBatch : Type 0 where
   pub notes : List PlainNote
 
 abbrev pub plain_batch : Batch → PlainBatch
-plain_batch batch = record { request = request_of batch.call; answer = answer_of batch.reply; notes = map plain_note batch.notes.items }
+plain_batch batch =
+    record { request = request_of batch.call; answer = answer_of batch.reply; notes = map plain_note batch.notes.items }

@@ -23,7 +23,8 @@ pub record NumberedNote : Type 0 where
 
 -- the notes of a batch with this number
 abbrev pub numbered_in : ℕ × PlainBatch → List NumberedNote
-numbered_in batch = map (λ note. record { batch = batch.0; place = note.0; note = note.1 }) (enumerate_from 0 batch.1.notes)
+numbered_in batch =
+    map (λ note. record { batch = batch.0; place = note.0; note = note.1 }) (enumerate_from 0 batch.1.notes)
 
 -- the notes of a history, in order
 abbrev pub numbered : List PlainBatch → List NumberedNote
@@ -33,8 +34,11 @@ numbered history = flat_map numbered_in (enumerate_from 0 history)
 -- missed there is none. A note whose layer has no form has no line, so it is missed.
 pub data AreTold (forms : List Form) : List NumberedNote → List PlainLine → List NumberedNote → Type 0 where
   none : AreTold forms [] [] []
-  told : (note : NumberedNote) (line : PlainLine) {notes : List NumberedNote} {lines : List PlainLine} {missed : List NumberedNote} → line_of forms note.batch (note.place, note.note) ≡ Some line → AreTold forms notes lines missed → AreTold forms (note ∷ notes) (line ∷ lines) missed
-  missed : (note : NumberedNote) {notes : List NumberedNote} {lines : List PlainLine} {missed : List NumberedNote} → AreTold forms notes lines missed → AreTold forms (note ∷ notes) lines (note ∷ missed)
+  told : (note : NumberedNote) (line : PlainLine) {notes : List NumberedNote} {lines : List PlainLine} {missed : List NumberedNote}
+      → line_of forms note.batch (note.place, note.note) ≡ Some line → AreTold forms notes lines missed
+      → AreTold forms (note ∷ notes) (line ∷ lines) missed
+  missed : (note : NumberedNote) {notes : List NumberedNote} {lines : List PlainLine} {missed : List NumberedNote}
+      → AreTold forms notes lines missed → AreTold forms (note ∷ notes) lines (note ∷ missed)
 
 -- the lines of these notes, but for those that were missed, which are counted; the count stays at the greatest `u64`
 pub record AreKept (forms : List Form) (notes : List NumberedNote) (lines : List PlainLine) (refused : ℕ) : Type 0 where

@@ -21,7 +21,9 @@ plain_line line = record { batch = line.batch; place = line.place; layer = line.
 
 -- the line of a note, where its layer has a form
 abbrev pub line_of : List Form → ℕ → ℕ × PlainNote → Option PlainLine
-line_of forms batch note = option_map (λ form. record { batch = batch; place = note.0; layer = note.1.layer; text = text_of form note.1 }) (slice_get forms note.1.layer)
+line_of forms batch note =
+    option_map (λ form. record { batch = batch; place = note.0; layer = note.1.layer; text = text_of form note.1 })
+    (slice_get forms note.1.layer)
 
 -- the lines of a batch with this number
 abbrev pub lines_of_batch : List Form → ℕ × PlainBatch → List PlainLine

@@ -34,7 +34,8 @@ request_of (Enter worker id) = enter worker id
 request_of (Exit worker id) = exit worker id
 request_of (TryClose worker id) = try_close worker id
 request_of (RecordFields worker id fields) = record_fields worker id (plain_fields fields.items)
-request_of (Event worker meta message fields) = event worker (plain_meta meta) (string_bytes message) (plain_fields fields.items)
+request_of (Event worker meta message fields) =
+    event worker (plain_meta meta) (string_bytes message) (plain_fields fields.items)
 
 abbrev pub answer_of : Reply → Answer
 answer_of (Made id) = made id

@@ -67,8 +67,10 @@ impl Told {
     // Tells a note: its line is appended, or it is missed and counted.
     fn tell<V: Say>(&mut self, formatters: &V, batch: u64, place: usize, note: &Note)
         ensures forms { self.new.forms ≡ self.old.forms }
-        ensures told { GainsLines self.old.forms ((record { batch = batch; place = place; note = plain_note note.now }) ∷ [])
-            (map plain_line self.old.lines.items) self.old.refused (map plain_line self.new.lines.items) self.new.refused }
+        ensures told { GainsLines self.old.forms
+            ((record { batch = batch; place = place; note = plain_note note.now }) ∷ [])
+            (map plain_line self.old.lines.items) self.old.refused
+            (map plain_line self.new.lines.items) self.new.refused }
     {
         let Some(line) = line_of_note(&self.forms, formatters, batch, place, note) else {
             self.miss();
@@ -83,7 +85,8 @@ impl Told {
     fn tell_all<V: Say>(&mut self, formatters: &V, number: u64, batch: &Batch)
         ensures forms { self.new.forms ≡ self.old.forms }
         ensures told { GainsLines self.old.forms (numbered_in (number, plain_batch batch.now))
-            (map plain_line self.old.lines.items) self.old.refused (map plain_line self.new.lines.items) self.new.refused }
+            (map plain_line self.old.lines.items) self.old.refused
+            (map plain_line self.new.lines.items) self.new.refused }
     {
         for (place, note) in batch.notes.iter().enumerate() {
             self.tell(formatters, number, place, note);
@@ -121,7 +124,8 @@ impl<V> Model for Kept<V> {
     } };
 
     ghost invariant = { λ k.
-        AreKept k.told.forms (numbered (map plain_batch k.batches.items)) (map plain_line k.told.lines.items) k.told.refused
+        AreKept k.told.forms (numbered (map plain_batch k.batches.items)) (map plain_line k.told.lines.items)
+        k.told.refused
         × (k.ready ≡ true → vec_len k.batches < vec_capacity k.batches) };
 }
 
@@ -157,7 +161,8 @@ impl<V> Kept<V> {
     pub fn all(&self) -> &[Line]
         ensures lines { map plain_line result.now ≡ self.now.lines }
         ensures kept { AreKept self.now.forms (numbered self.now.sent) (map plain_line result.now) self.now.refused }
-        ensures apart { (missed : List NumberedNote) → AreTold self.now.forms (numbered self.now.sent) (map plain_line result.now) missed
+        ensures apart { (missed : List NumberedNote)
+            → AreTold self.now.forms (numbered self.now.sent) (map plain_line result.now) missed
             → All (HasNoLine (map plain_line result.now)) missed }
         ensures whole { self.now.refused ≡ 0 → map plain_line result.now ≡ lines_of self.now.forms self.now.sent }
     {
@@ -195,8 +200,8 @@ impl<V: Say> Outlet for Kept<V> {
         Ok(true)
     }
 
-    /// The lines gain those of the notes of the batch, at the end and in order, but for the notes that are missed, which
-    /// are counted.
+    /// The lines gain those of the notes of the batch, at the end and in order, but for the notes that are missed,
+    /// which are counted.
     fn put(&mut self, batch: Batch)
         requires ready { self.old.ready ≡ true }
         requires countable { length self.old.sent < 2 ^ 64 - 1 }

@@ -1,4 +1,5 @@
-//! What leaves the registry: the batches of accepted calls, where they go, and the lines that layers write of their notes.
+//! What leaves the registry: the batches of accepted calls, where they go, and the lines that layers write of their
+//! notes.
 #![tactic(auto)]
 
 mod batch;

@@ -17,8 +17,8 @@ pub trait Outlet {
     /// How often `room` answered false. An outlet stores it as a `u64`, which stays at its greatest value.
     ghost times_full: { Self → ℕ };
 
-    /// The forms in which the outlet writes the layers' notes, in the order of the layers. No call changes them; an outlet
-    /// that writes no text has none.
+    /// The forms in which the outlet writes the layers' notes, in the order of the layers. No call changes them; an
+    /// outlet that writes no text has none.
     ghost forms: { Self → List Form };
 
     /// The ring into which the outlet puts the batches; an outlet that keeps them itself has none. No call changes it.
@@ -30,7 +30,8 @@ pub trait Outlet {
         ensures forms { forms self.new ≡ forms self.old }
         ensures name { name self.new ≡ name self.old }
         ensures ready { IfOk result (λ yes. ready self.new ≡ yes) }
-        ensures counted { IfOk result (λ yes. times_full self.new ≡ (if yes then times_full self.old else one_more (times_full self.old))) }
+        ensures counted { IfOk result (λ yes. times_full self.new
+            ≡ (if yes then times_full self.old else one_more (times_full self.old))) }
         ensures not_ready { OnErr result (ready self.new ≡ false) }
         ensures err { OnErr result (times_full self.new ≡ times_full self.old) };
 

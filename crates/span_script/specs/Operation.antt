@@ -219,7 +219,13 @@ limits_of line = do
   last_generation ← optional key.LastGeneration limit_in 4294967295 line
   max_count ← optional key.MaxCount limit_in 4294967295 line
   workers ← optional key.Workers limit_in 4 line
-  Ok (set_limits (record { slots = slots; last_generation = last_generation; max_count = max_count; workers = workers; ring = 1024 }))
+  Ok (set_limits (record {
+    slots = slots;
+    last_generation = last_generation;
+    max_count = max_count;
+    workers = workers;
+    ring = 1024;
+  }))
 
 unfoldable pub layer_of : Data → Result Operation Reason
 layer_of line = do
@@ -237,7 +243,15 @@ new_of workers line = do
   fields ← optional key.Fields fields_in [] line
   label ← optional key.Label as_str name line
   worker ← optional key.Worker (worker_in workers) 0 line
-  Ok (make (record { name = name; target = target; level = level; parent = parent; fields = fields; label = label; worker = worker }))
+  Ok (make (record {
+    name = name;
+    target = target;
+    level = level;
+    parent = parent;
+    fields = fields;
+    label = label;
+    worker = worker;
+  }))
 
 unfoldable pub on_span_of : ℕ → SpanCall → Data → Result Operation Reason
 on_span_of workers call line = do
@@ -260,7 +274,14 @@ event_of workers line = do
   level ← optional key.Level level_in Info line
   fields ← optional key.Fields fields_in [] line
   worker ← optional key.Worker (worker_in workers) 0 line
-  Ok (tell (record { name = codes "event"; target = target; level = level; message = message; fields = fields; worker = worker }))
+  Ok (tell (record {
+    name = codes "event";
+    target = target;
+    level = level;
+    message = message;
+    fields = fields;
+    worker = worker;
+  }))
 
 -- a span is looked up by `span`
 abbrev pub find_by_span : Data → Option Data → Result Operation Reason

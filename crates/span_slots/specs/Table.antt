@@ -22,7 +22,8 @@ abbrev pub table_code : {T : Type 0} → Coded T → Coded (Table T)
 table_code {T} code =
     code_by
     (ℕ × (ℕ × (List (ℕ × T) × (List ℕ × List ℕ))))
-    (coded× coded_ℕ (coded× coded_ℕ (coded× (coded_list (coded× coded_ℕ code)) (coded× (coded_list coded_ℕ) (coded_list coded_ℕ)))))
+    (coded× coded_ℕ (coded× coded_ℕ (coded× (coded_list (coded× coded_ℕ code))
+    (coded× (coded_list coded_ℕ) (coded_list coded_ℕ)))))
     (λ t. (t.slots, (t.last_generation, (t.entries, (t.given, t.freed)))))
     (λ p. record { slots = p.0; last_generation = p.1.0; entries = p.1.1.0; given = p.1.1.1.0; freed = p.1.1.1.1 })
     (λ _. refl)
@@ -36,7 +37,8 @@ next_slot_of slots used (slot ∷ rest) = Some slot
 -- How many ids each slot has given, after one more of this slot. A slot that was never used comes next
 -- in the list.
 abbrev pub issue : List ℕ → ℕ → List ℕ
-issue given slot = cond (nat_lt slot (length given)) (slice_set given slot (slice_index given slot + 1)) (given ++ 1 ∷ [])
+issue given slot =
+    cond (nat_lt slot (length given)) (slice_set given slot (slice_index given slot + 1)) (given ++ 1 ∷ [])
 
 module _ {T : Type 0} where
   -- the value under an id

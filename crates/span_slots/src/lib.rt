@@ -57,7 +57,8 @@ impl<T> Model for Slots<T> {
       freed = reverse s.freed.items;
     } };
 
-    ghost invariant = { λ s. IsSound s.slots s.last_generation s.len (vec_capacity s.cells) (vec_capacity s.freed) (map row_of s.cells.items) s.freed.items };
+    ghost invariant = { λ s. IsSound s.slots s.last_generation s.len (vec_capacity s.cells) (vec_capacity s.freed)
+        (map row_of s.cells.items) s.freed.items };
 }
 
 impl<T: Drop> Slots<T> {

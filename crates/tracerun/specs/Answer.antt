@@ -8,7 +8,8 @@ use Rattle.tracerun.specs.declared.run.answer.Found as found
 
 -- the line of a span that was looked up
 abbrev pub span_text : List ℕ → ℕ → ℕ → ℕ → ℕ → List ℕ
-span_text name parent handles entries count = codes "= " ++ (name ++ (codes " parent " ++ (decimal parent ++ (codes " handles " ++ (decimal handles
+span_text name parent handles entries count =
+    codes "= " ++ (name ++ (codes " parent " ++ (decimal parent ++ (codes " handles " ++ (decimal handles
     ++ (codes " entries " ++ (decimal entries ++ (codes " count " ++ (decimal count ++ codes "\n")))))))))
 
 abbrev pub found_text : found.Found → List ℕ

@@ -45,7 +45,10 @@ are_in_range limits =
 abbrev pub limits_turn : State → Limits → Turn
 limits_turn state limits =
     if are_in_range limits
-    then record { text = answer_text answer.Limits; state = record state { core = record state.core { limits = limits; world = empty_world limits.workers } } }
+    then record {
+      text = answer_text answer.Limits;
+      state = record state { core = record state.core { limits = limits; world = empty_world limits.workers } };
+    }
     else record { text = answer_text (answer.Refused BadLimits); state = state }
 
 -- what a layer admits, and which of its spans' doings it is told of
@@ -54,13 +57,17 @@ filter_of_layer layer = record { pairs = layer.rule; spans = layer.spans }
 
 -- a core with one layer more
 abbrev pub with_layer : CoreView → NewLayer → CoreView
-with_layer core layer = record core { rules = core.rules ++ filter_of_layer layer ∷ []; forms = core.forms ++ layer.form ∷ [] }
+with_layer core layer =
+    record core { rules = core.rules ++ filter_of_layer layer ∷ []; forms = core.forms ++ layer.form ∷ [] }
 
 -- a layer more, of at most 64 and of at most as many as there are hooks for
 abbrev pub layer_turn : ℕ → State → NewLayer → Turn
 layer_turn hooks state layer =
     if nat_lt (length state.core.rules) 64 && nat_lt (length state.core.rules) hooks
-    then record { text = answer_text (answer.Layer (length state.core.rules)); state = record state { core = with_layer state.core layer } }
+    then record {
+      text = answer_text (answer.Layer (length state.core.rules));
+      state = record state { core = with_layer state.core layer };
+    }
     else record { text = answer_text (answer.Refused TooManyLayers); state = state }
 
 -- ---- calls
@@ -106,7 +113,8 @@ turn_of hooks state (on_span span_call key worker) =
 turn_of hooks state (record_fields key fields worker) =
     id_of_key state.labels key >>= λ id. Ok (call_turn state (call.record_fields worker id fields))
 turn_of hooks state (tell event) = Ok (call_turn state (request_of_event event))
-turn_of hooks state (find key) = id_of_key state.labels key >>= λ id. Ok (record { text = find_text state.core id; state = state })
+turn_of hooks state (find key) =
+    id_of_key state.labels key >>= λ id. Ok (record { text = find_text state.core id; state = state })
 
 -- which lines came, once a line with this operation has run
 abbrev pub stage_after : Operation → Stage
@@ -131,7 +139,8 @@ read_turn hooks state line = do
 
 -- a line of blanks, tabs and carriage returns is skipped
 abbrev pub line_turn : ℕ → State → List ℕ → Result Turn Reason
-line_turn hooks state line = if is_skipped line then Ok (record { text = []; state = state }) else read_turn hooks state line
+line_turn hooks state line =
+    if is_skipped line then Ok (record { text = []; state = state }) else read_turn hooks state line
 
 -- ---- the whole script
 
@@ -160,7 +169,8 @@ closed_by_labels state = each_written closes (left_by_workers state).core (map (
 -- at the end of the lines the tidying, and how many spans are open
 abbrev pub last_part : State → Transcript
 last_part state = record {
-  text = (left_by_workers state).text ++ ((closed_by_labels state).text ++ left_text (length (closed_by_labels state).core.world.spans));
+  text = (left_by_workers state).text ++ ((closed_by_labels state).text
+      ++ left_text (length (closed_by_labels state).core.world.spans));
   ending = finished (length (closed_by_labels state).core.world.spans);
 }
 
@@ -172,9 +182,11 @@ turn_then number (Err reason) more = record { text = []; ending = faulty number 
 -- the lines from this number on
 unfoldable pub run : ℕ → ℕ → State → List (List ℕ) → Transcript
 run hooks number state [] = last_part state
-run hooks number state (line ∷ lines) = turn_then number (line_turn hooks state line) (λ new. run hooks (number + 1) new lines)
+run hooks number state (line ∷ lines) =
+    turn_then number (line_turn hooks state line) (λ new. run hooks (number + 1) new lines)
 
 -- a script of more than 16,777,216 bytes isn't run at all
 abbrev pub meaning : ℕ → List ℕ → Transcript
 meaning hooks bytes =
-    if nat_le (length bytes) most_bytes then run hooks 1 first_state (lines_of bytes) else record { text = []; ending = faulty 0 TooLong }
+    if nat_le (length bytes) most_bytes then run hooks 1 first_state (lines_of bytes)
+    else record { text = []; ending = faulty 0 TooLong }

@@ -20,4 +20,5 @@ request_of_new new parent =
 -- an event
 abbrev pub request_of_event : NewEvent → call.Request
 request_of_event event =
-    call.event event.worker (record { name = event.name; target = event.target; level = event.level }) event.message event.fields
+    call.event event.worker (record { name = event.name; target = event.target; level = event.level }) event.message
+    event.fields

@@ -18,7 +18,16 @@ default_limits = record { slots = 1024; last_generation = 4294967295; max_count 
 
 -- a core of which no call was made, with these limits and no layers
 abbrev pub empty_core : Limits → CoreView
-empty_core limits = record { limits = limits; rules = []; world = empty_world limits.workers; sent = []; times_full = 0; forms = []; name = None }
+empty_core limits =
+    record {
+      limits = limits;
+      rules = [];
+      world = empty_world limits.workers;
+      sent = [];
+      times_full = 0;
+      forms = [];
+      name = None;
+    }
 
 -- before the first line
 abbrev pub first_state : State

@@ -72,14 +72,16 @@ written_after text written = record { text = text ++ written.text; core = writte
 -- calls one after another
 unfoldable pub calls_written : CoreView → List call.Request → Written
 calls_written core [] = record { text = []; core = core }
-calls_written core (request ∷ requests) = written_after (call_written core request).text (calls_written (call_written core request).core requests)
+calls_written core (request ∷ requests) =
+    written_after (call_written core request).text (calls_written (call_written core request).core requests)
 
 -- ---- looking a span up
 
 -- the line of a span that was looked up; a root has 0 in place of a parent
 abbrev pub node_text : CoreView → ℕ → Option Node → List ℕ
 node_text core id None = answer_text (Refused Unknown)
-node_text core id (Some node) = span_text node.name (id_at node.parent) node.handles node.entries (reference_count core.world.spans id)
+node_text core id (Some node) =
+    span_text node.name (id_at node.parent) node.handles node.entries (reference_count core.world.spans id)
 
 abbrev pub find_text : CoreView → ℕ → List ℕ
 find_text core id = node_text core id (find core.world.spans id)
@@ -99,4 +101,5 @@ closes core id = replicate (held_in Handle (find core.world.spans id)) (call.try
 unfoldable pub each_written : (CoreView → ℕ → List call.Request) → CoreView → List ℕ → Written
 each_written calls core [] = record { text = []; core = core }
 each_written calls core (n ∷ ns) =
-    written_after (calls_written core (calls core n)).text (each_written calls (calls_written core (calls core n)).core ns)
+    written_after (calls_written core (calls core n)).text
+    (each_written calls (calls_written core (calls core n)).core ns)

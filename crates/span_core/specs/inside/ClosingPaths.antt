@@ -28,13 +28,15 @@ note_in notes (Some at) = slice_get notes at
 -- the place, if there is one, is that of a note that tells the layer's path at this span and one name more
 abbrev pub IsBelow : Spans → List PlainNote → ℕ → Option ℕ → Option ℕ → Type 0
 IsBelow spans notes layer next None = Unit {0}
-IsBelow spans notes layer next (Some at) = (note : PlainNote) × (note_in notes (Some at) ≡ Some note) × TellsBelow (path_at layer spans next) note
+IsBelow spans notes layer next (Some at) =
+    (note : PlainNote) × (note_in notes (Some at) ≡ Some note) × TellsBelow (path_at layer spans next) note
 
 -- the place of a layer
 abbrev pub place_in : List (Option ℕ) → ℕ → Option ℕ
 place_in places layer = slice_index_or places layer None
 
--- each layer's place is such a one, where `next` says for each layer at which span; a layer that wants no closes has none
+-- each layer's place is such a one, where `next` says for each layer at which span; a layer that wants no closes has
+-- none
 pub record AreBelow (rules : List Filter) (spans : Spans) (notes : List PlainNote) (next : ℕ → Option ℕ) (places : List (Option ℕ)) : Type 0 where
   pub below : (layer : ℕ) → IsBelow spans notes layer (next layer) (place_in places layer)
   pub wanted : (layer : ℕ) → layer_wants rules layer OnClose ≡ false → place_in places layer ≡ None
@@ -44,6 +46,7 @@ abbrev pub AreBelowFirst : List Filter → Spans → List PlainNote → List ℕ
 AreBelowFirst rules spans notes [] places = Unit {0}
 AreBelowFirst rules spans notes (id ∷ ids) places = AreBelow rules spans notes (λ layer. Some id) places
 
--- where each layer stands while a span is told of: the first so many layers are at its parent already, the others at the span
+-- where each layer stands while a span is told of: the first so many layers are at its parent already, the others at
+-- the span
 abbrev pub up_to : Spans → ℕ → ℕ → ℕ → Option ℕ
 up_to spans id layers layer = cond (nat_lt layer layers) (parent_of spans id) (Some id)

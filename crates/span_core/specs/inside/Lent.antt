@@ -15,7 +15,9 @@ span_request lent = new_span lent.worker (plain_meta lent.meta.now) (plain_field
 
 -- what a layer is told of it, before it is there
 abbrev pub first_note_of : Spans → NewSpan → ℕ → PlainNote
-first_note_of spans lent layer = first_note spans lent.worker lent.id lent.parent (string_bytes lent.meta.now.name) (plain_fields lent.fields.now) layer
+first_note_of spans lent layer =
+    first_note spans lent.worker lent.id lent.parent (string_bytes lent.meta.now.name) (plain_fields lent.fields.now)
+    layer
 
 -- the call that tells an event
 abbrev pub event_request : Event → Request
@@ -23,4 +25,5 @@ event_request lent = event lent.worker (plain_meta lent.meta.now) lent.message.n
 
 -- an event that is told by a worker with this stack, as the layers see it
 abbrev pub event_seen : Spans → List ℕ → Event → Happening
-event_seen spans stack lent = event_at spans stack lent.bits.0 lent.meta.now.level lent.message.now (plain_fields lent.fields.now)
+event_seen spans stack lent =
+    event_at spans stack lent.bits.0 lent.meta.now.level lent.message.now (plain_fields lent.fields.now)

@@ -35,7 +35,8 @@ pub record IsSound (limits : Limits) (forest : ForestView) (stacks : List (List 
   pub calls_are : calls ≡ length sent
   pub forest_is : forest ≡ forest_with limits forest.spans (slots_after limits.last_generation sent)
   pub counted : (id : ℕ) → stands_in id (issued sent) ≡ true → generation_of id < slice_index forest.given (slot_of id)
-  pub given : (id : ℕ) → IsId id → generation_of id < slice_index forest.given (slot_of id) → stands_in id (issued sent) ≡ true
+  pub given : (id : ℕ) → IsId id → generation_of id < slice_index forest.given (slot_of id)
+      → stands_in id (issued sent) ≡ true
   pub stacks_are : length stacks ≡ limits.workers
   pub world : IsWorld (record { spans = forest.spans; stacks = stacks })
   pub legal : IsLegal rules limits.workers sent (record { spans = forest.spans; stacks = stacks })

@@ -25,7 +25,8 @@ use span_outlet::{Batch, Call, Outlet, Reply};
 use std::alloc::Global;
 
 impl<O: Outlet, A> Core<O, A> {
-    /// A worker, whose number needs to be below `workers`, enters a span that has a handle. It answers whether the entry is no duplicate: only then it holds the span.
+    /// A worker, whose number needs to be below `workers`, enters a span that has a handle. It answers whether the
+    /// entry is no duplicate: only then it holds the span.
     ///
     /// Refused in this order: `Unknown` where the span has no handle, `CountFull` where the entry is no duplicate and
     /// the span's count is at its greatest or the number of accepted calls is, `Backlog`, `Memory`.
@@ -69,14 +70,16 @@ impl<O: Outlet, A> Core<O, A> {
         Ok(first)
     }
 
-    /// A worker, whose number needs to be below `workers`, leaves a span: the topmost entry of it is taken out of the worker's stack. Where the span stands there no
-    /// longer, the entry is given back. It answers whether the span closed.
+    /// A worker, whose number needs to be below `workers`, leaves a span: the topmost entry of it is taken out of the
+    /// worker's stack. Where the span stands there no longer, the entry is given back. It answers whether the span
+    /// closed.
     ///
     /// Refused in this order: `Unknown` where the span isn't open, `CountFull` where the number of accepted calls is at
     /// its greatest, `NotEntered` where the span doesn't stand in the worker's stack, `Backlog`, `Memory`.
     pub fn exit(&mut self, worker: u32, id: Id) -> Result<bool, Fault>
         requires { worker < self.old.limits.workers }
-        ensures accepted { OnOk result (IsAccepted self.old (exit worker id) (exited (closed_by_exit self.old.world worker id)) self.new) }
+        ensures accepted { OnOk result (IsAccepted self.old (exit worker id)
+            (exited (closed_by_exit self.old.world worker id)) self.new) }
         ensures closed { IfOk result (λ closed. closed ≡ nat_lt 0 (length (closed_by_exit self.old.world worker id))) }
         ensures gone { IfOk result (λ closed. IsTrue closed ↔ (find self.new.world.spans id ≡ None)) }
         ensures refused { IfErr result (λ fault. IsRefused self.old (exit worker id) fault self.new) }
@@ -89,7 +92,8 @@ impl<O: Outlet, A> Core<O, A> {
     /// child first: none where the span stays open.
     pub fn leave(&mut self, worker: u32, id: Id) -> Result<Vec<Id>, Fault>
         requires { worker < self.old.limits.workers }
-        ensures accepted { OnOk result (IsAccepted self.old (exit worker id) (exited (closed_by_exit self.old.world worker id)) self.new) }
+        ensures accepted { OnOk result (IsAccepted self.old (exit worker id)
+            (exited (closed_by_exit self.old.world worker id)) self.new) }
         ensures closed { IfOk result (λ closed. closed.items ≡ closed_by_exit self.old.world worker id) }
         ensures refused { IfErr result (λ fault. IsRefused self.old (exit worker id) fault self.new) }
     {
@@ -99,9 +103,11 @@ impl<O: Outlet, A> Core<O, A> {
     // A worker leaves a span. The list of the spans that close is moved into the batch.
     fn step_out(&mut self, worker: u32, id: Id, with_ids: bool) -> Result<Closed, Fault>
         requires { worker < self.old.limits.workers }
-        ensures accepted { OnOk result (IsAccepted self.old (exit worker id) (exited (closed_by_exit self.old.world worker id)) self.new) }
+        ensures accepted { OnOk result (IsAccepted self.old (exit worker id)
+            (exited (closed_by_exit self.old.world worker id)) self.new) }
         ensures any { IfOk result (λ closed. closed.any ≡ nat_lt 0 (length (closed_by_exit self.old.world worker id))) }
-        ensures ids { IfOk result (λ closed. with_ids ≡ true → closed.ids.items ≡ closed_by_exit self.old.world worker id) }
+        ensures ids { IfOk result (λ closed. with_ids ≡ true → closed.ids.items
+            ≡ closed_by_exit self.old.world worker id) }
         ensures refused { IfErr result (λ fault. IsRefused self.old (exit worker id) fault self.new) }
     {
         let Some(bits) = open_bits(&self.forest, id) else {
@@ -146,7 +152,10 @@ impl<O: Outlet, A> Core<O, A> {
 fn keep_first(forest: &mut Forest, first: bool, id: Id)
     requires held { IsHeld forest.old.spans id Handle }
     requires count { first ≡ true → reference_count forest.old.spans id < forest.old.max_count }
-    ensures { forest.new ≡ record forest.old { spans = if first then with_holder forest.old.spans id Entry else forest.old.spans } }
+    ensures { forest.new ≡ record forest.old {
+      spans = if first then with_holder forest.old.spans id Entry
+          else forest.old.spans;
+    } }
 {
     if first {
         let Ok(()) = forest.keep(id, Holder::Entry) else {

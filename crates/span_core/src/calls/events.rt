@@ -15,7 +15,8 @@ use span_outlet::{Batch, Call, Outlet, Reply};
 use std::alloc::Global;
 
 impl<O: Outlet, A: Admit> Core<O, A> {
-    /// Tells an event. The number of the worker that tells it needs to be below `workers`. The world stays as it is; an event that no layer admits is accepted and has no notes.
+    /// Tells an event. The number of the worker that tells it needs to be below `workers`. The world stays as it is;
+    /// an event that no layer admits is accepted and has no notes.
     ///
     /// Refused in this order: `BadName` where the name or a key is no name, `CountFull` where the number of accepted
     /// calls is at its greatest, `Backlog`, `Memory`.
@@ -27,8 +28,10 @@ impl<O: Outlet, A: Admit> Core<O, A> {
         fields: &[Field],
     ) -> Result<(), Fault>
         requires { worker < self.old.limits.workers }
-        ensures accepted { OnOk result (IsAccepted self.old (event worker (plain_meta meta.now) message.now (plain_fields fields.now)) told self.new) }
-        ensures refused { IfErr result (λ fault. IsRefused self.old (event worker (plain_meta meta.now) message.now (plain_fields fields.now)) fault self.new) }
+        ensures accepted { OnOk result (IsAccepted self.old
+            (event worker (plain_meta meta.now) message.now (plain_fields fields.now)) told self.new) }
+        ensures refused { IfErr result (λ fault. IsRefused self.old
+            (event worker (plain_meta meta.now) message.now (plain_fields fields.now)) fault self.new) }
     {
         if !(meta.fit() && are_keys(fields)) {
             return Err(Fault::BadName);

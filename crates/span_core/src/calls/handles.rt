@@ -50,14 +50,17 @@ impl<O: Outlet, A> Core<O, A> {
         Ok(())
     }
 
-    /// Appends fields to those of a span that has a handle. The number of the worker that calls needs to be below `workers`.
+    /// Appends fields to those of a span that has a handle. The number of the worker that calls needs to be below
+    /// `workers`.
     ///
     /// Refused in this order: `BadName` where a key is no name, `Unknown` where the span has no handle, `CountFull`
     /// where the number of accepted calls is at its greatest, `Backlog`, `Memory`.
     pub fn record(&mut self, worker: u32, id: Id, fields: &[Field]) -> Result<(), Fault>
         requires { worker < self.old.limits.workers }
-        ensures accepted { OnOk result (IsAccepted self.old (record_fields worker id (plain_fields fields.now)) recorded self.new) }
-        ensures refused { IfErr result (λ fault. IsRefused self.old (record_fields worker id (plain_fields fields.now)) fault self.new) }
+        ensures accepted { OnOk result (IsAccepted self.old (record_fields worker id (plain_fields fields.now))
+            recorded self.new) }
+        ensures refused { IfErr result (λ fault. IsRefused self.old
+            (record_fields worker id (plain_fields fields.now)) fault self.new) }
     {
         if !are_keys(fields) {
             return Err(Fault::BadName);
@@ -97,15 +100,17 @@ impl<O: Outlet, A> Core<O, A> {
         Ok(())
     }
 
-    /// Gives a handle of a span back, and answers whether the span closed. The number of the worker that calls needs to be
-    /// below `workers`.
+    /// Gives a handle of a span back, and answers whether the span closed. The number of the worker that calls needs
+    /// to be below `workers`.
     ///
     /// Refused in this order: `Unknown` where the span has no handle, `CountFull` where the number of accepted calls is
     /// at its greatest, `Backlog`, `Memory`.
     pub fn try_close(&mut self, worker: u32, id: Id) -> Result<bool, Fault>
         requires { worker < self.old.limits.workers }
-        ensures accepted { OnOk result (IsAccepted self.old (try_close worker id) (released (closing_list self.old.world.spans id Handle)) self.new) }
-        ensures closed { IfOk result (λ closed. closed ≡ nat_lt 0 (length (closing_list self.old.world.spans id Handle))) }
+        ensures accepted { OnOk result (IsAccepted self.old (try_close worker id)
+            (released (closing_list self.old.world.spans id Handle)) self.new) }
+        ensures closed { IfOk result (λ closed. closed
+            ≡ nat_lt 0 (length (closing_list self.old.world.spans id Handle))) }
         ensures gone { IfOk result (λ closed. IsTrue closed ↔ (find self.new.world.spans id ≡ None)) }
         ensures refused { IfErr result (λ fault. IsRefused self.old (try_close worker id) fault self.new) }
     {
@@ -117,7 +122,8 @@ impl<O: Outlet, A> Core<O, A> {
     /// that closed, child first: none where the span stays open.
     pub fn give_back(&mut self, worker: u32, id: Id) -> Result<Vec<Id>, Fault>
         requires { worker < self.old.limits.workers }
-        ensures accepted { OnOk result (IsAccepted self.old (try_close worker id) (released (closing_list self.old.world.spans id Handle)) self.new) }
+        ensures accepted { OnOk result (IsAccepted self.old (try_close worker id)
+            (released (closing_list self.old.world.spans id Handle)) self.new) }
         ensures closed { IfOk result (λ closed. closed.items ≡ closing_list self.old.world.spans id Handle) }
         ensures refused { IfErr result (λ fault. IsRefused self.old (try_close worker id) fault self.new) }
     {
@@ -127,9 +133,12 @@ impl<O: Outlet, A> Core<O, A> {
     // Gives a handle back. The list of the spans that close is moved into the batch.
     fn release(&mut self, worker: u32, id: Id, with_ids: bool) -> Result<Closed, Fault>
         requires { worker < self.old.limits.workers }
-        ensures accepted { OnOk result (IsAccepted self.old (try_close worker id) (released (closing_list self.old.world.spans id Handle)) self.new) }
-        ensures any { IfOk result (λ closed. closed.any ≡ nat_lt 0 (length (closing_list self.old.world.spans id Handle))) }
-        ensures ids { IfOk result (λ closed. with_ids ≡ true → closed.ids.items ≡ closing_list self.old.world.spans id Handle) }
+        ensures accepted { OnOk result (IsAccepted self.old (try_close worker id)
+            (released (closing_list self.old.world.spans id Handle)) self.new) }
+        ensures any { IfOk result (λ closed. closed.any
+            ≡ nat_lt 0 (length (closing_list self.old.world.spans id Handle))) }
+        ensures ids { IfOk result (λ closed. with_ids ≡ true → closed.ids.items
+            ≡ closing_list self.old.world.spans id Handle) }
         ensures refused { IfErr result (λ fault. IsRefused self.old (try_close worker id) fault self.new) }
     {
         let Some(_) = held_span(&self.forest, id) else {

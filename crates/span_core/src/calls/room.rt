@@ -11,7 +11,8 @@ pub(crate) fn ask<O: Outlet>(outlet: &mut O) -> Result<(), Fault>
     ensures name { O.name outlet.new ≡ O.name outlet.old }
     ensures ready { OnOk result (O.ready outlet.new ≡ true) }
     ensures times_full { OnOk result (O.times_full outlet.new ≡ O.times_full outlet.old) }
-    ensures refused { IfErr result (λ fault. IsLate fault × (O.times_full outlet.new ≡ times_after fault (O.times_full outlet.old))) }
+    ensures refused { IfErr result (λ fault. IsLate fault
+        × (O.times_full outlet.new ≡ times_after fault (O.times_full outlet.old))) }
 {
     if outlet.room()? {
         Ok(())

@@ -34,13 +34,15 @@ impl<O: Outlet, A: Admit> Core<O, A> {
     }
 
     /// Makes a span with copies of the meta and the fields, under no parent, under the worker's current span or under a
-    /// named one. The number of the worker needs to be below `workers`. The span has one handle. The layers that admit it are those whose rule admits the meta.
+    /// named one. The number of the worker needs to be below `workers`. The span has one handle. The layers that
+    /// admit it are those whose rule admits the meta.
     ///
     /// The answer is its id: the one that the history so far gives, which was never issued before. It is `None`, and
     /// nothing changes, where there are layers and none admits the meta.
     ///
-    /// Refused in this order: `BadName` where the name or a key is no name; then comes the answer `None`; `Unknown` where
-    /// the parent isn't open, `CountFull` where the parent's count or the number of accepted calls is at its greatest,
+    /// Refused in this order: `BadName` where the name or a key is no name; then comes the answer `None`; `Unknown`
+    /// where the parent isn't open, `CountFull` where the parent's count or the number of accepted calls is at its
+    /// greatest,
     /// `Full` where no slot is free, `Backlog`, `Memory`.
     pub fn new_span(
         &mut self,
@@ -51,13 +53,16 @@ impl<O: Outlet, A: Admit> Core<O, A> {
     ) -> Result<Option<Id>, Fault>
         requires { worker < self.old.limits.workers }
         ensures made { IfOk result (λ made_id. IfSome made_id (λ id.
-            IsAccepted self.old (new_span worker (plain_meta meta.now) (plain_fields fields.now) (parent_found self.old.world worker parent)) (made id) self.new)) }
+            IsAccepted self.old (new_span worker (plain_meta meta.now) (plain_fields fields.now)
+            (parent_found self.old.world worker parent)) (made id) self.new)) }
         ensures next { IfOk result (λ made_id. IfSome made_id (λ id.
             next_id self.old.limits.slots self.old.limits.last_generation self.old.sent ≡ Some id)) }
         ensures not_wanted { IfOk result (λ made_id. IfNone made_id (
-            IsNotWanted self.old (new_span worker (plain_meta meta.now) (plain_fields fields.now) (parent_found self.old.world worker parent)) self.new)) }
+            IsNotWanted self.old (new_span worker (plain_meta meta.now) (plain_fields fields.now)
+            (parent_found self.old.world worker parent)) self.new)) }
         ensures refused { IfErr result (λ fault.
-            IsRefused self.old (new_span worker (plain_meta meta.now) (plain_fields fields.now) (parent_found self.old.world worker parent)) fault self.new) }
+            IsRefused self.old (new_span worker (plain_meta meta.now) (plain_fields fields.now)
+            (parent_found self.old.world worker parent)) fault self.new) }
     {
         if !(meta.fit() && are_keys(fields)) {
             return Err(Fault::BadName);
@@ -91,7 +96,8 @@ impl<O: Outlet, A: Admit> Core<O, A> {
     fn make(&mut self, new: &NewSpan<'_>) -> Result<(), Fault>
         requires within { new.now.worker < self.old.limits.workers }
         requires due { IsDue self.old (span_request new.now) }
-        requires bits { new.now.bits.0 ≡ admission_set self.old.rules (string_bytes new.now.meta.now.target) new.now.meta.now.level }
+        requires bits { new.now.bits.0 ≡ admission_set self.old.rules (string_bytes new.now.meta.now.target)
+            new.now.meta.now.level }
         requires next { next_id self.old.limits.slots self.old.limits.last_generation self.old.sent ≡ Some new.now.id }
         ensures made { OnOk result (IsAccepted self.old (span_request new.now) (made new.now.id) self.new) }
         ensures refused { IfErr result (λ fault. IsRefused self.old (span_request new.now) fault self.new) }

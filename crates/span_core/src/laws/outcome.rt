@@ -59,7 +59,8 @@ pub fn outcome_is_allowed<O: Outlet, A>(core: &Core<O, A>)
 /// Two steps from one world for one request have the same answer, notes and next world, if the ids that they issue are
 /// the same.
 pub fn steps_leave_no_choice()
-    ensures { (rules : List Filter) (ids : List ℕ) (old : World) (request : Request) (answer other : Answer) (notes others : List PlainNote) (new next : World) →
+    ensures { (rules : List Filter) (ids : List ℕ) (old : World) (request : Request) (answer other : Answer)
+        (notes others : List PlainNote) (new next : World) →
         IsStep rules ids old request answer notes new → IsStep rules ids old request other others next →
         id_issued answer ≡ id_issued other → (answer ≡ other) × (notes ≡ others) × (new ≡ next) }
 {}

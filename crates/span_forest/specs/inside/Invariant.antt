@@ -10,7 +10,8 @@ use Rattle.span_forest.specs.Forest.{IsForest}
 
 -- the `count` of each span is its written count
 abbrev pub AreCounted : List (ℕ × Span) → Type 0
-AreCounted entries = (id : ℕ) (span : Span) → value_at entries id ≡ Some span → span.count ≡ reference_count (nodes_of entries) id
+AreCounted entries =
+    (id : ℕ) (span : Span) → value_at entries id ≡ Some span → span.count ≡ reference_count (nodes_of entries) id
 
 -- a forest in which each count is written and something holds each span
 pub record IsSettled (entries : List (ℕ × Span)) : Type 0 where

@@ -150,7 +150,8 @@ pub fn children_close_before_parents(forest: &Forest)
     ensures once { (id : ℕ) (holder : Holder) →
         AllPairs (λ first later. first ≢ later) (closing_list forest.now.spans id holder) }
     ensures child_first { (id : ℕ) (holder : Holder) →
-        AllPairs (λ first later. parent_of forest.now.spans later ≢ Some first) (closing_list forest.now.spans id holder) }
+        AllPairs (λ first later. parent_of forest.now.spans later ≢ Some first)
+        (closing_list forest.now.spans id holder) }
 {
     let _opened = &forest.slots;
 }

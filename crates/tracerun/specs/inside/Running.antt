@@ -43,7 +43,8 @@ StopsAs meant old text new text' (Refused reason) = (meant ≡ Err reason) × (n
 
 -- a line ran as is meant, from this state and text to those
 abbrev pub RunsAs : Result Turn Reason → State → List ℕ → State → List ℕ → Result ⊤ Stop → Type 0
-RunsAs meant old text new text' result = MatchResult result (λ _. IsTurn meant text text' new) (StopsAs meant old text new text')
+RunsAs meant old text new text' result =
+    MatchResult result (λ _. IsTurn meant text text' new) (StopsAs meant old text new text')
 
 -- a call was made, and its notes and its answer were written
 pub record IsWrittenCall (old : CoreView) (text : List ℕ) (request : call.Request) (new : CoreView) (text' : List ℕ) : Type 0 where

@@ -8,7 +8,8 @@ use Rattle.tracerun.specs.declared.run.setup.Setup.{Setup}
 
 -- a core of which no call was made, with the limits that stand and the layers that were added
 abbrev pub setup_state : {X Y F G g h : _} → Setup X Y F G g h → State
-setup_state setup = opened_state setup.checked (filters_in setup.layers) (forms_in setup.layers) (stage_seen setup.stage)
+setup_state setup =
+    opened_state setup.checked (filters_in setup.layers) (forms_in setup.layers) (stage_seen setup.stage)
 
 -- how many hooks there were: those of the layers and those that are left
 abbrev pub hooks_in : {X Y F G g h : _} → Setup X Y F G g h → ℕ

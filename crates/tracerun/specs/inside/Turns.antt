@@ -26,7 +26,15 @@ SetsUp _ = ⊥
 -- a core of which no call was made, with these limits, layers and forms, where such lines came
 abbrev pub opened_state : Limits → List Filter → List Form → Stage → State
 opened_state limits rules forms stage = record {
-  core = record { limits = limits; rules = rules; world = empty_world limits.workers; sent = []; times_full = 0; forms = forms; name = None };
+  core = record {
+    limits = limits;
+    rules = rules;
+    world = empty_world limits.workers;
+    sent = [];
+    times_full = 0;
+    forms = forms;
+    name = None;
+  };
   labels = [];
   stage = stage;
 }

@@ -78,7 +78,8 @@ pub fn write_found(text: &mut Vec<u8>, found: &Found<'_>) -> io::Result<()>
     )
 }
 
-/// Appends the line of a note to a text: its layer, and what the layer wrote of it. The only error is that memory was refused.
+/// Appends the line of a note to a text: its layer, and what the layer wrote of it. The only error is that memory was
+/// refused.
 pub fn write_note(text: &mut Vec<u8>, line: &Line) -> io::Result<()>
     ensures { OnOk result (text.new.items ≡ text.old.items ++ note_line (plain_line line.now)) }
 {

@@ -7,8 +7,8 @@ use std::collections::BTreeMap;
 use std::collections::btree_map::Values;
 use std::marker::Model;
 
-/// The labels that were bound, each to the id that its last accepted `new` got. Contracts see them in the order of their
-/// bytes, each with its id.
+/// The labels that were bound, each to the id that its last accepted `new` got. Contracts see them in the order of
+/// their bytes, each with its id.
 #[derive(Drop)]
 pub struct Labels {
     ids: BTreeMap<String, Id>,

@@ -81,8 +81,8 @@ impl<V: Say> Script<V> {
 
     /// Runs a call or `find`, and appends its notes and its answer to the text.
     ///
-    /// `Refused` where the script is at fault: then nothing has changed. `Memory` where memory was refused, also for the
-    /// text of a note: then the run has to end.
+    /// `Refused` where the script is at fault: then nothing has changed. `Memory` where memory was refused, also for
+    /// the text of a note: then the run has to end.
     pub fn run(
         &mut self,
         alloc: Global,
@@ -324,8 +324,8 @@ fn worker_number(worker: usize, workers: u32) -> u32
     worker as u32
 }
 
-// Writes the lines of the outlet from this number on, and answers how many it has. The only error is `Memory`, also where
-// the outlet had none.
+// Writes the lines of the outlet from this number on, and answers how many it has. The only error is `Memory`, also
+// where the outlet had none.
 fn write_notes<V: Say>(kept: &Kept<V>, from: usize, text: &mut Vec<u8>) -> Result<usize, Stop>
     requires { from ≤ length (lines_of kept.now.forms kept.now.sent) }
     ensures text { OnOk result
