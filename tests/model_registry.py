@@ -203,7 +203,7 @@ class World:
     def entries(self, number):
         return sum(count for (it, holder), count in self.holders.items() if it == number and holder != HANDLE)
 
-    def written_count(self, number):
+    def reference_count(self, number):
         """The holders of the span, and the open spans whose parent it is."""
         children = sum(1 for it in self.spans.values() if it.parent == number)
         return self.handles(number) + self.entries(number) + children
@@ -219,7 +219,7 @@ class World:
 
     def need_count(self, number):
         """One more reference is to be taken."""
-        if self.written_count(number) == self.limits.max_count:
+        if self.reference_count(number) == self.limits.max_count:
             raise Refusal("count full")
 
     def closing(self, number, holder):
@@ -353,5 +353,5 @@ class Registry:
         span, world = self.world.spans[number], self.world
         return (
             f"{span.name} parent {span.parent or 0} handles {world.handles(number)} "
-            f"entries {world.entries(number)} count {world.written_count(number)}"
+            f"entries {world.entries(number)} count {world.reference_count(number)}"
         )

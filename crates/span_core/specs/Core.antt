@@ -1,4 +1,5 @@
--- What contracts see of a core, and what a call does to it: it is accepted as one step, or refused and changes nothing.
+-- What contracts see of a core, and what a call does to it: it is accepted as one step, or refused and changes
+-- nothing but how often the outlet lacked a place.
 use Rattle.std.specs.Prelude.{◌≡◌, ℕ, ◌-◌, ◌^◌, Bool, true, false, ◌&&◌, ◌||◌, nat_lt, List, [], ◌∷◌, ◌++◌, length, Option, Some, None, is_some}
 use Rattle.std.specs.List.{list_all}
 use Rattle.span_id.specs.declared.fault.Fault.{Fault}
@@ -146,7 +147,7 @@ abbrev pub times_after : Fault → ℕ → ℕ
 times_after Backlog times = one_more times
 times_after _ times = times
 
--- the call was refused, for the first reason that applies, and changed nothing
+-- the call was refused, for the first reason that applies, and changed nothing but how often the outlet lacked a place
 pub record IsRefused (old : CoreView) (request : Request) (fault : Fault) (new : CoreView) : Type 0 where
   pub why : WhyRefused old request fault
   pub unchanged : new ≡ record old { times_full = times_after fault old.times_full }

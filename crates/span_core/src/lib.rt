@@ -32,8 +32,8 @@ use std::marker::Model;
 /// The registry of spans without a lock.
 ///
 /// Each call that changes something is exactly one step of a legal history, and sends exactly its batch to the
-/// outlet; or it is refused, for the first reason that applies, and changes nothing. The number of the worker that
-/// calls needs to be below `workers` of the limits.
+/// outlet; or it is refused, for the first reason that applies, and changes nothing but how often the outlet lacked a
+/// place. The number of the worker that calls needs to be below `workers` of the limits.
 #[derive(Drop)]
 pub struct Core<O: Outlet, A = Admitters> {
     pub(crate) alloc: Global,

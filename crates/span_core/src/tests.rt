@@ -1,6 +1,7 @@
 //! What no clause says: the calls run, with their answers and the lines of their notes.
 mod acts;
 mod chain;
+mod closing_lists;
 mod layers;
 mod missed;
 mod rows;

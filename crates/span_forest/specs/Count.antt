@@ -23,7 +23,7 @@ abbrev pub children : Spans → ℕ → ℕ
 children [] id = 0
 children (e ∷ es) id = cond (is_some_id e.1.parent id) 1 0 + children es id
 
--- the written count of a span: its holders, and the open spans whose parent it is
+-- the reference count of a span: its holders, and the open spans whose parent it is
 abbrev pub reference_count : Spans → ℕ → ℕ
 reference_count spans id = holders_in (find spans id) + children spans id
 

@@ -89,7 +89,7 @@ impl Forest {
         ensures found { IfSome result (λ span. find self.now.spans id ≡ Some (node_of span.now)) }
         ensures count { IfSome result (λ span. span.now.count ≡ reference_count self.now.spans id) }
     {
-        // Looked at, the forest shows what it keeps: here that the count is the written one.
+        // Looked at, the forest shows what it keeps: here that the count is the reference count.
         let _opened = &self.max_count;
         self.slots.get(id)
     }

@@ -8,7 +8,7 @@ abbrev pub one_more : ℕ → ℕ
 one_more times = cond (times == 2 ^ 64 - 1) times (times + 1)
 
 -- The name of a ring is what its two ends have in common: where it stands in memory, its capacity with the names of
--- what each end has seen, and the heap that it came from. No two rings that are there at once have one name.
+-- what each end has seen, and the heap that it came from.
 pub record RingName : Type 0 where
   pub words : Ptr
   pub slots : Ptr

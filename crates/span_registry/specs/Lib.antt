@@ -13,3 +13,4 @@ pub use Rattle.span_core.specs.NextId
 pub use Rattle.span_core.specs.Core
 pub use Rattle.span_core.specs.Outcome
 pub use Rattle.span_core.specs.ClosedSpans
+pub use Rattle.span_core.specs.Handles

@@ -1,7 +1,7 @@
 -- The tidying leaves nothing: a run that ends at no fault ends with no open span.
 -- Between two lines something holds each open span, the entries of a span are those of the stacks, and a label
 -- names each span that has a handle (modules Turns and Tracked). So once the workers have left their stacks
--- (Exits), and each span that a label names is closed as often as it has handles (Closes), nothing is held, and a
+-- (Exits), and each span that a label names is closed as often as it has handles (ClosedLabels), nothing is held, and a
 -- forest in which nothing is held is empty. Each of these calls is accepted: what it needs is there, and the calls
 -- so far are too few for `CountFull`.
 use Rattle.std.proofs.Common.{◌≡◌, ℕ, ◌+◌, ◌-◌, ◌*◌, ◌^◌, ◌<◌, ◌≤◌, Bool, true, false, if◌then◌else◌, List, [], ◌∷◌, length, Result, Ok, Err, refl, sym, ap, ◌∙◌, inl, inr, arith, Option, Some, None, IfSome}

@@ -1,4 +1,5 @@
--- Chains of spans that close, and the paths that the notes so far tell, for the functions inside this crate.
+-- Chains of spans that close, and the paths that the notes so far tell, for the functions inside this
+-- crate: no public clause cites it.
 use Rattle.std.specs.Prelude.{◌≡◌, ℕ, ◌++◌, false, cond, nat_lt, List, [], ◌∷◌, Option, Some, None, slice_get, slice_index_or}
 use Rattle.span_layers.specs.declared.note.Kind.TheVariants.{OnClose}
 use Rattle.span_layers.specs.Note.{PlainNote}

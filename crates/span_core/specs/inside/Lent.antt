@@ -1,4 +1,5 @@
--- What a caller lent for a new span or an event, for the functions inside this crate.
+-- What a caller lent for a new span or an event, for the functions inside this crate: no public clause
+-- cites it.
 use Rattle.std.specs.Prelude.{ℕ, List, string_bytes}
 use Rattle.span_forest.specs.Spans.{Spans}
 use Rattle.span_layers.specs.Note.{PlainNote}

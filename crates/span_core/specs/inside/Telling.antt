@@ -1,4 +1,5 @@
--- What the layers are told, as it can be said before the call is done, for the functions inside this crate.
+-- What the layers are told, as it can be said before the call is done, for the functions inside this
+-- crate: no public clause cites it.
 use Rattle.std.specs.Prelude.{ℕ, List, [], ◌∷◌, ◌++◌, map, filter, Option, Some, None}
 use Rattle.std.specs.List.{range_with_len}
 use Rattle.span_id.specs.Meta.{plain_fields}

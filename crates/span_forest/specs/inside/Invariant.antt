@@ -8,7 +8,7 @@ use Rattle.span_forest.specs.Spans.{IsOpen, nodes_of}
 use Rattle.span_forest.specs.Count.{reference_count, total_held, total_handles}
 use Rattle.span_forest.specs.Forest.{IsForest}
 
--- the `count` of each span is its written count
+-- the `count` of each span is its reference count
 abbrev pub AreCounted : List (ℕ × Span) → Type 0
 AreCounted entries =
     (id : ℕ) (span : Span) → value_at entries id ≡ Some span → span.count ≡ reference_count (nodes_of entries) id

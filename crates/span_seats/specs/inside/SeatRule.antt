@@ -1,4 +1,5 @@
 -- The rule of the table, which holds between any two steps, and what each step of the root tells it.
+-- No public clause cites it.
 use Rattle.std.specs.Prelude.{◌≡◌, ℕ, List, true, false}
 use mathlib.Core.Option.{some}
 use lib.ListN.{get_elem?}

@@ -1,4 +1,4 @@
--- The views of seats, and what a split and a join do to them.
+-- The views of seats, and what a split and a join do to them: no public clause cites it.
 use Rattle.std.specs.Prelude.{ℕ, true, false, Bool, ◌&&◌}
 use Rattle.span_seats.specs.declared.view.HandleView.{HandleView}
 use Rattle.span_seats.specs.declared.view.RootView.{RootView}

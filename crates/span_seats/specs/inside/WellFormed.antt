@@ -1,4 +1,4 @@
--- What is always true of the root's view.
+-- What is always true of the root's view: no public clause cites it.
 use Rattle.std.specs.Prelude.{◌≡◌, ℕ, ◌+◌, ◌<◌, ◌≤◌, List, [], ◌∷◌, true, if◌then◌else◌, ◌==◌}
 use Rattle.span_seats.specs.declared.view.HandleView.{HandleView}
 use Rattle.span_seats.specs.declared.view.RootView.{RootView}

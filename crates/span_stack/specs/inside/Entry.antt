@@ -1,4 +1,4 @@
--- What a stack keeps for each entered span.
+-- What a stack keeps for each entered span: no public clause cites it.
 use Rattle.std.specs.Prelude.{◌≡◌, ℕ, ◌-◌, ◌≤◌, not, List, [], ◌∷◌, ◌++◌, false, length, reverse, map, filter}
 use Rattle.smallvec.specs.SmallVec.{SmallVec}
 use Rattle.span_stack.specs.declared.entry.Entry.{Entry}

@@ -1,4 +1,5 @@
 -- What a run makes of a call on the core: the answer that it writes, and the core that it goes on with.
+-- No public clause cites it.
 use Rattle.std.specs.Prelude.{◌≡◌}
 use Rattle.span_core.specs.Core.{CoreView}
 use Rattle.span_outlet.specs.Request as call

@@ -1,4 +1,4 @@
--- The fault with which a run ends at a line.
+-- The fault with which a run ends at a line: no public clause cites it.
 use Rattle.std.specs.Prelude.{ℕ}
 use Rattle.tracerun.specs.declared.run.fault.RunFault.{RunFault}
 use Rattle.tracerun.specs.declared.run.fault.RunFault.TheVariants.{Script, Memory}

@@ -1,4 +1,4 @@
--- A script between two of its calls.
+-- A script between two of its calls: no public clause cites it.
 use Rattle.std.specs.Prelude.{◌≡◌, ◌≤◌, ℕ, List, ◌++◌, length, Result, Ok, Err, ⊤, MatchResult}
 use Rattle.span_core.specs.Core.{CoreView}
 use Rattle.span_outlet.specs.Lines.{lines_of}

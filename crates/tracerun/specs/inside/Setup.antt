@@ -1,4 +1,4 @@
--- What the lines before the first call have come to.
+-- What the lines before the first call have come to: no public clause cites it.
 use Rattle.std.specs.Prelude.{ℕ, ◌+◌, length, vec_len}
 use Rattle.span_layers.specs.Layers.{filters_in, forms_in}
 use Rattle.tracerun.specs.State.{State}

@@ -1,0 +1,53 @@
+//! The calls that answer which spans closed, and the counts after them.
+ghost use Rattle.std.specs.Prelude.{◌≡◌, []};
+
+use crate::Core;
+use crate::tests::acts::{Act, child, play};
+use crate::tests::layers::layers;
+use span_id::{Id, Limits};
+use span_layers::{Filters, Say};
+use span_outlet::Kept;
+use std::alloc::Global;
+use std::process::Abort;
+use std::test::Fail;
+
+const LIMITS: Limits = Limits {
+    slots: 2,
+    last_generation: 0,
+    max_count: 2,
+    workers: 1,
+    ring: 1,
+};
+
+// A root and its child, which is entered; then all holders are given back.
+fn closed_in_turn<V: Say>(
+    rt: &impl Abort,
+    alloc: Global,
+    filters: Filters,
+    outlet: Kept<V>,
+) -> Result<(), Fail>
+    requires { outlet.sent ≡ [] }
+{
+    let mut core = Core::new(alloc, &LIMITS.check()?, filters, outlet)?;
+    let acts = [
+        (0, child("a", 0)),
+        (0, child("b", 1)),
+        (0, Act::Enter(2)),
+        (0, Act::Close(1)),
+    ];
+    let text = play(alloc, &mut core, LIMITS.workers, &acts)?;
+    assert_eq!(rt; text.as_str(), "= 1\n= 2\n= entered\n= open\n");
+    let (root, below) = (Id::pack(0, 0), Id::pack(1, 0));
+    assert!(rt; core.give_back(0, below)?.is_empty());
+    assert_eq!(rt; (core.handles(), core.total()), (0, 1));
+    assert_eq!(rt; core.leave(0, below)?.as_slice(), [below, root].as_slice());
+    assert_eq!(rt; (core.made(), core.closed()), (2, 2));
+    Ok(())
+}
+
+#[test]
+fn closing_lists_come_out(rt: HostRuntime) -> Result<(), Fail> {
+    let alloc = rt.alloc();
+    let (filters, tellers) = layers(alloc, &[])?;
+    closed_in_turn(&rt, alloc, filters, Kept::new(alloc, tellers))
+}
