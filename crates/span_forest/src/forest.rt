@@ -208,6 +208,15 @@ impl Forest {
         if !is_held(&self.slots, id, holder) {
             return Err(Fault::Unknown);
         }
+        self.closing_of_held(id, holder)
+    }
+
+    /// The same as `closing`, for a caller that knows that the holder is there. The only error is `Memory`.
+    pub fn closing_of_held(&self, id: Id, holder: Holder) -> Result<Vec<Id>, Fault>
+        requires { IsHeld self.now.spans id holder }
+        ensures list { IfOk result (λ ids. ids.items ≡ closing_list self.now.spans id holder) }
+        ensures memory { IfErr result (λ fault. fault ≡ Fault.Memory) }
+    {
         let closed = chain(&self.slots, self.alloc, id, holder)?;
         Ok(closed)
     }

@@ -55,5 +55,5 @@ pub(crate) fn closing_of(forest: &Forest, id: Id, holder: Holder) -> Result<Vec<
     ensures memory { IfErr result (λ fault. fault ≡ Fault.Memory) }
 {
     closing_lists_are_chains(forest);
-    forest.closing(id, holder)
+    forest.closing_of_held(id, holder)
 }
