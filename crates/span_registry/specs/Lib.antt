@@ -14,3 +14,12 @@ pub use Rattle.span_core.specs.Core
 pub use Rattle.span_core.specs.Outcome
 pub use Rattle.span_core.specs.ClosedSpans
 pub use Rattle.span_core.specs.Handles
+-- What the lock adds.
+pub mod Setup
+pub mod Handle
+pub mod Worker
+pub mod Share
+pub mod Found
+pub mod Locked
+pub mod Report
+pub mod inside

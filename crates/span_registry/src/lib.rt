@@ -1,11 +1,23 @@
-//! The registry of spans: the crate that a program names.
-//!
-//! It gives every public word of the core (`span_core`) and of what leaves it (`span_outlet`) again. The core has no
-//! lock yet: its calls take it as `&mut`.
+//! The registry of spans behind a lock: the crate that a program names.
 #![tactic(auto)]
 
-#[cfg(test)]
-mod tests;
+mod books;
+mod found;
+mod handle;
+mod locked;
+mod report;
+mod setup;
+mod share;
+mod with_seats;
+mod worker;
 
-pub use span_core::{Core, laws};
+pub use found::Found;
+pub use handle::Handle;
+pub use locked::Locked;
+pub use report::Report;
+pub use setup::Setup;
+pub use share::Share;
+pub use span_core::Core;
 pub use span_outlet::{Batch, Call, Kept, Line, Outlet, ParentOf, Reply};
+pub use span_seats::{SeatTable, TableName};
+pub use worker::Worker;

@@ -1,0 +1,151 @@
+-- Each call keeps the seats and the core agreed. `r` is the root's view before the call, `r₁`, `r₂` .. after its steps.
+use Rattle.std.proofs.Common.{◌≡◌, ◌≢◌, ℕ, ◌+◌, ◌<◌, Bool, true, false, cond, List, length, Option, Some, refl, sym, ap, ◌∙◌, subst, true≢false}
+use Rattle.std.specs.Prelude.{if◌then◌else◌, IfSome}
+use Rattle.span_id.specs.Id.{slot_of, generation_of}
+use Rattle.span_id.specs.Meta.{KeyValue, PlainMeta}
+use Rattle.span_id.specs.declared.fault.Fault.{Fault}
+use Rattle.span_id.specs.declared.fault.Fault.TheVariants.{Unknown, Backlog, Memory}
+use Rattle.span_forest.specs.declared.span.Holder.TheVariants.{Handle, Entry}
+use Rattle.span_forest.specs.Node.{with_fields}
+use Rattle.span_forest.specs.Spans.{Spans, find, with_change}
+use Rattle.span_forest.specs.Holders.{held_in, with_more}
+use Rattle.span_forest.specs.Keep.{with_holder}
+use Rattle.span_forest.specs.Release.{closing_list}
+use Rattle.span_outlet.specs.Request.{Request, clone_span, cloned, new_span, made, try_close, released, enter, entered, exit, exited, record_fields, recorded, event, told}
+use Rattle.span_core.specs.World.{World}
+use Rattle.span_core.specs.Step.{closed_by_exit, is_open}
+use Rattle.span_core.specs.History.{IsLegal}
+use Rattle.span_core.specs.Core.{CoreView, IsAccepted, IsRefused, IsNotWanted, is_known}
+use Rattle.span_core.proofs.Holds.{held-changed}
+use Rattle.span_seats.specs.declared.view.HandleView.{HandleView}
+use Rattle.span_seats.specs.declared.view.RootView.{RootView}
+use Rattle.span_seats.specs.RootView.{handle_count, has_number, IsOpenIn, HasNoHandle, MayClose, stored, with_number, without_number, closed_words}
+use Rattle.span_seats.specs.OpenSpans.{OpenSpans, IsSound, IsAdded, Agree}
+use Rattle.span_seats.proofs.Agreed.{handle_counts, refused_agrees, cloned_agrees, released_counts, released_words, left_counts, may_close, closed_agrees, added_slot, added_free, added_opens, added_id, added_agrees}
+use Rattle.span_registry.specs.inside.Seated.{spans_seen, AreSeated}
+use Rattle.span_registry.proofs.Bridge.{open-changed, cloned_of, released_of, exited_of}
+
+-- what stands in an option
+pub some_of : {X : Type 0} (o : Option X) (P : X → Type 0) (x : X) → o ≡ Some x → IfSome o P → P x
+some_of o P x is h = subst (λ o. IfSome o P) is h
+
+-- a seat was joined, and its span is open: a seat of that id may be split off, and once more
+pub joined_opens : (r r₁ : RootView) (id number : ℕ) → r₁ ≡ without_number r id number → IsOpenIn r.words id → IsOpenIn r₁.words r₁.split_id
+joined_opens r r₁ id number joined is = subst (λ (x : RootView). IsOpenIn x.words x.split_id) (sym joined) is
+
+pub given_opens : (r₁ r₂ : RootView) → r₂ ≡ with_number r₁ → IsOpenIn r₁.words r₁.split_id → IsOpenIn r₂.words r₂.split_id
+given_opens r₁ r₂ given is = subst (λ (x : RootView). IsOpenIn x.words x.split_id) (sym given) is
+
+pub joined_id : (r r₁ : RootView) (id number : ℕ) → r₁ ≡ without_number r id number → r₁.split_id ≡ id
+joined_id r r₁ id number joined = ap (λ (x : RootView). x.split_id) joined
+
+pub given_id : (r₁ r₂ : RootView) → r₂ ≡ with_number r₁ → r₂.split_id ≡ r₁.split_id
+given_id r₁ r₂ given = ap (λ (x : RootView). x.split_id) given
+
+-- a call that leaves the core as it is but for how often the outlet lacked a place
+seated_slots : (core new : CoreView) (r : RootView) → new.limits ≡ core.limits → Agree r core.limits.slots (spans_seen new.world.spans) → AreSeated r new
+seated_slots core new r limits a = subst (λ k. Agree r k (spans_seen new.world.spans)) (ap (λ l. l.slots) (sym limits)) a
+
+pub seated_refused : (core new : CoreView) (request : Request) (fault : Fault) (r : RootView) → IsRefused core request fault new → AreSeated r core → AreSeated r new
+seated_refused core new request fault r refused a = subst (λ (v : CoreView). AreSeated r v) (sym refused.unchanged) a
+
+pub seated_not_wanted : (core new : CoreView) (request : Request) (r : RootView) → IsNotWanted core request new → AreSeated r core → AreSeated r new
+seated_not_wanted core new request r none a = subst (λ (v : CoreView). AreSeated r v) (sym none.same) a
+
+-- what the call names is there, so it isn't refused as unknown
+pub never_unknown : (core new : CoreView) (request : Request) (fault : Fault) → is_known core request ≡ true → IsRefused core request fault new → fault ≢ Unknown
+never_unknown core new request fault known refused e =
+    true≢false (sym known ∙ (subst (λ (f : Fault). IsRefused core request f new) e refused).why.2)
+
+-- a call that changes no handle, and opens and closes no span
+agree_same : (r : RootView) (slots : ℕ) (before after : OpenSpans) → ((x : ℕ) → after.is_open x ≡ before.is_open x) → ((x : ℕ) → after.handles x ≡ before.handles x) → Agree r slots before → Agree r slots after
+agree_same r slots before after opens handles a = record {
+  counted = λ x. a.counted x ∙ sym (handles x);
+  sized = a.sized;
+  opened = λ x is. a.opened x (sym (opens x) ∙ is);
+  vacant = λ s none. a.vacant s (λ x is e. none x (opens x ∙ is) e);
+}
+
+pub seated_entered : (core new : CoreView) (worker id : ℕ) (first : Bool) (r : RootView) → IsAccepted core (enter worker id) (entered first) new → AreSeated r core → AreSeated r new
+seated_entered core new worker id first r accepted a =
+    let after : new.world.spans ≡ cond first (with_holder core.world.spans id Entry) core.world.spans = ap (λ (v : World). v.spans) accepted.step.changes.after in
+    seated_slots core new r accepted.limits
+    (agree_same r core.limits.slots _ _ (λ x. ap (λ (s : Spans). is_open s x) after ∙ by_open first x) (λ x. ap (λ (s : Spans). held_in Handle (find s x)) after ∙ by_handles first x) a)
+  where
+    by_open : (first : Bool) (x : ℕ) → is_open (cond first (with_holder core.world.spans id Entry) core.world.spans) x ≡ is_open core.world.spans x
+    by_open true x = open-changed (with_more Entry) core.world.spans id x
+    by_open false x = refl
+
+    by_handles : (first : Bool) (x : ℕ) → held_in Handle (find (cond first (with_holder core.world.spans id Entry) core.world.spans) x) ≡ held_in Handle (find core.world.spans x)
+    by_handles true x = held-changed Handle (with_more Entry) (λ node. refl) core.world.spans id x
+    by_handles false x = refl
+
+pub seated_recorded : (core new : CoreView) (worker id : ℕ) (fields : List KeyValue) (r : RootView) → IsAccepted core (record_fields worker id fields) recorded new → AreSeated r core → AreSeated r new
+seated_recorded core new worker id fields r accepted a =
+    let after : new.world.spans ≡ with_change (with_fields fields) core.world.spans id = ap (λ (v : World). v.spans) accepted.step.changes.after in
+    seated_slots core new r accepted.limits
+    (agree_same r core.limits.slots _ _ (λ x. ap (λ (s : Spans). is_open s x) after ∙ open-changed (with_fields fields) core.world.spans id x) (λ x. ap (λ (s : Spans). held_in Handle (find s x)) after ∙ held-changed Handle (with_fields fields) (λ node. refl) core.world.spans id x) a)
+
+pub seated_told : (core new : CoreView) (worker : ℕ) (meta : PlainMeta) (message : List ℕ) (fields : List KeyValue) (r : RootView) → IsAccepted core (event worker meta message fields) told new → AreSeated r core → AreSeated r new
+seated_told core new worker meta message fields r accepted a =
+    seated_slots core new r accepted.limits (subst (λ (v : World). Agree r core.limits.slots (spans_seen v.spans)) (sym accepted.step.changes) a)
+
+-- a call on a handle: the join has shown its number
+module _ (core : CoreView) (r r₁ : RootView) (h : HandleView) (id : ℕ) (a : AreSeated r core) (shown : has_number h.id h.number r.handles ≡ true) (is : h.id ≡ id) (joined : r₁ ≡ without_number r h.id h.number) where
+  pub span_is_held : 0 < held_in Handle (find core.world.spans id)
+  span_is_held = handle_counts (spans_seen core.world.spans) core.limits.slots r r₁ h id a shown is joined
+
+  -- the handle gets a seat back
+  pub seated_back : (r₂ : RootView) → r₂ ≡ with_number r₁ → AreSeated r₂ core
+  seated_back r₂ back = refused_agrees (spans_seen core.world.spans) core.limits.slots r r₁ h id a shown is joined r₂ back
+
+  -- and the new handle another
+  pub seated_cloned : (new : CoreView) (worker : ℕ) (r₂ r₃ : RootView) → r₂ ≡ with_number r₁ → r₃ ≡ with_number r₂ → IsAccepted core (clone_span worker id) cloned new → AreSeated r₃ new
+  seated_cloned new worker r₂ r₃ back given accepted =
+      seated_slots core new r₃ accepted.limits (cloned_agrees (spans_seen core.world.spans) core.limits.slots r r₁ h id a shown is joined (spans_seen new.world.spans) r₂ r₃ back given (cloned_of core new worker id accepted))
+
+  -- a handle given back
+  module _ (new : CoreView) (worker : ℕ) (legal : IsLegal core.rules core.limits.workers core.sent core.world) (before : IsSound (spans_seen core.world.spans)) (after : IsSound (spans_seen new.world.spans))
+      (accepted : IsAccepted core (try_close worker id) (released (closing_list core.world.spans id Handle)) new) where
+    counted : (x : ℕ) → handle_count x r₁.handles ≡ held_in Handle (find new.world.spans x)
+    counted = released_counts (spans_seen core.world.spans) core.limits.slots r r₁ h id a shown is joined (spans_seen new.world.spans) (closing_list core.world.spans id Handle) (released_of core new worker id legal accepted)
+
+    same_words : r₁.words ≡ r.words
+    same_words = released_words (spans_seen core.world.spans) core.limits.slots r r₁ h id a shown is joined
+
+    pub released_may_close : MayClose r₁ (closing_list core.world.spans id Handle)
+    released_may_close = may_close true id _ _ _ before after (released_of core new worker id legal accepted) core.limits.slots r r₁ a counted same_words
+
+    pub seated_released : (r₂ : RootView) → r₂.handles ≡ r₁.handles → r₂.words ≡ closed_words r₁.words (closing_list core.world.spans id Handle) → AreSeated r₂ new
+    seated_released r₂ handles words =
+        seated_slots core new r₂ accepted.limits (closed_agrees true id _ _ _ before after (released_of core new worker id legal accepted) core.limits.slots r r₁ a counted same_words r₂ handles words)
+
+-- an exit, which takes no handle
+module _ (core new : CoreView) (worker id : ℕ) (legal : IsLegal core.rules core.limits.workers core.sent core.world) (before : IsSound (spans_seen core.world.spans)) (after : IsSound (spans_seen new.world.spans))
+    (accepted : IsAccepted core (exit worker id) (exited (closed_by_exit core.world worker id)) new) (r : RootView) (a : AreSeated r core) where
+  still_counted : (x : ℕ) → handle_count x r.handles ≡ held_in Handle (find new.world.spans x)
+  still_counted = left_counts (spans_seen core.world.spans) (spans_seen new.world.spans) core.limits.slots r id (closed_by_exit core.world worker id) a (exited_of core new worker id legal accepted)
+
+  pub exited_may_close : MayClose r (closed_by_exit core.world worker id)
+  exited_may_close = may_close false id _ _ _ before after (exited_of core new worker id legal accepted) core.limits.slots r r a still_counted refl
+
+  pub seated_exited : (r₂ : RootView) → r₂.handles ≡ r.handles → r₂.words ≡ closed_words r.words (closed_by_exit core.world worker id) → AreSeated r₂ new
+  seated_exited r₂ handles words =
+      seated_slots core new r₂ accepted.limits (closed_agrees false id _ _ _ before after (exited_of core new worker id legal accepted) core.limits.slots r r a still_counted refl r₂ handles words)
+
+-- a new span: its slot's word is stored, and its handle gets a seat
+module _ (core new : CoreView) (id : ℕ) (before : IsSound (spans_seen core.world.spans)) (added : IsAdded id core.limits.slots (spans_seen core.world.spans) (spans_seen new.world.spans)) (r : RootView) (a : AreSeated r core) where
+  pub new_slot : slot_of id < length r.words
+  new_slot = added_slot id core.limits.slots _ _ before added r a
+
+  pub new_free : HasNoHandle r.handles (slot_of id)
+  new_free = added_free id core.limits.slots _ _ before added r a
+
+  pub new_opens : (r₁ : RootView) → r₁ ≡ stored r (slot_of id) (generation_of id + 1) → IsOpenIn r₁.words r₁.split_id
+  new_opens r₁ stored_is = added_opens id core.limits.slots _ _ before added r a r₁ stored_is
+
+  pub new_id : (r₁ : RootView) → r₁ ≡ stored r (slot_of id) (generation_of id + 1) → r₁.split_id ≡ id
+  new_id r₁ stored_is = added_id id core.limits.slots _ _ before added r a r₁ stored_is
+
+  pub seated_new : (r₁ r₂ : RootView) → r₁ ≡ stored r (slot_of id) (generation_of id + 1) → r₂ ≡ with_number r₁ → new.limits ≡ core.limits → AreSeated r₂ new
+  seated_new r₁ r₂ stored_is given limits = seated_slots core new r₂ limits (added_agrees id core.limits.slots _ _ before added r a r₁ r₂ stored_is given)

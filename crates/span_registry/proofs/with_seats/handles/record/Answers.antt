@@ -1,0 +1,16 @@
+use Rattle.std.proofs.Common.{sym}
+use Rattle.span_core.proofs.Deciding.{handle_from}
+use Rattle.span_registry.proofs.Seats.{span_is_held, seated_back, seated_recorded, seated_refused, never_unknown}
+use Rattle.span_registry.proofs.with_seats.handles.record.Goals as goal
+
+pub returns-in-Ok-clause-seated : goal.returns-in-Ok-clause-seated
+returns-in-Ok-clause-seated g c =
+    seated_recorded _ _ _ _ _ _ c.in-Ok.ensures.accepted (seated_back c.args.core.now c.args.root.now c.join.new.self c.args.seat c.args.id c.requires.seated c.join.ensures.in_set c.requires.shown c.join.ensures.root _ c.split-back.ensures.root)
+
+pub returns-in-Err-clause-seated : goal.returns-in-Err-clause-seated
+returns-in-Err-clause-seated g c =
+    seated_refused _ _ _ _ _ c.in-Err.ensures.refused (seated_back c.args.core.now c.args.root.now c.join.new.self c.args.seat c.args.id c.requires.seated c.join.ensures.in_set c.requires.shown c.join.ensures.root _ c.split-back.ensures.root)
+
+pub returns-in-Err-clause-known : goal.returns-in-Err-clause-known
+returns-in-Err-clause-known g c =
+    never_unknown _ _ _ _ (handle_from c.args.core.now.world.spans c.args.id (span_is_held c.args.core.now c.args.root.now c.join.new.self c.args.seat c.args.id c.requires.seated c.join.ensures.in_set c.requires.shown c.join.ensures.root)) c.in-Err.ensures.refused

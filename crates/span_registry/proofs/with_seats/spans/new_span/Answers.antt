@@ -1,0 +1,38 @@
+use Rattle.std.proofs.Common.{sym}
+use Rattle.std.proofs.Common.{Option, Some, subst}
+use Rattle.std.specs.Prelude.{IfSome}
+use Rattle.span_registry.proofs.Bridge.{sound_of, added_of}
+use Rattle.span_registry.proofs.Seats.{some_of, new_slot, new_free, new_opens, new_id, seated_new}
+use Rattle.span_registry.proofs.with_seats.spans.new_span.Goals as goal
+
+pub mark_open-requires-clause-slot : goal.mark_open-requires-clause-slot
+mark_open-requires-clause-slot g c =
+    let l = c.each_slot_has_one_open_span.ensures in
+    let m = c.each_slot_has_one_open_span-2.ensures in
+    let made = some_of _ _ _ c.in-Some.is c.in_ok-id.ensures.made in
+    let added = added_of _ _ _ _ _ _ _ c.calls.ensures.legal m.one_slot m.in_range made in
+    new_slot c.args.core.now c.new_span-new.new.self _ (sound_of _ l.one_slot l.in_layout) added _ c.requires.seated
+
+pub mark_open-requires-clause-free : goal.mark_open-requires-clause-free
+mark_open-requires-clause-free g c =
+    let l = c.each_slot_has_one_open_span.ensures in
+    let m = c.each_slot_has_one_open_span-2.ensures in
+    let made = some_of _ _ _ c.in-Some.is c.in_ok-id.ensures.made in
+    let added = added_of _ _ _ _ _ _ _ c.calls.ensures.legal m.one_slot m.in_range made in
+    new_free c.args.core.now c.new_span-new.new.self _ (sound_of _ l.one_slot l.in_layout) added _ c.requires.seated
+
+pub split-seat-requires : goal.split-seat-requires
+split-seat-requires g c =
+    let l = c.each_slot_has_one_open_span.ensures in
+    let m = c.each_slot_has_one_open_span-2.ensures in
+    let made = some_of _ _ _ c.in-Some.is c.in_ok-id.ensures.made in
+    let added = added_of _ _ _ _ _ _ _ c.calls.ensures.legal m.one_slot m.in_range made in
+    new_opens c.args.core.now c.new_span-new.new.self _ (sound_of _ l.one_slot l.in_layout) added c.args.root.now c.requires.seated c.mark_open.new.self c.mark_open.ensures
+
+pub returns-clause-seated : goal.returns-clause-seated
+returns-clause-seated g c =
+    let l = c.each_slot_has_one_open_span.ensures in
+    let m = c.each_slot_has_one_open_span-2.ensures in
+    let made = some_of _ _ _ c.in-Some.is c.in_ok-id.ensures.made in
+    let added = added_of _ _ _ _ _ _ _ c.calls.ensures.legal m.one_slot m.in_range made in
+    seated_new c.args.core.now c.new_span-new.new.self _ (sound_of _ l.one_slot l.in_layout) added c.args.root.now c.requires.seated c.mark_open.new.self c.split-seat.new.self c.mark_open.ensures c.split-seat.ensures.root made.limits

@@ -1,0 +1,41 @@
+-- What holds whenever the lock is free.
+use Rattle.std.specs.Prelude.{◌≡◌, ◌≢◌, ℕ, ◌+◌, ◌<◌, List, length, Option, Some, None, slice_index}
+use Rattle.span_id.specs.Id.{slot_of, generation_of}
+use Rattle.span_id.specs.declared.limits.Limits.{Limits}
+use Rattle.span_layers.specs.Filter.{Filter}
+use Rattle.span_forest.specs.Node.{Node}
+use Rattle.span_forest.specs.Spans.{find, IsOpen}
+use Rattle.span_forest.specs.Count.{total_handles}
+use Rattle.span_seats.specs.declared.view.RootView.{RootView}
+use Rattle.span_seats.specs.RootView.{handle_count}
+use Rattle.span_outlet.specs.Outlet.{RingName}
+use Rattle.span_core.specs.History.{IsLegal}
+use Rattle.span_core.specs.Core.{CoreView}
+
+-- Of a registry made with these limits, rules and ring: its book of handles and its book of calls, the root of its
+-- handles' seats, and its core. What the core itself knows of each span comes to this: its count is its handles, the
+-- workers inside it and its open children, is positive, and its parent is open; and an id that isn't open finds nothing.
+pub record IsLocked (limits : Limits) (rules : List Filter) (ring : Option RingName) (handles calls : ℕ) (root : RootView) (core : CoreView) : Type 0 where
+  -- the registry's limits, rules and ring are those that it was made with
+  pub limits_are : core.limits ≡ limits
+  pub rules_are : core.rules ≡ rules
+  pub ring_is : core.name ≡ ring
+  -- the batches sent are a legal history, which leaves this world
+  pub legal : IsLegal core.rules core.limits.workers core.sent core.world
+  -- the book of calls is as long as the history
+  pub calls_are : calls ≡ length core.sent
+  -- the book of handles is the sum of the handles of all open spans
+  pub handles_are : handles ≡ total_handles core.world.spans
+  -- an open span's set of numbers is as large as its handles ..
+  pub open_sets : (id : ℕ) (node : Node) → find core.world.spans id ≡ Some node →
+      handle_count id root.handles ≡ node.handles
+  -- .. and every other set is empty
+  pub other_sets : (id : ℕ) → find core.world.spans id ≡ None → handle_count id root.handles ≡ 0
+  -- there is a word for each slot
+  pub words : length root.words ≡ core.limits.slots
+  -- a slot's word is the generation plus 1 of the span that is open there ..
+  pub open_words : (id : ℕ) → IsOpen core.world.spans id →
+      (slot_of id < core.limits.slots) × (slice_index root.words (slot_of id) ≡ generation_of id + 1)
+  -- .. else 0
+  pub other_words : (slot : ℕ) → ((id : ℕ) → IsOpen core.world.spans id → slot_of id ≢ slot) →
+      slice_index root.words slot ≡ 0

@@ -1,0 +1,34 @@
+//! What lies under the lock.
+
+use crate::setup::Setup;
+use span_core::Core;
+use span_layers::Admitters;
+use span_outlet::Outlet;
+use span_seats::RootSeat;
+use std::marker::{Model, PhantomData};
+use std::sync::ledger::{Book, Ledger};
+
+/// The value under a registry's lock: the core, the root of the handles' seats, and the two books.
+///
+/// To a contract it is what it is of the core. What holds whenever the lock is free is its invariant, `IsLocked`.
+#[derive(Drop)]
+pub struct Locked<H: Ledger, C: Ledger, S: Setup, O: Outlet, A = Admitters> {
+    pub(crate) core: Core<O, A>,
+    pub(crate) root: RootSeat<S>,
+    pub(crate) handles: Book<H>,
+    pub(crate) calls: Book<C>,
+    pub(crate) setup: PhantomData<S>,
+}
+
+impl<H: Ledger, C: Ledger, S: Setup, O: Outlet, A> Model for Locked<H, C, S, O, A> {
+    ghost use Rattle.std.specs.Prelude.{◌≡◌, ◌<◌, ◌^◌};
+    ghost use Rattle.span_core.specs.Core.{CoreView};
+    ghost use Rattle.span_registry.specs.Locked.{IsLocked};
+
+    ghost Value = { CoreView };
+
+    ghost view = { λ l. l.core };
+
+    ghost invariant = { λ l. IsLocked S.limits S.rules S.ring l.handles.total l.calls.total l.root l.core
+        × (C.parts ≡ l.core.limits.workers) × (H.parts < 2 ^ 64) };
+}

@@ -1,2 +1,0 @@
-//! That a user of the registry names this crate alone: its words are the core's and the outlet's.
-mod names;

@@ -1,0 +1,132 @@
+//! The calls on a handle.
+ghost use Rattle.std.specs.Prelude.{◌≡◌, ◌≢◌, ◌+◌, ◌<◌, ◌^◌, nat_lt, length, IfOk, IfErr, OnOk};
+ghost use Rattle.span_id.specs.declared.fault.Fault.TheVariants.{Unknown};
+ghost use Rattle.span_id.specs.Meta.{plain_fields};
+ghost use Rattle.span_forest.specs.declared.span.Holder.TheVariants.{Handle};
+ghost use Rattle.span_forest.specs.Count.{total_handles};
+ghost use Rattle.span_forest.specs.Release.{closing_list};
+ghost use Rattle.span_outlet.specs.Request.{clone_span, cloned, record_fields, recorded, try_close, released};
+ghost use Rattle.span_core.specs.History.{IsLegal};
+ghost use Rattle.span_core.specs.Core.{IsAccepted, IsRefused};
+ghost use Rattle.span_registry.specs.inside.Seated.{AreSeated};
+
+use span_core::Core;
+use span_core::laws::each_slot_has_one_open_span;
+use span_id::{Fault, Field, Id};
+use span_outlet::Outlet;
+use span_seats::{HandleSeat, RootSeat, TableName};
+
+// One more handle: the seat that was shown comes back, and where the call is accepted one more.
+#[tactic(auto, using(crate::proofs::Totals::one_more_cloned))]
+pub(crate) fn clone_span<T: TableName, O: Outlet, A>(
+    core: &mut Core<O, A>,
+    root: &mut RootSeat<T>,
+    worker: u32,
+    id: Id,
+    seat: HandleSeat<T>,
+) -> (HandleSeat<T>, Result<HandleSeat<T>, Fault>)
+    requires worker { worker < core.old.limits.workers }
+    requires seated { AreSeated root.old core.old }
+    requires shown { seat.id ≡ id }
+    ensures seated { AreSeated root.new core.new }
+    ensures legal { IsLegal core.new.rules core.new.limits.workers core.new.sent core.new.world }
+    ensures back { result.0.id ≡ id }
+    ensures given { IfOk result.1 (λ seat. seat.id ≡ id) }
+    ensures known { IfErr result.1 (λ fault. fault ≢ Unknown) }
+    ensures accepted { OnOk result.1 (IsAccepted core.old (clone_span worker id) cloned core.new) }
+    ensures refused { IfErr result.1 (λ fault. IsRefused core.old (clone_span worker id) fault core.new) }
+    ensures handles { OnOk result.1 (total_handles core.new.world.spans ≡ total_handles core.old.world.spans + 1) }
+    ensures calls { OnOk result.1 (length core.new.sent ≡ length core.old.sent + 1) }
+    ensures fits { OnOk result.1 (length core.new.sent < 2 ^ 64) }
+{
+    root.join(seat);
+    core.calls();
+    each_slot_has_one_open_span(core);
+    let made = core.clone_span(worker, id);
+    core.calls();
+    let back = root.split();
+    match made {
+        Ok(()) => (back, Ok(root.split())),
+        Err(fault) => (back, Err(fault)),
+    }
+}
+
+// Fields appended: the seat that was shown comes back.
+#[tactic(auto, using(crate::proofs::Totals::same_recorded))]
+pub(crate) fn record<T: TableName, O: Outlet, A>(
+    core: &mut Core<O, A>,
+    root: &mut RootSeat<T>,
+    worker: u32,
+    id: Id,
+    seat: HandleSeat<T>,
+    fields: &[Field],
+) -> (HandleSeat<T>, Result<(), Fault>)
+    requires worker { worker < core.old.limits.workers }
+    requires seated { AreSeated root.old core.old }
+    requires shown { seat.id ≡ id }
+    ensures seated { AreSeated root.new core.new }
+    ensures legal { IsLegal core.new.rules core.new.limits.workers core.new.sent core.new.world }
+    ensures back { result.0.id ≡ id }
+    ensures known { IfErr result.1 (λ fault. fault ≢ Unknown) }
+    ensures accepted { OnOk result.1 (IsAccepted core.old (record_fields worker id (plain_fields fields.now))
+        recorded core.new) }
+    ensures refused { IfErr result.1 (λ fault. IsRefused core.old
+        (record_fields worker id (plain_fields fields.now)) fault core.new) }
+    ensures handles { OnOk result.1 (total_handles core.new.world.spans ≡ total_handles core.old.world.spans) }
+    ensures calls { OnOk result.1 (length core.new.sent ≡ length core.old.sent + 1) }
+    ensures fits { OnOk result.1 (length core.new.sent < 2 ^ 64) }
+{
+    root.join(seat);
+    core.calls();
+    each_slot_has_one_open_span(core);
+    let done = core.record(worker, id, fields);
+    core.calls();
+    let back = root.split();
+    match done {
+        Ok(()) => (back, Ok(())),
+        Err(fault) => (back, Err(fault)),
+    }
+}
+
+// A handle given back: where the call is refused its seat comes back.
+#[tactic(auto, using(crate::proofs::Totals::one_less_released))]
+pub(crate) fn try_close<T: TableName, O: Outlet, A>(
+    core: &mut Core<O, A>,
+    root: &mut RootSeat<T>,
+    worker: u32,
+    id: Id,
+    seat: HandleSeat<T>,
+) -> Result<bool, (HandleSeat<T>, Fault)>
+    requires worker { worker < core.old.limits.workers }
+    requires seated { AreSeated root.old core.old }
+    requires shown { seat.id ≡ id }
+    ensures seated { AreSeated root.new core.new }
+    ensures legal { IsLegal core.new.rules core.new.limits.workers core.new.sent core.new.world }
+    ensures back { IfErr result (λ e. e.0.id ≡ id) }
+    ensures known { IfErr result (λ e. e.1 ≢ Unknown) }
+    ensures accepted { OnOk result (IsAccepted core.old (try_close worker id)
+        (released (closing_list core.old.world.spans id Handle)) core.new) }
+    ensures closed { IfOk result (λ closed. closed
+        ≡ nat_lt 0 (length (closing_list core.old.world.spans id Handle))) }
+    ensures refused { IfErr result (λ e. IsRefused core.old (try_close worker id) e.1 core.new) }
+    ensures handles { OnOk result (total_handles core.new.world.spans + 1 ≡ total_handles core.old.world.spans) }
+    ensures calls { OnOk result (length core.new.sent ≡ length core.old.sent + 1) }
+    ensures fits { OnOk result (length core.new.sent < 2 ^ 64) }
+{
+    root.join(seat);
+    core.calls();
+    each_slot_has_one_open_span(core);
+    match core.give_back(worker, id) {
+        Ok(closed) => {
+            core.calls();
+            each_slot_has_one_open_span(core);
+            root.mark_closed(closed.as_slice());
+            Ok(!closed.is_empty())
+        }
+        Err(fault) => {
+            core.calls();
+            let back = root.split();
+            Err((back, fault))
+        }
+    }
+}

@@ -1,0 +1,88 @@
+//! New spans, and events, which take no handle.
+ghost use Rattle.std.specs.Prelude.{◌≡◌, ◌+◌, ◌<◌, ◌^◌, length, Some, IfOk, IfErr, IfSome, IfNone, OnOk, OnSome};
+ghost use Rattle.span_id.specs.Meta.{plain_meta, plain_fields};
+ghost use Rattle.span_forest.specs.Count.{total_handles};
+ghost use Rattle.span_outlet.specs.Request.{new_span, made, event, told};
+ghost use Rattle.span_core.specs.Parent.{parent_found};
+ghost use Rattle.span_core.specs.History.{IsLegal};
+ghost use Rattle.span_core.specs.NextId.{next_id};
+ghost use Rattle.span_core.specs.Core.{IsAccepted, IsRefused, IsNotWanted};
+ghost use Rattle.span_registry.specs.inside.Seated.{AreSeated};
+
+use span_core::Core;
+use span_core::laws::each_slot_has_one_open_span;
+use span_id::{Fault, Field, Id, Meta};
+use span_layers::Admit;
+use span_outlet::{Outlet, ParentOf};
+use span_seats::{HandleSeat, RootSeat, TableName};
+
+// A new span: its id, and the seat of its one handle.
+#[tactic(auto, using(crate::proofs::Totals::one_more_made))]
+pub(crate) fn new_span<T: TableName, O: Outlet, A: Admit>(
+    core: &mut Core<O, A>,
+    root: &mut RootSeat<T>,
+    worker: u32,
+    meta: &Meta,
+    fields: &[Field],
+    parent: ParentOf,
+) -> Result<Option<(Id, HandleSeat<T>)>, Fault>
+    requires worker { worker < core.old.limits.workers }
+    requires seated { AreSeated root.old core.old }
+    ensures seated { AreSeated root.new core.new }
+    ensures legal { IsLegal core.new.rules core.new.limits.workers core.new.sent core.new.world }
+    ensures given { IfOk result (λ new. IfSome new (λ n. n.1.id ≡ n.0)) }
+    ensures made { IfOk result (λ new. IfSome new (λ n. IsAccepted core.old
+        (new_span worker (plain_meta meta.now) (plain_fields fields.now) (parent_found core.old.world worker parent))
+        (made n.0) core.new)) }
+    ensures next { IfOk result (λ new. IfSome new (λ n.
+        next_id core.old.limits.slots core.old.limits.last_generation core.old.sent ≡ Some n.0)) }
+    ensures not_wanted { IfOk result (λ new. IfNone new (IsNotWanted core.old
+        (new_span worker (plain_meta meta.now) (plain_fields fields.now) (parent_found core.old.world worker parent))
+        core.new)) }
+    ensures refused { IfErr result (λ fault. IsRefused core.old
+        (new_span worker (plain_meta meta.now) (plain_fields fields.now) (parent_found core.old.world worker parent))
+        fault core.new) }
+    ensures handles { IfOk result (λ new. OnSome new (
+        total_handles core.new.world.spans ≡ total_handles core.old.world.spans + 1)) }
+    ensures calls { IfOk result (λ new. OnSome new (length core.new.sent ≡ length core.old.sent + 1)) }
+    ensures fits { IfOk result (λ new. OnSome new (length core.new.sent < 2 ^ 64)) }
+{
+    core.calls();
+    each_slot_has_one_open_span(core);
+    let new = core.new_span(worker, meta, fields, parent);
+    core.calls();
+    let Some(id) = new? else {
+        return Ok(None);
+    };
+    each_slot_has_one_open_span(core);
+    root.mark_open(id);
+    let seat = root.split();
+    Ok(Some((id, seat)))
+}
+
+// An event.
+#[tactic(auto, using(crate::proofs::Totals::same_told))]
+pub(crate) fn event<T: TableName, O: Outlet, A: Admit>(
+    core: &mut Core<O, A>,
+    root: &RootSeat<T>,
+    worker: u32,
+    meta: &Meta,
+    message: &str,
+    fields: &[Field],
+) -> Result<(), Fault>
+    requires worker { worker < core.old.limits.workers }
+    requires seated { AreSeated root.now core.old }
+    ensures seated { AreSeated root.now core.new }
+    ensures legal { IsLegal core.new.rules core.new.limits.workers core.new.sent core.new.world }
+    ensures accepted { OnOk result (IsAccepted core.old
+        (event worker (plain_meta meta.now) message.now (plain_fields fields.now)) told core.new) }
+    ensures refused { IfErr result (λ fault. IsRefused core.old
+        (event worker (plain_meta meta.now) message.now (plain_fields fields.now)) fault core.new) }
+    ensures handles { OnOk result (total_handles core.new.world.spans ≡ total_handles core.old.world.spans) }
+    ensures calls { OnOk result (length core.new.sent ≡ length core.old.sent + 1) }
+    ensures fits { OnOk result (length core.new.sent < 2 ^ 64) }
+{
+    let done = core.event(worker, meta, message, fields);
+    core.calls();
+    done
+}
