@@ -4,6 +4,7 @@
 mod books;
 mod found;
 mod handle;
+pub mod laws;
 mod locked;
 mod report;
 mod setup;

@@ -4,6 +4,7 @@ ghost use Rattle.span_id.specs.declared.fault.Fault.TheVariants.{Unknown};
 ghost use Rattle.span_id.specs.Meta.{plain_fields};
 ghost use Rattle.span_forest.specs.declared.span.Holder.TheVariants.{Handle};
 ghost use Rattle.span_forest.specs.Count.{total_handles};
+ghost use Rattle.span_forest.specs.Holders.{IsHeld};
 ghost use Rattle.span_forest.specs.Release.{closing_list};
 ghost use Rattle.span_outlet.specs.Request.{clone_span, cloned, record_fields, recorded, try_close, released};
 ghost use Rattle.span_core.specs.History.{IsLegal};
@@ -129,4 +130,24 @@ pub(crate) fn try_close<T: TableName, O: Outlet, A>(
             Err((back, fault))
         }
     }
+}
+
+// Shows that the span of a handle's seat is open: the seat comes back, and nothing else changes.
+pub(crate) fn show<T: TableName, O: Outlet, A>(
+    core: &Core<O, A>,
+    root: &mut RootSeat<T>,
+    id: Id,
+    seat: HandleSeat<T>,
+) -> HandleSeat<T>
+    requires seated { AreSeated root.old core.now }
+    requires shown { seat.id ≡ id }
+    ensures seated { AreSeated root.new core.now }
+    ensures back { result.id ≡ id }
+    ensures held { IsHeld core.now.world.spans id Handle }
+    ensures legal { IsLegal core.now.rules core.now.limits.workers core.now.sent core.now.world }
+{
+    root.join(seat);
+    core.calls();
+    each_slot_has_one_open_span(core);
+    root.split()
 }

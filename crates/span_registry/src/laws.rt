@@ -1,0 +1,26 @@
+//! What each call does to the value under the lock, said in full, and what every registry promises.
+//!
+//! The functions that bear the names of calls are what those calls run while they have the lock: each is lent the
+//! locked value, the worker and the handle. The others do nothing, and their contracts are promises: of every registry,
+//! whenever its lock is free, and of every core.
+mod entries;
+mod events;
+mod finds;
+mod handles;
+mod promises;
+mod spans;
+
+pub use entries::{enter, exit};
+pub use events::{event, record};
+pub use finds::find;
+pub use handles::{clone_span, try_close};
+pub use promises::a_handles_span_is_open;
+pub use span_core::laws::outcome;
+pub use span_core::laws::{
+    closes_are_announced_once, each_slot_has_one_open_span, empty_where_nothing_is_held,
+    entries_are_the_workers_inside, full_where_each_slot_is_used_up, handles_follow_the_calls,
+    layers_admit_spans_by_their_rules, made_spans_are_open_or_closed, new_id_finds_its_span,
+    no_close_is_told_twice, open_spans_are_a_live_forest, open_spans_were_made_and_not_closed,
+    release_closes_what_nothing_holds, the_named_span_closes_first,
+};
+pub use spans::new_span;

@@ -1,0 +1,90 @@
+//! The calls that write fields to a span or tell an event.
+ghost use Rattle.std.specs.Prelude.{◌≡◌, ◌≢◌, IfErr, OnOk, OnErr};
+ghost use Rattle.span_id.specs.declared.fault.Fault.TheVariants.{Unknown};
+ghost use Rattle.span_id.specs.Meta.{plain_meta, plain_fields};
+ghost use Rattle.span_outlet.specs.Request.{record_fields, recorded, event, told};
+ghost use Rattle.span_core.specs.Core.{IsAccepted, IsRefused};
+ghost use Rattle.span_registry.specs.Worker.{after_call};
+
+use crate::books::count_call;
+use crate::handle::Handle;
+use crate::locked::Locked;
+use crate::setup::Setup;
+use crate::with_seats;
+use crate::worker::Worker;
+use span_id::{Fault, Field, Meta};
+use span_layers::Admit;
+use span_outlet::Outlet;
+use std::sync::ledger::Ledger;
+
+/// Appends fields to those of the span of a handle: one step.
+///
+/// Refused as `Core::record`, but never with `Unknown`. A refused call changes nothing but how often the outlet lacked
+/// a place. The handle keeps its id.
+pub fn record<H: Ledger, C: Ledger, S: Setup, O: Outlet, A>(
+    locked: &mut Locked<H, C, S, O, A>,
+    worker: &mut Worker<H, C>,
+    handle: &mut Handle<H, C, S>,
+    fields: &[Field],
+) -> Result<(), Fault>
+    ensures step { OnOk result (IsAccepted locked.old
+        (record_fields worker.old.number handle.old.id (plain_fields fields.now)) recorded locked.new) }
+    ensures worker { OnOk result (worker.new ≡ after_call worker.old worker.old.spare) }
+    ensures refused { IfErr result (λ fault. IsRefused locked.old
+        (record_fields worker.old.number handle.old.id (plain_fields fields.now)) fault locked.new) }
+    ensures known { IfErr result (λ fault. fault ≢ Unknown) }
+    ensures unchanged { OnErr result (worker.new ≡ worker.old) }
+    ensures lent { handle.new.id ≡ handle.old.id }
+{
+    let id = handle.id;
+    let Some(seat) = handle.seat.take() else {
+        unreachable!()
+    };
+    let Locked {
+        core,
+        root,
+        handles: _,
+        calls,
+        setup: _,
+    } = locked;
+    let (back, done) = with_seats::handles::record(core, root, worker.number, id, seat, fields);
+    handle.seat = Some(back);
+    match done {
+        Ok(()) => {}
+        Err(fault) => return Err(fault),
+    }
+    count_call(calls, worker);
+    Ok(())
+}
+
+/// Tells an event: one step, which leaves the world as it is.
+///
+/// Refused as `Core::event`. A refused call changes nothing but how often the outlet lacked a place.
+pub fn event<H: Ledger, C: Ledger, S: Setup, O: Outlet, A: Admit>(
+    locked: &mut Locked<H, C, S, O, A>,
+    worker: &mut Worker<H, C>,
+    meta: &Meta,
+    message: &str,
+    fields: &[Field],
+) -> Result<(), Fault>
+    ensures step { OnOk result (IsAccepted locked.old
+        (event worker.old.number (plain_meta meta.now) message.now (plain_fields fields.now)) told locked.new) }
+    ensures worker { OnOk result (worker.new ≡ after_call worker.old worker.old.spare) }
+    ensures refused { IfErr result (λ fault. IsRefused locked.old
+        (event worker.old.number (plain_meta meta.now) message.now (plain_fields fields.now)) fault locked.new) }
+    ensures unchanged { OnErr result (worker.new ≡ worker.old) }
+{
+    let Locked {
+        core,
+        root,
+        handles: _,
+        calls,
+        setup: _,
+    } = locked;
+    match with_seats::spans::event(core, root, worker.number, meta, message, fields) {
+        Ok(()) => {}
+        Err(fault) => return Err(fault),
+    }
+    count_call(calls, worker);
+    Ok(())
+}

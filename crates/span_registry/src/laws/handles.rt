@@ -1,0 +1,119 @@
+//! The calls that make one more handle of a span or give one back.
+ghost use Rattle.std.specs.Prelude.{◌≡◌, ◌≢◌, ◌+◌, ◌-◌, ◌<◌, ◌↔◌, nat_lt, length, None, IsTrue, IfOk, IfErr, OnOk, OnErr};
+ghost use Rattle.span_id.specs.declared.fault.Fault.TheVariants.{Unknown, CountFull};
+ghost use Rattle.span_forest.specs.declared.span.Holder.TheVariants.{Handle};
+ghost use Rattle.span_forest.specs.Spans.{find};
+ghost use Rattle.span_forest.specs.Release.{closing_list};
+ghost use Rattle.span_outlet.specs.Request.{clone_span, cloned, try_close, released};
+ghost use Rattle.span_core.specs.Core.{IsAccepted, IsRefused};
+ghost use Rattle.span_registry.specs.Worker.{after_call};
+
+use crate::books::{count_call, make_handle, take_back};
+use crate::locked::Locked;
+use crate::setup::Setup;
+use crate::with_seats;
+use crate::worker::Worker;
+use span_core::laws::the_named_span_closes_first;
+use span_id::Fault;
+use span_outlet::Outlet;
+use std::sync::ledger::Ledger;
+
+/// One more handle of the span of a handle: one step, one unit more in the book, on a part of the worker's.
+///
+/// Refused in this order: `CountFull` where the worker has no part of the ledger of handles left; then as
+/// `Core::clone_span`, but never with `Unknown`. A refused call changes nothing but how often the outlet lacked a
+/// place. The handle that was lent keeps its id.
+pub fn clone_span<H: Ledger, C: Ledger, S: Setup, O: Outlet, A>(
+    locked: &mut Locked<H, C, S, O, A>,
+    worker: &mut Worker<H, C>,
+    handle: &mut crate::Handle<H, C, S>,
+) -> Result<crate::Handle<H, C, S>, Fault>
+    ensures step { OnOk result (IsAccepted locked.old (clone_span worker.old.number handle.old.id) cloned locked.new) }
+    ensures id { IfOk result (λ clone. clone.id ≡ handle.old.id) }
+    ensures worker { OnOk result (worker.new ≡ after_call worker.old (worker.old.spare - 1)) }
+    ensures part { OnOk result (0 < worker.old.spare) }
+    ensures no_part { IfErr result (λ fault. worker.old.spare ≡ 0 →
+        (fault ≡ CountFull) × (locked.new ≡ locked.old)) }
+    ensures refused { IfErr result (λ fault. 0 < worker.old.spare →
+        IsRefused locked.old (clone_span worker.old.number handle.old.id) fault locked.new) }
+    ensures known { IfErr result (λ fault. fault ≢ Unknown) }
+    ensures unchanged { OnErr result (worker.new ≡ worker.old) }
+    ensures lent { handle.new.id ≡ handle.old.id }
+{
+    if worker.spare == 0 {
+        return Err(Fault::CountFull);
+    }
+    let id = handle.id;
+    let Some(seat) = handle.seat.take() else {
+        unreachable!()
+    };
+    let Locked {
+        core,
+        root,
+        handles,
+        calls,
+        setup: _,
+    } = locked;
+    let (back, made) = with_seats::handles::clone_span(core, root, worker.number, id, seat);
+    handle.seat = Some(back);
+    let seat = match made {
+        Ok(seat) => seat,
+        Err(fault) => return Err(fault),
+    };
+    count_call(calls, worker);
+    Ok(make_handle(handles, worker, id, seat))
+}
+
+/// A handle given back: one step, one unit less in the book, and its part comes to the worker. It answers whether the
+/// span closed.
+///
+/// Refused as `Core::try_close`, but never with `Unknown`. A refused call changes nothing but how often the outlet
+/// lacked a place, and a handle of the same id comes back.
+pub fn try_close<H: Ledger, C: Ledger, S: Setup, O: Outlet, A>(
+    locked: &mut Locked<H, C, S, O, A>,
+    worker: &mut Worker<H, C>,
+    handle: crate::Handle<H, C, S>,
+) -> Result<bool, (crate::Handle<H, C, S>, Fault)>
+    ensures step { OnOk result (IsAccepted locked.old (try_close worker.old.number handle.id)
+        (released (closing_list locked.old.world.spans handle.id Handle)) locked.new) }
+    ensures closed { IfOk result (λ closed. closed
+        ≡ nat_lt 0 (length (closing_list locked.old.world.spans handle.id Handle))) }
+    ensures gone { IfOk result (λ closed. IsTrue closed ↔ (find locked.new.world.spans handle.id ≡ None)) }
+    ensures worker { OnOk result (worker.new ≡ after_call worker.old (worker.old.spare + 1)) }
+    ensures refused { IfErr result (λ e.
+        IsRefused locked.old (try_close worker.old.number handle.id) e.1 locked.new) }
+    ensures known { IfErr result (λ e. e.1 ≢ Unknown) }
+    ensures back { IfErr result (λ e. e.0.id ≡ handle.id) }
+    ensures unchanged { OnErr result (worker.new ≡ worker.old) }
+{
+    let crate::Handle {
+        id,
+        seat,
+        unit,
+        no_calls,
+    } = handle;
+    let Some(seat) = seat else { unreachable!() };
+    let Locked {
+        core,
+        root,
+        handles,
+        calls,
+        setup: _,
+    } = locked;
+    the_named_span_closes_first(core);
+    let closed = match with_seats::handles::try_close(core, root, worker.number, id, seat) {
+        Ok(closed) => closed,
+        Err((seat, fault)) => {
+            let handle = crate::Handle {
+                id,
+                seat: Some(seat),
+                unit,
+                no_calls,
+            };
+            return Err((handle, fault));
+        }
+    };
+    count_call(calls, worker);
+    take_back(handles, worker, unit);
+    Ok(closed)
+}

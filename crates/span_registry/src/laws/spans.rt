@@ -1,0 +1,70 @@
+//! New spans.
+ghost use Rattle.std.specs.Prelude.{◌≡◌, ◌-◌, ◌<◌, Some, IfOk, IfErr, OnErr, IfSome, IfNone, OnSome};
+ghost use Rattle.span_id.specs.declared.fault.Fault.TheVariants.{CountFull};
+ghost use Rattle.span_id.specs.Meta.{plain_meta, plain_fields};
+ghost use Rattle.span_outlet.specs.Request.{new_span, made};
+ghost use Rattle.span_core.specs.Parent.{parent_found};
+ghost use Rattle.span_core.specs.NextId.{next_id};
+ghost use Rattle.span_core.specs.Core.{IsAccepted, IsRefused, IsNotWanted};
+ghost use Rattle.span_registry.specs.Worker.{after_call};
+
+use crate::books::{count_call, make_handle};
+use crate::handle::Handle;
+use crate::locked::Locked;
+use crate::setup::Setup;
+use crate::with_seats;
+use crate::worker::Worker;
+use span_id::{Fault, Field, Meta};
+use span_layers::Admit;
+use span_outlet::{Outlet, ParentOf};
+use std::sync::ledger::Ledger;
+
+/// Makes a span, under no parent, under the worker's current span or under a named one: one step, one unit more in the
+/// book, on a part of the worker's. The answer is its one handle, with the id that the history so far gives. It is
+/// `None`, and nothing changes, where there are layers and none admits the meta.
+///
+/// Refused in this order: `CountFull` where the worker has no part of the ledger of handles left; then as
+/// `Core::new_span`. A refused call changes nothing but how often the outlet lacked a place.
+pub fn new_span<H: Ledger, C: Ledger, S: Setup, O: Outlet, A: Admit>(
+    locked: &mut Locked<H, C, S, O, A>,
+    worker: &mut Worker<H, C>,
+    meta: &Meta,
+    fields: &[Field],
+    parent: ParentOf,
+) -> Result<Option<Handle<H, C, S>>, Fault>
+    ensures step { IfOk result (λ new. IfSome new (λ handle. IsAccepted locked.old
+        (new_span worker.old.number (plain_meta meta.now) (plain_fields fields.now)
+        (parent_found locked.old.world worker.old.number parent)) (made handle.id) locked.new)) }
+    ensures next { IfOk result (λ new. IfSome new (λ handle.
+        next_id locked.old.limits.slots locked.old.limits.last_generation locked.old.sent ≡ Some handle.id)) }
+    ensures worker { IfOk result (λ new. OnSome new (worker.new ≡ after_call worker.old (worker.old.spare - 1))) }
+    ensures not_wanted { IfOk result (λ new. IfNone new (IsNotWanted locked.old
+        (new_span worker.old.number (plain_meta meta.now) (plain_fields fields.now)
+        (parent_found locked.old.world worker.old.number parent)) locked.new × (worker.new ≡ worker.old))) }
+    ensures part { IfOk result (λ new. 0 < worker.old.spare) }
+    ensures no_part { IfErr result (λ fault. worker.old.spare ≡ 0 →
+        (fault ≡ CountFull) × (locked.new ≡ locked.old)) }
+    ensures refused { IfErr result (λ fault. 0 < worker.old.spare → IsRefused locked.old
+        (new_span worker.old.number (plain_meta meta.now) (plain_fields fields.now)
+        (parent_found locked.old.world worker.old.number parent)) fault locked.new) }
+    ensures unchanged { OnErr result (worker.new ≡ worker.old) }
+{
+    if worker.spare == 0 {
+        return Err(Fault::CountFull);
+    }
+    let Locked {
+        core,
+        root,
+        handles,
+        calls,
+        setup: _,
+    } = locked;
+    let new = with_seats::spans::new_span(core, root, worker.number, meta, fields, parent);
+    let (id, seat) = match new {
+        Ok(Some(made)) => made,
+        Ok(None) => return Ok(None),
+        Err(fault) => return Err(fault),
+    };
+    count_call(calls, worker);
+    Ok(Some(make_handle(handles, worker, id, seat)))
+}
