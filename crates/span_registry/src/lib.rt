@@ -1,4 +1,14 @@
 //! The registry of spans behind a lock: the crate that a program names.
+//!
+//! A [`Registry`] is shared by threads. Each thread has a [`Worker`], and each open span that somebody holds has a
+//! [`Handle`]. A handle proves that its span is open. At the end all workers and handles become a [`Share`], and with
+//! the whole share the registry becomes a [`Report`].
+//!
+//! What each call does to the locked value is said in full by the function of its name in [`laws`]. The calls of the
+//! registry take the lock, run that one function and give the lock back.
+//!
+//! The crate also gives every public word of the core (`span_core`, which has no lock) and of what leaves it
+//! (`span_outlet`) again.
 #![tactic(auto)]
 
 mod books;
@@ -6,15 +16,19 @@ mod found;
 mod handle;
 pub mod laws;
 mod locked;
+mod registry;
 mod report;
 mod setup;
 mod share;
+#[cfg(test)]
+mod tests;
 mod with_seats;
 mod worker;
 
 pub use found::Found;
 pub use handle::Handle;
 pub use locked::Locked;
+pub use registry::{HANDLE_PARTS, Registry};
 pub use report::Report;
 pub use setup::Setup;
 pub use share::Share;

@@ -1,0 +1,114 @@
+//! The registry: a lock round the core, the seats and the books.
+ghost use Rattle.std.specs.Prelude.{◌≡◌, ◌+◌, ◌-◌, ◌^◌, ◌<◌, ◌≤◌, ℕ, [], vec_len, sum_by, slice_index_or, IfOk, IfErr};
+ghost use Rattle.span_registry.specs.Worker.{IsNew};
+
+mod calls;
+
+
+use crate::locked::Locked;
+use crate::setup::Setup;
+use crate::worker::Worker;
+use span_core::Core;
+use span_id::{Checked, Fault};
+use span_layers::{Admitters, Filters};
+use span_outlet::Outlet;
+use span_seats::SeatTable;
+use std::alloc::Global;
+use std::marker::PhantomData;
+use std::sync::Mutex;
+use std::sync::ledger;
+use std::sync::ledger::{Blank, Book, Ledger};
+
+/// The parts of a registry's ledger of handles: so many handles can be out at a time.
+pub const HANDLE_PARTS: u64 = u64::MAX;
+
+/// The parts of the ledger of handles that each worker but the last gets at first.
+const WORKER_PARTS: u64 = 1 << 55;
+
+/// A registry of spans that threads share: one lock round the spans, the workers' stacks and the outlet.
+///
+/// Its type names what it was made with: the ledger of its handles `H`, the ledger of its accepted calls `C`, its
+/// limits, rules, ring and table `S`, and its outlet `O`. So a handle or a worker of another registry isn't taken.
+///
+/// Each call but `new` takes the lock, so it may wait for other threads. While it has the lock it runs the function of
+/// its name in [`laws`](crate::laws), whose contract says in full what it does. The clauses here are those that can be
+/// said without the locked value.
+#[derive(Drop)]
+pub struct Registry<H: Ledger, C: Ledger, S: Setup, O: Outlet, A = Admitters> {
+    locked: Mutex<Locked<H, C, S, O, A>>,
+}
+
+impl<H: Ledger, C: Ledger, S: Setup, O: Outlet + Drop, F: Drop> Registry<H, C, S, O, Admitters<F>> {
+    /// An empty registry, and its workers, numbered from 0, as many as the limits say. No call was accepted of them.
+    /// Their shares together are the whole one.
+    ///
+    /// The two blanks are new ledgers, of `HANDLE_PARTS` parts for handles and of one part a worker for calls. The
+    /// table has a word for each slot. The names `H`, `C` and `S` are picked by the caller of a function that is
+    /// generic in them, from the very arguments that are handed in here.
+    ///
+    /// The only error is `Memory`; the filters, the outlet and the table are dropped then.
+    pub fn new(
+        alloc: Global,
+        checked: &Checked,
+        filters: Filters<F>,
+        outlet: O,
+        handles: Blank,
+        calls: Blank,
+        table: SeatTable,
+    ) -> Result<(Registry<H, C, S, O, Admitters<F>>, Vec<Worker<H, C>>), Fault>
+        requires sent { O.sent outlet ≡ [] }
+        requires setup { (checked.now ≡ S.limits) × (filters.rules ≡ S.rules) × (O.name outlet ≡ S.ring) }
+        requires handles { (handles.name ≡ H.name) × (handles.parts ≡ H.parts) × (H.parts ≡ HANDLE_PARTS) }
+        requires calls { (calls.name ≡ C.name) × (calls.parts ≡ C.parts) × (C.parts ≡ checked.now.workers) }
+        requires table { (table ≡ S.table) × (table.words ≡ checked.now.slots) }
+        ensures count { IfOk result (λ made. vec_len made.1 ≡ checked.now.workers) }
+        ensures each { IfOk result (λ made. (i : ℕ) (d : _) → i < checked.now.workers →
+            IsNew i (slice_index_or made.1.items i d)) }
+        ensures whole { IfOk result (λ made. sum_by (λ worker. worker.spare) made.1.items ≡ H.parts) }
+        ensures memory { IfErr result (λ fault. fault ≡ Fault.Memory) }
+    {
+        let (handle_book, handle_parts) = handles.open::<H>();
+        let (call_book, call_parts) = calls.open::<C>();
+        let workers = new_workers(alloc, checked.limits().workers, handle_parts, call_parts)?;
+        let core = Core::new(alloc, checked, filters, outlet)?;
+        let locked = Locked {
+            core,
+            root: table.named::<S>(),
+            handles: handle_book,
+            calls: call_book,
+            setup: PhantomData,
+        };
+        let registry = Registry {
+            locked: Mutex::new(locked),
+        };
+        Ok((registry, workers))
+    }
+}
+
+// The workers, who have all parts of both ledgers between them: of the ledger of calls one each.
+fn new_workers<H: Ledger, C: Ledger>(
+    alloc: Global,
+    workers: u32,
+    handles: ledger::Share<H>,
+    calls: ledger::Share<C>,
+) -> Result<Vec<Worker<H, C>>, Fault>
+    requires workers { (0 < workers) × (workers ≤ 256) }
+    requires handles { (handles.parts ≡ HANDLE_PARTS) × (handles.amount ≡ 0) }
+    requires calls { (calls.parts ≡ workers) × (calls.amount ≡ 0) × (C.parts ≡ workers) }
+    ensures count { IfOk result (λ all. vec_len all ≡ workers) }
+    ensures each { IfOk result (λ all. (i : ℕ) (d : _) → i < workers → IsNew i (slice_index_or all.items i d)) }
+    ensures whole { IfOk result (λ all. sum_by (λ worker. worker.spare) all.items ≡ HANDLE_PARTS) }
+    ensures memory { IfErr result (λ fault. fault ≡ Fault.Memory) }
+{
+    let mut handles = handles;
+    let mut calls = calls;
+    let mut all = Vec::with_capacity(alloc, workers as usize)?;
+    for number in 0..workers - 1 {
+        let some_handles = handles.split_off(WORKER_PARTS, 0);
+        let one_call = calls.split_off(1, 0);
+        all.push_reserved(Worker::new(number, WORKER_PARTS, some_handles, one_call));
+    }
+    let rest = HANDLE_PARTS - WORKER_PARTS * (u64::from(workers) - 1);
+    all.push_reserved(Worker::new(workers - 1, rest, handles, calls));
+    Ok(all)
+}

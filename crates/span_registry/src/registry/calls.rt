@@ -1,0 +1,159 @@
+//! The calls, which take the lock.
+ghost use Rattle.std.specs.Prelude.{◌≡◌, ◌≢◌, ◌+◌, ◌-◌, ◌<◌, IfOk, IfErr, OnOk, OnErr, IfNone, OnSome};
+ghost use Rattle.span_id.specs.declared.fault.Fault.TheVariants.{Unknown};
+ghost use Rattle.span_registry.specs.Worker.{after_call};
+
+use crate::found::Found;
+use crate::handle::Handle;
+use crate::laws;
+use crate::registry::Registry;
+use crate::setup::Setup;
+use crate::worker::Worker;
+use span_id::{Fault, Field, Id, Meta};
+use span_layers::Admit;
+use span_outlet::{Outlet, ParentOf};
+use std::alloc::Global;
+use std::sync::Wait;
+use std::sync::ledger::Ledger;
+
+impl<H: Ledger, C: Ledger, S: Setup, O: Outlet, A: Admit> Registry<H, C, S, O, A> {
+    /// Makes a span with copies of the meta and the fields, under no parent, under the worker's current span or under a
+    /// named one, and answers its one handle. The answer is `None`, and nothing changes, where there are layers and
+    /// none admits the meta.
+    ///
+    /// Refused in this order: `CountFull` where the worker has no part of the ledger of handles left; `BadName` where
+    /// the name or a key is no name; then comes the answer `None`; `Unknown` where a named parent isn't open,
+    /// `CountFull` where the parent's count or the number of accepted calls is at its greatest, `Full` where no slot is
+    /// free, `Backlog`, `Memory`.
+    pub fn new_span<R: Wait>(
+        &self,
+        rt: &R,
+        worker: &mut Worker<H, C>,
+        meta: &Meta,
+        fields: &[Field],
+        parent: ParentOf,
+    ) -> Result<Option<Handle<H, C, S>>, Fault>
+        ensures accepted { IfOk result (λ new. OnSome new (worker.new ≡ after_call worker.old (worker.old.spare - 1))) }
+        ensures part { OnOk result (0 < worker.old.spare) }
+        ensures not_wanted { IfOk result (λ new. IfNone new (worker.new ≡ worker.old)) }
+        ensures refused { OnErr result (worker.new ≡ worker.old) }
+    {
+        laws::new_span(&mut *self.locked.lock(rt), worker, meta, fields, parent)
+    }
+
+    /// Tells an event. An event that no layer admits is accepted and has no notes.
+    ///
+    /// Refused in this order: `BadName` where the name or a key is no name, `CountFull` where the number of accepted
+    /// calls is at its greatest, `Backlog`, `Memory`.
+    pub fn event<R: Wait>(
+        &self,
+        rt: &R,
+        worker: &mut Worker<H, C>,
+        meta: &Meta,
+        message: &str,
+        fields: &[Field],
+    ) -> Result<(), Fault>
+        ensures accepted { OnOk result (worker.new ≡ after_call worker.old worker.old.spare) }
+        ensures refused { OnErr result (worker.new ≡ worker.old) }
+    {
+        laws::event(&mut *self.locked.lock(rt), worker, meta, message, fields)
+    }
+}
+
+impl<H: Ledger, C: Ledger, S: Setup, O: Outlet, A> Registry<H, C, S, O, A> {
+    /// One more handle of the span of a handle. The handle that was lent keeps its id.
+    ///
+    /// Refused in this order: `CountFull` where the worker has no part of the ledger of handles left, or where the
+    /// span's count or the number of accepted calls is at its greatest, `Backlog`, `Memory`.
+    pub fn clone_span<R: Wait>(
+        &self,
+        rt: &R,
+        worker: &mut Worker<H, C>,
+        handle: &mut Handle<H, C, S>,
+    ) -> Result<Handle<H, C, S>, Fault>
+        ensures id { IfOk result (λ clone. clone.id ≡ handle.old.id) }
+        ensures accepted { OnOk result (worker.new ≡ after_call worker.old (worker.old.spare - 1)) }
+        ensures part { OnOk result (0 < worker.old.spare) }
+        ensures refused { OnErr result (worker.new ≡ worker.old) }
+        ensures known { IfErr result (λ fault. fault ≢ Unknown) }
+        ensures lent { handle.new.id ≡ handle.old.id }
+    {
+        laws::clone_span(&mut *self.locked.lock(rt), worker, handle)
+    }
+
+    /// The worker enters the span of a handle. It answers whether the entry is no duplicate: only then it holds the
+    /// span. The handle keeps its id.
+    ///
+    /// Refused in this order: `CountFull` where the entry is no duplicate and the span's count is at its greatest, or
+    /// where the number of accepted calls is, `Backlog`, `Memory`.
+    pub fn enter<R: Wait>(
+        &self,
+        rt: &R,
+        worker: &mut Worker<H, C>,
+        handle: &mut Handle<H, C, S>,
+    ) -> Result<bool, Fault>
+        ensures accepted { OnOk result (worker.new ≡ after_call worker.old worker.old.spare) }
+        ensures refused { OnErr result (worker.new ≡ worker.old) }
+        ensures known { IfErr result (λ fault. fault ≢ Unknown) }
+        ensures lent { handle.new.id ≡ handle.old.id }
+    {
+        laws::enter(&mut *self.locked.lock(rt), worker, handle)
+    }
+
+    /// The worker leaves a span: its topmost entry of it is taken out. Where the span stands in its stack no longer,
+    /// the entry is given back. It answers whether the span closed.
+    ///
+    /// Refused in this order: `Unknown` where the span isn't open, `CountFull` where the number of accepted calls is at
+    /// its greatest, `NotEntered` where the span doesn't stand in the worker's stack, `Backlog`, `Memory`.
+    pub fn exit<R: Wait>(&self, rt: &R, worker: &mut Worker<H, C>, id: Id) -> Result<bool, Fault>
+        ensures accepted { OnOk result (worker.new ≡ after_call worker.old worker.old.spare) }
+        ensures refused { OnErr result (worker.new ≡ worker.old) }
+    {
+        laws::exit(&mut *self.locked.lock(rt), worker, id)
+    }
+
+    /// Gives a handle back, and answers whether the span closed. Where the call is refused, a handle of the same id
+    /// comes back.
+    ///
+    /// Refused in this order: `CountFull` where the number of accepted calls is at its greatest, `Backlog`, `Memory`.
+    pub fn try_close<R: Wait>(
+        &self,
+        rt: &R,
+        worker: &mut Worker<H, C>,
+        handle: Handle<H, C, S>,
+    ) -> Result<bool, (Handle<H, C, S>, Fault)>
+        ensures accepted { OnOk result (worker.new ≡ after_call worker.old (worker.old.spare + 1)) }
+        ensures refused { OnErr result (worker.new ≡ worker.old) }
+        ensures known { IfErr result (λ e. e.1 ≢ Unknown) }
+        ensures back { IfErr result (λ e. e.0.id ≡ handle.id) }
+    {
+        laws::try_close(&mut *self.locked.lock(rt), worker, handle)
+    }
+
+    /// Appends fields to those of the span of a handle. The handle keeps its id.
+    ///
+    /// Refused in this order: `BadName` where a key is no name, `CountFull` where the number of accepted calls is at
+    /// its greatest, `Backlog`, `Memory`.
+    pub fn record<R: Wait>(
+        &self,
+        rt: &R,
+        worker: &mut Worker<H, C>,
+        handle: &mut Handle<H, C, S>,
+        fields: &[Field],
+    ) -> Result<(), Fault>
+        ensures accepted { OnOk result (worker.new ≡ after_call worker.old worker.old.spare) }
+        ensures refused { OnErr result (worker.new ≡ worker.old) }
+        ensures known { IfErr result (λ fault. fault ≢ Unknown) }
+        ensures lent { handle.new.id ≡ handle.old.id }
+    {
+        laws::record(&mut *self.locked.lock(rt), worker, handle, fields)
+    }
+
+    /// The name, the parent and the numbers of the span of an id, if it is open. It is no call of the history. The only
+    /// error is `Memory`, for the copy of the name.
+    pub fn find<R: Wait>(&self, rt: &R, alloc: Global, id: Id) -> Result<Option<Found>, Fault>
+        ensures memory { IfErr result (λ fault. fault ≡ Fault.Memory) }
+    {
+        laws::find(alloc, &*self.locked.lock(rt), id)
+    }
+}
