@@ -8,13 +8,15 @@ mod events;
 mod finds;
 mod handles;
 mod promises;
+mod reports;
 mod spans;
 
 pub use entries::{enter, exit};
 pub use events::{event, record};
 pub use finds::find;
 pub use handles::{clone_span, try_close};
-pub use promises::a_handles_span_is_open;
+pub use promises::{a_handles_span_is_open, two_handles_have_two_numbers};
+pub use reports::finish_kept;
 pub use span_core::laws::outcome;
 pub use span_core::laws::{
     closes_are_announced_once, each_slot_has_one_open_span, empty_where_nothing_is_held,

@@ -3,6 +3,7 @@ ghost use Rattle.std.specs.Prelude.{◌≡◌, ◌+◌, ◌-◌, ◌^◌, ◌<�
 ghost use Rattle.span_registry.specs.Worker.{IsNew};
 
 mod calls;
+mod finish;
 
 
 use crate::locked::Locked;

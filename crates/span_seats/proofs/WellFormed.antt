@@ -4,9 +4,9 @@ use Rattle.std.proofs.lemmas.Bool.Decides.{nat_tests}
 use Rattle.span_id.specs.Id.{slot_of, generation_of}
 use Rattle.span_seats.specs.declared.view.HandleView.{HandleView}
 use Rattle.span_seats.specs.declared.view.RootView.{RootView}
-use Rattle.span_seats.specs.RootView.{empty_table, has_number, handle_count, IsOpenIn, HasNoHandle, stored, with_number, without_number}
+use Rattle.span_seats.specs.RootView.{empty_table, has_number, handle_count, IsOpenIn, HasNoHandle, stored, with_number, without, without_number}
 use Rattle.span_seats.specs.inside.WellFormed.{IsWellFormed}
-use Rattle.span_seats.proofs.Numbers.{some_number, has_before, has_cons, times_without, times_new, times_with}
+use Rattle.span_seats.proofs.Numbers.{some_number, has_before, has_cons, times_without, times_new, times_with, joined_apart}
 
 pub off : {b : Bool} → b ≡ false → b ≡ true → ⊥
 off f t = true≢false (sym t ∙ f)
@@ -63,3 +63,12 @@ one_id_of_slot r h a b some_a some_b counts_a counts_b same =
     let second : get_or r.words (slot_of b) 0 ≡ generation_of b + 1 = counted_opens r h b counts_b in
     let there = ap (λ (s : ℕ). get_or r.words s 0) same in
     omega arith
+
+-- two handles that are joined one after the other, the first split off again between, had two numbers
+pub shown_apart : (r r₁ r₂ : RootView) (x n y m : ℕ) → IsWellFormed r → has_number x n r.handles ≡ true → r₁ ≡ without_number r x n → r₂ ≡ with_number r₁ → has_number y m r₂.handles ≡ true → n ≢ m
+shown_apart r r₁ r₂ x n y m h first joined given second =
+    let seen : has_number y m (with_number (without_number r x n)).handles ≡ true = subst (λ (q : RootView). has_number y m q.handles ≡ true) (given ∙ ap with_number joined) second in
+    ⊎_elim
+    (λ (e : (x ≡ y) × (r.next_number ≡ m)). λ (same : n ≡ m). (let below = h.below x n first in let next = e.1 in absurd (omega arith)))
+    (λ (old : has_number y m (without x n r.handles) ≡ true). joined_apart x n y m r.handles h.once first old)
+    (has_cons y m x r.next_number (without x n r.handles) seen)

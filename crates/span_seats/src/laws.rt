@@ -2,9 +2,9 @@
 //!
 //! Of a handle's seat that is lent beside the root nothing is said: only a step shows the views of two seats
 //! together, and the one that shows a handle's with the root's is `RootSeat::join`.
-ghost use Rattle.std.specs.Prelude.{◌≡◌, ◌≢◌, ◌<◌};
+ghost use Rattle.std.specs.Prelude.{◌≡◌, ◌≢◌, ◌<◌, true};
 ghost use Rattle.span_id.specs.Id.{slot_of};
-ghost use Rattle.span_seats.specs.RootView.{handle_count, IsOpenIn, without_number};
+ghost use Rattle.span_seats.specs.RootView.{handle_count, has_number, IsOpenIn, with_number, without_number};
 
 use crate::handle::HandleSeat;
 use crate::root::RootSeat;
@@ -35,17 +35,24 @@ pub fn a_slot_has_handles_of_one_id<T: TableName>(root: &RootSeat<T>, first: Id,
     let _ids = (first.get(), second.get());
 }
 
-/// Two handles have two numbers, which two joins show.
-#[tactic(auto, using(crate::proofs::Numbers::joined_apart))]
+/// Two handles have two numbers, which two joins show. Each gets a seat back, of the same id.
 pub fn two_handles_have_two_numbers<T: TableName>(
     root: &mut RootSeat<T>,
     first: HandleSeat<T>,
     second: HandleSeat<T>,
-)
-    ensures root { root.new ≡ without_number (without_number root.old first.id first.number) second.id second.number }
+) -> (HandleSeat<T>, HandleSeat<T>)
     ensures numbers { first.number ≢ second.number }
+    ensures first { has_number first.id first.number root.old.handles ≡ true }
+    ensures second { has_number second.id second.number
+        (with_number (without_number root.old first.id first.number)).handles ≡ true }
+    ensures root { root.new ≡ with_number (without_number
+        (with_number (without_number root.old first.id first.number)) second.id second.number) }
+    ensures ids { (result.0.id ≡ first.id) × (result.1.id ≡ second.id) }
 {
     let _root = &root.table;
     root.join(first);
+    let first = root.split();
     root.join(second);
+    let second = root.split();
+    (first, second)
 }

@@ -60,14 +60,16 @@ fn steps<T: TableName + Send>(table: SeatTable)
     two_handles(&mut root, again);
 }
 
-// Two handles of one id are told apart.
+// Two handles of one id are told apart, and each gets a seat back.
 fn two_handles<T: TableName>(root: &mut RootSeat<T>, first: HandleSeat<T>)
     ensures { root.new.words ≡ root.old.words }
 {
     root.join(first);
     let one = root.split();
     let other = root.split();
-    two_handles_have_two_numbers(root, one, other);
+    let (one, other) = two_handles_have_two_numbers(root, one, other);
+    root.join(one);
+    root.join(other);
 }
 
 #[test]

@@ -15,6 +15,7 @@ use span_core::Core;
 use span_core::laws::each_slot_has_one_open_span;
 use span_id::{Fault, Field, Id};
 use span_outlet::Outlet;
+use span_seats::laws::two_handles_have_two_numbers;
 use span_seats::{HandleSeat, RootSeat, TableName};
 
 // One more handle: the seat that was shown comes back, and where the call is accepted one more.
@@ -150,4 +151,20 @@ pub(crate) fn show<T: TableName, O: Outlet, A>(
     core.calls();
     each_slot_has_one_open_span(core);
     root.split()
+}
+
+// Shows that two handles' seats have two numbers: each seat comes back, and nothing else changes.
+pub(crate) fn show_two<T: TableName, O: Outlet, A>(
+    core: &Core<O, A>,
+    root: &mut RootSeat<T>,
+    first: HandleSeat<T>,
+    second: HandleSeat<T>,
+) -> (HandleSeat<T>, HandleSeat<T>)
+    requires seated { AreSeated root.old core.now }
+    ensures seated { AreSeated root.new core.now }
+    ensures ids { (result.0.id ≡ first.id) × (result.1.id ≡ second.id) }
+    ensures numbers { first.number ≢ second.number }
+{
+    core.calls();
+    two_handles_have_two_numbers(root, first, second)
 }
