@@ -15,7 +15,7 @@ use Rattle.span_forest.specs.Node.{Node}
 use Rattle.span_forest.specs.Spans.{Spans}
 use Rattle.span_forest.specs.Release.{closing_list}
 use Rattle.span_stack.specs.Stack.{current}
-use Rattle.span_core.specs.World.{World, empty_world, stack_of, workers_inside}
+use Rattle.span_core.specs.World.{World, empty_world, stack_of, workers_inside, entries_in}
 use Rattle.span_id.specs.Meta.{PlainMeta}
 use Rattle.span_outlet.specs.Request.{Request, new_span, exit, try_close, Answer, made, exited, released, enter, entered}
 use Rattle.span_outlet.specs.Batch.{PlainBatch}
@@ -142,6 +142,13 @@ entered_again = refl
 
 counted_once : workers_inside ((1 ∷ 2 ∷ 1 ∷ []) ∷ [] ∷ []) 1 ≡ 1
 counted_once = refl
+
+-- each worker's entry of a span is one, however often it entered it
+entries_of_two_workers : entries_in ((1 ∷ 2 ∷ 1 ∷ []) ∷ [] ∷ (2 ∷ 2 ∷ []) ∷ []) ≡ 3
+entries_of_two_workers = refl
+
+no_entries : entries_in (empty_world 2).stacks ≡ 0
+no_entries = refl
 
 abbrev batch : Request → Answer → PlainBatch
 batch request answer = record { request = request; answer = answer; notes = [] }

@@ -12,6 +12,7 @@ pub mod Effects
 pub mod Legal
 pub mod LegalWorlds
 pub mod Released
+pub mod Entries
 pub mod Empties
 pub mod Announcing
 pub mod ToldOnce

@@ -26,12 +26,12 @@ use Rattle.span_core.proofs.Accepting.{held_open, inside_held}
 use Rattle.span_core.proofs.Holds.{held-changed, handles-released, handles-left, handles-kept_other, total-released, total-kept, total-same}
 use Rattle.span_core.proofs.Steady.{IsSteady, answer_in, world_then, core_then}
 
--- the entries of all stacks
-abbrev pub entries_in : List (List ℕ) → ℕ
-entries_in stacks = sum_by length stacks
+-- the entries of all stacks, with the duplicates
+abbrev pub all_entries_in : List (List ℕ) → ℕ
+all_entries_in stacks = sum_by length stacks
 
 abbrev pub weight_in : World → ℕ
-weight_in world = total_held world.spans + entries_in world.stacks
+weight_in world = total_held world.spans + all_entries_in world.stacks
 
 -- the calls so far, the holders and the entries of stacks
 abbrev pub weight : CoreView → ℕ
@@ -59,7 +59,7 @@ sent_more : (core : CoreView) (request : Request) (notes : List PlainNote) (more
 sent_more core request notes more h = let sent = length-append core.sent (record { request = request; answer = answer_in core request; notes = notes } ∷ []) in omega (arith, h, sent)
 
 -- a stack more or less
-entries-set : (stacks : List (List ℕ)) (worker : ℕ) (stack : List ℕ) → worker < length stacks → entries_in (set stacks worker stack) + length (get_or stacks worker []) ≡ entries_in stacks + length stack
+entries-set : (stacks : List (List ℕ)) (worker : ℕ) (stack : List ℕ) → worker < length stacks → all_entries_in (set stacks worker stack) + length (get_or stacks worker []) ≡ all_entries_in stacks + length stack
 entries-set stacks worker stack within = sum_by-set length stacks worker stack [] within
 
 exit_weight : (core : CoreView) (worker id : ℕ) → IsSteady core → worker < length core.world.stacks → has (stack_of core.world worker) id ≡ true → weight_in (world_then core (exit worker id)) + 1 ≤ weight_in core.world

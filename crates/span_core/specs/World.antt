@@ -1,11 +1,11 @@
 -- The world: the open spans with their holders, and the stacks of the workers.
-use Rattle.std.specs.Prelude.{◌≡◌, ℕ, ◌+◌, ◌<◌, List, [], MatchOption, replicate, count_by, slice_index_or, slice_set}
+use Rattle.std.specs.Prelude.{◌≡◌, ℕ, ◌+◌, ◌<◌, List, [], MatchOption, replicate, length, sum_by, count_by, slice_index_or, slice_set}
 use Rattle.span_forest.specs.declared.span.Span.{Span}
 use Rattle.span_forest.specs.declared.span.Holder.TheVariants.{Entry}
 use Rattle.span_forest.specs.Spans.{Spans, find, IsOpen}
 use Rattle.span_forest.specs.Count.{children}
 use Rattle.span_forest.specs.Holders.{held_in}
-use Rattle.span_stack.specs.Stack.{has}
+use Rattle.span_stack.specs.Stack.{has, first_places}
 
 -- the open spans, each with its handles and its entries, and for each worker, by its number, the ids
 -- of the spans that it has entered, the topmost last
@@ -28,6 +28,10 @@ with_stack world worker stack = slice_set world.stacks worker stack
 -- how many workers have the span in their stack
 abbrev pub workers_inside : List (List ℕ) → ℕ → ℕ
 workers_inside stacks id = count_by (λ stack. has stack id) stacks
+
+-- how many entries all stacks have that are no duplicates: of each stack those at the first places of their ids
+abbrev pub entries_in : List (List ℕ) → ℕ
+entries_in stacks = sum_by (λ stack. length (first_places stack)) stacks
 
 -- what holds together in every world: the entries of a span are the workers that have it in their
 -- stack, each counted once, however often the id stands there

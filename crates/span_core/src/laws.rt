@@ -10,7 +10,7 @@ ghost use Rattle.span_forest.specs.Count.{total_held, total_handles};
 ghost use Rattle.span_forest.specs.Holders.{held_in};
 ghost use Rattle.span_forest.specs.Live.{stands_in, is_live};
 ghost use Rattle.span_forest.specs.Forest.{IsForest};
-ghost use Rattle.span_core.specs.World.{IsWorld};
+ghost use Rattle.span_core.specs.World.{IsWorld, entries_in};
 ghost use Rattle.span_outlet.specs.Request.{Request, new_span, exit, try_close, Answer, made, exited, released};
 ghost use Rattle.span_core.specs.Core.{CoreView, IsAccepted};
 ghost use Rattle.span_core.specs.Step.{made_node};
@@ -44,14 +44,26 @@ pub fn entries_are_the_workers_inside<O: Outlet, A>(core: &Core<O, A>)
     let _opened = &core.calls;
 }
 
+/// All entries that are no duplicates, of all stacks, are as many as the entries that the open spans count.
+pub fn entries_are_counted_once<O: Outlet, A>(core: &Core<O, A>)
+    ensures { entries_in core.now.world.stacks + total_handles core.now.world.spans
+        ≡ total_held core.now.world.spans }
+{
+    entries_are_the_workers_inside(core);
+    core.calls();
+}
+
 /// Where the total of handles and entries is 0, no span is open. The same where no span has a handle and no
-/// worker's stack has an entry.
+/// worker's stack has an entry, or where the number of handles and that of entries are 0.
 pub fn empty_where_nothing_is_held<O: Outlet, A>(core: &Core<O, A>)
     ensures total { total_held core.now.world.spans ≡ 0 → core.now.world.spans ≡ [] }
     ensures stacks { ((id : ℕ) → held_in Handle (find core.now.world.spans id) ≡ 0) →
         All (λ stack. stack ≡ []) core.now.world.stacks → core.now.world.spans ≡ [] }
+    ensures counted { total_handles core.now.world.spans ≡ 0 → entries_in core.now.world.stacks ≡ 0 →
+        core.now.world.spans ≡ [] }
 {
     entries_are_the_workers_inside(core);
+    entries_are_counted_once(core);
     core.calls();
 }
 

@@ -7,7 +7,7 @@ ghost use Rattle.std.specs.Prelude.{◌≡◌, ◌<◌, [], length, IfOk, IfErr,
 ghost use Rattle.span_forest.specs.Node.{node_of};
 ghost use Rattle.span_forest.specs.Spans.{find};
 ghost use Rattle.span_forest.specs.Count.{total_held, total_handles, reference_count};
-ghost use Rattle.span_core.specs.World.{empty_world, stack_of, IsCounted};
+ghost use Rattle.span_core.specs.World.{empty_world, stack_of, entries_in, IsCounted};
 ghost use Rattle.span_core.specs.History.{issued, IsLegal};
 ghost use Rattle.span_core.specs.ClosedSpans.{closed_in};
 
@@ -18,7 +18,7 @@ mod stacks;
 #[cfg(test)]
 mod tests;
 
-use crate::laws::made_spans_are_open_or_closed;
+use crate::laws::{entries_are_counted_once, made_spans_are_open_or_closed};
 use crate::stacks::empty_stacks;
 use span_forest::laws::open_spans_are_counted;
 use span_forest::{Forest, Span};
@@ -152,6 +152,14 @@ impl<O: Outlet, A> Core<O, A> {
         ensures { result ≡ total_handles self.now.world.spans }
     {
         self.forest.handles()
+    }
+
+    /// How many entries all stacks have that are no duplicates.
+    pub fn entries(&self) -> u64
+        ensures { result ≡ entries_in self.now.world.stacks }
+    {
+        entries_are_counted_once(self);
+        self.total() - self.handles()
     }
 
     /// How many spans were made so far.

@@ -177,6 +177,31 @@ impl<V> Kept<V> {
     }
 }
 
+impl<V: Drop> Kept<V> {
+    /// The lines alone; they are moved. They are those of `all`.
+    pub fn into_lines(self) -> Vec<Line>
+        ensures lines { map plain_line result.items ≡ self.lines }
+        ensures kept { AreKept self.forms (numbered self.sent) (map plain_line result.items) self.refused }
+        ensures apart { (missed : List NumberedNote)
+            → AreTold self.forms (numbered self.sent) (map plain_line result.items) missed
+            → All (HasNoLine (map plain_line result.items)) missed }
+        ensures whole { self.refused ≡ 0 → map plain_line result.items ≡ lines_of self.forms self.sent }
+    {
+        let Kept {
+            batches: _,
+            told,
+            ready: _,
+            formatters: _,
+        } = self;
+        let Told {
+            forms: _,
+            lines,
+            refused: _,
+        } = told;
+        lines
+    }
+}
+
 impl<V: Say> Outlet for Kept<V> {
     ghost sent = { λ k. k.sent };
 

@@ -14,10 +14,32 @@ use std::test::Fail;
 const LIMITS: Limits = Limits {
     slots: 2,
     last_generation: 0,
-    max_count: 2,
-    workers: 1,
+    max_count: 3,
+    workers: 2,
     ring: 1,
 };
+
+// A worker that is inside the second span enters it again, and another worker comes in and leaves it. Only the other
+// worker's entry is one more.
+fn entered_again<V: Say>(
+    rt: &impl Abort,
+    alloc: Global,
+    core: &mut Core<Kept<V>>,
+) -> Result<(), Fail>
+    requires { 2 ≡ core.old.limits.workers }
+    ensures { core.new.limits ≡ core.old.limits }
+{
+    assert_eq!(rt; core.entries(), 1);
+    let text = play(alloc, core, 2, &[(0, Act::Enter(2))])?;
+    assert_eq!(rt; (text.as_str(), core.entries()), ("= again\n", 1));
+    let text = play(alloc, core, 2, &[(1, Act::Enter(2))])?;
+    assert_eq!(rt; (text.as_str(), core.entries()), ("= entered\n", 2));
+    let text = play(alloc, core, 2, &[(0, Act::Exit(2))])?;
+    assert_eq!(rt; (text.as_str(), core.entries()), ("= open\n", 2));
+    let text = play(alloc, core, 2, &[(1, Act::Exit(2))])?;
+    assert_eq!(rt; (text.as_str(), core.entries()), ("= open\n", 1));
+    Ok(())
+}
 
 // A root and its child, which is entered; then all holders are given back.
 fn closed_in_turn<V: Say>(
@@ -29,6 +51,7 @@ fn closed_in_turn<V: Say>(
     requires { outlet.sent ≡ [] }
 {
     let mut core = Core::new(alloc, &LIMITS.check()?, filters, outlet)?;
+    assert_eq!(rt; core.entries(), 0);
     let acts = [
         (0, child("a", 0)),
         (0, child("b", 1)),
@@ -37,11 +60,12 @@ fn closed_in_turn<V: Say>(
     ];
     let text = play(alloc, &mut core, LIMITS.workers, &acts)?;
     assert_eq!(rt; text.as_str(), "= 1\n= 2\n= entered\n= open\n");
+    entered_again(rt, alloc, &mut core)?;
     let (root, below) = (Id::pack(0, 0), Id::pack(1, 0));
     assert!(rt; core.give_back(0, below)?.is_empty());
     assert_eq!(rt; (core.handles(), core.total()), (0, 1));
     assert_eq!(rt; core.leave(0, below)?.as_slice(), [below, root].as_slice());
-    assert_eq!(rt; (core.made(), core.closed()), (2, 2));
+    assert_eq!(rt; (core.made(), core.closed(), core.entries()), (2, 2, 0));
     Ok(())
 }
 

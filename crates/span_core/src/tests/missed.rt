@@ -12,6 +12,7 @@ use span_id::{Limits, Meta};
 use span_layers::{Filters, Form, Hooks, Kind, Layers, Note, Rule, Say, admits, text};
 use span_outlet::{Kept, Line};
 use std::alloc::{AllocError, Global};
+use std::process::Abort;
 use std::test::Fail;
 
 const LIMITS: Limits = Limits {
@@ -58,8 +59,10 @@ fn numbered(alloc: Global, lines: &[Line]) -> Result<String, Fail> {
     Ok(String::from_utf8(text)?)
 }
 
-// The lines of a span that is entered and left, and how many notes were missed.
+// The lines of a span that is entered and left, and how many notes were missed. The lines that are moved out are those
+// that were looked at.
 fn entered_and_left<V: Say>(
+    rt: &impl Abort,
     alloc: Global,
     filters: Filters,
     outlet: Kept<V>,
@@ -74,8 +77,11 @@ fn entered_and_left<V: Say>(
         (0, Act::Exit(1)),
     ];
     play(alloc, &mut core, LIMITS.workers, &acts)?;
-    let kept = core.outlet();
-    Ok((numbered(alloc, kept.all())?, kept.refused()))
+    let kept = core.into_outlet();
+    let (lines, missed) = (numbered(alloc, kept.all())?, kept.refused());
+    let moved = numbered(alloc, kept.into_lines().as_slice())?;
+    assert_eq!(rt; moved.as_str(), lines.as_str());
+    Ok((lines, missed))
 }
 
 #[test]
@@ -87,7 +93,7 @@ fn a_note_whose_text_is_refused_memory(rt: HostRuntime) -> Result<(), Fail> {
     let second = both.add(layer(alloc, &EVERYTHING, hooks(alloc)?)?);
     assert!(&rt; second.is_ok());
     let (filters, tellers) = both.split();
-    let (lines, missed) = entered_and_left(alloc, filters, Kept::new(alloc, tellers))?;
+    let (lines, missed) = entered_and_left(&rt, alloc, filters, Kept::new(alloc, tellers))?;
     let expected =
         "0 0 0 new 1 w0 a\n0 1 1 new 1 w0 a\n1 1 1 enter 1 w0 a\n3 0 0 exit 1 w0 a\n3 1 1 exit 1 w0 a\n3 2 0 close 1 w0 a\n3 3 1 close 1 w0 a\n";
     assert_eq!(&rt; lines.as_str(), expected);
@@ -100,7 +106,7 @@ fn notes_of_a_layer_without_a_form(rt: HostRuntime) -> Result<(), Fail> {
     let alloc = rt.alloc();
     let (filters, _) = layers(alloc, &[EVERYTHING, EVERYTHING])?;
     let (_, tellers) = layers(alloc, &[EVERYTHING])?;
-    let (lines, missed) = entered_and_left(alloc, filters, Kept::new(alloc, tellers))?;
+    let (lines, missed) = entered_and_left(&rt, alloc, filters, Kept::new(alloc, tellers))?;
     let expected = "0 0 0 new 1 w0 a\n1 0 0 enter 1 w0 a\n3 0 0 exit 1 w0 a\n3 2 0 close 1 w0 a\n";
     assert_eq!(&rt; lines.as_str(), expected);
     assert_eq!(&rt; missed, 4);
