@@ -21,5 +21,4 @@ pub mod Worker
 pub mod Share
 pub mod Found
 pub mod Locked
-pub mod Report
 pub mod inside
