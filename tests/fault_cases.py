@@ -142,6 +142,7 @@ def cases():
         yield after([], [], line, fault, f"line_alone_at_fault_{number}")
     for number, (line, fault) in enumerate(AFTER_NEW):
         yield after(['{"op":"new","name":"a"}'], ["= 1"], line, fault, f"line_after_new_at_fault_{number}")
+    yield Case("fault_after_two_empty_lines", ["replay"], b'\n\n{"op":"jump"}', b"", b"line 3: no such op\n", 1)
     # The limits and the layers come first, whatever they answer.
     refused, told = '{"op":"limits","slots":0}', "! bad limits"
     yield after([refused], [told], '{"op":"limits"}', "late line", "limits_after_refused_limits")
