@@ -5,7 +5,7 @@ ghost use Rattle.span_replay.specs.Answer.{answer_text, found_text, left_text};
 ghost use Rattle.span_replay.specs.Written.{note_line};
 
 use span_id::{Fault, Id};
-use span_registry::Line;
+use span_outlet::Line;
 use std::io;
 use std::io::Write;
 

@@ -9,9 +9,10 @@ ghost use Rattle.span_id.specs.Meta.{key_value};
 ghost use Rattle.span_script.specs.Views.{new_seen, event_seen};
 
 use crate::run::answer::Answer;
+use span_core::Core;
 use span_id::{Fault, Field, Id};
 use span_layers::Say;
-use span_registry::{Core, Kept, ParentOf};
+use span_outlet::{Kept, ParentOf};
 use span_script::{NewEvent, NewSpan, SpanCall, Stop};
 
 /// Makes a span under the parent that was found. The answer is its id, or that no layer wants it, or a refusal.

@@ -21,7 +21,7 @@ use crate::run::tidying::tidy;
 use serde_json::Value;
 use span_id::Checked;
 use span_layers::{Filters, Say};
-use span_registry::Kept;
+use span_outlet::Kept;
 use span_script::{Stop, cut_line, is_skipped, json_value, operation};
 use std::alloc::Global;
 use std::io::Write;

@@ -15,7 +15,7 @@ use crate::run::lines::run_rest;
 use crate::run::opening::open;
 use crate::run::setup::Setup;
 use span_layers::Hooks;
-use span_registry::Kept;
+use span_outlet::Kept;
 use std::alloc::Global;
 use std::io::{Read, Write};
 
