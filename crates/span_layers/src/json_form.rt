@@ -38,7 +38,7 @@ pub(crate) fn json_text(alloc: Global, note: &Note) -> Result<Vec<u8>, AllocErro
     Ok(out.into_inner())
 }
 
-// Room for a text in which nothing is escaped, so that most notes take one allocation. More is taken where it is needed.
+// Room for a text in which nothing is escaped, so that most texts take one allocation; the others take more.
 fn room(note: &Note, path: usize) -> usize {
     let mut room = path.saturating_add(FRAME);
     if let Some((_, message)) = &note.tail {
