@@ -15,9 +15,8 @@ use span_outlet::Outlet;
 use span_seats::SeatTable;
 use std::alloc::Global;
 use std::marker::PhantomData;
-use std::sync::Mutex;
-use std::sync::ledger;
 use std::sync::ledger::{Blank, Book, Ledger};
+use std::sync::{Mutex, ledger};
 
 /// The parts of a registry's ledger of handles: at most so many handles can be out at a time.
 pub const HANDLE_PARTS: u64 = u64::MAX;
