@@ -1,11 +1,8 @@
--- What a visit brings back.
+-- What comes back of a visit.
 use Rattle.std.specs.Prelude.{◌≡◌, ◌≤◌, ◌+◌}
 use Rattle.span_registry.specs.Worker.{WorkerView}
-use Rattle.span_registry.specs.Share.{ShareView}
 
--- all parts of the worker, and at most three calls more
-pub record IsBack (worker : WorkerView) (share : ShareView) : Type 0 where
-  pub units : share.units ≡ 0
-  pub accepted : share.accepted ≤ worker.accepted + 3
-  pub handle_parts : share.handle_parts ≡ worker.spare
-  pub call_parts : share.call_parts ≡ 1
+-- the worker that went, with all its parts, and at most three calls more
+pub record IsBack (went back : WorkerView) : Type 0 where
+  pub accepted : back.accepted ≤ went.accepted + 3
+  pub spare : back.spare ≡ went.spare

@@ -54,11 +54,13 @@ fn report<R: Threads + Wait + Sync>(rt: &R, alloc: Global) -> Result<Report, Fau
 
 /// Prints the lines, sorted, and then how the registry ended.
 fn print(rt: &HostRuntime, report: Report) -> io::Result<()> {
+    let mut out = rt.stdout();
     let mut lines = report.lines;
-    lines.sort_by(|one: &Line, other: &Line| one.text.cmp(&other.text));
+    lines.sort_unstable_by(|one: &Line, other: &Line| one.text.cmp(&other.text));
     for line in &lines {
-        rt.stdout().write_all(line.text.as_slice())?;
-        println!(rt;)?;
+        out.write_all(line.text.as_slice())?;
+        out.write_all(b"\n")?;
     }
-    println!(rt; "calls {} made {} closed {} left {}", report.calls, report.made, report.closed, report.left)
+    println!(rt; "{} calls, {} made, {} closed, {} left", report.calls, report.made, report.closed, report.left)?;
+    Ok(())
 }

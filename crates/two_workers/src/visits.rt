@@ -14,16 +14,16 @@ use std::sync::ledger::{Blank, Ledger};
 use std::thread;
 use std::thread::{Promise, PromisedHandle, Scope, Threads};
 
-/// What a visit brings back: the parts that its worker and its handle had.
+/// What comes back of a visit.
 #[derive(Drop)]
 struct Back<H: Ledger, C: Ledger> {
     worker: Snapshot<Worker<H, C>>,
 }
 
-impl<H: Ledger, C: Ledger> Promise<Share<H, C>> for Back<H, C> {
+impl<H: Ledger, C: Ledger> Promise<Worker<H, C>> for Back<H, C> {
     ghost use Rattle.two_workers.specs.Visit.{IsBack};
 
-    ghost kept_by = { λ back share. IsBack back.worker.value share };
+    ghost kept_by = { λ back worker. IsBack back.worker.value worker };
 }
 
 /// Makes a registry, has two threads visit the span of a request, and ends the registry. It is generic in the names of
@@ -103,23 +103,120 @@ fn both<
             return Err(fault);
         }
     };
-    let visited = in_threads(rt, registry, request, first, second, &mut one, &mut other);
-    let one = given_back(rt, registry, &mut own, one);
-    let other = given_back(rt, registry, &mut own, other);
-    let held = own.leave().join(one).join(other);
-    Ok(held.join(visited?))
+    match in_threads(rt, registry, request, first, &mut one, second, &mut other) {
+        Ok((first, second)) => {
+            let one = give_back(rt, registry, first, one);
+            let other = give_back(rt, registry, second, other);
+            Ok(own.leave().join(one).join(other))
+        }
+        Err(fault) => {
+            drop(one.into_share());
+            drop(other.into_share());
+            Err(fault)
+        }
+    }
 }
 
-// Gives a handle back. What comes of a handle that isn't taken is a share of it.
-fn given_back<H: Ledger, C: Ledger, S: Setup, V: Say, R: Wait>(
+// Two visits, each in a thread of its own.
+fn in_threads<
+    H: Ledger + Send + Sync,
+    C: Ledger + Send + Sync,
+    S: Setup + Send + Sync,
+    V: Say + Send,
+    R: Threads + Wait + Sync,
+>(
     rt: &R,
     registry: &Registry<H, C, S, Kept<V>>,
-    worker: &mut Worker<H, C>,
-    handle: Handle<H, C, S>,
-) -> Option<Share<H, C>>
+    request: &Meta,
+    first: Worker<H, C>,
+    one: &mut Handle<H, C, S>,
+    second: Worker<H, C>,
+    other: &mut Handle<H, C, S>,
+) -> Result<(Worker<H, C>, Worker<H, C>), Fault>
+    ensures first { IfOk result (λ back. IsBack first back.0) }
+    ensures second { IfOk result (λ back. IsBack second back.1) }
 {
-    match registry.try_close(rt, worker, handle) {
-        Ok(_) => None,
-        Err((handle, _)) => Some(handle.into_share()),
+    thread::scope(
+        thread::scope_env(),
+        rt,
+        move |scope| -> Result<(Worker<H, C>, Worker<H, C>), Fault>
+            ensures first { IfOk result (λ back. IsBack first back.0) }
+            ensures second { IfOk result (λ back. IsBack second back.1) }
+        {
+            let first = start(rt, scope, registry, request, first, one)?;
+            let second = start(rt, scope, registry, request, second, other)?;
+            let first = first.join(rt);
+            let second = second.join(rt);
+            Ok((first, second))
+        },
+    )
+}
+
+// Starts the thread of a visit, which lends the handle.
+fn start<
+    's,
+    E: 's,
+    H: Ledger + Send + Sync + 's,
+    C: Ledger + Send + Sync + 's,
+    S: Setup + Send + Sync + 's,
+    V: Say + Send + 's,
+    R: Wait + Sync,
+>(
+    rt: &'s R,
+    scope: &Scope<'s, E>,
+    registry: &'s Registry<H, C, S, Kept<V>>,
+    request: &'s Meta,
+    worker: Worker<H, C>,
+    handle: &'s mut Handle<H, C, S>,
+) -> Result<PromisedHandle<Worker<H, C>, Back<H, C>>, Fault>
+    ensures { IfOk result (λ running. running.promise.worker.value ≡ worker) }
+{
+    let promise = Back {
+        worker: Snapshot::of(&worker),
+    };
+    match scope.spawn_with(
+        promise,
+        move || -> Worker<H, C>
+            ensures { IsBack worker result }
+        { visit(rt, registry, request, worker, handle) },
+    ) {
+        Ok(running) => Ok(running),
+        Err(_) => Err(Fault::Memory),
+    }
+}
+
+// What a thread does: it enters the span, tells an event and leaves the span. A refused call changes nothing.
+fn visit<H: Ledger, C: Ledger, S: Setup, V: Say, R: Wait>(
+    rt: &R,
+    registry: &Registry<H, C, S, Kept<V>>,
+    request: &Meta,
+    worker: Worker<H, C>,
+    handle: &mut Handle<H, C, S>,
+) -> Worker<H, C>
+    ensures { IsBack worker result }
+{
+    let mut worker = worker;
+    let _first = registry.enter(rt, &mut worker, handle);
+    let _told = registry.event(rt, &mut worker, request, "hello", &[]);
+    let _closed = registry.exit(rt, &mut worker, handle.id());
+    worker
+}
+
+// Gives a handle back. Where the call is refused, the handle is given up.
+fn give_back<H: Ledger, C: Ledger, S: Setup, V: Say, R: Wait>(
+    rt: &R,
+    registry: &Registry<H, C, S, Kept<V>>,
+    worker: Worker<H, C>,
+    handle: Handle<H, C, S>,
+) -> Share<H, C>
+    requires { worker.accepted ≤ 3 }
+    ensures accepted { result.accepted ≤ 4 }
+    ensures units { result.units ≤ 1 }
+    ensures parts { (result.handle_parts ≡ worker.spare + 1) × (result.call_parts ≡ 1) }
+{
+    let mut worker = worker;
+    match registry.try_close(rt, &mut worker, handle) {
+        Ok(_) => worker.leave(),
+        Err((handle, _)) => worker.leave().join(handle.into_share()),
     }
 }
