@@ -54,9 +54,13 @@ pub fn visits<
     let (registry, workers) = Registry::<H, C, S, Kept<V>>::new(
         alloc, checked, filters, outlet, handles, calls, table,
     )?;
-    let mut workers = workers;
-    let (Some(second), Some(first), Some(own)) = (workers.pop(), workers.pop(), workers.pop())
-    else {
+    let mut workers = workers.into_iter();
+    let (Some(own), Some(first), Some(second), None) = (
+        workers.next(),
+        workers.next(),
+        workers.next(),
+        workers.next(),
+    ) else {
         unreachable!()
     };
     let request = meta(alloc, "request")?;
