@@ -1,5 +1,5 @@
 use Rattle.std.specs.Prelude.{None}
-use Rattle.two_workers.proofs.report.Given as goal
+use Rattle.two_workers.proofs.visited.Given as goal
 
 abbrev pub ghosts-visits-H-Ledger : goal.ghosts-visits-H-Ledger
 ghosts-visits-H-Ledger g a = record { name = a.handles.name; parts = a.handles.parts }
