@@ -1,0 +1,226 @@
+//! What the threads do with the registry.
+ghost use Rattle.std.specs.Prelude.{◌≡◌, ◌+◌, ◌≤◌, [], None, IfOk};
+ghost use Rattle.two_workers.specs.Visit.{IsBack};
+
+use span_id::{Checked, Fault, Level, Meta, copy_text};
+use span_layers::{Filters, Say};
+use span_registry::{
+    HANDLE_PARTS, Handle, Kept, Outlet, ParentOf, Registry, Report, SeatTable, Setup, Share, Worker,
+};
+use std::alloc::Global;
+use std::snapshot::Snapshot;
+use std::sync::Wait;
+use std::sync::ledger::{Blank, Ledger};
+use std::thread;
+use std::thread::{Promise, PromisedHandle, Scope, Threads};
+
+/// What comes back of a visit.
+#[derive(Drop)]
+struct Back<H: Ledger, C: Ledger> {
+    worker: Snapshot<Worker<H, C>>,
+}
+
+impl<H: Ledger, C: Ledger> Promise<Worker<H, C>> for Back<H, C> {
+    ghost use Rattle.two_workers.specs.Visit.{IsBack};
+
+    ghost kept_by = { λ back worker. IsBack back.worker.value worker };
+}
+
+/// Makes a registry, has two threads visit the span of a request, and ends the registry. It is generic in the names of
+/// the ledgers and of the registry's setup, so that its caller picks them.
+pub fn visits<
+    H: Ledger + Send + Sync,
+    C: Ledger + Send + Sync,
+    S: Setup + Send + Sync,
+    V: Say + Send,
+    R: Threads + Wait + Sync,
+>(
+    rt: &R,
+    alloc: Global,
+    checked: &Checked,
+    filters: Filters,
+    outlet: Kept<V>,
+    handles: Blank,
+    calls: Blank,
+    table: SeatTable,
+) -> Result<Report, Fault>
+    requires sent { outlet.sent ≡ [] }
+    requires setup { (checked.now ≡ S.limits) × (filters.rules ≡ S.rules) × (None ≡ S.ring) }
+    requires workers { checked.now.workers ≡ 3 }
+    requires handles { (handles.name ≡ H.name) × (handles.parts ≡ H.parts) × (H.parts ≡ HANDLE_PARTS) }
+    requires calls { (calls.name ≡ C.name) × (calls.parts ≡ C.parts) × (C.parts ≡ 3) }
+    requires table { (table ≡ S.table) × (table.words ≡ checked.now.slots) }
+{
+    let (registry, workers) = Registry::<H, C, S, Kept<V>>::new(
+        alloc, checked, filters, outlet, handles, calls, table,
+    )?;
+    let mut workers = workers.into_iter();
+    let (Some(own), Some(first), Some(second), None) = (
+        workers.next(),
+        workers.next(),
+        workers.next(),
+        workers.next(),
+    ) else {
+        unreachable!()
+    };
+    let request = meta(alloc, "request")?;
+    let whole = both(rt, &registry, &request, own, first, second)?;
+    Ok(registry.finish_kept(whole))
+}
+
+// A span's name at the level of information.
+fn meta(alloc: Global, name: &str) -> Result<Meta, Fault> {
+    Ok(Meta {
+        name: copy_text(alloc, name)?,
+        target: copy_text(alloc, "app")?,
+        level: Level::Info,
+    })
+}
+
+// Makes the span, and has each thread visit it with a handle of its own. What comes back is the whole share.
+fn both<
+    H: Ledger + Send + Sync,
+    C: Ledger + Send + Sync,
+    S: Setup + Send + Sync,
+    V: Say + Send,
+    R: Threads + Wait + Sync,
+>(
+    rt: &R,
+    registry: &Registry<H, C, S, Kept<V>>,
+    request: &Meta,
+    own: Worker<H, C>,
+    first: Worker<H, C>,
+    second: Worker<H, C>,
+) -> Result<Share<H, C>, Fault>
+    requires new { (own.accepted ≡ 0) × (first.accepted ≡ 0) × (second.accepted ≡ 0) }
+    ensures handles { IfOk result (λ whole. whole.handle_parts ≡ own.spare + first.spare + second.spare) }
+    ensures calls { IfOk result (λ whole. whole.call_parts ≡ 3) }
+{
+    let mut own = own;
+    let Some(mut one) = registry.new_span(rt, &mut own, request, &[], ParentOf::Root)? else {
+        return Err(Fault::BadName);
+    };
+    let mut other = match registry.clone_span(rt, &mut own, &mut one) {
+        Ok(other) => other,
+        Err(fault) => {
+            drop(one.into_share());
+            return Err(fault);
+        }
+    };
+    match in_threads(rt, registry, request, first, &mut one, second, &mut other) {
+        Ok((first, second)) => {
+            let one = give_back(rt, registry, first, one);
+            let other = give_back(rt, registry, second, other);
+            Ok(own.leave().join(one).join(other))
+        }
+        Err(fault) => {
+            drop(one.into_share());
+            drop(other.into_share());
+            Err(fault)
+        }
+    }
+}
+
+// Two visits, each in a thread of its own.
+fn in_threads<
+    H: Ledger + Send + Sync,
+    C: Ledger + Send + Sync,
+    S: Setup + Send + Sync,
+    V: Say + Send,
+    R: Threads + Wait + Sync,
+>(
+    rt: &R,
+    registry: &Registry<H, C, S, Kept<V>>,
+    request: &Meta,
+    first: Worker<H, C>,
+    one: &mut Handle<H, C, S>,
+    second: Worker<H, C>,
+    other: &mut Handle<H, C, S>,
+) -> Result<(Worker<H, C>, Worker<H, C>), Fault>
+    ensures first { IfOk result (λ back. IsBack first back.0) }
+    ensures second { IfOk result (λ back. IsBack second back.1) }
+{
+    thread::scope(
+        thread::scope_env(),
+        rt,
+        move |scope| -> Result<(Worker<H, C>, Worker<H, C>), Fault>
+            ensures first { IfOk result (λ back. IsBack first back.0) }
+            ensures second { IfOk result (λ back. IsBack second back.1) }
+        {
+            let first = start(rt, scope, registry, request, first, one)?;
+            let second = start(rt, scope, registry, request, second, other)?;
+            let first = first.join(rt);
+            let second = second.join(rt);
+            Ok((first, second))
+        },
+    )
+}
+
+// Starts the thread of a visit, which lends the handle.
+fn start<
+    's,
+    E: 's,
+    H: Ledger + Send + Sync + 's,
+    C: Ledger + Send + Sync + 's,
+    S: Setup + Send + Sync + 's,
+    V: Say + Send + 's,
+    R: Wait + Sync,
+>(
+    rt: &'s R,
+    scope: &Scope<'s, E>,
+    registry: &'s Registry<H, C, S, Kept<V>>,
+    request: &'s Meta,
+    worker: Worker<H, C>,
+    handle: &'s mut Handle<H, C, S>,
+) -> Result<PromisedHandle<Worker<H, C>, Back<H, C>>, Fault>
+    ensures { IfOk result (λ running. running.promise.worker.value ≡ worker) }
+{
+    let promise = Back {
+        worker: Snapshot::of(&worker),
+    };
+    match scope.spawn_with(
+        promise,
+        move || -> Worker<H, C>
+            ensures { IsBack worker result }
+        { visit(rt, registry, request, worker, handle) },
+    ) {
+        Ok(running) => Ok(running),
+        Err(_) => Err(Fault::Memory),
+    }
+}
+
+// What a thread does: it enters the span, tells an event and leaves the span. A refused call changes nothing.
+fn visit<H: Ledger, C: Ledger, S: Setup, V: Say, R: Wait>(
+    rt: &R,
+    registry: &Registry<H, C, S, Kept<V>>,
+    request: &Meta,
+    worker: Worker<H, C>,
+    handle: &mut Handle<H, C, S>,
+) -> Worker<H, C>
+    ensures { IsBack worker result }
+{
+    let mut worker = worker;
+    let _first = registry.enter(rt, &mut worker, handle);
+    let _told = registry.event(rt, &mut worker, request, "hello", &[]);
+    let _closed = registry.exit(rt, &mut worker, handle.id());
+    worker
+}
+
+// Gives a handle back. Where the call is refused, the handle is given up.
+fn give_back<H: Ledger, C: Ledger, S: Setup, V: Say, R: Wait>(
+    rt: &R,
+    registry: &Registry<H, C, S, Kept<V>>,
+    worker: Worker<H, C>,
+    handle: Handle<H, C, S>,
+) -> Share<H, C>
+    requires { worker.accepted ≤ 3 }
+    ensures accepted { result.accepted ≤ 4 }
+    ensures units { result.units ≤ 1 }
+    ensures parts { (result.handle_parts ≡ worker.spare + 1) × (result.call_parts ≡ 1) }
+{
+    let mut worker = worker;
+    match registry.try_close(rt, &mut worker, handle) {
+        Ok(_) => worker.leave(),
+        Err((handle, _)) => worker.leave().join(handle.into_share()),
+    }
+}
