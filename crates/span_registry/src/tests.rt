@@ -1,2 +1,6 @@
-//! That a user of the registry names this crate alone: its words are the core's and the outlet's.
+//! What no clause says: the calls run, with their answers and their reports.
+mod ended;
+mod held;
+mod layers;
 mod names;
+mod threads;
