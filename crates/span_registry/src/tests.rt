@@ -1,6 +1,12 @@
 //! What no clause says: the calls run, with their answers and their reports.
+mod acts;
 mod ended;
+mod endings;
+mod handed_on;
 mod held;
 mod layers;
 mod names;
+mod on_core;
+mod on_registry;
+mod scripts;
 mod threads;

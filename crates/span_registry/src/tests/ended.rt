@@ -1,8 +1,11 @@
 //! Registries from their making to their reports.
 ghost use Rattle.std.specs.Prelude.{◌≡◌, [], None};
 
-use crate::tests::held::{Part, finished};
+use crate::tests::acts::{Act, Transcript};
+use crate::tests::handed_on::hand_jobs_on;
+use crate::tests::held::{Gathered, finished, gather};
 use crate::tests::layers::{Plan, layers};
+use crate::tests::on_registry::calls;
 use crate::tests::threads::two_rounds;
 use crate::{HANDLE_PARTS, Kept, Registry, Report, SeatTable, Setup, Worker};
 use span_id::{Checked, Limits};
@@ -17,11 +20,23 @@ use std::thread::Threads;
 /// What is done with a registry before its end.
 #[derive(Clone, Copy)]
 pub(crate) enum Deed {
+    /// The calls, each made by the worker beside it; then the workers leave, and the handles that are left are given
+    /// up.
+    Calls,
     /// Two workers make the calls of one round each, in two threads.
     TwoRounds,
+    /// The workers make so many jobs each, in threads, and hand them on.
+    HandOn(u32),
 }
 
-// Does this, and answers in text, with all parts of the ledgers.
+/// What was answered, and what was left of workers and handles.
+#[derive(Drop)]
+pub(crate) struct Done<H: Ledger, C: Ledger> {
+    pub(crate) transcript: Transcript,
+    pub(crate) gathered: Gathered<H, C>,
+}
+
+// Does this.
 fn perform<
     H: Ledger + Send + Sync,
     C: Ledger + Send + Sync,
@@ -33,20 +48,32 @@ fn perform<
     alloc: Global,
     registry: &Registry<H, C, S, Kept<V>>,
     workers: Vec<Worker<H, C>>,
-    deed: &Deed,
-) -> Result<(String, Part<H, C>), Fail> {
+    deed: Deed,
+    acts: &[(u32, Act)],
+) -> Result<Done<H, C>, Fail> {
     match deed {
-        Deed::TwoRounds => Ok((
-            String::new(alloc),
-            two_rounds(rt, alloc, registry, workers)?,
-        )),
+        Deed::Calls => {
+            let mut workers = workers;
+            let mut held = Vec::new(alloc);
+            let transcript = calls(rt, alloc, registry, &mut workers, &mut held, acts)?;
+            Ok(Done {
+                transcript,
+                gathered: gather(alloc, workers, held)?,
+            })
+        }
+        Deed::TwoRounds => Ok(Done {
+            transcript: Transcript::new(alloc),
+            gathered: two_rounds(rt, alloc, registry, workers)?,
+        }),
+        Deed::HandOn(rounds) => hand_jobs_on(rt, alloc, registry, workers, rounds),
     }
 }
 
-/// What was answered, and the report.
+/// What was answered, what was left of each worker and each handle, and the report.
 #[derive(Drop)]
 pub(crate) struct Ended {
-    pub(crate) answers: String,
+    pub(crate) transcript: Transcript,
+    pub(crate) counts: Vec<u8>,
     pub(crate) report: Report,
 }
 
@@ -66,7 +93,8 @@ fn named<
     handles: Blank,
     calls: Blank,
     table: SeatTable,
-    deed: &Deed,
+    deed: Deed,
+    acts: &[(u32, Act)],
 ) -> Result<Ended, Fail>
     requires sent { outlet.sent ≡ [] }
     requires setup { (checked.now ≡ S.limits) × (filters.rules ≡ S.rules) × (S.ring ≡ None) }
@@ -77,12 +105,19 @@ fn named<
     let (registry, workers) = Registry::<H, C, S, Kept<V>>::new(
         alloc, checked, filters, outlet, handles, calls, table,
     )?;
-    let (answers, whole) = perform(rt, alloc, &registry, workers, deed)?;
+    let Done {
+        transcript,
+        gathered,
+    } = perform(rt, alloc, &registry, workers, deed, acts)?;
+    let Gathered { whole, counts } = gathered;
+    let whole = whole.ok_or("there are no parts")?;
     let workers = u64::from(checked.limits().workers);
-    match finished(registry, workers, whole) {
-        Some(report) => Ok(Ended { answers, report }),
-        None => Err(Fail::new("not all parts are there")),
-    }
+    let report = finished(registry, workers, whole).ok_or("not all parts are there")?;
+    Ok(Ended {
+        transcript,
+        counts,
+        report,
+    })
 }
 
 // Generic in what makes the texts.
@@ -92,7 +127,8 @@ fn begun<V: Say + Send, R: Threads + Wait + Sync>(
     limits: Limits,
     filters: Filters,
     outlet: Kept<V>,
-    deed: &Deed,
+    deed: Deed,
+    acts: &[(u32, Act)],
 ) -> Result<Ended, Fail>
     requires { outlet.sent ≡ [] }
 {
@@ -108,19 +144,29 @@ fn begun<V: Say + Send, R: Threads + Wait + Sync>(
         Blank::new(u64::from(limits.workers)),
         table,
         deed,
+        acts,
     )
 }
 
-/// Makes a registry with these layers, does this with it, and ends it.
+/// Makes a registry with these layers, does this with it, and ends it. The calls are those of `Deed::Calls`.
 pub(crate) fn run_to_end<R: Threads + Wait + Sync>(
     rt: &R,
     alloc: Global,
     limits: Limits,
     plans: &[Plan],
-    deed: &Deed,
+    deed: Deed,
+    acts: &[(u32, Act)],
 ) -> Result<Ended, Fail> {
     let (filters, tellers) = layers(alloc, plans)?;
-    begun(rt, alloc, limits, filters, Kept::new(alloc, tellers), deed)
+    begun(
+        rt,
+        alloc,
+        limits,
+        filters,
+        Kept::new(alloc, tellers),
+        deed,
+        acts,
+    )
 }
 
 /// The numbers of a report, in words.

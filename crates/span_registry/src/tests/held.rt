@@ -5,8 +5,10 @@ use crate::{HANDLE_PARTS, Handle, Registry, Report, Setup, Share, Worker};
 use span_id::Fault;
 use span_layers::{Admit, Say};
 use span_outlet::Kept;
+use std::alloc::Global;
 use std::sync::Wait;
 use std::sync::ledger::Ledger;
+use std::test::Fail;
 
 /// A handle that is given up where it is dropped.
 pub(crate) struct Held<H: Ledger, C: Ledger, S: Setup> {
@@ -87,6 +89,50 @@ impl<H: Ledger, C: Ledger> Part<H, C> {
             call_parts,
         })
     }
+}
+
+/// Parts that are put together, and how many units and accepted calls each of them had, on a line.
+#[derive(Drop)]
+pub(crate) struct Gathered<H: Ledger, C: Ledger> {
+    pub(crate) whole: Option<Part<H, C>>,
+    pub(crate) counts: Vec<u8>,
+}
+
+impl<H: Ledger, C: Ledger> Gathered<H, C> {
+    // With one more part.
+    fn and(self, alloc: Global, part: Part<H, C>) -> Result<Gathered<H, C>, Fail> {
+        let Gathered { whole, mut counts } = self;
+        let (units, accepted) = part.counts();
+        let line = format!(in alloc; "units {units} accepted {accepted}\n")?;
+        counts.extend_from_slice(line.as_bytes())?;
+        let whole = match whole {
+            None => part,
+            Some(before) => before.join(part).ok_or("the sums are too great")?,
+        };
+        Ok(Gathered {
+            whole: Some(whole),
+            counts,
+        })
+    }
+}
+
+/// The parts of workers that leave and of handles that are given up.
+pub(crate) fn gather<H: Ledger, C: Ledger, S: Setup>(
+    alloc: Global,
+    workers: Vec<Worker<H, C>>,
+    held: Vec<Held<H, C, S>>,
+) -> Result<Gathered<H, C>, Fail> {
+    let mut gathered = Gathered {
+        whole: None,
+        counts: Vec::new(alloc),
+    };
+    for worker in workers {
+        gathered = gathered.and(alloc, Part::of_worker(worker))?;
+    }
+    for one in held {
+        gathered = gathered.and(alloc, Part::of_handle(one))?;
+    }
+    Ok(gathered)
 }
 
 /// The report of a registry with so many workers, if these are all parts.

@@ -1,6 +1,6 @@
 //! Two threads of one scope.
 use crate::tests::ended::{Deed, numbers, run_to_end};
-use crate::tests::held::{Held, Part, close};
+use crate::tests::held::{Gathered, Held, Part, close};
 use crate::tests::layers::meta_of;
 use crate::{Kept, ParentOf, Registry, Setup, Worker};
 use span_id::{Fault, Level, Limits};
@@ -28,13 +28,13 @@ fn new<H: Ledger, C: Ledger, S: Setup, V: Say, R: Wait>(
     }
 }
 
-// Nine calls.
-fn round<H: Ledger, C: Ledger, S: Setup, V: Say, R: Wait>(
+/// The first eight calls of a round: a job, with one handle left.
+pub(crate) fn begin_job<H: Ledger, C: Ledger, S: Setup, V: Say, R: Wait>(
     rt: &R,
     alloc: Global,
     registry: &Registry<H, C, S, Kept<V>>,
     worker: &mut Worker<H, C>,
-) -> Result<(), Fault> {
+) -> Result<Held<H, C, S>, Fault> {
     let mut job = new(rt, alloc, registry, worker, "job", ParentOf::Root)?;
     let other = Held {
         handle: registry.clone_span(rt, worker, &mut job.handle)?,
@@ -46,6 +46,17 @@ fn round<H: Ledger, C: Ledger, S: Setup, V: Say, R: Wait>(
     close(rt, registry, worker, step).map_err(|(_, fault)| fault)?;
     registry.exit(rt, worker, job.handle.id())?;
     close(rt, registry, worker, other).map_err(|(_, fault)| fault)?;
+    Ok(job)
+}
+
+// Nine calls.
+fn round<H: Ledger, C: Ledger, S: Setup, V: Say, R: Wait>(
+    rt: &R,
+    alloc: Global,
+    registry: &Registry<H, C, S, Kept<V>>,
+    worker: &mut Worker<H, C>,
+) -> Result<(), Fault> {
+    let job = begin_job(rt, alloc, registry, worker)?;
     close(rt, registry, worker, job).map_err(|(_, fault)| fault)?;
     Ok(())
 }
@@ -122,13 +133,14 @@ pub(crate) fn two_rounds<
     alloc: Global,
     registry: &Registry<H, C, S, Kept<V>>,
     workers: Vec<Worker<H, C>>,
-) -> Result<Part<H, C>, Fail> {
+) -> Result<Gathered<H, C>, Fail> {
     let mut workers = workers;
     let second = workers.pop().ok_or("no worker")?;
     let first = workers.pop().ok_or("no second worker")?;
-    let both = scoped(rt, alloc, registry, first, second)?;
-    let whole = both.ok_or("the sums are too great")?;
-    Ok(whole)
+    Ok(Gathered {
+        whole: scoped(rt, alloc, registry, first, second)?,
+        counts: Vec::new(alloc),
+    })
 }
 
 #[test]
@@ -137,7 +149,7 @@ fn two_threads_make_a_round_each(rt: HostRuntime) -> Result<(), Fail> {
         workers: 2,
         ..Limits::default()
     };
-    let ended = run_to_end(&rt, rt.alloc(), limits, &[], &Deed::TwoRounds)?;
+    let ended = run_to_end(&rt, rt.alloc(), limits, &[], Deed::TwoRounds, &[])?;
     let expected = "left 0 handles 0 entries 0 calls 18 made 4 closed 4 refused 0";
     assert_eq!(&rt; numbers(rt.alloc(), &ended.report)?.as_str(), expected);
     assert!(&rt; ended.report.lines.is_empty());
