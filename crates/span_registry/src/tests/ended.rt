@@ -105,16 +105,13 @@ fn named<
     let (registry, workers) = Registry::<H, C, S, Kept<V>>::new(
         alloc, checked, filters, outlet, handles, calls, table,
     )?;
-    let Done {
-        transcript,
-        gathered,
-    } = perform(rt, alloc, &registry, workers, deed, acts)?;
-    let Gathered { whole, counts } = gathered;
+    let done = perform(rt, alloc, &registry, workers, deed, acts)?;
+    let Gathered { whole, counts } = done.gathered;
     let whole = whole.ok_or("there are no parts")?;
     let workers = u64::from(checked.limits().workers);
     let report = finished(registry, workers, whole).ok_or("not all parts are there")?;
     Ok(Ended {
-        transcript,
+        transcript: done.transcript,
         counts,
         report,
     })

@@ -63,6 +63,28 @@ fn workers(workers: u32) -> Limits {
     }
 }
 
+const EVERY_ANSWER: &str = "\
+= 1
+= cloned
+= entered
+= recorded
+= told
+= a parent 0 handles 2 entries 1 count 3
+= open
+= open
+= closed
+! unknown
+";
+
+const EVERY_LINE: &str = "\
+0 0 0 new 1 w0 a
+2 0 0 enter 1 w0 a
+3 0 0 record 1 w0 a k=v
+4 0 0 event 1 w0 a INFO m
+6 0 0 exit 1 w0 a
+7 0 0 close 1 w0 a k=v
+";
+
 #[test]
 fn every_call_once(rt: HostRuntime) -> Result<(), Fail> {
     let event = Act::Event {
@@ -83,10 +105,10 @@ fn every_call_once(rt: HostRuntime) -> Result<(), Fail> {
         (0, Act::Find(1)),
     ];
     let ending = Ending {
-        answers: "= 1\n= cloned\n= entered\n= recorded\n= told\n= a parent 0 handles 2 entries 1 count 3\n= open\n= open\n= closed\n! unknown\n",
+        answers: EVERY_ANSWER,
         counts: "units 0 accepted 8\n",
         numbers: "left 0 handles 0 entries 0 calls 8 made 1 closed 1 refused 0",
-        lines: "0 0 0 new 1 w0 a\n2 0 0 enter 1 w0 a\n3 0 0 record 1 w0 a k=v\n4 0 0 event 1 w0 a INFO m\n6 0 0 exit 1 w0 a\n7 0 0 close 1 w0 a k=v\n",
+        lines: EVERY_LINE,
     };
     ends(&rt, rt.alloc(), workers(1), &[EVERYTHING], &acts, &ending)
 }

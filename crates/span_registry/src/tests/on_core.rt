@@ -3,7 +3,7 @@ ghost use Rattle.std.specs.Prelude.{◌≡◌, ◌<◌, []};
 
 use crate::Core;
 use crate::found::Found;
-use crate::tests::acts::{Act, Answer, Transcript, lines_text};
+use crate::tests::acts::{Act, Answer, Fields, Transcript, lines_text};
 use crate::tests::layers::{Plan, fields_of, layers, meta_of};
 use span_id::{Fault, Id, Level, Limits};
 use span_layers::{Filters, Say};
@@ -48,6 +48,24 @@ fn call_on<V: Say>(
     }
 }
 
+// An event.
+fn tell<V: Say>(
+    alloc: Global,
+    core: &mut Core<Kept<V>>,
+    worker: u32,
+    level: Level,
+    message: &str,
+    fields: Fields,
+) -> Result<Answer, Fault>
+    requires { worker < core.old.limits.workers }
+    ensures limits { core.new.limits ≡ core.old.limits }
+{
+    let meta = meta_of(alloc, "event", "app", level)?;
+    let fields = fields_of(alloc, fields)?;
+    core.event(worker, &meta, message, fields.as_slice())?;
+    Ok(Answer::Told)
+}
+
 // A call.
 fn call<V: Say>(
     alloc: Global,
@@ -74,12 +92,7 @@ fn call<V: Say>(
             level,
             message,
             fields,
-        } => {
-            let meta = meta_of(alloc, "event", "app", *level)?;
-            let fields = fields_of(alloc, fields)?;
-            core.event(worker, &meta, message, fields.as_slice())?;
-            Ok(Answer::Told)
-        }
+        } => tell(alloc, core, worker, *level, message, fields),
         Act::Clone(number)
         | Act::Enter(number)
         | Act::Exit(number)

@@ -31,6 +31,22 @@ fn make_span<H: Ledger, C: Ledger, S: Setup, V: Say, R: Wait>(
     Ok(Answer::Made(id))
 }
 
+// An event.
+fn tell<H: Ledger, C: Ledger, S: Setup, V: Say, R: Wait>(
+    rt: &R,
+    alloc: Global,
+    registry: &Registry<H, C, S, Kept<V>>,
+    worker: &mut Worker<H, C>,
+    level: Level,
+    message: &str,
+    fields: Fields,
+) -> Result<Answer, Fault> {
+    let meta = meta_of(alloc, "event", "app", level)?;
+    let fields = fields_of(alloc, fields)?;
+    registry.event(rt, worker, &meta, message, fields.as_slice())?;
+    Ok(Answer::Told)
+}
+
 // The place of a handle of this id.
 fn place_of<H: Ledger, C: Ledger, S: Setup>(held: &[Held<H, C, S>], number: u64) -> Option<usize> {
     for (place, one) in held.iter().enumerate() {
@@ -104,26 +120,15 @@ fn call<H: Ledger, C: Ledger, S: Setup, V: Say, R: Wait>(
             target,
             parent,
             fields,
-        } => make_span(
-            rt,
-            alloc,
-            registry,
-            worker,
-            held,
-            (name, target),
-            fields,
-            *parent,
-        ),
+        } => {
+            let names = (*name, *target);
+            make_span(rt, alloc, registry, worker, held, names, fields, *parent)
+        }
         Act::Event {
             level,
             message,
             fields,
-        } => {
-            let meta = meta_of(alloc, "event", "app", *level)?;
-            let fields = fields_of(alloc, fields)?;
-            registry.event(rt, worker, &meta, message, fields.as_slice())?;
-            Ok(Answer::Told)
-        }
+        } => tell(rt, alloc, registry, worker, *level, message, fields),
         Act::Exit(number) => {
             let id = Id::from_u64(*number).ok_or(Fault::Unknown)?;
             Ok(Answer::Closed(registry.exit(rt, worker, id)?))

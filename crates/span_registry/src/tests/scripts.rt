@@ -69,6 +69,22 @@ fn enters_twice_and_leaves(rt: HostRuntime) -> Result<(), Fail> {
     agree(&rt, rt.alloc(), &[EVERYTHING], &acts, answers, lines)
 }
 
+const SECOND_ENTRY_ANSWERS: &str = "\
+= 1
+= 2
+= entered
+= entered
+= again
+= 3
+= c parent 2 handles 1 entries 0 count 1
+= open
+= open
+= open
+= closed
+= open
+= closed
+";
+
 // The second entry of the first span is no current span, so the new span goes under the other.
 #[test]
 fn a_second_entry_is_not_current(rt: HostRuntime) -> Result<(), Fail> {
@@ -87,10 +103,19 @@ fn a_second_entry_is_not_current(rt: HostRuntime) -> Result<(), Fail> {
         (0, Act::Close(2)),
         (0, Act::Close(3)),
     ];
-    let answers =
-        "= 1\n= 2\n= entered\n= entered\n= again\n= 3\n= c parent 2 handles 1 entries 0 count 1\n= open\n= open\n= open\n= closed\n= open\n= closed\n";
+    let answers = SECOND_ENTRY_ANSWERS;
     agree(&rt, rt.alloc(), &[], &acts, answers, "")
 }
+
+const OWN_PATHS: &str = "\
+L0 new 1 w0 a
+L1 new 1 w0 a
+L0 new 2 w0 a:q
+L0 new 3 w0 a:q:c
+L1 new 3 w0 a:c
+L0 event 2 w0 a:q INFO hi k=v
+L1 event 1 w0 a INFO hi k=v
+";
 
 #[test]
 fn each_layer_has_its_own_path(rt: HostRuntime) -> Result<(), Fail> {
@@ -124,8 +149,7 @@ fn each_layer_has_its_own_path(rt: HostRuntime) -> Result<(), Fail> {
     ];
     let answers =
         "= 1\n= entered\n= 2\n= entered\n= 3\n= told\n= open\n= open\n= open\n= closed\n= closed\n";
-    let lines =
-        "L0 new 1 w0 a\nL1 new 1 w0 a\nL0 new 2 w0 a:q\nL0 new 3 w0 a:q:c\nL1 new 3 w0 a:c\nL0 event 2 w0 a:q INFO hi k=v\nL1 event 1 w0 a INFO hi k=v\n";
+    let lines = OWN_PATHS;
     agree(&rt, rt.alloc(), &plans, &acts, answers, lines)
 }
 
@@ -150,6 +174,17 @@ fn notes_name_the_worker_that_enters(rt: HostRuntime) -> Result<(), Fail> {
     agree(&rt, rt.alloc(), &[plan], &acts, answers, lines)
 }
 
+const BOTH_FORMS: &str = "\
+L0 {\"fields\":[[\"k\",\"1\"]],\"id\":1,\"kind\":\"new\",\"path\":\"a\",\"worker\":0}
+L1 new 1 w0 a k=1
+L0 {\"fields\":[[\"k\",\"2\"]],\"id\":1,\"kind\":\"record\",\"path\":\"a\",\"worker\":0}
+L1 record 1 w0 a k=2
+L0 {\"fields\":[],\"id\":0,\"kind\":\"event\",\"level\":\"WARN\",\"message\":\"x\\ny\",\"path\":\"-\",\"worker\":0}
+L1 event 0 w0 - WARN x\\ny
+L0 {\"fields\":[[\"k\",\"1\"],[\"k\",\"2\"]],\"id\":1,\"kind\":\"close\",\"path\":\"a\",\"worker\":0}
+L1 close 1 w0 a k=1 k=2
+";
+
 #[test]
 fn both_forms_with_fields(rt: HostRuntime) -> Result<(), Fail> {
     let plans = [(Form::Json, FmtSpan::FULL, "", Level::Trace), EVERYTHING];
@@ -170,8 +205,7 @@ fn both_forms_with_fields(rt: HostRuntime) -> Result<(), Fail> {
         (0, event),
         (0, Act::Close(1)),
     ];
-    let lines =
-        "L0 {\"fields\":[[\"k\",\"1\"]],\"id\":1,\"kind\":\"new\",\"path\":\"a\",\"worker\":0}\nL1 new 1 w0 a k=1\nL0 {\"fields\":[[\"k\",\"2\"]],\"id\":1,\"kind\":\"record\",\"path\":\"a\",\"worker\":0}\nL1 record 1 w0 a k=2\nL0 {\"fields\":[],\"id\":0,\"kind\":\"event\",\"level\":\"WARN\",\"message\":\"x\\ny\",\"path\":\"-\",\"worker\":0}\nL1 event 0 w0 - WARN x\\ny\nL0 {\"fields\":[[\"k\",\"1\"],[\"k\",\"2\"]],\"id\":1,\"kind\":\"close\",\"path\":\"a\",\"worker\":0}\nL1 close 1 w0 a k=1 k=2\n";
+    let lines = BOTH_FORMS;
     agree(
         &rt,
         rt.alloc(),
@@ -181,6 +215,15 @@ fn both_forms_with_fields(rt: HostRuntime) -> Result<(), Fail> {
         lines,
     )
 }
+
+const EACH_WORKER: &str = "\
+L0 new 1 w0 a
+L0 new 2 w1 b
+L0 record 2 w1 b k=v
+L0 event 0 w1 - INFO m
+L0 close 2 w1 b k=v
+L0 close 1 w0 a
+";
 
 #[test]
 fn each_call_is_made_by_its_worker(rt: HostRuntime) -> Result<(), Fail> {
@@ -200,7 +243,22 @@ fn each_call_is_made_by_its_worker(rt: HostRuntime) -> Result<(), Fail> {
         (0, Act::Close(1)),
     ];
     let answers = "= 1\n= 2\n= cloned\n= recorded\n= told\n= open\n= closed\n= closed\n";
-    let lines =
-        "L0 new 1 w0 a\nL0 new 2 w1 b\nL0 record 2 w1 b k=v\nL0 event 0 w1 - INFO m\nL0 close 2 w1 b k=v\nL0 close 1 w0 a\n";
+    let lines = EACH_WORKER;
     agree(&rt, rt.alloc(), &[EVERYTHING], &acts, answers, lines)
+}
+
+#[test]
+fn another_worker_closes_a_whole_chain(rt: HostRuntime) -> Result<(), Fail> {
+    let plan = (Form::Compact, FmtSpan::CLOSE, "", Level::Trace);
+    let acts = [
+        (0, new("a")),
+        (0, child("b", 1)),
+        (1, child("c", 2)),
+        (1, Act::Close(1)),
+        (0, Act::Close(2)),
+        (1, Act::Close(3)),
+    ];
+    let answers = "= 1\n= 2\n= 3\n= open\n= open\n= closed\n";
+    let lines = "L0 close 3 w1 a:b:c\nL0 close 2 w1 a:b\nL0 close 1 w1 a\n";
+    agree(&rt, rt.alloc(), &[plan], &acts, answers, lines)
 }
