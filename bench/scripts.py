@@ -114,11 +114,22 @@ def workers(size):
 
 
 def deep_stack(size):
-    """Spans that one worker enters and doesn't leave: each enter looks through the worker's stack."""
+    """Spans that one worker enters and doesn't leave."""
     head = MANY_SLOTS + '{"op":"layer","spans":0}\n'
 
     def block(n):
         return f'{{"op":"new","name":"p","label":"{n}","parent":null}}\n{{"op":"enter","span":"{n}"}}\n'
+
+    return filled(head, block, size)
+
+
+def two_deep_stacks(size):
+    """Spans that two workers enter and don't leave: each enter of the second looks through that worker's stack."""
+    head = '{"op":"limits","slots":1048576,"workers":2}\n{"op":"layer","spans":0}\n'
+
+    def block(n):
+        new = f'{{"op":"new","name":"p","label":"{n}","parent":null}}\n'
+        return new + f'{{"op":"enter","span":"{n}"}}\n{{"op":"enter","span":"{n}","w":1}}\n'
 
     return filled(head, block, size)
 
@@ -151,11 +162,12 @@ def by_name(*made):
 
 
 SCRIPTS = by_name(
-    spans_without_layers, short_spans, deep_chain, told_chains, eight_layers, wide_fields, events, workers
+    spans_without_layers, short_spans, deep_chain, told_chains, eight_layers, wide_fields, events, workers,
+    deep_stack
 )
 
 # Scripts whose time or memory grows faster than the script, or far beyond it: run where they are named, at small sizes.
-COSTLY = by_name(deep_stack, entered_again, events_far_from_the_root, sixty_four_layers)
+COSTLY = by_name(two_deep_stacks, entered_again, events_far_from_the_root, sixty_four_layers)
 ALL = {**SCRIPTS, **COSTLY}
 
 if __name__ == "__main__":

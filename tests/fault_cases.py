@@ -50,6 +50,7 @@ ALONE = [
     ('{"op":"new","name":"\\ud800"}', "not JSON"),
     ('{"op":"new","name":"a\tb"}', "not JSON"),
     ('{"op":"close","span":01}', "not JSON"),
+    ("\ufeff", "not JSON"),
     ("\ufeff{}", "not JSON"),
     ("\u00a0", "not JSON"),
     ("\x0b", "not JSON"),
@@ -59,15 +60,24 @@ ALONE = [
     ('"new"', "not an object"),
     ("{}", "no such op"),
     ('{"op":null}', "no such op"),
+    ('{"op":7}', "no such op"),
     ('{"op":["new"]}', "no such op"),
     ('{"op":"NEW","name":"a"}', "no such op"),
     ('{"op":"new ","name":"a"}', "no such op"),
     ('{"op":"storm"}', "no such op"),
     ('{"op":"new","op":"jump","name":"a"}', "no such op"),
+    ('{"op":"new","name":"a","level":"info"}', "bad key level"),
+    ('{"op":"new","name":"a","fields":[["k"]]}', "bad key fields"),
+    ('{"op":"new","name":"a","parent":false,"w":4}', "bad key parent"),
     ('{"op":"close","w":9}', "bad key span"),
+    ('{"op":"close","span":-0}', "bad key span"),
+    ('{"op":"close","span":1.0}', "bad key span"),
+    ('{"op":"close","span":"a","w":99}', "bad key w"),
     ('{"op":"find"}', "bad key span"),
     ('{"op":"find","span":0,"old":0}', "bad key span"),
+    ('{"op":"find","span":null,"old":1}', "bad key span"),
     ('{"op":"find","span":1,"old":1}', "bad key old"),
+    ('{"op":"find","span":1,"old":null}', "bad key old"),
     ('{"op":"find","span":"b","old":1}', "bad key old"),
     ('{"op":"close","span":"b"}', "no such label"),
     ('{"op":"close","span":""}', "no such label"),
@@ -85,6 +95,7 @@ AFTER_NEW = [
     ('{"op":"new","name":"b","parent":"b","w":4}', "bad key w"),
     ('{"op":"new","name":"a","w":4}', "bad key w"),
     ('{"op":"new","name":"a","parent":"b"}', "no such label"),
+    ('{"op":"new","name":"b","label":"a","parent":"x"}', "no such label"),
     ('{"op":"find","span":"A"}', "no such label"),
     ('{"op":"new","name":"a"}', "label taken"),
     ('{"op":"new","name":"a b","label":"a"}', "label taken"),
@@ -131,6 +142,7 @@ def cases():
         yield after([], [], line, fault, f"line_alone_at_fault_{number}")
     for number, (line, fault) in enumerate(AFTER_NEW):
         yield after(['{"op":"new","name":"a"}'], ["= 1"], line, fault, f"line_after_new_at_fault_{number}")
+    yield Case("fault_after_two_empty_lines", ["replay"], b'\n\n{"op":"jump"}', b"", b"line 3: no such op\n", 1)
     # The limits and the layers come first, whatever they answer.
     refused, told = '{"op":"limits","slots":0}', "! bad limits"
     yield after([refused], [told], '{"op":"limits"}', "late line", "limits_after_refused_limits")

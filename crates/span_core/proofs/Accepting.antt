@@ -1,5 +1,6 @@
 -- What each accepted call leaves of a core's parts.
-use Rattle.std.proofs.Common.{◌≡◌, true, false, ℕ, ◌+◌, ◌<◌, Bool, cond, not, List, [], ◌∷◌, ◌++◌, length, map, get_or, set, Option, Some, None, refl, sym, ap, ◌∙◌, subst, inl, arith}
+use Rattle.std.proofs.Common.{◌≡◌, true, false, ℕ, ◌+◌, ◌<◌, Bool, cond, not, List, [], ◌∷◌, ◌++◌, length, map, get_or, set, Option, Some, None, refl, sym, ap, ◌∙◌, subst, inl, inr, arith}
+use Rattle.std.proofs.lemmas.Bool.{cases_Bool}
 use Rattle.std.proofs.lemmas.List.{length-set}
 use Rattle.span_id.specs.declared.limits.Limits.{Limits}
 use Rattle.span_layers.specs.declared.note.Kind.TheVariants.{OnExit, OnRecord, OnEnter}
@@ -144,6 +145,15 @@ inside_held spans stacks worker id whole within stands =
     let emptied = inside-set stacks worker (get_or stacks worker []) [] id within refl in
     let counted = rw stands at emptied in
     omega (arith, counted, whole.entered id)
+
+-- a span without an entry stands in no worker's stack
+pub none_inside : (spans : Spans) (stacks : List (List ℕ)) (worker id : ℕ) → IsWorld (record { spans = spans; stacks = stacks })
+    → worker < length stacks → held_in Entry (find spans id) ≡ 0 → has (get_or stacks worker []) id ≡ false
+none_inside spans stacks worker id whole within none =
+    elim (cases_Bool (has (get_or stacks worker []) id)) [
+      | inl stands ↦ (let held = inside_held spans stacks worker id whole within stands in absurd (omega (arith, none, held)))
+      | inr outside ↦ outside
+    ]
 
 -- the world once a worker has left a span
 pub world_after_exit : (spans : Spans) (stacks : List (List ℕ)) (worker id : ℕ) (stays : Bool) → worker < length stacks → has (get_or stacks worker []) id ≡ true

@@ -1,10 +1,12 @@
 -- The notes of a chain of spans that close: how each tells the path at the next.
-use Rattle.std.proofs.Common.{◌≡◌, ◌≢◌, ℕ, zero, suc, ◌+◌, ◌<◌, ◌≤◌, Bool, true, false, cond, ◌&&◌, List, [], ◌∷◌, ◌++◌, length, reverse, replicate, take, set, Option, Some, None, refl, sym, ap, ◌∙◌, subst, inl, inr, arith}
-use Rattle.std.specs.Prelude.{slice_get, nat_lt}
+use Rattle.std.proofs.Common.{◌≡◌, ◌≢◌, ℕ, zero, suc, ◌+◌, ◌<◌, ◌≤◌, Bool, true, false, cond, ◌&&◌, ◌||◌, List, [], ◌∷◌, ◌++◌, length, filter, reverse, replicate, take, set, eqb, Option, Some, None, refl, sym, ap, ◌∙◌, subst, inl, inr, arith}
+use Rattle.std.specs.Prelude.{slice_get}
+use Rattle.std.specs.List.{list_any, range_with_len}
 use Rattle.std.specs.Option.{option_map_or}
-use Rattle.std.proofs.lemmas.Bool.{cases_Bool, cases_lt, true≢false}
-use Rattle.std.proofs.lemmas.Bool.Decides.{eqb_tells, nat_tests}
-use Rattle.std.proofs.lemmas.List.{append-nil, length-set, reverse-append, get_or-set_same, get_or-set_other, get_or_past}
+use Rattle.std.proofs.lemmas.Bool.{cases_Bool, cases_lt, true≢false, eqb-true, eq-eqb, ne_eqb}
+use Rattle.std.proofs.lemmas.Bool.Decides.{eqb_tells}
+use Rattle.std.proofs.lemmas.List.{append-nil, reverse-append, get_or-set_same, get_or-set_other, get_or_past}
+use Rattle.std.proofs.lemmas.Map.Views.{any-filter_same}
 use Rattle.span_id.specs.Bits.{has_bit}
 use Rattle.span_layers.specs.declared.note.Kind.TheVariants.{OnClose}
 use Rattle.span_layers.specs.Note.{PlainNote}
@@ -16,7 +18,8 @@ use Rattle.span_forest.specs.Path.{path, names_for, name_for}
 use Rattle.span_forest.proofs.Ranks.{walk_more}
 use Rattle.span_core.specs.Step.{is_open_parent}
 use Rattle.span_core.specs.Happening.{bits_in, close_of, is_told, note_of, path_at}
-use Rattle.span_core.specs.inside.ClosingPaths.{GoesOn, IsChain, TellsBelow, IsBelow, AreBelow, AreBelowFirst, note_in, place_in, up_to}
+use Rattle.span_core.specs.inside.Sound.{hears}
+use Rattle.span_core.specs.inside.ClosingPaths.{GoesOn, IsChain, TellsBelow, IsBelow, AreBelow, AreBelowFirst, note_in, place_in, AreAscending, with_left}
 use Rattle.span_core.proofs.NewSpans.{ParentsOpen, parent_is_open, path_is}
 
 -- a walk is its first span and the walk of that one's parent
@@ -88,14 +91,60 @@ tells_below spans notes layer id (Some at) note is found = let same : is.0 ≡ n
     some_same : (a b : PlainNote) → Some a ≡ Some b → a ≡ b
     some_same a b same = cc
 
-past_turn : (spans : Spans) (id layer k : ℕ) → k ≢ layer → up_to spans id (layer + 1) k ≡ up_to spans id layer k
-past_turn spans id layer k other = let same : nat_lt k (layer + 1) ≡ nat_lt k layer = grind (arith, nat_tests) in ap (λ b. cond b (parent_of spans id) (Some id)) same
+-- numbers that ascend from a bound on ascend from each lower one
+AreAscending-lower : (test : ℕ → Bool) (low from end : ℕ) (ns : List ℕ) → low ≤ from → AreAscending test from end ns → AreAscending test low end ns
+AreAscending-lower test low from end [] le up = tt
+AreAscending-lower test low from end (n ∷ ns) le up = (omega (arith, le, up.0), up.1, up.2, up.3)
 
-here_before : (spans : Spans) (id layer : ℕ) → up_to spans id layer layer ≡ Some id
-here_before spans id layer = let no : nat_lt layer layer ≡ false = grind (arith, nat_tests) in ap (λ b. cond b (parent_of spans id) (Some id)) no
+-- of the numbers of a range those that pass a test ascend
+ascending : (test : ℕ → Bool) (from n : ℕ) → AreAscending test from (from + n) (filter test (range_with_len from n))
+ascending test from zero = tt
+ascending test from (suc n) =
+    let next : from + 1 + n ≡ from + suc n = omega arith in
+    let above : AreAscending test (from + 1) (from + suc n) (filter test (range_with_len (from + 1) n)) =
+    subst (λ end. AreAscending test (from + 1) end (filter test (range_with_len (from + 1) n))) next (ascending test (from + 1) n) in
+    elim (cases_Bool (test from)) [
+      | inl passes ↦ rw passes (omega arith, omega arith, passes, above)
+      | inr fails ↦ rw fails (AreAscending-lower test from (from + 1) (from + suc n) _ (omega arith) above)
+    ]
 
-here_after : (spans : Spans) (id layer k : ℕ) → k < layer → up_to spans id layer k ≡ parent_of spans id
-here_after spans id layer k lt = let yes : nat_lt k layer ≡ true = grind (arith, nat_tests) in ap (λ b. cond b (parent_of spans id) (Some id)) yes
+-- no number below the first bound is among them
+absent_below : (test : ℕ → Bool) (from end k : ℕ) (ns : List ℕ) → k < from → AreAscending test from end ns → list_any (λ other. eqb other k) ns ≡ false
+absent_below test from end k [] lt up = refl
+absent_below test from end k (n ∷ ns) lt up =
+    let other : eqb n k ≡ false = ne_eqb n k (λ same. absurd (omega (arith, same, lt, up.0))) in
+    ap (λ b. b || list_any (λ m. eqb m k) ns) other ∙ absent_below test (n + 1) end k ns (omega (arith, lt, up.0)) up.3
+
+-- each number of a range is there
+in_range : (from n k : ℕ) → from ≤ k → k < from + n → list_any (λ other. eqb other k) (range_with_len from n) ≡ true
+in_range from zero k low high = absurd (omega (arith, low, high))
+in_range from (suc n) k low high =
+    elim (eqb_tells from k) [
+      | inl same ↦ ap (λ b. b || list_any (λ m. eqb m k) (range_with_len (from + 1) n)) same.0
+      | inr other ↦ (let later : from + 1 ≤ k = omega (arith, low, other.1) in
+          ap (λ b. b || list_any (λ m. eqb m k) (range_with_len (from + 1) n)) other.0
+          ∙ in_range (from + 1) n k later (omega (arith, high)))
+    ]
+
+-- a layer of the range that isn't left fails the test
+not_left : (test : ℕ → Bool) (n k : ℕ) → k < n → list_any (λ other. eqb other k) (filter test (range_with_len 0 n)) ≡ false → test k ≡ false
+not_left test n k lt out =
+    by_case (test k) (sym (any-filter_same (λ other. eqb other k) test (test k) (λ other same. ap test (eqb-true other k same)) (range_with_len 0 n)
+    ∙ ap (λ b. test k && b) (in_range 0 n k (omega arith) (omega (arith, lt)))) ∙ out)
+  where
+    by_case : (b : Bool) → (b && true) ≡ false → b ≡ false
+    by_case true fails = fails
+    by_case false fails = refl
+
+-- the layers that are told of a span that closes
+pub told_closes : (rules : List Filter) (spans : Spans) (id : ℕ) (node : Node) → find spans id ≡ Some node
+    → filter (hears rules node.bits OnClose) (range_with_len 0 (length rules)) ≡ filter (is_told rules (close_of spans id)) (range_with_len 0 (length rules))
+told_closes rules spans id node found =
+    ap (λ (o : Option Node). filter (hears rules (option_map_or (λ n. n.bits) o 0) OnClose) (range_with_len 0 (length rules))) (sym found)
+
+-- where a layer stands
+left_at : (spans : Spans) (id k : ℕ) (left : List ℕ) (b : Bool) → list_any (λ other. eqb other k) left ≡ b → with_left spans id left k ≡ cond b (Some id) (parent_of spans id)
+left_at spans id k left b is = ap (λ t. cond t (Some id) (parent_of spans id)) is
 
 and_both : (a b : Bool) → (a && b) ≡ true → (a ≡ true) × (b ≡ true)
 and_both true b h = (refl, h)
@@ -106,113 +155,122 @@ not_first true b h k = absurd (true≢false (sym k ∙ h))
 not_first false b h k = refl
 
 -- a layer that is told: its place is that of its note
-told_turn : (rules : List Filter) (spans : Spans) (id layer worker : ℕ) (node : Node) (notes : List PlainNote) (places : List (Option ℕ)) (count : ℕ)
-    → find spans id ≡ Some node → Ends (length spans) spans (Some id) → layer < length places → count ≡ length notes
-    → AreBelow rules spans notes (up_to spans id layer) places
-    → is_told rules (close_of spans id) layer ≡ true
-    → AreBelow rules spans (notes ++ note_of worker (close_of spans id) layer ∷ []) (up_to spans id (layer + 1)) (set places layer (Some count))
-told_turn rules spans id layer worker node notes places count found ends within counted old told =
-    record {
+pub below_turn : (rules : List Filter) (spans : Spans) (id layer worker : ℕ) (node : Node) (left rest : List ℕ) (notes after : List PlainNote) (places later : List (Option ℕ)) (count : ℕ)
+    → find spans id ≡ Some node → Ends (length spans) spans (Some id) → length places ≡ length rules → count ≡ length notes
+    → left ≡ layer ∷ rest → AreAscending (is_told rules (close_of spans id)) 0 (length rules) left
+    → AreBelow rules spans notes (with_left spans id left) places
+    → after ≡ notes ++ note_of worker (close_of spans id) layer ∷ [] → later ≡ set places layer (Some count)
+    → AreBelow rules spans after (with_left spans id rest) later
+below_turn rules spans id layer worker node left rest notes after places later count found ends long counted next up old after_is later_is =
+    rw (after_is, later_is) (record {
       below = λ k. elim (eqb_tells k layer) [
-        | inl same ↦ subst (λ (n : ℕ). IsBelow spans after n (up_to spans id (layer + 1) n) (place_in later n)) (sym same.1) here
-        | inr other ↦ below_at spans after k _ _ _ _ (past_turn spans id layer k other.1) (get_or-set_other places layer k (Some count) None other.1)
+        | inl same ↦ subst (λ (n : ℕ). IsBelow spans told n (with_left spans id rest n) (place_in placed n)) (sym same.1) here
+        | inr other ↦ below_at spans told k _ _ _ _ (past k other.1) (get_or-set_other places layer k (Some count) None other.1)
             (below_more spans notes (note ∷ []) k _ _ (old.below k))
       ];
       wanted = λ k unwanted. elim (eqb_tells k layer) [
         | inl same ↦ absurd (true≢false (sym both.1 ∙ ap (λ n. layer_wants rules n OnClose) (sym same.1) ∙ unwanted))
         | inr other ↦ get_or-set_other places layer k (Some count) None other.1 ∙ old.wanted k unwanted
       ];
-    }
+    })
   where
     note : PlainNote
     note = note_of worker (close_of spans id) layer
 
-    after : List PlainNote
-    after = notes ++ note ∷ []
+    told : List PlainNote
+    told = notes ++ note ∷ []
 
-    later : List (Option ℕ)
-    later = set places layer (Some count)
+    placed : List (Option ℕ)
+    placed = set places layer (Some count)
+
+    first : AreAscending (is_told rules (close_of spans id)) 0 (length rules) (layer ∷ rest)
+    first = subst (λ layers. AreAscending (is_told rules (close_of spans id)) 0 (length rules) layers) next up
 
     both : (has_bit (bits_in spans id) layer ≡ true) × (layer_wants rules layer OnClose ≡ true)
-    both = and_both (has_bit (bits_in spans id) layer) (layer_wants rules layer OnClose) told
+    both = and_both (has_bit (bits_in spans id) layer) (layer_wants rules layer OnClose) first.2
 
     named : path layer spans id ≡ path_at layer spans (parent_of spans id) ++ node.name ∷ []
     named = step_named spans layer id node ends found ∙ ap (λ b. path_at layer spans (parent_of spans id) ++ cond b (node.name ∷ []) []) both.0
 
-    stands : slice_get after count ≡ Some note
-    stands = ap (slice_get after) counted ∙ get_pushed notes note
+    stands : slice_get told count ≡ Some note
+    stands = ap (slice_get told) counted ∙ get_pushed notes note
 
-    here : IsBelow spans after layer (up_to spans id (layer + 1) layer) (place_in later layer)
+    here : IsBelow spans told layer (with_left spans id rest layer) (place_in placed layer)
     here =
-        below_at spans after layer (parent_of spans id) _ (Some count) _ (here_after spans id (layer + 1) layer (omega arith)) (get_or-set_same places layer (Some count) None within)
+        below_at spans told layer (parent_of spans id) _ (Some count) _
+        (left_at spans id layer rest false (absent_below (is_told rules (close_of spans id)) (layer + 1) (length rules) layer rest (omega arith) first.3))
+        (get_or-set_same places layer (Some count) None (omega (arith, long, first.1)))
         (note, stands, (node.name, named))
 
--- a layer that isn't told: if it has a place it wants closes, so it doesn't admit the span, and its path stays
-quiet_turn : (rules : List Filter) (spans : Spans) (id layer : ℕ) (node : Node) (notes : List PlainNote) (places : List (Option ℕ))
-    → find spans id ≡ Some node → Ends (length spans) spans (Some id)
-    → AreBelow rules spans notes (up_to spans id layer) places
-    → is_told rules (close_of spans id) layer ≡ false
-    → AreBelow rules spans (notes ++ []) (up_to spans id (layer + 1)) places
-quiet_turn rules spans id layer node notes places found ends old quiet =
+    past : (k : ℕ) → k ≢ layer → with_left spans id rest k ≡ with_left spans id left k
+    past k other =
+        let apart : eqb layer k ≡ false = ne_eqb layer k (λ same. other (sym same)) in
+        sym (left_at spans id k left _ (ap (list_any (λ n. eqb n k)) next ∙ ap (λ b. b || list_any (λ n. eqb n k) rest) apart))
+
+-- the layers that are left after a turn, and before the first
+pub left_turn : (test : ℕ → Bool) (end layer : ℕ) (left rest : List ℕ) → left ≡ layer ∷ rest → AreAscending test 0 end left → AreAscending test 0 end rest
+left_turn test end layer left rest next up =
+    let first : AreAscending test 0 end (layer ∷ rest) = subst (λ layers. AreAscending test 0 end layers) next up in
+    AreAscending-lower test 0 (layer + 1) end rest (omega arith) first.3
+
+-- the layer whose turn it is
+pub left_there : (test : ℕ → Bool) (end layer : ℕ) (left rest : List ℕ) → left ≡ layer ∷ rest → AreAscending test 0 end left → layer < end
+left_there test end layer left rest next up =
+    let first : AreAscending test 0 end (layer ∷ rest) = subst (λ layers. AreAscending test 0 end layers) next up in first.1
+
+pub left_below : (rules : List Filter) (spans : Spans) (id layer : ℕ) (left rest : List ℕ) (notes : List PlainNote) (places : List (Option ℕ))
+    → left ≡ layer ∷ rest → AreBelow rules spans notes (with_left spans id left) places → IsBelow spans notes layer (Some id) (place_in places layer)
+left_below rules spans id layer left rest notes places next old =
+    below_at spans notes layer _ (Some id) _ _
+    (sym (left_at spans id layer left true (ap (list_any (λ n. eqb n layer)) next ∙ ap (λ b. b || list_any (λ n. eqb n layer) rest) (eq-eqb layer layer refl)))) refl
+    (old.below layer)
+
+-- before the first turn: a layer that isn't told either has no place, as it wants no closes or isn't there, or doesn't
+-- admit the span, and its path stays
+pub below_start : (rules : List Filter) (spans : Spans) (id : ℕ) (node : Node) (left : List ℕ) (notes : List PlainNote) (places : List (Option ℕ))
+    → find spans id ≡ Some node → Ends (length spans) spans (Some id) → length places ≡ length rules
+    → left ≡ filter (is_told rules (close_of spans id)) (range_with_len 0 (length rules))
+    → AreBelow rules spans notes (λ layer. Some id) places → AreBelow rules spans notes (with_left spans id left) places
+below_start rules spans id node left notes places found ends long are old =
     record {
-      below = λ k. below_more spans notes [] k _ _ (elim (eqb_tells k layer) [
-        | inl same ↦ subst (λ (n : ℕ). IsBelow spans notes n (up_to spans id (layer + 1) n) (place_in places n)) (sym same.1) here
-        | inr other ↦ below_at spans notes k _ _ _ _ (past_turn spans id layer k other.1) refl (old.below k)
-      ]);
+      below = λ k. elim (cases_Bool (list_any (λ other. eqb other k) left)) [
+        | inl told ↦ below_at spans notes k _ _ _ _ (left_at spans id k left true told) refl (old.below k)
+        | inr quiet ↦ below_at spans notes k (parent_of spans id) _ (place_in places k) _ (left_at spans id k left false quiet) refl (up k quiet)
+      ];
       wanted = old.wanted;
     }
   where
-    same_path : has_bit (bits_in spans id) layer ≡ false → path layer spans id ≡ path_at layer spans (parent_of spans id)
-    same_path refused = step_named spans layer id node ends found ∙ ap (λ b. path_at layer spans (parent_of spans id) ++ cond b (node.name ∷ []) []) refused ∙ append-nil _
+    same_path : (k : ℕ) → has_bit (bits_in spans id) k ≡ false → path k spans id ≡ path_at k spans (parent_of spans id)
+    same_path k refused = step_named spans k id node ends found ∙ ap (λ b. path_at k spans (parent_of spans id) ++ cond b (node.name ∷ []) []) refused ∙ append-nil _
 
-    moved : (place : Option ℕ) → has_bit (bits_in spans id) layer ≡ false → IsBelow spans notes layer (Some id) place → IsBelow spans notes layer (parent_of spans id) place
-    moved None refused is = tt
-    moved (Some at) refused is = (is.0, is.1, (is.2.0, is.2.1 ∙ ap (λ p. p ++ is.2.0 ∷ []) (same_path refused)))
+    moved : (k : ℕ) (place : Option ℕ) → has_bit (bits_in spans id) k ≡ false → IsBelow spans notes k (Some id) place → IsBelow spans notes k (parent_of spans id) place
+    moved k None refused is = tt
+    moved k (Some at) refused is = (is.0, is.1, (is.2.0, is.2.1 ∙ ap (λ p. p ++ is.2.0 ∷ []) (same_path k refused)))
 
-    here : IsBelow spans notes layer (up_to spans id (layer + 1) layer) (place_in places layer)
-    here =
-        below_at spans notes layer (parent_of spans id) _ (place_in places layer) _ (here_after spans id (layer + 1) layer (omega arith)) refl
-        (elim (cases_Bool (layer_wants rules layer OnClose)) [
-          | inl wants ↦ moved (place_in places layer) (not_first (has_bit (bits_in spans id) layer) (layer_wants rules layer OnClose) quiet wants)
-              (below_at spans notes layer _ (Some id) _ _ (sym (here_before spans id layer)) refl (old.below layer))
-          | inr never ↦ none_below spans notes layer (parent_of spans id) (place_in places layer) (old.wanted layer never)
-        ])
+    up : (k : ℕ) → list_any (λ other. eqb other k) left ≡ false → IsBelow spans notes k (parent_of spans id) (place_in places k)
+    up k quiet =
+        elim (cases_lt k (length rules)) [
+          | inl lt ↦ (let fails : is_told rules (close_of spans id) k ≡ false =
+              not_left (is_told rules (close_of spans id)) (length rules) k lt (ap (list_any (λ other. eqb other k)) (sym are) ∙ quiet) in
+              elim (cases_Bool (layer_wants rules k OnClose)) [
+                | inl wants ↦ moved k (place_in places k) (not_first (has_bit (bits_in spans id) k) (layer_wants rules k OnClose) fails wants) (old.below k)
+                | inr never ↦ none_below spans notes k (parent_of spans id) (place_in places k) (old.wanted k never)
+              ])
+          | inr past ↦ none_below spans notes k (parent_of spans id) (place_in places k) (get_or_past places k None (omega (arith, long, past)))
+        ]
 
--- a turn of the loop over the layers
-pub below_turn : (rules : List Filter) (spans : Spans) (id layer worker : ℕ) (node : Node) (notes after : List PlainNote) (places later : List (Option ℕ)) (count : ℕ)
-    → find spans id ≡ Some node → Ends (length spans) spans (Some id) → layer < length places → count ≡ length notes
-    → AreBelow rules spans notes (up_to spans id layer) places
-    → after ≡ notes ++ cond (is_told rules (close_of spans id) layer) (note_of worker (close_of spans id) layer ∷ []) []
-    → later ≡ cond (is_told rules (close_of spans id) layer) (set places layer (Some count)) places
-    → AreBelow rules spans after (up_to spans id (layer + 1)) later
-below_turn rules spans id layer worker node notes after places later count found ends within counted old after_is later_is =
-    elim (cases_Bool (is_told rules (close_of spans id) layer)) [
-      | inl told ↦ (let a = rw told at after_is in let l = rw told at later_is in rw (a, l) (told_turn rules spans id layer worker node notes places count found ends within counted old told))
-      | inr quiet ↦ (let a = rw quiet at after_is in let l = rw quiet at later_is in rw (a, l) (quiet_turn rules spans id layer node notes places found ends old quiet))
-    ]
-
-pub length_turn : (told : Bool) (places later : List (Option ℕ)) (layer : ℕ) (place : Option ℕ) → later ≡ cond told (set places layer place) places → length later ≡ length places
-length_turn true places later layer place is = ap length is ∙ length-set places layer place
-length_turn false places later layer place is = ap length is
-
--- before its first turn
-pub below_start : (rules : List Filter) (spans : Spans) (id : ℕ) (notes : List PlainNote) (places : List (Option ℕ))
-    → AreBelow rules spans notes (λ layer. Some id) places → AreBelow rules spans notes (up_to spans id 0) places
-below_start rules spans id notes places old =
-    record { below = λ k. below_at spans notes k _ _ _ _ (first k) refl (old.below k); wanted = old.wanted }
+pub left_start : (test : ℕ → Bool) (end : ℕ) (left : List ℕ) → left ≡ filter test (range_with_len 0 end) → AreAscending test 0 end left
+left_start test end left are = subst (λ layers. AreAscending test 0 end layers) (sym are) (subst (λ n. AreAscending test 0 n (filter test (range_with_len 0 end))) zeros (ascending test 0 end))
   where
-    first : (k : ℕ) → up_to spans id 0 k ≡ Some id
-    first k = let no : nat_lt k 0 ≡ false = grind (arith, nat_tests) in ap (λ b. cond b (parent_of spans id) (Some id)) no
+    zeros : 0 + end ≡ end
+    zeros = omega arith
 
--- after its last turn
-pub below_end : (rules : List Filter) (spans : Spans) (id layers : ℕ) (notes : List PlainNote) (places : List (Option ℕ))
-    → length places ≤ layers → AreBelow rules spans notes (up_to spans id layers) places → AreBelow rules spans notes (λ layer. parent_of spans id) places
-below_end rules spans id layers notes places few old =
+-- after the last turn
+pub below_end : (rules : List Filter) (spans : Spans) (id : ℕ) (left : List ℕ) (notes : List PlainNote) (places : List (Option ℕ))
+    → left ≡ [] → AreBelow rules spans notes (with_left spans id left) places → AreBelow rules spans notes (λ layer. parent_of spans id) places
+below_end rules spans id left notes places none old =
     record {
-      below = λ k. elim (cases_lt k layers) [
-        | inl lt ↦ below_at spans notes k _ _ _ _ (sym (here_after spans id layers k lt)) refl (old.below k)
-        | inr past ↦ none_below spans notes k (parent_of spans id) (place_in places k) (get_or_past places k None (omega (arith, few, past)))
-      ];
+      below = λ k. below_at spans notes k _ _ _ _ (sym (left_at spans id k left false (ap (list_any (λ other. eqb other k)) none))) refl (old.below k);
       wanted = old.wanted;
     }
 

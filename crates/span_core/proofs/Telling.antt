@@ -1,44 +1,45 @@
 -- The notes of the layers, one after another.
-use Rattle.std.proofs.Common.{◌≡◌, ℕ, zero, suc, ◌+◌, Bool, true, false, cond, List, [], ◌∷◌, ◌++◌, map, filter, refl, sym, ap, ◌∙◌, arith, append_assoc}
+use Rattle.std.proofs.Common.{◌≡◌, ℕ, suc, ◌+◌, ◌-◌, ◌<◌, true, false, cond, List, [], ◌∷◌, ◌++◌, length, map, filter, refl, sym, ap, ◌∙◌, arith, append_assoc, append-nil}
 use Rattle.std.specs.Prelude.{flat_map}
 use Rattle.std.specs.List.{range_with_len}
-use Rattle.std.proofs.lemmas.List.{map-append}
-use Rattle.std.proofs.lemmas.List.Elements.{filter-append}
 use Rattle.span_id.specs.Meta.{KeyValue, PlainMeta}
+use Rattle.span_layers.specs.declared.note.Kind.{Kind}
 use Rattle.span_layers.specs.Note.{PlainNote}
 use Rattle.span_layers.specs.Filter.{Filter}
 use Rattle.span_forest.specs.Spans.{Spans}
+use Rattle.span_core.specs.inside.Sound.{hears}
+use Rattle.span_core.specs.inside.Telling.{told_from}
 use Rattle.span_core.specs.Happening.{Happening, notes_of, notes_of_all, close_of, event_at}
 
-range_more : (a n : ℕ) → range_with_len a (suc n) ≡ range_with_len a n ++ (a + n) ∷ []
-range_more a zero = ap (λ k. k ∷ []) (omega arith)
-range_more a (suc n) =
-    ap (λ xs. a ∷ xs) (range_more (a + 1) n ∙ ap (λ k. range_with_len (a + 1) n ++ k ∷ []) (omega arith))
-
--- a layer more that is told, or isn't
-told_next : {X : Type 0} (f : ℕ → X) (p : ℕ → Bool) (n : ℕ) → map f (filter p (range_with_len 0 (n + 1))) ≡ map f (filter p (range_with_len 0 n)) ++ cond (p n) (f n ∷ []) []
-told_next f p n =
-    let next : range_with_len 0 (n + 1) ≡ range_with_len 0 n ++ n ∷ [] =
-    (let one : n + 1 ≡ suc n = omega arith in let same : 0 + n ≡ n = omega arith in
-    ap (range_with_len 0) one ∙ range_more 0 n ∙ ap (λ k. range_with_len 0 n ++ k ∷ []) same) in
-    ap (λ ks. map f (filter p ks)) next
-    ∙ ap (map f) (filter-append p (range_with_len 0 n) (n ∷ []))
-    ∙ map-append f (filter p (range_with_len 0 n)) (filter p (n ∷ []))
-    ∙ ap (λ xs. map f (filter p (range_with_len 0 n)) ++ xs) (by_case (p n))
+-- the layers from a number on: first itself, if it is told
+told_here : (rules : List Filter) (bits : ℕ) (kind : Kind) (from : ℕ) → from < length rules
+    → told_from rules bits kind from ≡ cond (hears rules bits kind from) (from ∷ told_from rules bits kind (from + 1)) (told_from rules bits kind (from + 1))
+told_here rules bits kind from lt =
+    ap (λ n. filter (hears rules bits kind) (range_with_len from n)) some
   where
-    by_case : (b : Bool) → map f (cond b (n ∷ []) []) ≡ cond b (f n ∷ []) []
-    by_case true = refl
-    by_case false = refl
+    some : length rules - from ≡ suc (length rules - (from + 1))
+    some = omega arith
 
--- a turn of a loop over the layers
-pub layer_more : (f : ℕ → PlainNote) (p : ℕ → Bool) (layer : ℕ) (first before after : List PlainNote)
-    → before ≡ first ++ map f (filter p (range_with_len 0 layer))
-    → after ≡ before ++ cond (p layer) (f layer ∷ []) []
-    → after ≡ first ++ map f (filter p (range_with_len 0 (layer + 1)))
-layer_more f p layer first before after so_far more =
-    more ∙ ap (λ xs. xs ++ cond (p layer) (f layer ∷ []) []) so_far
-    ∙ append_assoc first _ _
-    ∙ ap (λ xs. first ++ xs) (sym (told_next f p layer))
+pub told_first : (rules : List Filter) (bits : ℕ) (kind : Kind) (from : ℕ) → from < length rules → hears rules bits kind from ≡ true
+    → told_from rules bits kind from ≡ from ∷ told_from rules bits kind (from + 1)
+told_first rules bits kind from lt told =
+    told_here rules bits kind from lt ∙ ap (λ b. cond b (from ∷ told_from rules bits kind (from + 1)) (told_from rules bits kind (from + 1))) told
+
+pub told_later : (rules : List Filter) (bits : ℕ) (kind : Kind) (from : ℕ) → from < length rules → hears rules bits kind from ≡ false
+    → told_from rules bits kind from ≡ told_from rules bits kind (from + 1)
+told_later rules bits kind from lt quiet =
+    told_here rules bits kind from lt ∙ ap (λ b. cond b (from ∷ told_from rules bits kind (from + 1)) (told_from rules bits kind (from + 1))) quiet
+
+-- a turn of a loop over the layers that are told: the notes so far, with those of the layers that are left
+pub layer_more : (f : ℕ → PlainNote) (layer : ℕ) (left rest : List ℕ) (all before after : List PlainNote)
+    → left ≡ layer ∷ rest → before ++ map f left ≡ all → after ≡ before ++ f layer ∷ [] → after ++ map f rest ≡ all
+layer_more f layer left rest all before after next so_far more =
+    ap (λ xs. xs ++ map f rest) more ∙ append_assoc before (f layer ∷ []) (map f rest)
+    ∙ ap (λ ns. before ++ map f ns) (sym next) ∙ so_far
+
+-- after the last turn
+pub layers_end : (f : ℕ → PlainNote) (left : List ℕ) (all notes : List PlainNote) → left ≡ [] → notes ++ map f left ≡ all → notes ≡ all
+layers_end f left all notes none told = sym (append-nil notes) ∙ ap (λ ns. notes ++ map f ns) (sym none) ∙ told
 
 -- the notes of a call with one happening
 pub one_happening : (rules : List Filter) (worker : ℕ) (what : Happening) (first notes : List PlainNote) → first ≡ [] → notes ≡ first ++ notes_of rules worker what → notes ≡ notes_of_all rules worker (what ∷ [])

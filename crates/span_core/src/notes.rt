@@ -6,15 +6,16 @@ ghost use Rattle.span_id.specs.Meta.{plain_fields};
 ghost use Rattle.span_forest.specs.Path.{path};
 ghost use Rattle.span_core.specs.Happening.{at_span, close_of, bits_in, id_at, path_at, notes_of, notes_of_all};
 ghost use Rattle.span_core.specs.inside.ClosingPaths.{IsChain};
-ghost use Rattle.span_core.specs.inside.Sound.{hears};
-ghost use Rattle.span_core.specs.inside.Telling.{id_told, path_told, tail_told, told_to, told_below};
+ghost use Rattle.span_core.specs.inside.Telling.{id_told, path_told, tail_told, told_to, notes_told};
 
 pub(crate) mod closing;
 pub(crate) mod events;
+pub(crate) mod layers;
 pub(crate) mod new_spans;
 
 use closing::push_closes;
 use events::contextual_span;
+use layers::told_layers;
 use new_spans::new_path;
 use span_forest::Forest;
 use span_id::{Bits, Fault, Field, Id, Level, copy_fields, copy_text};
@@ -152,14 +153,6 @@ fn note(alloc: Global, forest: &Forest, what: &Telling<'_>, layer: u32) -> Resul
     })
 }
 
-// Whether a layer is told: it admits what happened, and wants the kind.
-fn is_told(rules: &Rules, bits: Bits, kind: Kind, layer: u32) -> bool
-    requires { layer < length rules.now }
-    ensures { result ≡ hears rules.now bits.0 kind layer }
-{
-    bits.has(layer) && rules.want(layer, kind)
-}
-
 // Appends the notes of the layers: one for each that admits what happened and wants the kind.
 fn push_told(
     alloc: Global,
@@ -169,15 +162,12 @@ fn push_told(
     what: &Telling<'_>,
 ) -> Result<(), Fault>
     ensures notes { OnOk result (map plain_note notes.new.items ≡ map plain_note notes.old.items
-        ++ told_below rules.now forest.now.spans what.now (length rules.now)) }
+        ++ notes_told rules.now forest.now.spans what.now) }
     ensures memory { IfErr result (λ fault. fault ≡ Fault.Memory) }
 {
-    for layer in 0..rules.len() {
-        let layer = layer as u32;
-        if is_told(rules, what.bits, what.kind, layer) {
-            let note = note(alloc, forest, what, layer)?;
-            notes.push(note)?;
-        }
+    for layer in told_layers(rules, what.bits, what.kind) {
+        let note = note(alloc, forest, what, layer)?;
+        notes.push(note)?;
     }
     Ok(())
 }
@@ -190,7 +180,7 @@ fn told(
     what: &Telling<'_>,
 ) -> Result<Vec<Note>, Fault>
     ensures notes { IfOk result (λ notes. map plain_note notes.items
-        ≡ told_below rules.now forest.now.spans what.now (length rules.now)) }
+        ≡ notes_told rules.now forest.now.spans what.now) }
     ensures memory { IfErr result (λ fault. fault ≡ Fault.Memory) }
 {
     let mut notes = Vec::new(alloc);

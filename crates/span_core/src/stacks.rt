@@ -1,4 +1,4 @@
-ghost use Rattle.std.specs.Prelude.{◌≡◌, ◌<◌, ◌++◌, ◌∷◌, [], true, length, replicate, slice_index_or, slice_set, IfOk, IfErr, OnOk, OnErr};
+ghost use Rattle.std.specs.Prelude.{◌≡◌, ◌<◌, ◌++◌, ◌∷◌, [], false, not, length, replicate, slice_index_or, slice_set, is_some, IfSome, IfOk, IfErr, OnOk, OnErr};
 ghost use Rattle.span_stack.specs.Stack.{has, without_last, ids_of_each};
 
 use span_id::{Fault, Id};
@@ -17,9 +17,16 @@ pub(crate) fn empty_stacks(alloc: Global, workers: u32) -> Result<Vec<SpanStack>
     Ok(stacks)
 }
 
-// Puts a span on top of a worker's stack. Where memory is refused no stack changes.
-pub(crate) fn push_at(stacks: &mut Vec<SpanStack>, worker: u32, id: Id) -> Result<(), Fault>
-    requires { worker < length stacks.old.items }
+// Puts a span on top of a worker's stack, where it is known whether it stands there. Where memory is refused no stack
+// changes.
+pub(crate) fn push_at(
+    stacks: &mut Vec<SpanStack>,
+    worker: u32,
+    id: Id,
+    first: bool,
+) -> Result<(), Fault>
+    requires within { worker < length stacks.old.items }
+    requires first { first ≡ not (has (slice_index_or (ids_of_each stacks.old.items) worker []) id) }
     ensures pushed { OnOk result (ids_of_each stacks.new.items
         ≡ slice_set (ids_of_each stacks.old.items) worker
         (slice_index_or (ids_of_each stacks.old.items) worker [] ++ id ∷ [])) }
@@ -27,34 +34,44 @@ pub(crate) fn push_at(stacks: &mut Vec<SpanStack>, worker: u32, id: Id) -> Resul
     ensures memory { IfErr result (λ fault. fault ≡ Fault.Memory) }
 {
     let stack = &mut stacks[worker as usize];
-    push_one(stack, id)
+    push_one(stack, id, first)
 }
 
-fn push_one(stack: &mut SpanStack, id: Id) -> Result<(), Fault>
+fn push_one(stack: &mut SpanStack, id: Id, first: bool) -> Result<(), Fault>
+    requires { first ≡ not (has stack.old.ids id) }
     ensures pushed { OnOk result (stack.new.ids ≡ stack.old.ids ++ id ∷ []) }
     ensures unchanged { OnErr result (stack.new.ids ≡ stack.old.ids) }
     ensures memory { IfErr result (λ fault. fault ≡ Fault.Memory) }
 {
     stack.reserve(1)?;
-    stack.push(id);
+    if first {
+        stack.push_new(id);
+    } else {
+        stack.push_again(id);
+    }
     Ok(())
 }
 
-// Whether the span stands in a worker's stack.
-pub(crate) fn is_inside(stacks: &[SpanStack], worker: u32, id: Id) -> bool
-    requires { worker < length stacks.now }
-    ensures { result ≡ has (slice_index_or (ids_of_each stacks.now) worker []) id }
+// Whether a span that has so many entries doesn't stand in a worker's stack. Where it has none it stands in no stack,
+// and none is looked at.
+pub(crate) fn is_outside(stacks: &[SpanStack], worker: u32, id: Id, entries: u32) -> bool
+    requires within { worker < length stacks.now }
+    requires none { entries ≡ 0 → has (slice_index_or (ids_of_each stacks.now) worker []) id ≡ false }
+    ensures { result ≡ not (has (slice_index_or (ids_of_each stacks.now) worker []) id) }
 {
-    stacks[worker as usize].has(id)
+    entries == 0 || !stacks[worker as usize].has(id)
 }
 
-// Whether a span that stands in a worker's stack still stands there once its topmost place is taken out.
-pub(crate) fn stays_inside(stacks: &[SpanStack], worker: u32, id: Id) -> bool
-    requires within { worker < length stacks.now }
-    requires inside { has (slice_index_or (ids_of_each stacks.now) worker []) id ≡ true }
-    ensures { result ≡ has (without_last (slice_index_or (ids_of_each stacks.now) worker []) id) id }
+// Whether a span still stands in a worker's stack once its topmost place there is taken out, or none where it doesn't
+// stand there.
+pub(crate) fn stays_inside(stacks: &[SpanStack], worker: u32, id: Id) -> Option<bool>
+    requires { worker < length stacks.now }
+    ensures inside { is_some result ≡ has (slice_index_or (ids_of_each stacks.now) worker []) id }
+    ensures stays { IfSome result (λ stays. stays
+        ≡ has (without_last (slice_index_or (ids_of_each stacks.now) worker []) id) id) }
 {
-    !stacks[worker as usize].stands_once(id)
+    let first = stacks[worker as usize].would_pop(id)?;
+    Some(!first)
 }
 
 // Takes the topmost place of a span out of a worker's stack.

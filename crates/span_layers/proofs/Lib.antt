@@ -1,5 +1,5 @@
 pub mod Admission
 pub mod Deciding
 mod Examples
-pub mod NoFloats
 pub mod Texts
+pub mod Tokens

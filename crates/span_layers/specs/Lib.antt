@@ -5,3 +5,4 @@ pub mod Layers
 pub mod Note
 pub mod Rule
 pub mod Text
+pub mod inside

@@ -5,7 +5,7 @@ mod compact;
 mod filters;
 mod form;
 mod hooks;
-mod json;
+mod json_form;
 mod layers;
 mod note;
 mod rule;

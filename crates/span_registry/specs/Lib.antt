@@ -14,6 +14,13 @@ pub use Rattle.span_core.specs.Core
 pub use Rattle.span_core.specs.Outcome
 pub use Rattle.span_core.specs.ClosedSpans
 pub use Rattle.span_core.specs.Handles
+-- What public clauses say of open spans, and the view of a handle.
+pub use Rattle.span_forest.specs.Node
+pub use Rattle.span_forest.specs.Spans
+pub use Rattle.span_forest.specs.Count
+pub use Rattle.span_forest.specs.Holders
+pub use Rattle.span_forest.specs.Release
+pub use Rattle.span_seats.specs.declared.view.HandleView
 -- What the lock adds.
 pub mod Setup
 pub mod Handle
@@ -21,4 +28,5 @@ pub mod Worker
 pub mod Share
 pub mod Found
 pub mod Locked
+pub mod Report
 pub mod inside

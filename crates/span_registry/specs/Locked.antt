@@ -1,5 +1,5 @@
 -- What holds whenever the lock is free.
-use Rattle.std.specs.Prelude.{◌≡◌, ◌≢◌, ℕ, ◌+◌, ◌<◌, List, length, Option, Some, None, slice_index}
+use Rattle.std.specs.Prelude.{◌≡◌, ◌≢◌, ℕ, ◌+◌, ◌^◌, ◌<◌, List, length, Option, Some, None, slice_index}
 use Rattle.span_id.specs.Id.{slot_of, generation_of}
 use Rattle.span_id.specs.declared.limits.Limits.{Limits}
 use Rattle.span_layers.specs.Filter.{Filter}
@@ -12,10 +12,11 @@ use Rattle.span_outlet.specs.Outlet.{RingName}
 use Rattle.span_core.specs.History.{IsLegal}
 use Rattle.span_core.specs.Core.{CoreView}
 
--- Of a registry made with these limits, rules and ring: its book of handles and its book of calls, the root of its
--- handles' seats, and its core. What the core itself knows of each span comes to this: its count is its handles, the
--- workers inside it and its open children, is positive, and its parent is open; and an id that isn't open finds nothing.
-pub record IsLocked (limits : Limits) (rules : List Filter) (ring : Option RingName) (handles calls : ℕ) (root : RootView) (core : CoreView) : Type 0 where
+-- What holds of a registry that was made with these limits, rules and ring, and whose two ledgers are cut into so many
+-- parts: of its book of handles and its book of calls, of the root of its handles' seats, and of its core. Beside this
+-- every core knows: each open span's count is its handles, the workers inside it and its open children, is positive, and
+-- its parent is open; an id that isn't open finds nothing.
+pub record HoldsWhenFree (limits : Limits) (rules : List Filter) (ring : Option RingName) (handle_parts call_parts : ℕ) (handles calls : ℕ) (root : RootView) (core : CoreView) : Type 0 where
   -- the registry's limits, rules and ring are those that it was made with
   pub limits_are : core.limits ≡ limits
   pub rules_are : core.rules ≡ rules
@@ -39,3 +40,6 @@ pub record IsLocked (limits : Limits) (rules : List Filter) (ring : Option RingN
   -- .. else 0
   pub other_words : (slot : ℕ) → ((id : ℕ) → IsOpen core.world.spans id → slot_of id ≢ slot) →
       slice_index root.words slot ≡ 0
+  -- the ledger of handles has fewer than 2^64 parts, and the ledger of calls one for each worker
+  pub handle_parts_fit : handle_parts < 2 ^ 64
+  pub call_parts_are : call_parts ≡ core.limits.workers

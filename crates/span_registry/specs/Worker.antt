@@ -1,5 +1,5 @@
 -- What contracts see of a worker.
-use Rattle.std.specs.Prelude.{◌≡◌, ℕ, ◌+◌}
+use Rattle.std.specs.Prelude.{◌≡◌, ℕ, ◌+◌, ◌^◌, ◌≤◌}
 
 -- its number, how many calls were accepted of it, and how many more handles it may make: its free parts of the ledger
 -- of handles
@@ -12,7 +12,8 @@ pub record WorkerView : Type 0 where
 abbrev pub after_call : WorkerView → ℕ → WorkerView
 after_call worker spare = record worker { accepted = worker.accepted + 1; spare = spare }
 
--- a worker that has made no call yet
+-- a worker that has made no call yet, and may make 2^55 handles at least
 pub record IsNew (number : ℕ) (worker : WorkerView) : Type 0 where
   pub number_is : worker.number ≡ number
-  pub nothing : worker.accepted ≡ 0
+  pub accepted_is : worker.accepted ≡ 0
+  pub spare_low : 2 ^ 55 ≤ worker.spare

@@ -1,8 +1,9 @@
 //! What each call does to the value under the lock, said in full, and what every registry promises.
 //!
 //! The functions that bear the names of calls are what those calls run while they have the lock: each is lent the
-//! locked value, the worker and the handle. The others do nothing, and their contracts are promises: of every registry,
-//! whenever its lock is free, and of every core.
+//! locked value, and the worker and the handle of the call, if it has them. That the books move with each call is said by
+//! what holds whenever the lock is free (`HoldsWhenFree`). The contracts of the other functions are promises: of every
+//! registry whenever its lock is free, and of every core.
 mod entries;
 mod events;
 mod finds;
@@ -15,7 +16,9 @@ pub use entries::{enter, exit};
 pub use events::{event, record};
 pub use finds::find;
 pub use handles::{clone_span, try_close};
-pub use promises::{a_handles_span_is_open, two_handles_have_two_numbers};
+pub use promises::{
+    a_handles_span_is_open, two_handles_have_two_numbers, whenever_the_lock_is_free,
+};
 pub use reports::finish_kept;
 pub use span_core::laws::outcome;
 pub use span_core::laws::{

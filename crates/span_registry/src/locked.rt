@@ -1,4 +1,5 @@
 //! What lies under the lock.
+ghost use Rattle.std.specs.Prelude.{◌≡◌};
 
 use crate::setup::Setup;
 use span_core::Core;
@@ -10,7 +11,7 @@ use std::sync::ledger::{Book, Ledger};
 
 /// The value under a registry's lock: the core, the root of the handles' seats, and the two books.
 ///
-/// To a contract it is what it is of the core. What holds whenever the lock is free is its invariant, `IsLocked`.
+/// To a contract it is the view of its core. What holds whenever the lock is free is its invariant, `HoldsWhenFree`.
 #[derive(Drop)]
 pub struct Locked<H: Ledger, C: Ledger, S: Setup, O: Outlet, A = Admitters> {
     pub(crate) core: Core<O, A>,
@@ -21,14 +22,22 @@ pub struct Locked<H: Ledger, C: Ledger, S: Setup, O: Outlet, A = Admitters> {
 }
 
 impl<H: Ledger, C: Ledger, S: Setup, O: Outlet, A> Model for Locked<H, C, S, O, A> {
-    ghost use Rattle.std.specs.Prelude.{◌≡◌, ◌<◌, ◌^◌};
     ghost use Rattle.span_core.specs.Core.{CoreView};
-    ghost use Rattle.span_registry.specs.Locked.{IsLocked};
+    ghost use Rattle.span_registry.specs.Locked.{HoldsWhenFree};
 
     ghost Value = { CoreView };
 
     ghost view = { λ l. l.core };
 
-    ghost invariant = { λ l. IsLocked S.limits S.rules S.ring l.handles.total l.calls.total l.root l.core
-        × (C.parts ≡ l.core.limits.workers) × (H.parts < 2 ^ 64) };
+    ghost invariant = { λ l.
+        HoldsWhenFree S.limits S.rules S.ring H.parts C.parts l.handles.total l.calls.total l.root l.core };
+}
+
+impl<H: Ledger, C: Ledger, S: Setup, O: Outlet, A> Locked<H, C, S, O, A> {
+    /// The core: what its `find` and its laws say holds whenever the lock is free.
+    pub fn core(&self) -> &Core<O, A>
+        ensures { result.now ≡ self.now }
+    {
+        &self.core
+    }
 }

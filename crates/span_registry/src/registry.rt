@@ -5,7 +5,6 @@ ghost use Rattle.span_registry.specs.Worker.{IsNew};
 mod calls;
 mod finish;
 
-
 use crate::locked::Locked;
 use crate::setup::Setup;
 use crate::worker::Worker;
@@ -20,7 +19,7 @@ use std::sync::Mutex;
 use std::sync::ledger;
 use std::sync::ledger::{Blank, Book, Ledger};
 
-/// The parts of a registry's ledger of handles: so many handles can be out at a time.
+/// The parts of a registry's ledger of handles: at most so many handles can be out at a time.
 pub const HANDLE_PARTS: u64 = u64::MAX;
 
 /// The parts of the ledger of handles that each worker but the last gets at first.
@@ -31,7 +30,7 @@ const WORKER_PARTS: u64 = 1 << 55;
 /// Its type names what it was made with: the ledger of its handles `H`, the ledger of its accepted calls `C`, its
 /// limits, rules, ring and table `S`, and its outlet `O`. So a handle or a worker of another registry isn't taken.
 ///
-/// Each call but `new` takes the lock, so it may wait for other threads. While it has the lock it runs the function of
+/// Each call but `new` and `finish_kept` takes the lock, so it may wait for other threads. While it has the lock it runs the function of
 /// its name in [`laws`](crate::laws), whose contract says in full what it does. The clauses here are those that can be
 /// said without the locked value.
 #[derive(Drop)]
@@ -40,8 +39,9 @@ pub struct Registry<H: Ledger, C: Ledger, S: Setup, O: Outlet, A = Admitters> {
 }
 
 impl<H: Ledger, C: Ledger, S: Setup, O: Outlet + Drop, F: Drop> Registry<H, C, S, O, Admitters<F>> {
-    /// An empty registry, and its workers, numbered from 0, as many as the limits say. No call was accepted of them.
-    /// Their shares together are the whole one.
+    /// An empty registry, and its workers, numbered from 0, as many as the limits say. No call was accepted of them,
+    /// and each may make 2^55 handles at least. Their shares together are the whole one: of the ledger of calls each has one
+    /// part.
     ///
     /// The two blanks are new ledgers, of `HANDLE_PARTS` parts for handles and of one part a worker for calls. The
     /// table has a word for each slot. The names `H`, `C` and `S` are picked by the caller of a function that is
@@ -62,7 +62,7 @@ impl<H: Ledger, C: Ledger, S: Setup, O: Outlet + Drop, F: Drop> Registry<H, C, S
         requires handles { (handles.name ≡ H.name) × (handles.parts ≡ H.parts) × (H.parts ≡ HANDLE_PARTS) }
         requires calls { (calls.name ≡ C.name) × (calls.parts ≡ C.parts) × (C.parts ≡ checked.now.workers) }
         requires table { (table ≡ S.table) × (table.words ≡ checked.now.slots) }
-        ensures count { IfOk result (λ made. vec_len made.1 ≡ checked.now.workers) }
+        ensures count { IfOk result (λ made. (vec_len made.1 ≡ checked.now.workers) × (vec_len made.1 ≡ C.parts)) }
         ensures each { IfOk result (λ made. (i : ℕ) (d : _) → i < checked.now.workers →
             IsNew i (slice_index_or made.1.items i d)) }
         ensures whole { IfOk result (λ made. sum_by (λ worker. worker.spare) made.1.items ≡ H.parts) }

@@ -56,9 +56,11 @@ impl<H: Ledger, C: Ledger> Worker<H, C> {
         }
     }
 
-    /// The number of the worker, from 0.
+    /// The number of the worker, from 0. It is below the number of workers, which is that of the parts of the ledger of
+    /// calls.
     pub fn number(&self) -> u32
-        ensures { result ≡ self.now.number }
+        ensures value { result ≡ self.now.number }
+        ensures below { result < C.parts }
     {
         self.number
     }

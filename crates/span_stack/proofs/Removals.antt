@@ -1,11 +1,10 @@
 -- What stays once the topmost entry of an id is taken out.
-use Rattle.std.proofs.Common.{◌≡◌, ℕ, true, false, not, ◌||◌, ◌&&◌, List, [], ◌∷◌, ◌++◌, length, get_or, refl, sym, ap, subst, ◌∙◌}
+use Rattle.std.proofs.Common.{◌≡◌, ℕ, false, not, ◌||◌, List, [], ◌∷◌, ◌++◌, length, get_or, refl, sym, ap, subst, ◌∙◌}
 use Rattle.std.specs.List.{remove}
-use Rattle.std.proofs.lemmas.Bool.{eq-eqb}
 use Rattle.span_stack.specs.declared.entry.Entry.{Entry}
 use Rattle.span_stack.specs.Stack.{has, without_last}
 use Rattle.span_stack.specs.inside.Entry.{ids_of, AreFlagged, IsLastPlace}
-use Rattle.span_stack.proofs.Stacks.{or_true, without_last-at}
+use Rattle.span_stack.proofs.Stacks.{without_last-at}
 use Rattle.span_stack.proofs.Entries.{ids_of-append, has-append, AreFlagged-without, AreFlagged-at}
 
 remove-at : (below : List Entry) (entry : Entry) (above : List Entry)
@@ -57,16 +56,7 @@ module _ (entries : List Entry) (id place : ℕ) (at : IsLastPlace entries id pl
       ∙ ap (λ l. has l at.entry.id) (sym (ids_of-append at.below at.above) ∙ ap ids_of (sym remove-last))
       ∙ ap (has (ids_of (remove entries place))) at.id_is
 
-  stands : has (ids_of entries) id ≡ true
-  stands =
-      ap (λ l. has (ids_of l) id) at.was ∙ ap (λ l. has l id) (ids_of-append at.below (at.entry ∷ at.above))
-      ∙ has-append (ids_of at.below) (at.entry.id ∷ ids_of at.above) id
-      ∙ ap (λ b. has (ids_of at.below) id || (b || has (ids_of at.above) id)) (eq-eqb at.entry.id id at.id_is)
-      ∙ or_true (has (ids_of at.below) id)
-
-  -- the id stands at one place alone exactly if the entry was no duplicate
+  -- the entry was no duplicate exactly if its id no longer stands in the stack without it
   pub once-last : AreFlagged [] entries → (entry : Entry) → entry ≡ get_or entries place entry
-      → not entry.duplicate ≡ (has (ids_of entries) id && not (has (without_last (ids_of entries) id) id))
-  once-last flagged entry is =
-      ap not (duplicate-last flagged entry is ∙ ap (λ l. has l id) ids_of-remove)
-      ∙ ap (λ b. b && not (has (without_last (ids_of entries) id) id)) (sym stands)
+      → not entry.duplicate ≡ not (has (without_last (ids_of entries) id) id)
+  once-last flagged entry is = ap not (duplicate-last flagged entry is ∙ ap (λ l. has l id) ids_of-remove)

@@ -71,8 +71,42 @@ impl SpanStack {
         ensures room { self.new.room + 1 ≡ self.old.room }
     {
         let duplicate = self.has(id);
-        self.entries.push_reserved(Entry { id, duplicate });
+        self.put(id, duplicate);
         !duplicate
+    }
+
+    /// Puts a span on top that doesn't stand in the stack, so that this entry is no duplicate.
+    ///
+    /// It looks at no entry, and takes no memory: the room was made by `new` or `reserve`.
+    pub fn push_new(&mut self, id: Id)
+        requires room { 0 < self.old.room }
+        requires absent { words.has self.old.ids id ≡ false }
+        ensures ids { self.new.ids ≡ self.old.ids ++ id ∷ [] }
+        ensures room { self.new.room + 1 ≡ self.old.room }
+    {
+        self.put(id, false);
+    }
+
+    /// Puts a span on top that stands in the stack already, so that this entry is a duplicate.
+    ///
+    /// It looks at no entry, and takes no memory: the room was made by `new` or `reserve`.
+    pub fn push_again(&mut self, id: Id)
+        requires room { 0 < self.old.room }
+        requires stands { words.has self.old.ids id ≡ true }
+        ensures ids { self.new.ids ≡ self.old.ids ++ id ∷ [] }
+        ensures room { self.new.room + 1 ≡ self.old.room }
+    {
+        self.put(id, true);
+    }
+
+    // Puts an entry on top, where it is known whether it is a duplicate.
+    fn put(&mut self, id: Id, duplicate: bool)
+        requires room { 0 < self.old.room }
+        requires flagged { duplicate ≡ words.has self.old.ids id }
+        ensures ids { self.new.ids ≡ self.old.ids ++ id ∷ [] }
+        ensures room { self.new.room + 1 ≡ self.old.room }
+    {
+        self.entries.push_reserved(Entry { id, duplicate });
     }
 
     /// Takes out the topmost entry of the span, and answers whether that entry was no duplicate.
@@ -89,6 +123,20 @@ impl SpanStack {
     {
         let place = last_place(self.entries.as_slice(), id)?;
         Some(!self.entries.remove(place).duplicate)
+    }
+
+    /// What `pop` would answer: whether the topmost entry of the span is no duplicate, or `None` where the span doesn't
+    /// stand in the stack.
+    ///
+    /// It looks at the entries from the top down to that one, and takes no memory.
+    pub fn would_pop(&self, id: Id) -> Option<bool>
+        ensures found { is_some result ≡ words.has self.now.ids id }
+        ensures no_duplicate { IfSome result (λ first. first
+            ≡ not (words.has (words.without_last self.now.ids id) id)) }
+    {
+        let entries = self.entries.as_slice();
+        let place = last_place(entries, id)?;
+        Some(!entries[place].duplicate)
     }
 
     /// The spans entered and not left, each once: the entries that are no duplicates, topmost first.
@@ -138,11 +186,7 @@ impl SpanStack {
     pub fn stands_once(&self, id: Id) -> bool
         ensures { result ≡ (words.has self.now.ids id && not (words.has (words.without_last self.now.ids id) id)) }
     {
-        let entries = self.entries.as_slice();
-        match last_place(entries, id) {
-            Some(place) => !entries[place].duplicate,
-            None => false,
-        }
+        self.would_pop(id).unwrap_or(false)
     }
 
     /// The number of entries, duplicates too.

@@ -2,16 +2,12 @@
 #![tactic(auto)]
 
 mod command_line;
-mod devices;
-mod run;
 #[cfg(test)]
 mod tests;
 
 use crate::command_line::orders::Order;
-use crate::devices::counted::Counted;
-use crate::run::fault::RunFault;
-use crate::run::hooks::replay_with_layers;
 use span_layers::MAX_LAYERS;
+use span_replay::{Counted, RunFault, replay_with_layers};
 use std::io;
 use std::io::{BufWriter, ErrorKind};
 use std::process::ExitCode;

@@ -1,6 +1,7 @@
 -- Chains of spans that close, and the paths that the notes so far tell, for the functions inside this
 -- crate: no public clause cites it.
-use Rattle.std.specs.Prelude.{◌≡◌, ℕ, ◌++◌, false, cond, nat_lt, List, [], ◌∷◌, Option, Some, None, slice_get, slice_index_or}
+use Rattle.std.specs.Prelude.{◌≡◌, ℕ, ◌+◌, ◌<◌, ◌≤◌, ◌==◌, ◌++◌, Bool, true, false, if◌then◌else◌, List, [], ◌∷◌, Option, Some, None, slice_get, slice_index_or}
+use Rattle.std.specs.List.{list_any}
 use Rattle.span_layers.specs.declared.note.Kind.TheVariants.{OnClose}
 use Rattle.span_layers.specs.Note.{PlainNote}
 use Rattle.span_layers.specs.Filter.{Filter, layer_wants}
@@ -47,7 +48,13 @@ abbrev pub AreBelowFirst : List Filter → Spans → List PlainNote → List ℕ
 AreBelowFirst rules spans notes [] places = Unit {0}
 AreBelowFirst rules spans notes (id ∷ ids) places = AreBelow rules spans notes (λ layer. Some id) places
 
--- where each layer stands while a span is told of: the first so many layers are at its parent already, the others at
--- the span
-abbrev pub up_to : Spans → ℕ → ℕ → ℕ → Option ℕ
-up_to spans id layers layer = cond (nat_lt layer layers) (parent_of spans id) (Some id)
+-- these numbers ascend, from the first bound on and below the second, and pass a test
+abbrev pub AreAscending : (ℕ → Bool) → ℕ → ℕ → List ℕ → Type 0
+AreAscending test from end [] = Unit {0}
+AreAscending test from end (n ∷ ns) =
+    (from ≤ n) × (n < end) × (test n ≡ true) × AreAscending test (n + 1) end ns
+
+-- where each layer stands while a span is told of: the layers that are left to be told are at the span, the others at
+-- its parent already
+abbrev pub with_left : Spans → ℕ → List ℕ → ℕ → Option ℕ
+with_left spans id left layer = if list_any (λ other. other == layer) left then Some id else parent_of spans id

@@ -1,8 +1,9 @@
 -- What the layers are told, as it can be said before the call is done, for the functions inside this
 -- crate: no public clause cites it.
-use Rattle.std.specs.Prelude.{ℕ, List, [], ◌∷◌, ◌++◌, map, filter, Option, Some, None}
+use Rattle.std.specs.Prelude.{ℕ, ◌-◌, List, [], ◌∷◌, ◌++◌, length, map, filter, Option, Some, None}
 use Rattle.std.specs.List.{range_with_len}
 use Rattle.span_id.specs.Meta.{plain_fields}
+use Rattle.span_layers.specs.declared.note.Kind.{Kind}
 use Rattle.span_layers.specs.Note.{PlainNote, Told}
 use Rattle.span_layers.specs.Filter.{Filter}
 use Rattle.span_forest.specs.Spans.{Spans}
@@ -42,7 +43,11 @@ told_to spans what layer = record {
   tail = tail_told what.subject;
 }
 
--- what the layers below this number are told, one note for each that is
-abbrev pub told_below : List Filter → Spans → Telling → ℕ → List PlainNote
-told_below rules spans what layers =
-    map (told_to spans what) (filter (hears rules what.bits.0 what.kind) (range_with_len 0 layers))
+-- the layers from this number on that these bits have and that want notes of this kind, ascending
+abbrev pub told_from : List Filter → ℕ → Kind → ℕ → List ℕ
+told_from rules bits kind from = filter (hears rules bits kind) (range_with_len from (length rules - from))
+
+-- what the layers are told, one note for each that is
+abbrev pub notes_told : List Filter → Spans → Telling → List PlainNote
+notes_told rules spans what =
+    map (told_to spans what) (filter (hears rules what.bits.0 what.kind) (range_with_len 0 (length rules)))

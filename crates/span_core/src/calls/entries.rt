@@ -17,7 +17,7 @@ use crate::calls::held::{closing_of, held_span, open_bits};
 use crate::calls::room::ask;
 use crate::laws::the_named_span_closes_first;
 use crate::notes::{Happening, exit_notes, push_notes};
-use crate::stacks::{is_inside, pop_at, push_at, stays_inside};
+use crate::stacks::{is_outside, pop_at, push_at, stays_inside};
 use span_forest::{Forest, Holder};
 use span_id::{Fault, Id};
 use span_layers::Kind;
@@ -38,7 +38,7 @@ impl<O: Outlet, A> Core<O, A> {
         let Some(held) = held_span(&self.forest, id) else {
             return Err(Fault::Unknown);
         };
-        let first = !is_inside(self.stacks.as_slice(), worker, id);
+        let first = is_outside(self.stacks.as_slice(), worker, id, held.entries);
         let full = first && held.count >= self.limits.limits().max_count;
         if full || self.calls == u64::MAX {
             return Err(Fault::CountFull);
@@ -59,7 +59,7 @@ impl<O: Outlet, A> Core<O, A> {
             &what,
             &[],
         )?;
-        push_at(&mut self.stacks, worker, id)?;
+        push_at(&mut self.stacks, worker, id, first)?;
         keep_first(&mut self.forest, first, id);
         self.calls += 1;
         self.outlet.put(Batch {
@@ -116,10 +116,9 @@ impl<O: Outlet, A> Core<O, A> {
         if self.calls == u64::MAX {
             return Err(Fault::CountFull);
         }
-        if !is_inside(self.stacks.as_slice(), worker, id) {
+        let Some(stays) = stays_inside(self.stacks.as_slice(), worker, id) else {
             return Err(Fault::NotEntered);
-        }
-        let stays = stays_inside(self.stacks.as_slice(), worker, id);
+        };
         ask(&mut self.outlet)?;
         let closing = closing_on_exit(self.alloc, &self.forest, stays, id)?;
         let closed = closed_of(self.alloc, closing.as_slice(), with_ids)?;

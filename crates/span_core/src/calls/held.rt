@@ -1,7 +1,8 @@
 ghost use Rattle.std.specs.Prelude.{◌≡◌, true, false, IfSome, IfNone, OnSome, IfOk, IfErr};
-ghost use Rattle.span_forest.specs.declared.span.Holder.TheVariants.{Handle};
+ghost use Rattle.span_forest.specs.declared.span.Holder.TheVariants.{Handle, Entry};
+ghost use Rattle.span_forest.specs.Spans.{find};
 ghost use Rattle.span_forest.specs.Count.{reference_count};
-ghost use Rattle.span_forest.specs.Holders.{IsHeld};
+ghost use Rattle.span_forest.specs.Holders.{IsHeld, held_in};
 ghost use Rattle.span_forest.specs.Release.{closing_list};
 ghost use Rattle.span_core.specs.Happening.{bits_in};
 ghost use Rattle.span_core.specs.Step.{is_open};
@@ -12,10 +13,11 @@ use crate::notes::closing::closing_lists_are_chains;
 use span_forest::{Forest, Holder};
 use span_id::{Bits, Fault, Id};
 
-/// What the calls on a handle look at: the span's count, and the layers that admit it.
+/// What the calls on a handle look at: the span's count, its entries, and the layers that admit it.
 #[derive(Clone, Copy)]
 pub(crate) struct Held {
     pub(crate) count: u32,
+    pub(crate) entries: u32,
     pub(crate) bits: Bits,
 }
 
@@ -23,6 +25,7 @@ pub(crate) struct Held {
 pub(crate) fn held_span(forest: &Forest, id: Id) -> Option<Held>
     ensures held { OnSome result (IsHeld forest.now.spans id Handle) }
     ensures count { IfSome result (λ held. held.count ≡ reference_count forest.now.spans id) }
+    ensures entries { IfSome result (λ held. held.entries ≡ held_in Entry (find forest.now.spans id)) }
     ensures bits { IfSome result (λ held. held.bits.0 ≡ bits_in forest.now.spans id) }
     ensures known { OnSome result (has_handle forest.now.spans id ≡ true) }
     ensures unknown { IfNone result (has_handle forest.now.spans id ≡ false) }
@@ -33,6 +36,7 @@ pub(crate) fn held_span(forest: &Forest, id: Id) -> Option<Held>
     }
     Some(Held {
         count: span.count,
+        entries: span.entries,
         bits: span.bits,
     })
 }

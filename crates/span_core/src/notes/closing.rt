@@ -7,10 +7,11 @@ ghost use Rattle.span_forest.specs.Spans.{find, parent_of};
 ghost use Rattle.span_forest.specs.Path.{path};
 ghost use Rattle.span_forest.specs.Holders.{IsHeld};
 ghost use Rattle.span_forest.specs.Release.{closing_list};
-ghost use Rattle.span_core.specs.Happening.{close_of, is_told, note_of, notes_of};
+ghost use Rattle.span_core.specs.Happening.{close_of, note_of, notes_of};
 ghost use Rattle.span_core.specs.inside.ClosingPaths.{IsChain, TellsBelow, IsBelow, note_in, place_in, AreBelow};
 
-use crate::notes::{is_told, path_of};
+use crate::notes::layers::told_layers;
+use crate::notes::path_of;
 use span_forest::laws::{
     closing_list_begins_the_walk, held_ids_are_open, open_spans_are_counted, walks_end,
 };
@@ -104,40 +105,31 @@ fn push_close(
     ensures memory { IfErr result (λ fault. fault ≡ Fault.Memory) }
 {
     walks_end(forest);
-    for layer in 0..rules.len() {
-        push_close_note(alloc, notes, places, rules, forest, what, layer as u32)?;
+    for layer in told_layers(rules, what.span.bits, Kind::OnClose) {
+        push_close_note(alloc, notes, places, forest, what, layer)?;
     }
     Ok(())
 }
 
-// Appends the note of one layer, if it is told, and writes down where it stands.
+// Appends the note of one layer, and writes down where it stands.
 fn push_close_note(
     alloc: Global,
     notes: &mut Vec<Note>,
     places: &mut Vec<Option<usize>>,
-    rules: &Rules,
     forest: &Forest,
     what: &Closing<'_>,
     layer: u32,
 ) -> Result<(), Fault>
-    requires there { layer < length rules.now }
-    requires length { length places.old.items ≡ length rules.now }
+    requires there { layer < length places.old.items }
     requires found { find forest.now.spans what.now.id ≡ Some (node_of what.now.span.now) }
     requires below { IsBelow forest.now.spans (map plain_note notes.old.items) layer
         (Some what.now.id) (place_in places.old.items layer) }
     ensures notes { OnOk result (map plain_note notes.new.items ≡ map plain_note notes.old.items
-        ++ (if is_told rules.now (close_of forest.now.spans what.now.id) layer
-        then note_of what.now.worker (close_of forest.now.spans what.now.id) layer ∷ []
-        else [])) }
+        ++ note_of what.now.worker (close_of forest.now.spans what.now.id) layer ∷ []) }
     ensures places { OnOk result (places.new.items
-        ≡ (if is_told rules.now (close_of forest.now.spans what.now.id) layer
-        then slice_set places.old.items layer (Some (length notes.old.items))
-        else places.old.items)) }
+        ≡ slice_set places.old.items layer (Some (length notes.old.items))) }
     ensures memory { IfErr result (λ fault. fault ≡ Fault.Memory) }
 {
-    if !is_told(rules, what.span.bits, Kind::OnClose, layer) {
-        return Ok(());
-    }
     let place = notes.len();
     let before = note_at(notes.as_slice(), places[layer as usize]);
     let note = close_note(alloc, forest, before, what, layer)?;

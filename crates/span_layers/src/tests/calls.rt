@@ -5,14 +5,15 @@ ghost use Rattle.span_layers.specs.Note.{plain_note};
 ghost use Rattle.span_layers.specs.Rule.{pairs_of, is_admitted};
 ghost use Rattle.span_layers.specs.Text.{text_of};
 
-use crate::tests::layers::{layer, meta, note};
-use crate::{Filters, FmtSpan, Form, Hooks, Layer, Layers, Note, Rule, Tellers, admits, text};
+use crate::tests::fixtures::{add, admission, rule, same, tells};
+use crate::{
+    Filters, FmtSpan, Form, Hooks, Layer, Layers, Note, Rule, Style, Tellers, admits, text,
+};
 use span_id::{Level, Meta};
 use std::alloc::{AllocError, Global};
 use std::process::Abort;
 use std::sync::Arc;
 use std::sync::atomic::{AtomicU64, Ordering};
-use std::test::Fail;
 
 /// The calls of some closures, in their order: a digit for each, the last call's last.
 type Calls = Arc<AtomicU64, Global>;
@@ -30,17 +31,15 @@ fn calls_since(calls: &Calls) -> u64 {
     calls.swap(0, Ordering::SeqCst)
 }
 
-/// A layer whose closures write down their digits at each call. It admits targets that begin with `app`.
-fn noting_layer(
-    alloc: Global,
-    form: Form,
-    calls: &Calls,
-    admit_digit: u64,
-    say_digit: u64,
-) -> Result<Layer, AllocError> {
+/// The two digits of a layer's closures: what `admit` writes down, and what `say` does.
+type Digits = (u64, u64);
+
+/// Closures that write down their digits at each call.
+fn noting_hooks(alloc: Global, calls: &Calls, digits: Digits) -> Result<Hooks, AllocError> {
+    let (admit_digit, say_digit) = digits;
     let admit_calls = Arc::try_clone(calls)?;
     let say_calls = Arc::try_clone(calls)?;
-    let hooks = Hooks::new(
+    Ok(Hooks::new(
         Box::new(
             alloc,
             move |rule: &Rule, meta: &Meta| -> bool
@@ -60,50 +59,70 @@ fn noting_layer(
                 text(alloc, form, note)
             },
         )?,
-    );
-    let plain = layer(alloc, form, FmtSpan::FULL, "app", Level::Info)?;
-    Ok(Layer { hooks, ..plain })
+    ))
+}
+
+/// A layer whose closures write down their digits. It admits targets that begin with `app`.
+fn noting_layer(
+    rt: &impl Abort,
+    alloc: Global,
+    form: Form,
+    calls: &Calls,
+    digits: Digits,
+) -> Layer {
+    Layer {
+        style: Style {
+            form,
+            spans: FmtSpan::FULL,
+        },
+        rule: rule(alloc, &[("app", Level::Info)]).expect(rt, "memory"),
+        hooks: noting_hooks(alloc, calls, digits).expect(rt, "memory"),
+    }
 }
 
 /// Two layers: the closures of the first write down 1 and 2, those of the second 3 and 4.
-fn two_layers(alloc: Global, calls: &Calls) -> Result<(Filters, Tellers), Fail> {
+fn two_layers(rt: &impl Abort, alloc: Global, calls: &Calls) -> (Filters, Tellers) {
     let mut layers = Layers::new(alloc);
-    for (form, admit_digit, say_digit) in [(Form::Compact, 1, 2), (Form::Json, 3, 4)] {
-        let layer = noting_layer(alloc, form, calls, admit_digit, say_digit)?;
-        if layers.add(layer).is_err() {
-            return Err(Fail::from(AllocError));
-        }
+    for (form, digits) in [(Form::Compact, (1, 2)), (Form::Json, (3, 4))] {
+        add(
+            rt,
+            &mut layers,
+            noting_layer(rt, alloc, form, calls, digits),
+        );
     }
-    Ok(layers.split())
+    layers.split()
 }
 
 #[test]
-fn each_layer_is_asked_once(rt: HostRuntime) -> Result<(), Fail> {
+fn each_layer_is_asked_once(rt: HostRuntime) {
     let alloc = rt.alloc();
-    let calls = Arc::new(alloc, AtomicU64::new(0))?;
-    let (filters, _) = two_layers(alloc, &calls)?;
-    assert_eq!(rt; calls_since(&calls), 0);
+    let calls = Arc::new(alloc, AtomicU64::new(0)).expect(&rt, "memory");
+    let (filters, _) = two_layers(&rt, alloc, &calls);
+    same(&rt, calls_since(&calls), 0, "no call");
+    asks_each(&rt, alloc, &calls, &filters);
+}
+
+fn asks_each(rt: &impl Abort, alloc: Global, calls: &Calls, filters: &Filters) {
     for (target, want) in [("app", 3), ("web", 0)] {
-        let meta = meta(alloc, target, Level::Info)?;
-        assert_eq!(rt; filters.bits(&meta).0, want, "of {target}");
-        assert_eq!(rt; calls_since(&calls), 13, "of {target}");
+        let bits = admission(rt, alloc, filters, target, Level::Info);
+        same(rt, bits.0, want, target);
+        same(rt, calls_since(calls), 13, target);
     }
-    Ok(())
 }
 
 #[test]
-fn a_layer_writes_its_own_notes(rt: HostRuntime) -> Result<(), Fail> {
+fn a_layer_writes_its_own_notes(rt: HostRuntime) {
     let alloc = rt.alloc();
-    let calls = Arc::new(alloc, AtomicU64::new(0))?;
-    let (_, tellers) = two_layers(alloc, &calls)?;
+    let calls = Arc::new(alloc, AtomicU64::new(0)).expect(&rt, "memory");
+    let (_, tellers) = two_layers(&rt, alloc, &calls);
+    asks_one(&rt, alloc, &calls, &tellers);
+}
+
+fn asks_one(rt: &impl Abort, alloc: Global, calls: &Calls, tellers: &Tellers) {
     let compact = "new 1 w3 a k=1";
     let json = r#"{"fields":[["k","1"]],"id":1,"kind":"new","path":"a","worker":3}"#;
     for (layer, want, digit) in [(0, compact, 2), (1, json, 4), (1, json, 4), (0, compact, 2)] {
-        let note = note(alloc, layer)?;
-        assert!(rt; (note.layer as usize) < tellers.len());
-        let text = tellers.say(&note).expect(&rt, "memory");
-        assert_eq!(rt; text.as_slice(), want.as_bytes(), "of the layer {layer}");
-        assert_eq!(rt; calls_since(&calls), digit, "of the layer {layer}");
+        tells(rt, alloc, tellers, layer, want);
+        same(rt, calls_since(calls), digit, layer);
     }
-    Ok(())
 }

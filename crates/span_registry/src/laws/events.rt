@@ -32,9 +32,9 @@ pub fn record<H: Ledger, C: Ledger, S: Setup, O: Outlet, A>(
     ensures worker { OnOk result (worker.new ≡ after_call worker.old worker.old.spare) }
     ensures refused { IfErr result (λ fault. IsRefused locked.old
         (record_fields worker.old.number handle.old.id (plain_fields fields.now)) fault locked.new) }
-    ensures known { IfErr result (λ fault. fault ≢ Unknown) }
+    ensures never_unknown { IfErr result (λ fault. fault ≢ Unknown) }
     ensures unchanged { OnErr result (worker.new ≡ worker.old) }
-    ensures lent { handle.new.id ≡ handle.old.id }
+    ensures keeps_id { handle.new.id ≡ handle.old.id }
 {
     let id = handle.id;
     let Some(seat) = handle.seat.take() else {

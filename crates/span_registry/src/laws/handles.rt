@@ -33,12 +33,12 @@ pub fn clone_span<H: Ledger, C: Ledger, S: Setup, O: Outlet, A>(
     ensures worker { OnOk result (worker.new ≡ after_call worker.old (worker.old.spare - 1)) }
     ensures part { OnOk result (0 < worker.old.spare) }
     ensures no_part { IfErr result (λ fault. worker.old.spare ≡ 0 →
-        (fault ≡ CountFull) × (locked.new ≡ locked.old)) }
+        (fault ≡ CountFull) × (locked.new ≡ locked.old) × (handle.new ≡ handle.old)) }
     ensures refused { IfErr result (λ fault. 0 < worker.old.spare →
         IsRefused locked.old (clone_span worker.old.number handle.old.id) fault locked.new) }
-    ensures known { IfErr result (λ fault. fault ≢ Unknown) }
+    ensures never_unknown { IfErr result (λ fault. fault ≢ Unknown) }
     ensures unchanged { OnErr result (worker.new ≡ worker.old) }
-    ensures lent { handle.new.id ≡ handle.old.id }
+    ensures keeps_id { handle.new.id ≡ handle.old.id }
 {
     if worker.spare == 0 {
         return Err(Fault::CountFull);
@@ -82,7 +82,7 @@ pub fn try_close<H: Ledger, C: Ledger, S: Setup, O: Outlet, A>(
     ensures worker { OnOk result (worker.new ≡ after_call worker.old (worker.old.spare + 1)) }
     ensures refused { IfErr result (λ e.
         IsRefused locked.old (try_close worker.old.number handle.id) e.1 locked.new) }
-    ensures known { IfErr result (λ e. e.1 ≢ Unknown) }
+    ensures never_unknown { IfErr result (λ e. e.1 ≢ Unknown) }
     ensures back { IfErr result (λ e. e.0.id ≡ handle.id) }
     ensures unchanged { OnErr result (worker.new ≡ worker.old) }
 {

@@ -1,8 +1,10 @@
 //! What a handle proves.
-ghost use Rattle.std.specs.Prelude.{◌≡◌, ◌≢◌};
+ghost use Rattle.std.specs.Prelude.{◌≡◌, ◌≢◌, ℕ};
 ghost use Rattle.span_forest.specs.declared.span.Holder.TheVariants.{Handle};
 ghost use Rattle.span_forest.specs.Spans.{IsOpen};
 ghost use Rattle.span_forest.specs.Holders.{IsHeld};
+ghost use Rattle.span_id.specs.Id.{slot_of};
+ghost use Rattle.span_core.specs.History.{IsLegal};
 
 use crate::locked::Locked;
 use crate::setup::Setup;
@@ -10,16 +12,30 @@ use crate::with_seats;
 use span_outlet::Outlet;
 use std::sync::ledger::Ledger;
 
-/// A handle proves that its span is open: its id finds a span, of that generation, which has a handle. The core stays
-/// as it is, and the handle keeps its id.
+/// Whenever the lock is free: the registry's limits, rules and ring are those that it was made with, and the batches sent
+/// are a legal history, which leaves this world. What else every core knows is known of [`Locked::core`].
+pub fn whenever_the_lock_is_free<H: Ledger, C: Ledger, S: Setup, O: Outlet, A>(
+    locked: &Locked<H, C, S, O, A>,
+)
+    ensures setup { (locked.now.limits ≡ S.limits) × (locked.now.rules ≡ S.rules) × (locked.now.name ≡ S.ring) }
+    ensures legal { IsLegal S.rules S.limits.workers locked.now.sent locked.now.world }
+{
+    // The field brings what holds of the locked value to light.
+    let _core = &locked.core;
+}
+
+/// A handle proves that its span is open: its id finds a span, of that generation, which has a handle. No other span is
+/// open in its slot. The core stays as it is, and the handle keeps its id.
 pub fn a_handles_span_is_open<H: Ledger, C: Ledger, S: Setup, O: Outlet, A>(
     locked: &mut Locked<H, C, S, O, A>,
     handle: &mut crate::Handle<H, C, S>,
 )
     ensures open { IsOpen locked.old.world.spans handle.old.id }
     ensures held { IsHeld locked.old.world.spans handle.old.id Handle }
+    ensures slot { (id : ℕ) → IsOpen locked.old.world.spans id →
+        slot_of id ≡ slot_of handle.old.id → id ≡ handle.old.id }
     ensures same { locked.new ≡ locked.old }
-    ensures id { handle.new.id ≡ handle.old.id }
+    ensures keeps_id { handle.new.id ≡ handle.old.id }
 {
     let Some(seat) = handle.seat.take() else {
         unreachable!()
@@ -37,7 +53,7 @@ pub fn two_handles_have_two_numbers<H: Ledger, C: Ledger, S: Setup, O: Outlet, A
 )
     ensures numbers { first.old.number ≢ second.old.number }
     ensures same { locked.new ≡ locked.old }
-    ensures ids { (first.new.id ≡ first.old.id) × (second.new.id ≡ second.old.id) }
+    ensures keep_ids { (first.new.id ≡ first.old.id) × (second.new.id ≡ second.old.id) }
 {
     let (Some(one), Some(other)) = (first.seat.take(), second.seat.take()) else {
         unreachable!()

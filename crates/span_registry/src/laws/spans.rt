@@ -1,9 +1,12 @@
 //! New spans.
-ghost use Rattle.std.specs.Prelude.{◌≡◌, ◌-◌, ◌<◌, Some, IfOk, IfErr, OnErr, IfSome, IfNone, OnSome};
+ghost use Rattle.std.specs.Prelude.{◌≡◌, ◌≢◌, ℕ, ◌-◌, ◌<◌, true, false, Some, IfOk, IfErr, OnOk, OnErr, IfSome, IfNone, OnSome};
 ghost use Rattle.span_id.specs.declared.fault.Fault.TheVariants.{CountFull};
 ghost use Rattle.span_id.specs.Meta.{plain_meta, plain_fields};
 ghost use Rattle.span_outlet.specs.Request.{new_span, made};
+ghost use Rattle.span_id.specs.Id.{slot_of};
+ghost use Rattle.span_forest.specs.Spans.{IsOpen};
 ghost use Rattle.span_core.specs.Parent.{parent_found};
+ghost use Rattle.span_core.specs.Step.{is_wanted};
 ghost use Rattle.span_core.specs.NextId.{next_id};
 ghost use Rattle.span_core.specs.Core.{IsAccepted, IsRefused, IsNotWanted};
 ghost use Rattle.span_registry.specs.Worker.{after_call};
@@ -24,7 +27,8 @@ use std::sync::ledger::Ledger;
 /// `None`, and nothing changes, where there are layers and none admits the meta.
 ///
 /// Refused in this order: `CountFull` where the worker has no part of the ledger of handles left; then as
-/// `Core::new_span`. A refused call changes nothing but how often the outlet lacked a place.
+/// `Core::new_span`, where the answer `None` comes after `BadName` and before `Unknown`. The slot of its id is no open
+/// span's, so while a handle of a span is there its slot isn't given again. A refused call changes nothing but how often the outlet lacked a place.
 pub fn new_span<H: Ledger, C: Ledger, S: Setup, O: Outlet, A: Admit>(
     locked: &mut Locked<H, C, S, O, A>,
     worker: &mut Worker<H, C>,
@@ -41,7 +45,11 @@ pub fn new_span<H: Ledger, C: Ledger, S: Setup, O: Outlet, A: Admit>(
     ensures not_wanted { IfOk result (λ new. IfNone new (IsNotWanted locked.old
         (new_span worker.old.number (plain_meta meta.now) (plain_fields fields.now)
         (parent_found locked.old.world worker.old.number parent)) locked.new × (worker.new ≡ worker.old))) }
-    ensures part { IfOk result (λ new. 0 < worker.old.spare) }
+    ensures wanted { IfOk result (λ new. OnSome new (is_wanted S.rules (plain_meta meta.now) ≡ true)) }
+    ensures unwanted { IfOk result (λ new. IfNone new (is_wanted S.rules (plain_meta meta.now) ≡ false)) }
+    ensures slot { IfOk result (λ new. IfSome new (λ handle.
+        (id : ℕ) → IsOpen locked.old.world.spans id → slot_of id ≢ slot_of handle.id)) }
+    ensures part { OnOk result (0 < worker.old.spare) }
     ensures no_part { IfErr result (λ fault. worker.old.spare ≡ 0 →
         (fault ≡ CountFull) × (locked.new ≡ locked.old)) }
     ensures refused { IfErr result (λ fault. 0 < worker.old.spare → IsRefused locked.old

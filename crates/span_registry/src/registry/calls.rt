@@ -1,6 +1,8 @@
 //! The calls, which take the lock.
-ghost use Rattle.std.specs.Prelude.{◌≡◌, ◌≢◌, ◌+◌, ◌-◌, ◌<◌, IfOk, IfErr, OnOk, OnErr, IfNone, OnSome};
-ghost use Rattle.span_id.specs.declared.fault.Fault.TheVariants.{Unknown};
+ghost use Rattle.std.specs.Prelude.{◌≡◌, ◌≢◌, ◌+◌, ◌-◌, ◌<◌, true, false, IfOk, IfErr, OnOk, OnErr, IfNone, OnSome};
+ghost use Rattle.span_id.specs.declared.fault.Fault.TheVariants.{Unknown, CountFull};
+ghost use Rattle.span_id.specs.Meta.{plain_meta};
+ghost use Rattle.span_core.specs.Step.{is_wanted};
 ghost use Rattle.span_registry.specs.Worker.{after_call};
 
 use crate::found::Found;
@@ -33,10 +35,13 @@ impl<H: Ledger, C: Ledger, S: Setup, O: Outlet, A: Admit> Registry<H, C, S, O, A
         fields: &[Field],
         parent: ParentOf,
     ) -> Result<Option<Handle<H, C, S>>, Fault>
-        ensures accepted { IfOk result (λ new. OnSome new (worker.new ≡ after_call worker.old (worker.old.spare - 1))) }
+        ensures worker { IfOk result (λ new. OnSome new (worker.new ≡ after_call worker.old (worker.old.spare - 1))) }
         ensures part { OnOk result (0 < worker.old.spare) }
-        ensures not_wanted { IfOk result (λ new. IfNone new (worker.new ≡ worker.old)) }
-        ensures refused { OnErr result (worker.new ≡ worker.old) }
+        ensures no_part { IfErr result (λ fault. worker.old.spare ≡ 0 → fault ≡ CountFull) }
+        ensures not_wanted { IfOk result (λ new. IfNone new (
+            (is_wanted S.rules (plain_meta meta.now) ≡ false) × (worker.new ≡ worker.old))) }
+        ensures wanted { IfOk result (λ new. OnSome new (is_wanted S.rules (plain_meta meta.now) ≡ true)) }
+        ensures unchanged { OnErr result (worker.new ≡ worker.old) }
     {
         laws::new_span(&mut *self.locked.lock(rt), worker, meta, fields, parent)
     }
@@ -53,8 +58,8 @@ impl<H: Ledger, C: Ledger, S: Setup, O: Outlet, A: Admit> Registry<H, C, S, O, A
         message: &str,
         fields: &[Field],
     ) -> Result<(), Fault>
-        ensures accepted { OnOk result (worker.new ≡ after_call worker.old worker.old.spare) }
-        ensures refused { OnErr result (worker.new ≡ worker.old) }
+        ensures worker { OnOk result (worker.new ≡ after_call worker.old worker.old.spare) }
+        ensures unchanged { OnErr result (worker.new ≡ worker.old) }
     {
         laws::event(&mut *self.locked.lock(rt), worker, meta, message, fields)
     }
@@ -72,11 +77,12 @@ impl<H: Ledger, C: Ledger, S: Setup, O: Outlet, A> Registry<H, C, S, O, A> {
         handle: &mut Handle<H, C, S>,
     ) -> Result<Handle<H, C, S>, Fault>
         ensures id { IfOk result (λ clone. clone.id ≡ handle.old.id) }
-        ensures accepted { OnOk result (worker.new ≡ after_call worker.old (worker.old.spare - 1)) }
+        ensures worker { OnOk result (worker.new ≡ after_call worker.old (worker.old.spare - 1)) }
         ensures part { OnOk result (0 < worker.old.spare) }
-        ensures refused { OnErr result (worker.new ≡ worker.old) }
-        ensures known { IfErr result (λ fault. fault ≢ Unknown) }
-        ensures lent { handle.new.id ≡ handle.old.id }
+        ensures no_part { IfErr result (λ fault. worker.old.spare ≡ 0 → fault ≡ CountFull) }
+        ensures unchanged { OnErr result (worker.new ≡ worker.old) }
+        ensures never_unknown { IfErr result (λ fault. fault ≢ Unknown) }
+        ensures keeps_id { handle.new.id ≡ handle.old.id }
     {
         laws::clone_span(&mut *self.locked.lock(rt), worker, handle)
     }
@@ -92,10 +98,10 @@ impl<H: Ledger, C: Ledger, S: Setup, O: Outlet, A> Registry<H, C, S, O, A> {
         worker: &mut Worker<H, C>,
         handle: &mut Handle<H, C, S>,
     ) -> Result<bool, Fault>
-        ensures accepted { OnOk result (worker.new ≡ after_call worker.old worker.old.spare) }
-        ensures refused { OnErr result (worker.new ≡ worker.old) }
-        ensures known { IfErr result (λ fault. fault ≢ Unknown) }
-        ensures lent { handle.new.id ≡ handle.old.id }
+        ensures worker { OnOk result (worker.new ≡ after_call worker.old worker.old.spare) }
+        ensures unchanged { OnErr result (worker.new ≡ worker.old) }
+        ensures never_unknown { IfErr result (λ fault. fault ≢ Unknown) }
+        ensures keeps_id { handle.new.id ≡ handle.old.id }
     {
         laws::enter(&mut *self.locked.lock(rt), worker, handle)
     }
@@ -106,8 +112,8 @@ impl<H: Ledger, C: Ledger, S: Setup, O: Outlet, A> Registry<H, C, S, O, A> {
     /// Refused in this order: `Unknown` where the span isn't open, `CountFull` where the number of accepted calls is at
     /// its greatest, `NotEntered` where the span doesn't stand in the worker's stack, `Backlog`, `Memory`.
     pub fn exit<R: Wait>(&self, rt: &R, worker: &mut Worker<H, C>, id: Id) -> Result<bool, Fault>
-        ensures accepted { OnOk result (worker.new ≡ after_call worker.old worker.old.spare) }
-        ensures refused { OnErr result (worker.new ≡ worker.old) }
+        ensures worker { OnOk result (worker.new ≡ after_call worker.old worker.old.spare) }
+        ensures unchanged { OnErr result (worker.new ≡ worker.old) }
     {
         laws::exit(&mut *self.locked.lock(rt), worker, id)
     }
@@ -122,9 +128,9 @@ impl<H: Ledger, C: Ledger, S: Setup, O: Outlet, A> Registry<H, C, S, O, A> {
         worker: &mut Worker<H, C>,
         handle: Handle<H, C, S>,
     ) -> Result<bool, (Handle<H, C, S>, Fault)>
-        ensures accepted { OnOk result (worker.new ≡ after_call worker.old (worker.old.spare + 1)) }
-        ensures refused { OnErr result (worker.new ≡ worker.old) }
-        ensures known { IfErr result (λ e. e.1 ≢ Unknown) }
+        ensures worker { OnOk result (worker.new ≡ after_call worker.old (worker.old.spare + 1)) }
+        ensures unchanged { OnErr result (worker.new ≡ worker.old) }
+        ensures never_unknown { IfErr result (λ e. e.1 ≢ Unknown) }
         ensures back { IfErr result (λ e. e.0.id ≡ handle.id) }
     {
         laws::try_close(&mut *self.locked.lock(rt), worker, handle)
@@ -141,10 +147,10 @@ impl<H: Ledger, C: Ledger, S: Setup, O: Outlet, A> Registry<H, C, S, O, A> {
         handle: &mut Handle<H, C, S>,
         fields: &[Field],
     ) -> Result<(), Fault>
-        ensures accepted { OnOk result (worker.new ≡ after_call worker.old worker.old.spare) }
-        ensures refused { OnErr result (worker.new ≡ worker.old) }
-        ensures known { IfErr result (λ fault. fault ≢ Unknown) }
-        ensures lent { handle.new.id ≡ handle.old.id }
+        ensures worker { OnOk result (worker.new ≡ after_call worker.old worker.old.spare) }
+        ensures unchanged { OnErr result (worker.new ≡ worker.old) }
+        ensures never_unknown { IfErr result (λ fault. fault ≢ Unknown) }
+        ensures keeps_id { handle.new.id ≡ handle.old.id }
     {
         laws::record(&mut *self.locked.lock(rt), worker, handle, fields)
     }

@@ -29,7 +29,7 @@ pub(crate) fn enter<T: TableName, O: Outlet, A>(
     ensures seated { AreSeated root.new core.new }
     ensures legal { IsLegal core.new.rules core.new.limits.workers core.new.sent core.new.world }
     ensures back { result.0.id ≡ id }
-    ensures known { IfErr result.1 (λ fault. fault ≢ Unknown) }
+    ensures never_unknown { IfErr result.1 (λ fault. fault ≢ Unknown) }
     ensures accepted { IfOk result.1 (λ first. IsAccepted core.old (enter worker id) (entered first) core.new) }
     ensures refused { IfErr result.1 (λ fault. IsRefused core.old (enter worker id) fault core.new) }
     ensures handles { OnOk result.1 (total_handles core.new.world.spans ≡ total_handles core.old.world.spans) }

@@ -1,10 +1,12 @@
 //! The calls on a handle.
-ghost use Rattle.std.specs.Prelude.{◌≡◌, ◌≢◌, ◌+◌, ◌<◌, ◌^◌, nat_lt, length, IfOk, IfErr, OnOk};
+ghost use Rattle.std.specs.Prelude.{◌≡◌, ◌≢◌, ℕ, ◌+◌, ◌<◌, ◌^◌, nat_lt, length, IfOk, IfErr, OnOk};
 ghost use Rattle.span_id.specs.declared.fault.Fault.TheVariants.{Unknown};
 ghost use Rattle.span_id.specs.Meta.{plain_fields};
 ghost use Rattle.span_forest.specs.declared.span.Holder.TheVariants.{Handle};
 ghost use Rattle.span_forest.specs.Count.{total_handles};
 ghost use Rattle.span_forest.specs.Holders.{IsHeld};
+ghost use Rattle.span_forest.specs.Spans.{IsOpen};
+ghost use Rattle.span_id.specs.Id.{slot_of};
 ghost use Rattle.span_forest.specs.Release.{closing_list};
 ghost use Rattle.span_outlet.specs.Request.{clone_span, cloned, record_fields, recorded, try_close, released};
 ghost use Rattle.span_core.specs.History.{IsLegal};
@@ -34,7 +36,7 @@ pub(crate) fn clone_span<T: TableName, O: Outlet, A>(
     ensures legal { IsLegal core.new.rules core.new.limits.workers core.new.sent core.new.world }
     ensures back { result.0.id ≡ id }
     ensures given { IfOk result.1 (λ seat. seat.id ≡ id) }
-    ensures known { IfErr result.1 (λ fault. fault ≢ Unknown) }
+    ensures never_unknown { IfErr result.1 (λ fault. fault ≢ Unknown) }
     ensures accepted { OnOk result.1 (IsAccepted core.old (clone_span worker id) cloned core.new) }
     ensures refused { IfErr result.1 (λ fault. IsRefused core.old (clone_span worker id) fault core.new) }
     ensures handles { OnOk result.1 (total_handles core.new.world.spans ≡ total_handles core.old.world.spans + 1) }
@@ -69,7 +71,7 @@ pub(crate) fn record<T: TableName, O: Outlet, A>(
     ensures seated { AreSeated root.new core.new }
     ensures legal { IsLegal core.new.rules core.new.limits.workers core.new.sent core.new.world }
     ensures back { result.0.id ≡ id }
-    ensures known { IfErr result.1 (λ fault. fault ≢ Unknown) }
+    ensures never_unknown { IfErr result.1 (λ fault. fault ≢ Unknown) }
     ensures accepted { OnOk result.1 (IsAccepted core.old (record_fields worker id (plain_fields fields.now))
         recorded core.new) }
     ensures refused { IfErr result.1 (λ fault. IsRefused core.old
@@ -105,7 +107,7 @@ pub(crate) fn try_close<T: TableName, O: Outlet, A>(
     ensures seated { AreSeated root.new core.new }
     ensures legal { IsLegal core.new.rules core.new.limits.workers core.new.sent core.new.world }
     ensures back { IfErr result (λ e. e.0.id ≡ id) }
-    ensures known { IfErr result (λ e. e.1 ≢ Unknown) }
+    ensures never_unknown { IfErr result (λ e. e.1 ≢ Unknown) }
     ensures accepted { OnOk result (IsAccepted core.old (try_close worker id)
         (released (closing_list core.old.world.spans id Handle)) core.new) }
     ensures closed { IfOk result (λ closed. closed
@@ -145,6 +147,7 @@ pub(crate) fn show<T: TableName, O: Outlet, A>(
     ensures seated { AreSeated root.new core.now }
     ensures back { result.id ≡ id }
     ensures held { IsHeld core.now.world.spans id Handle }
+    ensures slot { (other : ℕ) → IsOpen core.now.world.spans other → slot_of other ≡ slot_of id → other ≡ id }
     ensures legal { IsLegal core.now.rules core.now.limits.workers core.now.sent core.now.world }
 {
     root.join(seat);

@@ -1,6 +1,8 @@
 //! New spans, and events, which take no handle.
-ghost use Rattle.std.specs.Prelude.{◌≡◌, ◌+◌, ◌<◌, ◌^◌, length, Some, IfOk, IfErr, IfSome, IfNone, OnOk, OnSome};
+ghost use Rattle.std.specs.Prelude.{◌≡◌, ◌≢◌, ℕ, ◌+◌, ◌<◌, ◌^◌, length, Some, IfOk, IfErr, IfSome, IfNone, OnOk, OnSome};
 ghost use Rattle.span_id.specs.Meta.{plain_meta, plain_fields};
+ghost use Rattle.span_id.specs.Id.{slot_of};
+ghost use Rattle.span_forest.specs.Spans.{IsOpen};
 ghost use Rattle.span_forest.specs.Count.{total_handles};
 ghost use Rattle.span_outlet.specs.Request.{new_span, made, event, told};
 ghost use Rattle.span_core.specs.Parent.{parent_found};
@@ -36,6 +38,8 @@ pub(crate) fn new_span<T: TableName, O: Outlet, A: Admit>(
         (made n.0) core.new)) }
     ensures next { IfOk result (λ new. IfSome new (λ n.
         next_id core.old.limits.slots core.old.limits.last_generation core.old.sent ≡ Some n.0)) }
+    ensures slot { IfOk result (λ new. IfSome new (λ n.
+        (id : ℕ) → IsOpen core.old.world.spans id → slot_of id ≢ slot_of n.0)) }
     ensures not_wanted { IfOk result (λ new. IfNone new (IsNotWanted core.old
         (new_span worker (plain_meta meta.now) (plain_fields fields.now) (parent_found core.old.world worker parent))
         core.new)) }

@@ -17,6 +17,8 @@ fn counts_a_span_that_is_entered_again_once(rt: HostRuntime) -> Result<(), Fail>
     assert_eq!(rt; stack.top(), Some(one));
     assert!(rt; !stack.stands_once(one));
     assert!(rt; stack.stands_once(two));
+    assert_eq!(rt; stack.would_pop(one), Some(false));
+    assert_eq!(rt; stack.would_pop(two), Some(true));
     assert_eq!(rt;
         stack.walk().collect::<Vec<Id>>(alloc)?,
         vec![in alloc; two, one]?
@@ -25,12 +27,30 @@ fn counts_a_span_that_is_entered_again_once(rt: HostRuntime) -> Result<(), Fail>
     assert_eq!(rt; stack.current(), Some(one));
     assert!(rt; !stack.has(two));
     assert!(rt; !stack.stands_once(two));
+    assert_eq!(rt; stack.would_pop(two), None);
     assert_eq!(rt; stack.pop(two), None);
     assert_eq!(rt; stack.pop(one), Some(false));
     assert!(rt; stack.stands_once(one));
     assert_eq!(rt; stack.pop(one), Some(true));
     assert_eq!(rt; stack.pop(one), None);
     assert_eq!(rt; stack.current(), None);
+    Ok(())
+}
+
+#[test]
+fn pushes_what_is_known_to_stand_there_or_not(rt: HostRuntime) -> Result<(), Fail> {
+    let (one, two) = (Id::pack(0, 0), Id::pack(1, 0));
+    let mut stack = SpanStack::new(rt.alloc());
+    stack.push_new(one);
+    stack.push_new(two);
+    stack.push_again(one);
+    assert_eq!(rt; stack.len(), 3);
+    assert_eq!(rt; stack.top(), Some(one));
+    assert_eq!(rt; stack.current(), Some(two));
+    assert_eq!(rt; stack.pop(one), Some(false));
+    assert_eq!(rt; stack.pop(one), Some(true));
+    assert_eq!(rt; stack.pop(two), Some(true));
+    assert!(rt; stack.is_empty());
     Ok(())
 }
 

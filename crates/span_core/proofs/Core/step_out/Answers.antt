@@ -16,23 +16,23 @@ stack_before g c = get_or (ids_of_each c.self.inside.stacks.items) c.args.worker
 stands : (g : given.Over) (c : After-put g) → has (stack_before g c) c.args.id ≡ true
 stands g c =
     sym (ap (λ (ss : List Stack). has (get_or (ids_of_each ss) c.args.worker []) c.args.id) c.as_slice.ensures.value)
-    ∙ sym c.is_inside.ensures ∙ c.if-not-is_inside.false
+    ∙ sym c.in-Some-stays_inside.ensures.inside
 
-stays : (g : given.Over) (c : After-put g) → c.stays_inside-stays.result ≡ has (without_last (stack_before g c) c.args.id) c.args.id
+stays : (g : given.Over) (c : After-put g) → c.in-Some-stays_inside.stays ≡ has (without_last (stack_before g c) c.args.id) c.args.id
 stays g c =
-    c.stays_inside-stays.ensures
-    ∙ ap (λ (ss : List Stack). has (without_last (get_or (ids_of_each ss) c.args.worker []) c.args.id) c.args.id) c.as_slice-2.ensures.value
+    c.in-Some-stays_inside.ensures.stays
+    ∙ ap (λ (ss : List Stack). has (without_last (get_or (ids_of_each ss) c.args.worker []) c.args.id) c.args.id) c.as_slice.ensures.value
 
 told : (g : given.Over) (c : After-put g) → map plain_note c.in_ok-notes.notes.items
     ≡ notes_of_all c.self.inside.rules c.args.worker (at_span c.self.inside.forest.spans OnExit c.args.id [] ∷ map (close_of c.self.inside.forest.spans) c.in_ok-closing.closing.items)
 told g c =
     c.in_ok-notes.ensures.notes
-    ∙ ap (λ (ids : List ℕ). notes_of_all c.self.inside.rules c.args.worker (at_span c.self.inside.forest.spans OnExit c.args.id [] ∷ map (close_of c.self.inside.forest.spans) ids)) c.as_slice-4.ensures.value
+    ∙ ap (λ (ids : List ℕ). notes_of_all c.self.inside.rules c.args.worker (at_span c.self.inside.forest.spans OnExit c.args.id [] ∷ map (close_of c.self.inside.forest.spans) ids)) c.as_slice-3.ensures.value
 
 pub invariant_of-self-2 : goal.invariant_of-self-2
 invariant_of-self-2 g c =
     let within : c.args.worker < length (ids_of_each c.self.inside.stacks.items) = omega (arith, c.requires, ap (λ (v : CoreView). v.limits.workers) c.self.view_is, c.self.invariant.0.stacks_are) in (
-      sound_exit _ _ _ _ _ _ _ _ _ _ c.args.worker c.args.id c.stays_inside-stays.result _ _ c.self.invariant.0 within (stands g c) (stays g c)
+      sound_exit _ _ _ _ _ _ _ _ _ _ c.args.worker c.args.id c.in-Some-stays_inside.stays _ _ c.self.invariant.0 within (stands g c) (stays g c)
           c.in_ok-closing.ensures.list c.release_on_exit.ensures c.pop_at.ensures (told g c) c.in_ok-ask.ensures.sent c.put.ensures.sent,
       none_made _ _ _ _ _ c.self.invariant.1 refl c.in_ok-ask.ensures.sent c.put.ensures.sent,
     )

@@ -1,20 +1,63 @@
-use Rattle.std.proofs.Common.{◌∙◌, ◌<◌, length, sym, ap, arith}
+use Rattle.std.proofs.Common.{◌≡◌, ◌∙◌, ◌++◌, length, map, filter, refl, sym, ap, arith}
 use Rattle.std.specs.Prelude.{is_some}
-use Rattle.std.proofs.lemmas.List.{length-map}
+use Rattle.std.specs.List.{range_with_len}
+use Rattle.std.proofs.lemmas.List.{length-map, length-set}
 use Rattle.span_layers.specs.Note.{plain_note}
 use Rattle.span_core.specs.Happening.{close_of, is_told, note_of}
-use Rattle.span_core.proofs.Telling.{layer_more}
-use Rattle.span_core.proofs.ClosingPaths.{below_turn, length_turn}
+use Rattle.span_core.proofs.Telling.{layer_more, layers_end}
+use Rattle.span_core.proofs.ClosingPaths.{below_start, below_turn, below_end, left_start, left_turn, left_there, left_below, told_closes}
 use Rattle.span_core.proofs.notes.closing.push_close.Goals as goal
+use Rattle.span_core.proofs.notes.closing.push_close.Goals.{After-into_iter-layer-iterator}
+
+-- the layers that the loop goes through
+layers : (c : After-into_iter-layer-iterator) → c.into_iter-layer-iterator.result
+    ≡ filter (is_told c.args.rules.now (close_of c.args.forest.now.spans c.args.what.now.id)) (range_with_len 0 (length c.args.rules.now))
+layers c =
+    c.into_iter-layer-iterator.ensures.into_iter_gives ∙ c.told_layers-layer-items.ensures
+    ∙ told_closes c.args.rules.now c.args.forest.now.spans c.args.what.now.id _ c.requires.found
+
+pub loop-layer-init : goal.loop-layer-init
+loop-layer-init c =
+    let ends = c.walks_end.ensures c.args.what.now.id (ap is_some c.requires.found) in
+    record {
+      told = refl;
+      left = left_start (is_told c.args.rules.now (close_of c.args.forest.now.spans c.args.what.now.id)) (length c.args.rules.now) _ (layers c);
+      length = c.requires.length;
+      below = below_start c.args.rules.now c.args.forest.now.spans c.args.what.now.id _ _ _ _ c.requires.found ends c.requires.length (layers c) c.requires.below;
+    }
 
 pub loop-layer-preserved : goal.loop-layer-preserved
 loop-layer-preserved c =
     let what = close_of c.args.forest.now.spans c.args.what.now.id in
     let ends = c.walks_end.ensures c.args.what.now.id (ap is_some c.requires.found) in
-    let within : c.loop-layer.layer < length c.loop-layer.places.items = omega (arith, c.loop-layer-test.true, c.len-layer-end.ensures.value, c.loop-layer.invariant.length) in
+    let next = c.in-Some.ensures.steps in
+    let was = c.loop-layer.invariant in
     record {
-      told = layer_more (note_of c.args.what.now.worker what) (is_told c.args.rules.now what) _ _ _ _ c.loop-layer.invariant.told c.in_ok-push_close_note.ensures.notes;
-      length = length_turn (is_told c.args.rules.now what c.loop-layer.layer) _ _ _ _ c.in_ok-push_close_note.ensures.places ∙ c.loop-layer.invariant.length;
-      below = below_turn c.args.rules.now c.args.forest.now.spans c.args.what.now.id c.loop-layer.layer c.args.what.now.worker _ _ _ _ _ _
-          c.requires.found ends within (sym (length-map c.loop-layer.notes.items plain_note)) c.loop-layer.invariant.below c.in_ok-push_close_note.ensures.notes c.in_ok-push_close_note.ensures.places;
+      told = layer_more (note_of c.args.what.now.worker what) c.in-Some.layer _ _ _ _ _ next was.told c.in_ok-push_close_note.ensures.notes;
+      left = left_turn (is_told c.args.rules.now what) (length c.args.rules.now) c.in-Some.layer _ _ next was.left;
+      length = ap length c.in_ok-push_close_note.ensures.places ∙ length-set c.loop-layer.places.items c.in-Some.layer _ ∙ was.length;
+      below = below_turn c.args.rules.now c.args.forest.now.spans c.args.what.now.id c.in-Some.layer c.args.what.now.worker _ _ _ _ _ _ _ _
+          c.requires.found ends was.length (sym (length-map c.loop-layer.notes.items plain_note)) next was.left was.below
+          c.in_ok-push_close_note.ensures.notes c.in_ok-push_close_note.ensures.places;
     }
+
+pub push_close_note-requires-clause-there : goal.push_close_note-requires-clause-there
+push_close_note-requires-clause-there c =
+    let there = left_there (is_told c.args.rules.now (close_of c.args.forest.now.spans c.args.what.now.id)) (length c.args.rules.now) c.in-Some.layer _ _ c.in-Some.ensures.steps c.loop-layer.invariant.left in
+    omega (arith, there, c.loop-layer.invariant.length)
+
+pub push_close_note-requires-clause-below : goal.push_close_note-requires-clause-below
+push_close_note-requires-clause-below c =
+    left_below c.args.rules.now c.args.forest.now.spans c.args.what.now.id c.in-Some.layer _ _ _ _ c.in-Some.ensures.steps c.loop-layer.invariant.below
+
+pub returns-clause-length : goal.returns-clause-length
+returns-clause-length c = c.loop-layer.invariant.length
+
+pub returns-clause-notes : goal.returns-clause-notes
+returns-clause-notes c =
+    let told = note_of c.args.what.now.worker (close_of c.args.forest.now.spans c.args.what.now.id) in
+    layers_end told _ _ _ c.in-None.ensures.steps.0 c.loop-layer.invariant.told
+    ∙ ap (λ layers. map plain_note c.args.notes.now.items ++ map told layers) (layers (goal.at.returns-clause-notes c).After-into_iter-layer-iterator)
+
+pub returns-clause-below : goal.returns-clause-below
+returns-clause-below c = below_end c.args.rules.now c.args.forest.now.spans c.args.what.now.id _ _ _ c.in-None.ensures.steps.0 c.loop-layer.invariant.below

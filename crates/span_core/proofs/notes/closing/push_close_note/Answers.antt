@@ -1,4 +1,4 @@
-use Rattle.std.proofs.Common.{◌≡◌, ◌∙◌, ◌<◌, None, length, map, sym, arith}
+use Rattle.std.proofs.Common.{◌≡◌, ◌∙◌, None, map, sym}
 use Rattle.std.proofs.lemmas.List.{get_or_default}
 use Rattle.std.proofs.lemmas.Option.{IfSome_then}
 use Rattle.span_layers.specs.Note.{plain_note}
@@ -8,8 +8,7 @@ use Rattle.span_core.proofs.notes.closing.push_close_note.Goals as goal
 
 pub close_note-requires-clause-below : goal.close_note-requires-clause-below
 close_note-requires-clause-below c =
-    let within : c.args.layer < length c.args.places.now.items = omega (arith, c.requires.there, c.requires.length) in
-    let place : place_in c.args.places.now.items c.args.layer ≡ c.index.result.now = get_or_default c.args.places.now.items c.args.layer None c.index.result.now within ∙ sym c.index.ensures in
+    let place : place_in c.args.places.now.items c.args.layer ≡ c.index.result.now = get_or_default c.args.places.now.items c.args.layer None c.index.result.now c.requires.there ∙ sym c.index.ensures in
     IfSome_then c.note_at-before.result c.note_at-before.ensures
     (λ note is.
     tells_below c.args.forest.now.spans (map plain_note c.args.notes.now.items) c.args.layer c.args.what.now.id _ (plain_note note.now) c.requires.below

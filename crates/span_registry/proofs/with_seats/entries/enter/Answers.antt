@@ -11,6 +11,6 @@ pub returns-in-Err-clause-seated : goal.returns-in-Err-clause-seated
 returns-in-Err-clause-seated g c =
     seated_refused _ _ _ _ _ c.in-Err.ensures.refused (seated_back c.args.core.now c.args.root.now c.join.new.self c.args.seat c.args.id c.requires.seated c.join.ensures.in_set c.requires.shown c.join.ensures.root _ c.split-back.ensures.root)
 
-pub returns-in-Err-clause-known : goal.returns-in-Err-clause-known
-returns-in-Err-clause-known g c =
+pub returns-in-Err-clause-never_unknown : goal.returns-in-Err-clause-never_unknown
+returns-in-Err-clause-never_unknown g c =
     never_unknown _ _ _ _ (handle_from c.args.core.now.world.spans c.args.id (span_is_held c.args.core.now c.args.root.now c.join.new.self c.args.seat c.args.id c.requires.seated c.join.ensures.in_set c.requires.shown c.join.ensures.root)) c.in-Err.ensures.refused

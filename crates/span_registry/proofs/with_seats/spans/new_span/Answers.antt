@@ -1,6 +1,3 @@
-use Rattle.std.proofs.Common.{sym}
-use Rattle.std.proofs.Common.{Option, Some, subst}
-use Rattle.std.specs.Prelude.{IfSome}
 use Rattle.span_registry.proofs.Bridge.{sound_of, added_of}
 use Rattle.span_registry.proofs.Seats.{some_of, new_slot, new_free, new_opens, new_id, seated_new}
 use Rattle.span_registry.proofs.with_seats.spans.new_span.Goals as goal
@@ -36,3 +33,11 @@ returns-clause-seated g c =
     let made = some_of _ _ _ c.in-Some.is c.in_ok-id.ensures.made in
     let added = added_of _ _ _ _ _ _ _ c.calls.ensures.legal m.one_slot m.in_range made in
     seated_new c.args.core.now c.new_span-new.new.self _ (sound_of _ l.one_slot l.in_layout) added c.args.root.now c.requires.seated c.mark_open.new.self c.split-seat.new.self c.mark_open.ensures c.split-seat.ensures.root made.limits
+
+pub returns-clause-slot : goal.returns-clause-slot
+returns-clause-slot g c =
+    let l = c.each_slot_has_one_open_span.ensures in
+    let m = c.each_slot_has_one_open_span-2.ensures in
+    let made = some_of _ _ _ c.in-Some.is c.in_ok-id.ensures.made in
+    let added = added_of _ _ _ _ _ _ _ c.calls.ensures.legal m.one_slot m.in_range made in
+    λ id is. added.free id is

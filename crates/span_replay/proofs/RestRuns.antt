@@ -1,0 +1,94 @@
+-- What is left of a script after the lines before the first call: the line whose value was read, the lines after it,
+-- and the tidying.
+use Rattle.std.proofs.Common.{◌≡◌, ℕ, ◌+◌, List, [], false, sym, subst, Option, Some, None, Result, Ok, Err, IfSome, IfErr, OnOk}
+use Rattle.std.specs.Prelude.{⊤}
+use Rattle.std.specs.Option.{option_map}
+use Rattle.serde_json.specs.Data.{Data}
+use Rattle.span_id.specs.declared.limits.Limits.{Limits}
+use Rattle.span_layers.specs.Filter.{Filter}
+use Rattle.span_layers.specs.declared.form.Form.{Form}
+use Rattle.span_core.specs.Core.{CoreView}
+use Rattle.span_replay.specs.Labels.{Bound}
+use Rattle.span_replay.specs.Meaning.{Transcript, last_part, run, value_turn}
+use Rattle.span_script.specs.Operation.{Stage, running, is_setup}
+use Rattle.span_replay.specs.Replayed.{Fails, Runs}
+use Rattle.span_script.specs.Script.{lines_of}
+use Rattle.span_replay.specs.State.{State}
+use Rattle.span_replay.specs.inside.Turns.{HasTurned, Sent, TurnFails, opened_state, resumed_run}
+use Rattle.span_replay.specs.declared.run.fault.RunFault.{RunFault}
+use Rattle.span_replay.proofs.Openings.{when_some}
+use Rattle.span_replay.proofs.Resumed.{staged, value_same}
+use Rattle.span_replay.proofs.Written.{Known, sent_none, sent_trans, fails_after, runs_after, turned_more, turned_fails, loop_ends}
+
+-- no line is left
+pub none_left : {A : Type 0} (seen : A → Data) (hooks number : ℕ) (state : State) (stage : Stage) (value : Option A) (lines : List ℕ) (a : Known) → value ≡ None → lines ≡ []
+    → Sent a a (resumed_run hooks number (staged state stage) (option_map seen value) lines) (last_part state)
+none_left seen hooks number state stage value lines a e none =
+    subst (λ v. Sent a a (resumed_run hooks number (staged state stage) (option_map seen v) lines) (last_part state)) (sym e)
+    (loop_ends hooks number a a _ (staged state stage) lines (sent_none a _) none)
+
+-- the first line, at whichever stage, did what is meant of it while calls run
+first_sent : (hooks number : ℕ) (state new : State) (stage : Stage) (value : Data) (lines : List ℕ) (a b : Known) → is_setup value ≡ false → HasTurned (value_turn hooks (staged state running) value) new a b
+    → Sent a b (resumed_run hooks number (staged state stage) (Some value) lines) (run hooks (number + 1) new (lines_of lines))
+first_sent hooks number state new stage value lines a b h p =
+    turned_more a b number (value_turn hooks (staged state stage) value) new (λ state'. run hooks (number + 1) state' (lines_of lines))
+    (subst (λ meant. HasTurned meant new a b) (value_same hooks state running stage value h) p)
+
+first_fails : (hooks number : ℕ) (state : State) (stage : Stage) (value : Data) (lines : List ℕ) (a b : Known) (fault : RunFault) → is_setup value ≡ false → TurnFails (value_turn hooks (staged state running) value) number a b fault
+    → Fails (resumed_run hooks number (staged state stage) (Some value) lines) a b fault
+first_fails hooks number state stage value lines a b fault h p =
+    turned_fails a b number (value_turn hooks (staged state stage) value) (λ state'. run hooks (number + 1) state' (lines_of lines)) fault
+    (subst (λ meant. TurnFails meant number a b fault) (value_same hooks state running stage value h) p)
+
+-- the first line and the lines after it ran as they are meant to
+pub rest_sent : {A : Type 0} (seen : A → Data) (number : ℕ) (state new : State) (last : Transcript) (found : Option A) (value : A) (lines : List ℕ) (a b c : Known) (r : Result ⊤ RunFault)
+    → found ≡ Some value → IfSome found (λ v. is_setup (seen v) ≡ false)
+    → ((hooks : ℕ) → HasTurned (value_turn hooks (staged state running) (seen value)) new a b)
+    → OnOk r ((hooks : ℕ) → Sent b c (run hooks (number + 1) new (lines_of lines)) last)
+    → OnOk r ((hooks : ℕ) (stage : Stage) → Sent a c (resumed_run hooks number (staged state stage) (option_map seen found) lines) last)
+rest_sent seen number state new last found value lines a b c (Ok _) e h p q = λ hooks stage.
+    subst (λ v. Sent a c (resumed_run hooks number (staged state stage) (option_map seen v) lines) last) (sym e)
+    (sent_trans a b c _ _ last (first_sent hooks number state new stage (seen value) lines a b (when_some _ _ value e h) (p hooks)) (q hooks))
+rest_sent seen number state new last found value lines a b c (Err fault) e h p q = tt
+
+-- the first line ran, and a line after it ended the run
+pub rest_fails : {A : Type 0} (seen : A → Data) (number : ℕ) (state new : State) (found : Option A) (value : A) (lines : List ℕ) (a b c : Known) (r : Result ⊤ RunFault)
+    → found ≡ Some value → IfSome found (λ v. is_setup (seen v) ≡ false)
+    → ((hooks : ℕ) → HasTurned (value_turn hooks (staged state running) (seen value)) new a b)
+    → IfErr r (λ fault. (hooks : ℕ) → Fails (run hooks (number + 1) new (lines_of lines)) b c fault)
+    → IfErr r (λ fault. (hooks : ℕ) (stage : Stage) → Fails (resumed_run hooks number (staged state stage) (option_map seen found) lines) a c fault)
+rest_fails seen number state new found value lines a b c (Ok _) e h p q = tt
+rest_fails seen number state new found value lines a b c (Err fault) e h p q = λ hooks stage.
+    subst (λ v. Fails (resumed_run hooks number (staged state stage) (option_map seen v) lines) a c fault) (sym e)
+    (fails_after a b c _ _ fault (first_sent hooks number state new stage (seen value) lines a b (when_some _ _ value e h) (p hooks)) (q hooks))
+
+-- the first line ended the run
+pub value_fails : {A : Type 0} (seen : A → Data) (number : ℕ) (state : State) (found : Option A) (value : A) (lines : List ℕ) (a b : Known) (fault : RunFault)
+    → found ≡ Some value → IfSome found (λ v. is_setup (seen v) ≡ false)
+    → ((hooks : ℕ) → TurnFails (value_turn hooks (staged state running) (seen value)) number a b fault)
+    → (hooks : ℕ) (stage : Stage) → Fails (resumed_run hooks number (staged state stage) (option_map seen found) lines) a b fault
+value_fails seen number state found value lines a b fault e h p hooks stage =
+    subst (λ v. Fails (resumed_run hooks number (staged state stage) (option_map seen v) lines) a b fault) (sym e)
+    (first_fails hooks number state stage (seen value) lines a b fault (when_some _ _ value e h) (p hooks))
+
+-- ---- a script of which no call has run
+
+at_opening : (limits : Limits) (rules : List Filter) (forms : List Form) (stage : Stage) (core : CoreView) (labels : Bound) → core ≡ (opened_state limits rules forms stage).core → labels ≡ []
+    → record { core = core; labels = labels; stage = stage } ≡ opened_state limits rules forms stage
+at_opening limits rules forms stage core labels e none = λ i. record { core = e i; labels = none i; stage = stage }
+
+-- all lines ran, and the tidying ended as it did
+pub rest_tidied : (hooks number : ℕ) (limits : Limits) (rules : List Filter) (forms : List Form) (stage : Stage) (core : CoreView) (labels : Bound) (value : Option Data) (lines : List ℕ) (last : Transcript) (a b c : Known) (r : Result ℕ RunFault)
+    → core ≡ (opened_state limits rules forms stage).core → labels ≡ []
+    → Sent a b (resumed_run hooks number (record { core = core; labels = labels; stage = stage }) value lines) last → Runs last b c r
+    → Runs (resumed_run hooks number (opened_state limits rules forms stage) value lines) a c r
+rest_tidied hooks number limits rules forms stage core labels value lines last a b c r e none s p =
+    runs_after a b c _ last r (subst (λ state. Sent a b (resumed_run hooks number state value lines) last) (at_opening limits rules forms stage core labels e none) s) p
+
+-- a line ended the run
+pub rest_stops : (hooks number : ℕ) (limits : Limits) (rules : List Filter) (forms : List Form) (stage : Stage) (core : CoreView) (labels : Bound) (value : Option Data) (lines : List ℕ) (a b : Known) (fault : RunFault)
+    → core ≡ (opened_state limits rules forms stage).core → labels ≡ []
+    → Fails (resumed_run hooks number (record { core = core; labels = labels; stage = stage }) value lines) a b fault
+    → Fails (resumed_run hooks number (opened_state limits rules forms stage) value lines) a b fault
+rest_stops hooks number limits rules forms stage core labels value lines a b fault e none p =
+    subst (λ state. Fails (resumed_run hooks number state value lines) a b fault) (at_opening limits rules forms stage core labels e none) p

@@ -1,0 +1,251 @@
+-- What is written for a call: the lines that the history has more of, and the answer.
+use Rattle.std.proofs.Common.{◌≡◌, ℕ, ◌+◌, ◌≤◌, Bool, true, false, not, if◌then◌else◌, List, [], ◌∷◌, ◌++◌, length, drop, flat_map, Option, Result, Ok, Err, refl, sym, ap, subst, ◌∙◌, arith, rules, append_assoc, append-nil, length-append, ◌&&◌, ◌-◌, map, take}
+use Rattle.std.specs.Prelude.{IfErr, IsErrAnd, OnOk, ⊤}
+use Rattle.std.proofs.lemmas.List.{take_rest, drop_all, drop-map}
+use Rattle.std.specs.List.{enumerate_from}
+use Rattle.span_id.specs.declared.limits.Limits.{Limits}
+use Rattle.span_layers.specs.declared.form.Form.{Form}
+use Rattle.span_outlet.specs.Batch.{PlainBatch}
+use Rattle.span_core.specs.Core.{CoreView, is_named, is_wanted_call, is_known, may_count, may_send, has_slot, is_inside}
+use Rattle.span_outlet.specs.Lines.{PlainLine, plain_line, lines_of, lines_of_batch}
+use Rattle.span_outlet.specs.declared.line.Line.{Line}
+use Rattle.span_outlet.specs.Request as call
+use Rattle.span_id.specs.declared.fault.Fault.TheVariants.{Unknown, CountFull, Full, NotEntered, BadName}
+use Rattle.span_core.specs.Outcome.{Outcome, refused, not_wanted, accepted, outcome}
+use Rattle.span_replay.specs.Answer.{answer_text}
+use Rattle.span_replay.specs.inside.Calls.{IsMade}
+use Rattle.span_replay.specs.Faults.{parent_of_key, is_taken}
+use Rattle.span_replay.specs.Meaning.{Turn, call_turn, made_turn, labels_after, new_turn, turn_of}
+use Rattle.span_script.specs.Operation.{NewSpan, Operation, Parent}
+use Rattle.span_script.specs.Reason.{◌>>=◌}
+use Rattle.span_replay.specs.Requests.{request_of_new}
+use Rattle.span_stack.specs.Stack.{current}
+use Rattle.span_core.specs.World.{stack_of}
+use Rattle.span_script.specs.declared.reason.Reason.TheVariants.{LabelTaken}
+use Rattle.span_replay.specs.inside.Running.{StopsAs, RunsAs, IsWrittenCall, IsWritten, core_in}
+use Rattle.span_replay.specs.State.{State}
+use Rattle.span_replay.specs.Written.{answer_for, note_line, outcome_text, core_left, call_written}
+use Rattle.span_replay.specs.declared.run.answer.Answer.{Answer}
+use Rattle.span_script.specs.declared.reason.Reason.{Reason}
+use Rattle.span_replay.specs.declared.run.script.Script.{Script}
+use Rattle.span_script.specs.declared.stop.Stop.{Stop}
+use Rattle.span_script.specs.declared.stop.Stop.TheVariants.{Memory, Refused as AtFault}
+
+-- ---- the lines of a history and of one batch more
+
+enumerated_more : (n : ℕ) (sent : List PlainBatch) (batch : PlainBatch) → enumerate_from n (sent ++ batch ∷ []) ≡ enumerate_from n sent ++ (n + length sent, batch) ∷ []
+enumerated_more n [] batch = ap (λ k. (k, batch) ∷ []) (omega arith)
+enumerated_more n (first ∷ sent) batch = ap (λ rest. (n, first) ∷ rest) (enumerated_more (n + 1) sent batch ∙ ap (λ k. enumerate_from (n + 1) sent ++ (k, batch) ∷ []) (omega arith))
+
+flat_more : {A B : Type 0} (f : A → List B) (xs : List A) (x : A) → flat_map f (xs ++ x ∷ []) ≡ flat_map f xs ++ f x
+flat_more f [] x = search rules
+flat_more f (y ∷ ys) x = ap (λ rest. f y ++ rest) (flat_more f ys x) ∙ sym (append_assoc (f y) (flat_map f ys) (f x))
+
+pub lines_more : (forms : List Form) (sent : List PlainBatch) (batch : PlainBatch) → lines_of forms (sent ++ batch ∷ []) ≡ lines_of forms sent ++ lines_of_batch forms (length sent, batch)
+lines_more forms sent batch =
+    ap (flat_map (lines_of_batch forms)) (enumerated_more 0 sent batch ∙ ap (λ k. enumerate_from 0 sent ++ (k, batch) ∷ []) (omega arith)) ∙ flat_more (lines_of_batch forms) (enumerate_from 0 sent) (length sent, batch)
+
+dropped : {A : Type 0} (xs ys : List A) → drop (length xs) (xs ++ ys) ≡ ys
+dropped [] ys = refl
+dropped (x ∷ xs) ys = dropped xs ys
+
+-- ---- the lines after a call
+
+abbrev lines_in : CoreView → List PlainLine
+lines_in core = lines_of core.forms core.sent
+
+-- the lines that the outcome of a call adds
+abbrev added_lines : CoreView → call.Request → Outcome → List PlainLine
+added_lines core request (refused fault) = []
+added_lines core request not_wanted = []
+added_lines core request (accepted answer notes new) = lines_of_batch core.forms (length core.sent, record { request = request; answer = answer; notes = notes })
+
+-- the core that is left has those lines more
+abbrev AddsLines : CoreView → call.Request → Outcome → Type 0
+AddsLines core request o = lines_in (core_left core o) ≡ lines_in core ++ added_lines core request o
+
+by_test : (P : Outcome → Type 0) (b : Bool) (x y : Outcome) → P x → P y → P (if not b then x else y)
+by_test P true x y px py = py
+by_test P false x y px py = px
+
+none_added : (core : CoreView) (request : call.Request) → lines_in core ≡ lines_in core ++ []
+none_added core request = sym (append-nil (lines_in core))
+
+outcome_lines : (core : CoreView) (request : call.Request) → AddsLines core request (outcome core request)
+outcome_lines core request =
+    by_test P (is_named request) (refused BadName) _ none
+    (by_test P (is_wanted_call core request) not_wanted _ none
+    (by_test P (is_known core request) (refused Unknown) _ none
+    (by_test P (may_count core request && may_send core) (refused CountFull) _ none
+    (by_test P (has_slot core request) (refused Full) _ none
+    (by_test P (is_inside core request) (refused NotEntered) _ none
+    (lines_more core.forms core.sent _))))))
+  where
+    P : Outcome → Type 0
+    P o = AddsLines core request o
+
+    none : lines_in core ≡ lines_in core ++ []
+    none = none_added core request
+
+-- the text of a call is that of the lines that it adds, and then its answer
+call_text : (core : CoreView) (request : call.Request) (o : Outcome) → outcome_text core request o ≡ flat_map note_line (added_lines core request o) ++ answer_text (answer_for o)
+call_text core request (refused fault) = refl
+call_text core request not_wanted = refl
+call_text core request (accepted answer notes new) = refl
+
+-- what is written for a call that was made, where all lines before it were written
+pub made_text : (old : CoreView) (request : call.Request) (answer : Answer) (new : CoreView) (written : ℕ) → IsMade old request answer new → written ≡ length (lines_in old)
+    → flat_map note_line (drop written (lines_in new)) ++ answer_text answer ≡ (call_written old request).text
+made_text old request answer new written made all =
+    (λ i. flat_map note_line (new_lines i) ++ answer_text (made.answer_is i)) ∙ sym (call_text old request (outcome old request))
+  where
+    new_lines : drop written (lines_in new) ≡ added_lines old request (outcome old request)
+    new_lines = (λ i. drop (all i) (lines_in (made.core_is i))) ∙ ap (drop (length (lines_in old))) (outcome_lines old request) ∙ dropped (lines_in old) (added_lines old request (outcome old request))
+
+pub made_enough : (old : CoreView) (request : call.Request) (answer : Answer) (new : CoreView) (written : ℕ) → IsMade old request answer new → written ≡ length (lines_in old)
+    → written ≤ length (lines_in new)
+made_enough old request answer new written made all =
+    let lengths : length (lines_in new) ≡ length (lines_in old) + length (added_lines old request (outcome old request))
+    = ap (λ (core : CoreView). length (lines_in core)) made.core_is ∙ ap length (outcome_lines old request) ∙ length-append (lines_in old) _ in
+    omega (arith, all, lengths)
+
+-- ---- what is ensured of a call
+
+pub written_call : (result : Result ⊤ Stop) (old : CoreView) (request : call.Request) (answer : Answer) (mid new : CoreView) (written : ℕ) (text text' : List ℕ)
+    → IsMade old request answer mid → written ≡ length (lines_in old) → new ≡ mid
+    → OnOk result (text' ≡ text ++ (flat_map note_line (drop written (lines_in mid)) ++ answer_text answer))
+    → OnOk result (IsWrittenCall old text request new text')
+written_call (Ok _) old request answer mid new written text text' made all same is =
+    record { core = same ∙ made.core_is; text_is = is ∙ ap (λ added. text ++ added) (made_text old request answer mid written made all) }
+written_call (Err stop) old request answer mid new written text text' made all same is = tt
+
+-- where memory is wanted, it is that that stops the run
+stops : (meant : Result Turn Reason) (old new : State) (text text' : List ℕ) (stop : Stop) → stop ≡ Memory → StopsAs meant old text new text' stop
+stops meant old new text text' stop is = subst (StopsAs meant old text new text') (sym is) tt
+
+pub turn_made : (result : Result ⊤ Stop) (meant : Result Turn Reason) (state new : State) (request : call.Request) (answer : Answer) (mid : CoreView) (written : ℕ) (text text' : List ℕ)
+    → meant ≡ Ok (call_turn state request)
+    → IsMade state.core request answer mid → written ≡ length (lines_in state.core)
+    → new ≡ record state { core = mid }
+    → OnOk result (text' ≡ text ++ (flat_map note_line (drop written (lines_in mid)) ++ answer_text answer))
+    → IfErr result (λ stop. stop ≡ Memory)
+    → RunsAs meant state text new text' result
+turn_made (Ok _) meant state new request answer mid written text text' is made all same text_is memory = record {
+  added = (call_written state.core request).text;
+  text = text_is ∙ ap (λ added. text ++ added) (made_text state.core request answer mid written made all);
+  turn = is ∙ ap (λ (after : State). Ok (record { text = (call_written state.core request).text; state = after })) (sym (same ∙ ap (λ core. record state { core = core }) made.core_is));
+}
+turn_made (Err stop) meant state new request answer mid written text text' is made all same text_is memory = stops meant state new text text' stop memory
+
+-- ---- a new span
+
+pub turn_new : (result : Result ⊤ Stop) (meant : Result Turn Reason) (state new : State) (label : List ℕ) (request : call.Request) (answer : Answer) (mid : CoreView) (written : ℕ) (text text' : List ℕ)
+    → meant ≡ Ok (made_turn state label request)
+    → IsMade state.core request answer mid → written ≡ length (lines_in state.core)
+    → new ≡ record state { core = mid; labels = labels_after state.labels label answer }
+    → OnOk result (text' ≡ text ++ (flat_map note_line (drop written (lines_in mid)) ++ answer_text answer))
+    → IfErr result (λ stop. stop ≡ Memory)
+    → RunsAs meant state text new text' result
+turn_new (Ok _) meant state new label request answer mid written text text' is made all same text_is memory = record {
+  added = (call_written state.core request).text;
+  text = text_is ∙ ap (λ added. text ++ added) (made_text state.core request answer mid written made all);
+  turn = is ∙ ap (λ (after : State). Ok (record { text = (call_written state.core request).text; state = after }))
+      (sym (same ∙ (λ i. record state { core = made.core_is i; labels = labels i })));
+}
+  where
+    labels : labels_after state.labels label answer ≡ labels_after state.labels label (answer_for (outcome state.core request))
+    labels = ap (labels_after state.labels label) made.answer_is
+turn_new (Err stop) meant state new label request answer mid written text text' is made all same text_is memory = stops meant state new text text' stop memory
+
+-- ---- the outlet's lines
+
+pub all_written : (lines : List Line) (meant : List PlainLine) (refusals from at : ℕ) (text text' : List ℕ)
+    → refusals ≡ 0 → (refusals ≡ 0 → map plain_line lines ≡ meant)
+    → length (take (length lines - from) (drop from lines)) ≤ at
+    → text' ++ flat_map note_line (map plain_line (drop at (take (length lines - from) (drop from lines)))) ≡ text ++ flat_map note_line (map plain_line (take (length lines - from) (drop from lines)))
+    → text' ≡ text ++ flat_map note_line (drop from meant)
+all_written lines meant refusals from at text text' none whole ended written =
+    sym (append-nil text')
+    ∙ ap (λ rest. text' ++ flat_map note_line (map plain_line rest)) (sym (drop_all at (take (length lines - from) (drop from lines)) ended))
+    ∙ written
+    ∙ ap (λ rest. text ++ flat_map note_line (map plain_line rest)) (take_rest lines from)
+    ∙ ap (λ rest. text ++ flat_map note_line rest) (sym (drop-map plain_line from lines))
+    ∙ ap (λ all. text ++ flat_map note_line (drop from all)) (whole none)
+
+-- ---- between two calls
+
+kept_limits : (core : CoreView) (request : call.Request) → (core_left core (outcome core request)).limits ≡ core.limits
+kept_limits core request =
+    by_test P (is_named request) (refused BadName) _ refl
+    (by_test P (is_wanted_call core request) not_wanted _ refl
+    (by_test P (is_known core request) (refused Unknown) _ refl
+    (by_test P (may_count core request && may_send core) (refused CountFull) _ refl
+    (by_test P (has_slot core request) (refused Full) _ refl
+    (by_test P (is_inside core request) (refused NotEntered) _ refl refl)))))
+  where
+    P : Outcome → Type 0
+    P o = (core_left core o).limits ≡ core.limits
+
+-- the number of the workers is still that of the limits
+pub same_workers : (old : CoreView) (request : call.Request) (answer : Answer) (mid new : CoreView) (workers workers' : ℕ)
+    → IsMade old request answer mid → new ≡ mid → workers ≡ old.limits.workers → workers' ≡ workers → workers' ≡ new.limits.workers
+same_workers old request answer mid new workers workers' made same are more =
+    more ∙ are ∙ sym (ap (λ (core : CoreView). core.limits.workers) (same ∙ made.core_is) ∙ ap (λ (limits : Limits). limits.workers) (kept_limits old request))
+
+-- the call is made by the worker that is meant
+pub made_by : (calls : ℕ → call.Request) (worker meant : ℕ) (old : CoreView) (answer : Answer) (new : CoreView) → worker ≡ meant → IsMade old (calls worker) answer new → IsMade old (calls meant) answer new
+made_by calls worker meant old answer new same made = subst (λ w. IsMade old (calls w) answer new) same made
+
+-- all lines are written after a call's answer
+pub still_written : {V X F g : _} (result : Result ⊤ Stop) (script : Script V X F g) (old : CoreView) (request : call.Request) (answer : Answer) (mid : CoreView) (workers : ℕ)
+    → IsMade old request answer mid → core_in script ≡ mid → workers ≡ old.limits.workers → 1 ≤ workers → OnOk result (script.written ≡ length (lines_in mid)) → script.workers ≡ workers
+    → OnOk result (IsWritten script)
+still_written (Ok _) script old request answer mid workers made same are some lines more = record {
+  lines = lines ∙ sym (ap (λ core. length (lines_in core)) same);
+  workers = same_workers old request answer mid (core_in script) workers script.workers made same are more;
+  some = omega (arith, some, more);
+}
+still_written (Err stop) script old request answer mid workers made same are some lines more = tt
+
+-- ---- a new span's line
+
+abbrev parent_meant : State → ℕ → Parent → Result (Option ℕ) Reason
+parent_meant state worker parent = parent_of_key state.labels (current (stack_of state.core.world worker)) parent
+
+abbrev free : Bool → Result ⊤ Reason
+free taken = if taken then Err LabelTaken else Ok tt
+
+abbrev when_free : State → NewSpan → Option ℕ → Bool → Result Turn Reason
+when_free state new parent taken = free taken >>= λ _. Ok (made_turn state new.label (request_of_new new parent))
+
+abbrev when_found : State → NewSpan → Result (Option ℕ) Reason → Result Turn Reason
+when_found state new found = found >>= λ parent. when_free state new parent (is_taken state.core.world.spans state.labels new.label)
+
+new_turn_is : (state : State) (new : NewSpan) (worker : ℕ) → worker ≡ new.worker → new_turn state new ≡ when_found state new (parent_meant state worker new.parent)
+unfolding new_turn
+new_turn_is state new worker same = ap (λ w. when_found state new (parent_meant state w new.parent)) (sym same)
+
+pub no_parent : (state : State) (new : NewSpan) (worker : ℕ) (reason : Reason) → worker ≡ new.worker → parent_meant state worker new.parent ≡ Err reason
+    → new_turn state new ≡ Err reason
+no_parent state new worker reason same found = new_turn_is state new worker same ∙ ap (when_found state new) found
+
+pub new_is : (state : State) (new : NewSpan) (worker : ℕ) (parent : Option ℕ) (taken tested : Bool) → worker ≡ new.worker → parent_meant state worker new.parent ≡ Ok parent
+    → taken ≡ is_taken state.core.world.spans state.labels new.label → taken ≡ tested
+    → new_turn state new ≡ when_free state new parent tested
+new_is state new worker parent taken tested same found is test =
+    new_turn_is state new worker same ∙ ap (when_found state new) found ∙ ap (when_free state new parent) (sym is ∙ test)
+
+-- the core that is left may be named otherwise
+pub made_core : (old : CoreView) (request : call.Request) (answer : Answer) (mid new : CoreView) → new ≡ mid → IsMade old request answer mid → IsMade old request answer new
+made_core old request answer mid new same made = subst (λ core. IsMade old request answer core) (sym same) made
+
+-- the script is at fault
+pub stops_for : (result : Result ⊤ Stop) (meant : Result Turn Reason) (state : State) (text : List ℕ) (reason : Reason) → meant ≡ Err reason → IsErrAnd result (λ stop. stop ≡ AtFault reason)
+    → RunsAs meant state text state text result
+stops_for (Ok _) meant state text reason is gives = absurd gives
+stops_for (Err stop) meant state text reason is gives = subst (StopsAs meant state text state text) (sym gives) (is, refl, refl)
+
+-- what is meant is what the operation asks for
+pub runs_by : (asked operation : Operation) (hooks : ℕ) (state new : State) (text text' : List ℕ) (result : Result ⊤ Stop) → operation ≡ asked
+    → RunsAs (turn_of hooks state asked) state text new text' result → RunsAs (turn_of hooks state operation) state text new text' result
+runs_by asked operation hooks state new text text' result is runs = subst (λ op. RunsAs (turn_of hooks state op) state text new text' result) (sym is) runs

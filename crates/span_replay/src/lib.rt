@@ -1,0 +1,16 @@
+//! The run of a script of calls on the span registry: bytes in, bytes out.
+//!
+//! A script is read to its end, its lines run one after another on the registry's core, and after them comes the
+//! tidying. What the calls answer and what the layers are told is written as it arises (`replay`;
+//! `replay_with_layers` makes the layers' hooks itself).
+#![tactic(auto)]
+
+mod devices;
+mod run;
+#[cfg(test)]
+mod tests;
+
+pub use devices::counted::Counted;
+pub use run::fault::{RunFault, Side};
+pub use run::hooks::replay_with_layers;
+pub use run::replay::replay;

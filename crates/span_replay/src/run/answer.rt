@@ -1,0 +1,96 @@
+//! What a call answers, as a line of text.
+ghost use Rattle.std.specs.Prelude.{◌≡◌, ◌++◌, OnOk};
+ghost use Rattle.span_outlet.specs.Lines.{plain_line};
+ghost use Rattle.span_replay.specs.Answer.{answer_text, found_text, left_text};
+ghost use Rattle.span_replay.specs.Written.{note_line};
+
+use span_id::{Fault, Id};
+use span_outlet::Line;
+use std::io;
+use std::io::Write;
+
+/// What a call answers.
+#[derive(Clone, Copy, Debug, PartialEq, Eq)]
+pub enum Answer {
+    /// The limits stand.
+    Limits,
+    /// A layer was added, with this number.
+    Layer(usize),
+    /// A span was made.
+    Made(Id),
+    /// No layer wants the span.
+    NotWanted,
+    Cloned,
+    /// Whether the span closed: after a `close` and after an `exit`.
+    Closed(bool),
+    /// Whether the entry is no duplicate.
+    Entered(bool),
+    Recorded,
+    Told,
+    Refused(Fault),
+}
+
+/// A span that was looked up.
+#[derive(Clone, Copy, Debug)]
+pub struct Found<'s> {
+    pub name: &'s str,
+    /// The number of the parent's id, or 0.
+    pub parent: u64,
+    pub handles: u32,
+    pub entries: u32,
+    pub count: u32,
+}
+
+/// Appends the line of an answer to a text. The only error is that memory was refused.
+pub fn write_answer(text: &mut Vec<u8>, answer: Answer) -> io::Result<()>
+    ensures { OnOk result (text.new.items ≡ text.old.items ++ answer_text answer) }
+{
+    match answer {
+        Answer::Limits => text.write_all(b"= limits\n"),
+        Answer::Layer(number) => writeln!(text, "= layer {number}"),
+        Answer::Made(id) => writeln!(text, "= {id}"),
+        Answer::NotWanted => text.write_all(b"= not wanted\n"),
+        Answer::Cloned => text.write_all(b"= cloned\n"),
+        Answer::Closed(true) => text.write_all(b"= closed\n"),
+        Answer::Closed(false) => text.write_all(b"= open\n"),
+        Answer::Entered(true) => text.write_all(b"= entered\n"),
+        Answer::Entered(false) => text.write_all(b"= again\n"),
+        Answer::Recorded => text.write_all(b"= recorded\n"),
+        Answer::Told => text.write_all(b"= told\n"),
+        Answer::Refused(fault) => writeln!(text, "! {fault}"),
+    }
+}
+
+/// Appends the line of a span that was looked up to a text. The only error is that memory was refused.
+pub fn write_found(text: &mut Vec<u8>, found: &Found<'_>) -> io::Result<()>
+    ensures { OnOk result (text.new.items ≡ text.old.items ++ found_text found.now) }
+{
+    let Found {
+        name,
+        parent,
+        handles,
+        entries,
+        count,
+    } = *found;
+    writeln!(
+        text,
+        "= {name} parent {parent} handles {handles} entries {entries} count {count}"
+    )
+}
+
+/// Appends the line of a note to a text: its layer, and what the layer wrote of it. The only error is that memory was
+/// refused.
+pub fn write_note(text: &mut Vec<u8>, line: &Line) -> io::Result<()>
+    ensures { OnOk result (text.new.items ≡ text.old.items ++ note_line (plain_line line.now)) }
+{
+    write!(text, "L{} ", line.layer)?;
+    text.write_all(line.text.as_slice())?;
+    text.write_all(b"\n")
+}
+
+/// Appends the last line, which tells how many spans are open, to a text. The only error is that memory was refused.
+pub fn write_left(text: &mut Vec<u8>, left: u32) -> io::Result<()>
+    ensures { OnOk result (text.new.items ≡ text.old.items ++ left_text left) }
+{
+    writeln!(text, "left {left}")
+}

@@ -1,0 +1,63 @@
+//! The labels by which a script's lines name spans.
+ghost use Rattle.std.specs.Prelude.{◌≡◌, [], map, OnOk, OnErr};
+
+use span_id::Id;
+use std::alloc::{AllocError, Global};
+use std::collections::BTreeMap;
+use std::collections::btree_map::Values;
+use std::marker::Model;
+
+/// The labels that were bound, each to the id that its last accepted `new` got. Contracts see them in the order of
+/// their bytes, each with its id.
+#[derive(Drop)]
+pub struct Labels {
+    ids: BTreeMap<String, Id>,
+}
+
+impl Model for Labels {
+    ghost use Rattle.std.specs.Prelude.{map, string_bytes};
+    ghost use Rattle.span_replay.specs.Labels.{Bound};
+
+    ghost Value = { Bound };
+
+    ghost view = { λ labels. map (λ entry. (string_bytes entry.0, entry.1)) labels.ids.entries };
+}
+
+impl Labels {
+    ghost use Rattle.span_replay.specs.Labels.{id_in, with_label};
+
+    /// No labels.
+    pub fn new(alloc: Global) -> Labels
+        ensures { result ≡ [] }
+    {
+        Labels {
+            ids: BTreeMap::new(alloc),
+        }
+    }
+
+    /// The id that the label names.
+    pub fn get(&self, label: &str) -> Option<Id>
+        ensures { result ≡ id_in self.now label.now }
+    {
+        self.ids.get(label).copied()
+    }
+
+    /// Binds a label to an id, in place of what it named before. The other labels stay.
+    ///
+    /// Where memory is refused, no label has changed.
+    pub fn bind(&mut self, alloc: Global, label: &str, id: Id) -> Result<(), AllocError>
+        ensures ok { OnOk result (self.new ≡ with_label self.old label.now id) }
+        ensures err { OnErr result (self.new ≡ self.old) }
+    {
+        let label = String::from_str(alloc, label)?;
+        self.ids.insert(label, id)?;
+        Ok(())
+    }
+
+    /// The ids that the labels name, in the order of the labels' bytes.
+    pub fn ids(&self) -> Values<'_, String, Id>
+        ensures { result ≡ map (λ entry. entry.1) self.now }
+    {
+        self.ids.values()
+    }
+}

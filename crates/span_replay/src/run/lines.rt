@@ -1,0 +1,212 @@
+//! The calls of a script: its lines from the first call on, the tidying, and the last line.
+ghost use Rattle.std.specs.Prelude.{◌≡◌, ◌+◌, ◌^◌, ◌<◌, ◌≤◌, ℕ, [], false, length, IfOk, IfErr, IfSome, IfNone, OnOk, Ok};
+ghost use Rattle.std.specs.Option.{option_map};
+ghost use Rattle.serde_json.specs.View.{view};
+ghost use Rattle.span_replay.specs.Counted.{inner_of, failed_of, flushes_of};
+ghost use Rattle.span_replay.specs.Meaning.{last_part, line_turn, run, value_turn};
+ghost use Rattle.span_script.specs.Operation.{Stage, is_setup, running};
+ghost use Rattle.span_script.specs.Reason.{StopsFor};
+ghost use Rattle.span_replay.specs.Replayed.{Fails, Runs};
+ghost use Rattle.span_replay.specs.RunFault.{EndsAsCounted};
+ghost use Rattle.span_replay.specs.inside.Running.{IsWritten, core_in, labels_in, state_at};
+ghost use Rattle.span_script.specs.Script.{lines_of, most_bytes};
+ghost use Rattle.span_replay.specs.inside.Turns.{HasTurned, Sent, TurnFails, opened_state, resumed_run};
+
+use crate::devices::counted::Counted;
+use crate::devices::transfer::write_text;
+use crate::run::fault::{RunFault, at_line};
+use crate::run::opening::Rest;
+use crate::run::script::Script;
+use crate::run::tidying::tidy;
+use serde_json::Value;
+use span_id::Checked;
+use span_layers::{Filters, Say};
+use span_outlet::Kept;
+use span_script::{Stop, cut_line, is_skipped, json_value, operation};
+use std::alloc::Global;
+use std::io::Write;
+
+/// Runs what is left of a script, with these limits and layers, then the tidying, and writes the last line.
+pub fn run_rest<V: Say, W: Write>(
+    alloc: Global,
+    checked: &Checked,
+    filters: Filters,
+    kept: Kept<V>,
+    rest: &Rest<'_>,
+    text: &mut Vec<u8>,
+    output: &mut Counted<W>,
+) -> Result<u64, RunFault>
+    requires failed { failed_of output.old < 2 ^ 63 }
+    requires fresh { kept.sent ≡ [] }
+    requires call { IfSome rest.now.value (λ value. is_setup (view value) ≡ false) }
+    requires done { IfNone rest.now.value (rest.now.lines.now ≡ []) }
+    requires place { rest.now.number + length rest.now.lines.now ≤ most_bytes + 1 }
+    ensures runs { (hooks : ℕ) (stage : Stage) →
+        Runs (resumed_run hooks rest.now.number (opened_state checked.now filters.rules kept.forms stage)
+        (option_map view rest.now.value) rest.now.lines.now)
+        (W.contents (inner_of output.old)) (W.contents (inner_of output.new)) result }
+    ensures counts { EndsAsCounted 0 0 (failed_of output.old) (failed_of output.new) result }
+    ensures flushes { flushes_of output.new ≡ flushes_of output.old }
+{
+    let Ok(mut script) = Script::new(alloc, checked, filters, kept) else {
+        return Err(RunFault::Memory);
+    };
+    match run_first(alloc, rest, &mut script, text, output) {
+        Ok(()) => tidy(alloc, script, text, output),
+        Err(fault) => Err(fault),
+    }
+}
+
+/// Runs the line whose value was read already, and then the other lines that are left.
+fn run_first<V: Say, W: Write>(
+    alloc: Global,
+    rest: &Rest<'_>,
+    script: &mut Script<V>,
+    text: &mut Vec<u8>,
+    output: &mut Counted<W>,
+) -> Result<(), RunFault>
+    requires failed { failed_of output.old < 2 ^ 63 }
+    requires written { IsWritten script.old }
+    requires call { IfSome rest.now.value (λ value. is_setup (view value) ≡ false) }
+    requires done { IfNone rest.now.value (rest.now.lines.now ≡ []) }
+    requires place { rest.now.number + length rest.now.lines.now ≤ most_bytes + 1 }
+    ensures sent { OnOk result
+        ((hooks : ℕ) (stage : Stage) → Sent (W.contents (inner_of output.old)) (W.contents (inner_of output.new))
+        (resumed_run hooks rest.now.number (state_at script.old stage) (option_map view rest.now.value)
+        rest.now.lines.now) (last_part (state_at script.new running))) }
+    ensures written { OnOk result (IsWritten script.new) }
+    ensures err { IfErr result (λ fault. (hooks : ℕ) (stage : Stage) →
+        Fails (resumed_run hooks rest.now.number (state_at script.old stage) (option_map view rest.now.value)
+        rest.now.lines.now)
+        (W.contents (inner_of output.old)) (W.contents (inner_of output.new)) fault) }
+    ensures counts { EndsAsCounted 0 0 (failed_of output.old) (failed_of output.new) result }
+    ensures flushes { flushes_of output.new ≡ flushes_of output.old }
+{
+    let Some(value) = &rest.value else {
+        return Ok(());
+    };
+    match run_value(alloc, rest.number, value, script, text, output) {
+        Ok(()) => run_lines(alloc, rest.number + 1, rest.lines, script, text, output),
+        Err(fault) => Err(fault),
+    }
+}
+
+/// Runs lines, of which the first has this number.
+fn run_lines<V: Say, W: Write>(
+    alloc: Global,
+    first: u64,
+    lines: &[u8],
+    script: &mut Script<V>,
+    text: &mut Vec<u8>,
+    output: &mut Counted<W>,
+) -> Result<(), RunFault>
+    requires failed { failed_of output.old < 2 ^ 63 }
+    requires written { IsWritten script.old }
+    requires place { first + length lines.now ≤ most_bytes + 2 }
+    ensures sent { OnOk result ((hooks : ℕ) → Sent (W.contents (inner_of output.old)) (W.contents (inner_of output.new))
+        (run hooks first (state_at script.old running) (lines_of lines.now))
+        (last_part (state_at script.new running))) }
+    ensures written { OnOk result (IsWritten script.new) }
+    ensures err { IfErr result
+        (λ fault. (hooks : ℕ) → Fails (run hooks first (state_at script.old running) (lines_of lines.now))
+        (W.contents (inner_of output.old)) (W.contents (inner_of output.new)) fault) }
+    ensures counts { EndsAsCounted 0 0 (failed_of output.old) (failed_of output.new) result }
+    ensures flushes { flushes_of output.new ≡ flushes_of output.old }
+{
+    let mut rest = lines;
+    let mut number = first;
+    while !rest.is_empty() {
+        let (line, tail) = cut_line(rest);
+        rest = tail;
+        if let Err(fault) = run_line(alloc, number, line, script, text, output) {
+            return Err(fault);
+        }
+        number += 1;
+    }
+    Ok(())
+}
+
+/// Runs one line, and writes its notes and its answer. A skipped line has none.
+fn run_line<V: Say, W: Write>(
+    alloc: Global,
+    number: u64,
+    line: &[u8],
+    script: &mut Script<V>,
+    text: &mut Vec<u8>,
+    output: &mut Counted<W>,
+) -> Result<(), RunFault>
+    requires failed { failed_of output.old < 2 ^ 63 }
+    requires written { IsWritten script.old }
+    ensures turned { OnOk result
+        ((hooks : ℕ) → HasTurned (line_turn hooks (state_at script.old running) line.now) (state_at script.new running)
+        (W.contents (inner_of output.old)) (W.contents (inner_of output.new))) }
+    ensures written { OnOk result (IsWritten script.new) }
+    ensures err { IfErr result
+        (λ fault. (hooks : ℕ) → TurnFails (line_turn hooks (state_at script.old running) line.now) number
+        (W.contents (inner_of output.old)) (W.contents (inner_of output.new)) fault) }
+    ensures counts { EndsAsCounted 0 0 (failed_of output.old) (failed_of output.new) result }
+    ensures flushes { flushes_of output.new ≡ flushes_of output.old }
+{
+    if is_skipped(line) {
+        return Ok(());
+    }
+    match json_value(alloc, line) {
+        Ok(value) => run_value(alloc, number, &value, script, text, output),
+        Err(stop) => Err(at_line(number, stop)),
+    }
+}
+
+/// Runs the line of a JSON value, and writes its notes and its answer.
+fn run_value<V: Say, W: Write>(
+    alloc: Global,
+    number: u64,
+    line: &Value,
+    script: &mut Script<V>,
+    text: &mut Vec<u8>,
+    output: &mut Counted<W>,
+) -> Result<(), RunFault>
+    requires failed { failed_of output.old < 2 ^ 63 }
+    requires written { IsWritten script.old }
+    ensures turned { OnOk result
+        ((hooks : ℕ) → HasTurned (value_turn hooks (state_at script.old running) (view line.now))
+        (state_at script.new running)
+        (W.contents (inner_of output.old)) (W.contents (inner_of output.new))) }
+    ensures written { OnOk result (IsWritten script.new) }
+    ensures err { IfErr result
+        (λ fault. (hooks : ℕ) → TurnFails (value_turn hooks (state_at script.old running) (view line.now)) number
+        (W.contents (inner_of output.old)) (W.contents (inner_of output.new)) fault) }
+    ensures counts { EndsAsCounted 0 0 (failed_of output.old) (failed_of output.new) result }
+    ensures flushes { flushes_of output.new ≡ flushes_of output.old }
+{
+    match call(alloc, line, script, text) {
+        Ok(()) => write_text(output, text.as_slice()),
+        Err(stop) => Err(at_line(number, stop)),
+    }
+}
+
+/// Makes the call that a line asks for. The text is its notes and its answer.
+fn call<V: Say>(
+    alloc: Global,
+    line: &Value,
+    script: &mut Script<V>,
+    text: &mut Vec<u8>,
+) -> Result<(), Stop>
+    requires { IsWritten script.old }
+    ensures turned { OnOk result ((hooks : ℕ) → value_turn hooks (state_at script.old running) (view line.now)
+        ≡ Ok (record { text = text.new.items; state = state_at script.new running })) }
+    ensures written { OnOk result (IsWritten script.new) }
+    ensures err { IfErr result
+        (λ stop. (hooks : ℕ) → StopsFor (value_turn hooks (state_at script.old running) (view line.now)) stop) }
+{
+    text.clear();
+    let operation = match operation(
+        alloc,
+        line,
+        script.workers as usize,
+        span_script::Stage::Running,
+    ) {
+        Ok(operation) => operation,
+        Err(stop) => return Err(stop),
+    };
+    script.run(alloc, &operation, text)
+}

@@ -1,0 +1,126 @@
+//! The lines of a script before the first call.
+ghost use Rattle.std.specs.Prelude.{◌≡◌, ◌+◌, ◌^◌, ◌<◌, ◌≤◌, [], false, length, IfOk, IfErr, IfSome, IfNone, OnOk};
+ghost use Rattle.std.specs.Option.{option_map};
+ghost use Rattle.std.specs.Io.KnownBytes.{Keeps};
+ghost use Rattle.serde_json.specs.View.{view};
+ghost use Rattle.span_replay.specs.Counted.{inner_of, failed_of, flushes_of};
+ghost use Rattle.span_replay.specs.Meaning.{line_turn, run, value_turn};
+ghost use Rattle.span_script.specs.Operation.{is_setup};
+ghost use Rattle.span_replay.specs.Replayed.{Fails};
+ghost use Rattle.span_replay.specs.RunFault.{EndsAsCounted};
+ghost use Rattle.span_script.specs.Script.{lines_of, most_bytes};
+ghost use Rattle.span_replay.specs.inside.Setup.{hooks_in, setup_state};
+ghost use Rattle.span_replay.specs.inside.Turns.{HasTurned, Sent, TurnFails, resumed_run};
+
+use crate::devices::counted::Counted;
+use crate::devices::transfer::write_text;
+use crate::run::fault::{RunFault, at_line};
+use crate::run::setup::Setup;
+use serde_json::Value;
+use span_script::{cut_line, is_setup, is_skipped, json_value};
+use std::alloc::Global;
+use std::io::Write;
+
+/// What is left of a script after the lines before the first call.
+#[derive(Drop)]
+pub struct Rest<'s> {
+    /// The number of the first line that is left.
+    pub number: u64,
+    /// The JSON value of this line, which was read already.
+    pub value: Option<Value>,
+    /// The lines after it.
+    pub lines: &'s [u8],
+}
+
+/// Runs the lines up to the first one whose op is neither `limits` nor `layer`. Its value is handed on.
+pub fn open<'s, W: Write>(
+    alloc: Global,
+    script: &'s [u8],
+    setup: &mut Setup,
+    text: &mut Vec<u8>,
+    output: &mut Counted<W>,
+) -> Result<Rest<'s>, RunFault>
+    requires failed { failed_of output.old < 2 ^ 63 }
+    requires fits { length script.now ≤ most_bytes }
+    ensures sent { IfOk result (λ rest. Sent (W.contents (inner_of output.old)) (W.contents (inner_of output.new))
+        (run (hooks_in setup.old) 1 (setup_state setup.old) (lines_of script.now))
+        (resumed_run (hooks_in setup.old) rest.number (setup_state setup.new) (option_map view rest.value)
+        rest.lines.now)) }
+    ensures call { IfOk result (λ rest. IfSome rest.value (λ value. is_setup (view value) ≡ false)) }
+    ensures done { IfOk result (λ rest. IfNone rest.value (rest.lines.now ≡ [])) }
+    ensures place { IfOk result (λ rest. rest.number + length rest.lines.now ≤ most_bytes + 1) }
+    ensures err { IfErr result (Fails (run (hooks_in setup.old) 1 (setup_state setup.old) (lines_of script.now))
+        (W.contents (inner_of output.old)) (W.contents (inner_of output.new))) }
+    ensures counts { EndsAsCounted 0 0 (failed_of output.old) (failed_of output.new) result }
+    ensures flushes { flushes_of output.new ≡ flushes_of output.old }
+{
+    let mut lines = script;
+    let mut number = 1u64;
+    while !lines.is_empty() {
+        let (line, tail) = cut_line(lines);
+        match open_line(alloc, number, line, setup, text, output) {
+            Ok(None) => {}
+            Ok(Some(value)) => {
+                return Ok(Rest {
+                    number,
+                    value: Some(value),
+                    lines: tail,
+                });
+            }
+            Err(fault) => return Err(fault),
+        }
+        lines = tail;
+        number += 1;
+    }
+    Ok(Rest {
+        number,
+        value: None,
+        lines,
+    })
+}
+
+/// Runs a line, or answers its value where its op is neither `limits` nor `layer`.
+fn open_line<W: Write>(
+    alloc: Global,
+    number: u64,
+    line: &[u8],
+    setup: &mut Setup,
+    text: &mut Vec<u8>,
+    output: &mut Counted<W>,
+) -> Result<Option<Value>, RunFault>
+    requires { failed_of output.old < 2 ^ 63 }
+    ensures turned { IfOk result
+        (λ value. IfNone value (HasTurned (line_turn (hooks_in setup.old) (setup_state setup.old) line.now)
+        (setup_state setup.new)
+        (W.contents (inner_of output.old)) (W.contents (inner_of output.new)))) }
+    ensures same { IfOk result (λ value. IfSome value (λ value. setup_state setup.new ≡ setup_state setup.old)) }
+    ensures kept { IfOk result
+        (λ value. IfSome value (λ value. Keeps (W.contents (inner_of output.old)) (W.contents (inner_of output.new)))) }
+    ensures value { IfOk result
+        (λ value. IfSome value (λ value. line_turn (hooks_in setup.old) (setup_state setup.old) line.now
+        ≡ value_turn (hooks_in setup.old) (setup_state setup.old) (view value))) }
+    ensures call { IfOk result (λ value. IfSome value (λ value. is_setup (view value) ≡ false)) }
+    ensures hooks { OnOk result (hooks_in setup.new ≡ hooks_in setup.old) }
+    ensures err { IfErr result (TurnFails (line_turn (hooks_in setup.old) (setup_state setup.old) line.now) number
+        (W.contents (inner_of output.old)) (W.contents (inner_of output.new))) }
+    ensures counts { EndsAsCounted 0 0 (failed_of output.old) (failed_of output.new) result }
+    ensures flushes { flushes_of output.new ≡ flushes_of output.old }
+{
+    if is_skipped(line) {
+        return Ok(None);
+    }
+    let value = match json_value(alloc, line) {
+        Ok(value) => value,
+        Err(stop) => return Err(at_line(number, stop)),
+    };
+    if !is_setup(&value) {
+        return Ok(Some(value));
+    }
+    if let Err(stop) = setup.run(alloc, &value, text) {
+        return Err(at_line(number, stop));
+    }
+    match write_text(output, text.as_slice()) {
+        Ok(()) => Ok(None),
+        Err(fault) => Err(fault),
+    }
+}

@@ -1,0 +1,116 @@
+//! Running a whole script: reading it, its lines, the tidying and the last line, and writing out.
+ghost use Rattle.std.specs.Prelude.{◌≡◌, ◌+◌, ◌^◌, ◌<◌, ◌≤◌, IfOk, IfErr, IfSome, OnOk, length, vec_len};
+ghost use Rattle.std.specs.Io.KnownBytes.{IsAtEnd};
+ghost use Rattle.span_replay.specs.Counted.{inner_of, calls_of, failed_of, flushes_of, flushed_of};
+ghost use Rattle.span_replay.specs.Meaning.{run};
+ghost use Rattle.span_replay.specs.Replayed.{FlushesOnce, IsReplayed, IsWhole, KeepsUnread, Runs};
+ghost use Rattle.span_replay.specs.RunFault.{EndsAsCounted};
+ghost use Rattle.span_script.specs.Script.{lines_of, most_bytes};
+ghost use Rattle.span_replay.specs.State.{first_state};
+
+use crate::devices::counted::Counted;
+use crate::devices::transfer::{flush, read_script};
+use crate::run::fault::RunFault;
+use crate::run::lines::run_rest;
+use crate::run::opening::open;
+use crate::run::setup::Setup;
+use span_layers::Hooks;
+use span_outlet::Kept;
+use std::alloc::Global;
+use std::io::{Read, Write};
+
+/// Runs the script that the input holds, and writes what it answers.
+///
+/// The input is read to its end first. Each layer takes one of the hooks, in their order. Where the result is `Ok`,
+/// what was written is the notes and the answer of each line, those of the tidying, and then how many spans are left
+/// open, which is the result, and which is 0. After a fault of the script the text of the lines before it stands.
+/// After `Memory` and `Device` a front of the text went out, and nothing where it was the reader that failed. The
+/// output is flushed by one call, which is the last: where memory is refused or a device fails before it, there is
+/// none.
+pub fn replay<R: Read, W: Write>(
+    alloc: Global,
+    input: &mut Counted<R>,
+    output: &mut Counted<W>,
+    hooks: Vec<Hooks>,
+) -> Result<u64, RunFault>
+    requires calls { calls_of input.old < 2 ^ 63 }
+    requires reads_failed { failed_of input.old < 2 ^ 63 }
+    requires failed { failed_of output.old < 2 ^ 63 }
+    ensures replayed { IfSome (R.remaining (inner_of input.old)) (λ bytes.
+        IsReplayed (vec_len hooks) bytes
+        (W.contents (inner_of output.old)) (W.contents (inner_of output.new)) result) }
+    ensures whole { OnOk result (IsAtEnd (R.remaining (inner_of input.new))) }
+    ensures unread { IfErr result (KeepsUnread (W.contents (inner_of output.old)) (W.contents (inner_of output.new))) }
+    ensures flushed { FlushesOnce
+        (IsWhole (vec_len hooks) (R.remaining (inner_of input.old))
+        (W.contents (inner_of output.old)) (W.contents (inner_of output.new)))
+        (flushes_of output.old) (flushes_of output.new) (flushed_of output.new) result }
+    ensures left { IfSome (R.remaining (inner_of input.old)) (λ bytes. IfOk result (λ left. left ≡ 0)) }
+    ensures counts { EndsAsCounted
+        (failed_of input.old) (failed_of input.new) (failed_of output.old) (failed_of output.new) result }
+    ensures reads { calls_of input.new ≤ calls_of input.old + 16777217 }
+{
+    match perform(alloc, input, output, hooks) {
+        Ok(left) => match flush(output) {
+            Ok(()) => Ok(left),
+            Err(fault) => Err(fault),
+        },
+        Err(RunFault::Script(number, reason)) => match flush(output) {
+            Ok(()) => Err(RunFault::Script(number, reason)),
+            Err(fault) => Err(fault),
+        },
+        Err(RunFault::Memory) => Err(RunFault::Memory),
+        Err(RunFault::Device(side)) => Err(RunFault::Device(side)),
+    }
+}
+
+/// Reads a script to its end and runs it.
+fn perform<R: Read, W: Write>(
+    alloc: Global,
+    input: &mut Counted<R>,
+    output: &mut Counted<W>,
+    hooks: Vec<Hooks>,
+) -> Result<u64, RunFault>
+    requires calls { calls_of input.old < 2 ^ 63 }
+    requires reads_failed { failed_of input.old < 2 ^ 63 }
+    requires failed { failed_of output.old < 2 ^ 63 }
+    ensures replayed { IfSome (R.remaining (inner_of input.old)) (λ bytes.
+        IsReplayed (vec_len hooks) bytes
+        (W.contents (inner_of output.old)) (W.contents (inner_of output.new)) result) }
+    ensures whole { OnOk result (IsAtEnd (R.remaining (inner_of input.new))) }
+    ensures unread { IfErr result (KeepsUnread (W.contents (inner_of output.old)) (W.contents (inner_of output.new))) }
+    ensures counts { EndsAsCounted
+        (failed_of input.old) (failed_of input.new) (failed_of output.old) (failed_of output.new) result }
+    ensures flushes { flushes_of output.new ≡ flushes_of output.old }
+    ensures reads { calls_of input.new ≤ calls_of input.old + 16777217 }
+{
+    match read_script(alloc, input) {
+        Ok(script) => run_script(alloc, &script, output, hooks),
+        Err(fault) => Err(fault),
+    }
+}
+
+/// Runs a script that was read.
+fn run_script<W: Write>(
+    alloc: Global,
+    script: &[u8],
+    output: &mut Counted<W>,
+    hooks: Vec<Hooks>,
+) -> Result<u64, RunFault>
+    requires failed { failed_of output.old < 2 ^ 63 }
+    requires fits { length script.now ≤ most_bytes }
+    ensures runs { Runs (run (vec_len hooks) 1 first_state (lines_of script.now))
+        (W.contents (inner_of output.old)) (W.contents (inner_of output.new)) result }
+    ensures counts { EndsAsCounted 0 0 (failed_of output.old) (failed_of output.new) result }
+    ensures flushes { flushes_of output.new ≡ flushes_of output.old }
+{
+    let mut setup = Setup::new(alloc, hooks);
+    let mut text = Vec::new(alloc);
+    let rest = match open(alloc, script, &mut setup, &mut text, output) {
+        Ok(rest) => rest,
+        Err(fault) => return Err(fault),
+    };
+    let (checked, filters, tellers) = setup.split();
+    let kept = Kept::new(alloc, tellers);
+    run_rest(alloc, &checked, filters, kept, &rest, &mut text, output)
+}

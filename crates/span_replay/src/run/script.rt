@@ -1,0 +1,392 @@
+//! A script as far as its calls have run: the registry, the labels, and how many lines of notes were written.
+ghost use Rattle.std.specs.Prelude.{◌≡◌, ◌<◌, ◌≤◌, ◌++◌, [], None, ℕ, IfOk, IfErr, OnOk, length, flat_map, drop, map, reverse, string_bytes};
+ghost use Rattle.span_core.specs.Happening.{id_at};
+ghost use Rattle.span_outlet.specs.Lines.{lines_of};
+ghost use Rattle.span_replay.specs.Faults.{id_of_key};
+ghost use Rattle.span_replay.specs.Meaning.{labels_after};
+ghost use Rattle.span_script.specs.Reason.{Answers};
+ghost use Rattle.span_script.specs.Views.{key_seen};
+ghost use Rattle.span_replay.specs.Written.{note_line};
+
+use crate::run::answer::{Answer, Found, write_answer, write_found, write_note};
+use crate::run::calls;
+use crate::run::labels::Labels;
+use span_core::Core;
+use span_forest::Span;
+use span_id::{Checked, Fault, Field, Id};
+use span_layers::{Filters, Say};
+use span_outlet::Kept;
+use span_script::{NewEvent, NewSpan, Operation, Parent, Reason, SpanCall, SpanKey, Stop};
+use span_stack::SpanStack;
+use std::alloc::{AllocError, Global};
+
+/// A script as far as its calls have run.
+#[derive(Drop)]
+pub struct Script<V: Say> {
+    /// The registry. Its outlet makes the lines of the notes.
+    core: Core<Kept<V>>,
+    /// The labels that are bound.
+    pub labels: Labels,
+    // How many of the outlet's lines were written.
+    written: usize,
+    /// How many workers there are.
+    pub workers: u32,
+}
+
+impl<V: Say> Script<V> {
+    ghost use Rattle.span_forest.specs.declared.span.Holder.TheVariants.{Handle};
+    ghost use Rattle.span_forest.specs.Holders.{held_in};
+    ghost use Rattle.span_forest.specs.Spans.{find};
+    ghost use Rattle.span_stack.specs.Stack.{current};
+    ghost use Rattle.span_core.specs.World.{stack_of, empty_world};
+    ghost use Rattle.span_replay.specs.Answer.{answer_text};
+    ghost use Rattle.span_replay.specs.Faults.{is_taken, parent_of_key};
+    ghost use Rattle.span_replay.specs.Meaning.{turn_of};
+    ghost use Rattle.span_replay.specs.Requests.{request_of_call};
+    ghost use Rattle.span_script.specs.Operation.{Stage, make, on_span, record_fields, tell, find as look_up};
+    ghost use Rattle.span_replay.specs.inside.Running.{core_in, labels_in, state_at, IsWritten, RunsAs, IsWrittenCall};
+    ghost use Rattle.span_id.specs.Meta.{key_value};
+    ghost use Rattle.span_script.specs.Views.{parent_seen, new_seen, event_seen, operation_seen, NamesWorker, IsCall};
+
+    /// A script of which no call has run.
+    ///
+    /// The only error is `Memory`; the filters and the outlet are dropped then.
+    pub fn new(
+        alloc: Global,
+        checked: &Checked,
+        filters: Filters,
+        kept: Kept<V>,
+    ) -> Result<Script<V>, Fault>
+        requires { kept.sent ≡ [] }
+        ensures core { IfOk result (λ script. core_in script ≡ record {
+          limits = checked.now;
+          rules = filters.rules;
+          world = empty_world checked.now.workers;
+          sent = [];
+          times_full = 0;
+          forms = kept.forms;
+          name = None;
+        }) }
+        ensures labels { IfOk result (λ script. labels_in script ≡ []) }
+        ensures written { IfOk result (λ script. IsWritten script) }
+        ensures memory { IfErr result (λ fault. fault ≡ Fault.Memory) }
+    {
+        let core = Core::new(alloc, checked, filters, kept)?;
+        Ok(Script {
+            core,
+            labels: Labels::new(alloc),
+            written: 0,
+            workers: checked.limits().workers,
+        })
+    }
+
+    /// Runs a call or `find`, and appends its notes and its answer to the text.
+    ///
+    /// `Refused` where the script is at fault: then nothing has changed. `Memory` where memory was refused, also for
+    /// the text of a note: then the run has to end.
+    pub fn run(
+        &mut self,
+        alloc: Global,
+        operation: &Operation<'_>,
+        text: &mut Vec<u8>,
+    ) -> Result<(), Stop>
+        requires call { IsCall operation.now }
+        requires worker { NamesWorker operation.now self.old.workers }
+        requires written { IsWritten self.old }
+        ensures turn { (hooks : ℕ) (stage : Stage) →
+            RunsAs (turn_of hooks (state_at self.old stage) (operation_seen operation.now)) (state_at self.old stage)
+            text.old.items (state_at self.new stage) text.new.items result }
+        ensures written { OnOk result (IsWritten self.new) }
+        ensures workers { self.new.workers ≡ self.old.workers }
+    {
+        match operation {
+            Operation::New(new) => self.make(alloc, new, text),
+            Operation::OnSpan { call, span, worker } => self.on_span(*call, span, *worker, text),
+            Operation::Record {
+                span,
+                fields,
+                worker,
+            } => self.record(span, fields, *worker, text),
+            Operation::Event(event) => self.tell(event, text),
+            Operation::Find(span) => self.find(span, text),
+            Operation::Limits(_) => unreachable!(),
+            Operation::Layer(_) => unreachable!(),
+        }
+    }
+
+    /// A worker's call on a span. Its notes and its answer are appended to the text.
+    ///
+    /// The only error is `Memory`: then the run has to end.
+    pub fn call(
+        &mut self,
+        call: SpanCall,
+        worker: u32,
+        id: Id,
+        text: &mut Vec<u8>,
+    ) -> Result<(), Stop>
+        requires worker { worker < self.old.workers }
+        requires written { IsWritten self.old }
+        ensures call { OnOk result (IsWrittenCall (core_in self.old) text.old.items
+            (request_of_call call worker id) (core_in self.new) text.new.items) }
+        ensures written { OnOk result (IsWritten self.new) }
+        ensures workers { self.new.workers ≡ self.old.workers }
+        ensures labels { labels_in self.new ≡ labels_in self.old }
+        ensures memory { IfErr result (λ stop. stop ≡ Stop.Memory) }
+    {
+        let answer = calls::call(&mut self.core, call, worker, id)?;
+        self.answer(answer, text)
+    }
+
+    /// The ids of the worker's entries, the topmost first. The only error is `Memory`.
+    pub fn entered(&self, alloc: Global, worker: u32) -> Result<Vec<Id>, Stop>
+        requires worker { worker < self.now.workers }
+        requires written { IsWritten self.now }
+        ensures ids { IfOk result (λ ids. ids.items ≡ reverse (stack_of (core_in self.now).world worker)) }
+        ensures memory { IfErr result (λ stop. stop ≡ Stop.Memory) }
+    {
+        topmost_first(alloc, self.core.stack(worker))
+    }
+
+    /// How many handles the span has: none where it isn't open.
+    pub fn handles(&self, id: Id) -> u32
+        ensures { result ≡ held_in Handle (find (core_in self.now).world.spans id) }
+    {
+        match self.core.find(id) {
+            Some(span) => span.handles,
+            None => 0,
+        }
+    }
+
+    /// How many spans are open.
+    pub fn open_spans(&self) -> u32
+        ensures { result ≡ length (core_in self.now).world.spans }
+    {
+        self.core.len()
+    }
+
+    // Makes a span and binds its label, which may name no span that has handles.
+    fn make(&mut self, alloc: Global, new: &NewSpan<'_>, text: &mut Vec<u8>) -> Result<(), Stop>
+        requires worker { new.now.worker < self.old.workers }
+        requires written { IsWritten self.old }
+        ensures turn { (hooks : ℕ) (stage : Stage) →
+            RunsAs (turn_of hooks (state_at self.old stage) (make (new_seen new.now))) (state_at self.old stage)
+            text.old.items (state_at self.new stage) text.new.items result }
+        ensures written { OnOk result (IsWritten self.new) }
+        ensures workers { self.new.workers ≡ self.old.workers }
+    {
+        let worker = worker_number(new.worker, self.workers);
+        let parent = self.parent(worker, &new.parent)?;
+        if self.is_taken(new.label) {
+            return Err(Stop::Refused(Reason::LabelTaken));
+        }
+        let answer = calls::new_span(&mut self.core, new, worker, parent)?;
+        self.give_label(alloc, new.label, &answer)?;
+        self.answer(answer, text)
+    }
+
+    // Makes a worker's call on a span.
+    fn on_span(
+        &mut self,
+        call: SpanCall,
+        span: &SpanKey<'_>,
+        worker: usize,
+        text: &mut Vec<u8>,
+    ) -> Result<(), Stop>
+        requires worker { worker < self.old.workers }
+        requires written { IsWritten self.old }
+        ensures turn { (hooks : ℕ) (stage : Stage) →
+            RunsAs (turn_of hooks (state_at self.old stage) (on_span call (key_seen span.now) worker))
+            (state_at self.old stage) text.old.items (state_at self.new stage) text.new.items result }
+        ensures written { OnOk result (IsWritten self.new) }
+        ensures workers { self.new.workers ≡ self.old.workers }
+    {
+        let id = id_of(&self.labels, span)?;
+        let worker = worker_number(worker, self.workers);
+        let answer = calls::call(&mut self.core, call, worker, id)?;
+        self.answer(answer, text)
+    }
+
+    // Adds fields to a span.
+    fn record(
+        &mut self,
+        span: &SpanKey<'_>,
+        fields: &[Field],
+        worker: usize,
+        text: &mut Vec<u8>,
+    ) -> Result<(), Stop>
+        requires worker { worker < self.old.workers }
+        requires written { IsWritten self.old }
+        ensures turn { (hooks : ℕ) (stage : Stage) →
+            RunsAs (turn_of hooks (state_at self.old stage)
+            (record_fields (key_seen span.now) (map key_value fields.now) worker)) (state_at self.old stage)
+            text.old.items (state_at self.new stage) text.new.items result }
+        ensures written { OnOk result (IsWritten self.new) }
+        ensures workers { self.new.workers ≡ self.old.workers }
+    {
+        let id = id_of(&self.labels, span)?;
+        let worker = worker_number(worker, self.workers);
+        let answer = calls::record(&mut self.core, worker, id, fields)?;
+        self.answer(answer, text)
+    }
+
+    // Tells an event.
+    fn tell(&mut self, event: &NewEvent<'_>, text: &mut Vec<u8>) -> Result<(), Stop>
+        requires worker { event.now.worker < self.old.workers }
+        requires written { IsWritten self.old }
+        ensures turn { (hooks : ℕ) (stage : Stage) →
+            RunsAs (turn_of hooks (state_at self.old stage) (tell (event_seen event.now))) (state_at self.old stage)
+            text.old.items (state_at self.new stage) text.new.items result }
+        ensures written { OnOk result (IsWritten self.new) }
+        ensures workers { self.new.workers ≡ self.old.workers }
+    {
+        let worker = worker_number(event.worker, self.workers);
+        let answer = calls::event(&mut self.core, event, worker)?;
+        self.answer(answer, text)
+    }
+
+    // Looks a span up.
+    fn find(&self, span: &SpanKey<'_>, text: &mut Vec<u8>) -> Result<(), Stop>
+        ensures turn { (hooks : ℕ) (stage : Stage) →
+            RunsAs (turn_of hooks (state_at self.now stage) (look_up (key_seen span.now))) (state_at self.now stage)
+            text.old.items (state_at self.now stage) text.new.items result }
+    {
+        let id = id_of(&self.labels, span)?;
+        match self.core.find(id) {
+            Some(span) => Ok(write_found(text, &found(span))?),
+            None => Ok(write_answer(text, Answer::Refused(Fault::Unknown))?),
+        }
+    }
+
+    // Binds the label of a span, where it was made.
+    fn give_label(&mut self, alloc: Global, label: &str, answer: &Answer) -> Result<(), AllocError>
+        ensures labels { OnOk result (labels_in self.new ≡ labels_after (labels_in self.old) label.now answer.now) }
+        ensures core { core_in self.new ≡ core_in self.old }
+        ensures written { self.new.written ≡ self.old.written }
+        ensures workers { self.new.workers ≡ self.old.workers }
+    {
+        match answer {
+            Answer::Made(id) => self.labels.bind(alloc, label, *id),
+            _ => Ok(()),
+        }
+    }
+
+    // The parent that is meant for a new span of this worker.
+    fn parent(&self, worker: u32, parent: &Parent<'_>) -> Result<Option<Id>, Reason>
+        requires worker { worker < self.now.workers }
+        requires written { IsWritten self.now }
+        ensures { Answers (λ id. id) result
+            (parent_of_key (labels_in self.now) (current (stack_of (core_in self.now).world worker))
+            (parent_seen parent.now)) }
+    {
+        match parent {
+            Parent::Current => Ok(self.core.stack(worker).current()),
+            Parent::Root => Ok(None),
+            Parent::Named(key) => match id_of(&self.labels, key) {
+                Ok(id) => Ok(Some(id)),
+                Err(reason) => Err(reason),
+            },
+        }
+    }
+
+    // Whether the label's span is open and has handles.
+    fn is_taken(&self, label: &str) -> bool
+        ensures { result ≡ is_taken (core_in self.now).world.spans (labels_in self.now) label.now }
+    {
+        match self.labels.get(label) {
+            Some(id) => self.handles(id) > 0,
+            None => false,
+        }
+    }
+
+    // Writes the notes that are new, and then the answer of the call that made them. The only error is `Memory`.
+    fn answer(&mut self, answer: Answer, text: &mut Vec<u8>) -> Result<(), Stop>
+        requires { self.old.written ≤ length (lines_of (core_in self.old).forms (core_in self.old).sent) }
+        ensures text { OnOk result (text.new.items ≡ text.old.items
+            ++ (flat_map note_line (drop self.old.written (lines_of (core_in self.old).forms (core_in self.old).sent))
+            ++ answer_text answer)) }
+        ensures written { OnOk result
+            (self.new.written ≡ length (lines_of (core_in self.old).forms (core_in self.old).sent)) }
+        ensures core { core_in self.new ≡ core_in self.old }
+        ensures labels { labels_in self.new ≡ labels_in self.old }
+        ensures workers { self.new.workers ≡ self.old.workers }
+        ensures memory { IfErr result (λ stop. stop ≡ Stop.Memory) }
+    {
+        let written = write_notes(self.core.outlet(), self.written, text)?;
+        self.written = written;
+        Ok(write_answer(text, answer)?)
+    }
+}
+
+// The number of a worker, of which there are so many.
+fn worker_number(worker: usize, workers: u32) -> u32
+    requires { worker < workers }
+    ensures { result ≡ worker }
+{
+    worker as u32
+}
+
+// Writes the lines of the outlet from this number on, and answers how many it has. The only error is `Memory`, also
+// where the outlet had none.
+fn write_notes<V: Say>(kept: &Kept<V>, from: usize, text: &mut Vec<u8>) -> Result<usize, Stop>
+    requires { from ≤ length (lines_of kept.now.forms kept.now.sent) }
+    ensures text { OnOk result
+        (text.new.items ≡ text.old.items ++ flat_map note_line (drop from (lines_of kept.now.forms kept.now.sent))) }
+    ensures written { IfOk result (λ written. written ≡ length (lines_of kept.now.forms kept.now.sent)) }
+    ensures memory { IfErr result (λ stop. stop ≡ Stop.Memory) }
+{
+    if kept.refused() > 0 {
+        return Err(Stop::Memory);
+    }
+    let lines = kept.all();
+    for line in &lines[from..] {
+        write_note(text, line)?;
+    }
+    Ok(lines.len())
+}
+
+// What is told of a span that was looked up.
+fn found(span: &Span) -> Found<'_>
+    ensures name { result.name.now ≡ string_bytes span.now.meta.name }
+    ensures parent { result.parent ≡ id_at span.now.parent }
+    ensures handles { result.handles ≡ span.now.handles }
+    ensures entries { result.entries ≡ span.now.entries }
+    ensures count { result.count ≡ span.now.count }
+{
+    Found {
+        name: &span.meta.name,
+        parent: span.parent.map_or(0, Id::get),
+        handles: span.handles,
+        entries: span.entries,
+        count: span.count,
+    }
+}
+
+// The id of the span that a line names.
+fn id_of(labels: &Labels, key: &SpanKey<'_>) -> Result<Id, Reason>
+    ensures { Answers (λ id. id) result (id_of_key labels.now (key_seen key.now)) }
+{
+    match key {
+        SpanKey::Label(label) => match labels.get(label) {
+            Some(id) => Ok(id),
+            None => Err(Reason::NoSuchLabel),
+        },
+        SpanKey::Id(id) => Ok(*id),
+    }
+}
+
+// The ids of a stack's entries, the topmost first. The only error is `Memory`.
+fn topmost_first(alloc: Global, stack: &SpanStack) -> Result<Vec<Id>, Stop>
+    ensures ids { IfOk result (λ ids. ids.items ≡ reverse stack.now.ids) }
+    ensures memory { IfErr result (λ stop. stop ≡ Stop.Memory) }
+{
+    let mut ids = Vec::new(alloc);
+    let mut below = stack.len();
+    while below > 0 {
+        below -= 1;
+        let Some(id) = stack.get(below) else {
+            unreachable!()
+        };
+        ids.push(id)?;
+    }
+    Ok(ids)
+}

@@ -1,0 +1,134 @@
+//! The lines before the first call: the limits and the layers.
+ghost use Rattle.std.specs.Prelude.{◌≡◌, ◌+◌, true, length, vec_len, IfOk, IfErr, OnOk, Ok};
+ghost use Rattle.serde_json.specs.View.{view};
+ghost use Rattle.span_layers.specs.Layers.{filters_in};
+ghost use Rattle.span_replay.specs.Answer.{answer_text};
+ghost use Rattle.span_replay.specs.Meaning.{limits_turn, layer_turn, turn_of, value_turn};
+ghost use Rattle.span_script.specs.Operation.{is_setup};
+ghost use Rattle.span_script.specs.Reason.{StopsFor};
+ghost use Rattle.span_replay.specs.State.{first_state};
+ghost use Rattle.span_replay.specs.inside.Turns.{SetsUp};
+ghost use Rattle.span_script.specs.Views.{layer_seen, operation_seen};
+
+use crate::run::answer::{Answer, write_answer};
+use serde_json::Value;
+use span_id::{Checked, Fault, Limits};
+use span_layers::{Filters, Hooks, Layer, Layers, MAX_LAYERS, Tellers};
+use span_script::{NewLayer, Operation, Stage, Stop, operation};
+use std::alloc::Global;
+
+/// The limits that stand, the layers that were added, and the hooks for further layers, the next ones last.
+#[derive(Drop)]
+pub struct Setup {
+    checked: Checked,
+    layers: Layers,
+    added: usize,
+    hooks: Vec<Hooks>,
+    stage: Stage,
+    ghost numbered: { added ≡ length (filters_in layers) },
+}
+
+impl Setup {
+    ghost use Rattle.span_replay.specs.inside.Setup.{setup_state, hooks_in};
+
+    /// The limits of a script that gives none, and no layers. Each layer takes one of the hooks, in their order.
+    pub fn new(alloc: Global, mut hooks: Vec<Hooks>) -> Setup
+        ensures state { setup_state result ≡ first_state }
+        ensures hooks { hooks_in result ≡ vec_len hooks }
+    {
+        let Ok(checked) = Limits::default().check() else {
+            unreachable!()
+        };
+        hooks.reverse();
+        Setup {
+            checked,
+            layers: Layers::new(alloc),
+            added: 0,
+            hooks,
+            stage: Stage::AtStart,
+        }
+    }
+
+    /// Runs a line of `limits` or `layer`. The text is its answer.
+    pub fn run(&mut self, alloc: Global, line: &Value, text: &mut Vec<u8>) -> Result<(), Stop>
+        requires { is_setup (view line.now) ≡ true }
+        ensures ok { OnOk result (value_turn (hooks_in self.old) (setup_state self.old) (view line.now)
+            ≡ Ok (record { text = text.new.items; state = setup_state self.new })) }
+        ensures err { IfErr result (StopsFor (value_turn (hooks_in self.old) (setup_state self.old) (view line.now))) }
+        ensures hooks { OnOk result (hooks_in self.new ≡ hooks_in self.old) }
+    {
+        let workers = self.checked.limits().workers as usize;
+        let operation = match operation(alloc, line, workers, self.stage) {
+            Ok(operation) => operation,
+            Err(stop) => return Err(stop),
+        };
+        let answer = self.obey(operation)?;
+        self.stage = Stage::InSetup;
+        text.clear();
+        Ok(write_answer(text, answer)?)
+    }
+
+    /// Runs `limits` or `layer`.
+    fn obey(&mut self, operation: Operation<'_>) -> Result<Answer, Stop>
+        requires { SetsUp (operation_seen operation) }
+        ensures ok { IfOk result (λ answer. turn_of (hooks_in self.old) (setup_state self.old)
+            (operation_seen operation.entry)
+            ≡ Ok (record { text = answer_text answer; state = setup_state self.new })) }
+        ensures memory { IfErr result (λ stop. stop ≡ Stop.Memory) }
+        ensures hooks { OnOk result (hooks_in self.new ≡ hooks_in self.old) }
+    {
+        match operation {
+            Operation::Limits(limits) => Ok(self.set_limits(limits)),
+            Operation::Layer(layer) => self.add_layer(layer),
+            _ => unreachable!(),
+        }
+    }
+
+    /// Takes these limits, where they are in their ranges.
+    fn set_limits(&mut self, limits: Limits) -> Answer
+        ensures state { limits_turn (setup_state self.old) limits
+            ≡ record { text = answer_text result; state = setup_state self.new } }
+        ensures hooks { hooks_in self.new ≡ hooks_in self.old }
+    {
+        match limits.check() {
+            Ok(checked) => {
+                self.checked = checked;
+                Answer::Limits
+            }
+            Err(fault) => Answer::Refused(fault),
+        }
+    }
+
+    /// Adds a layer with the next hooks, where there are some left and the layers are fewer than 64.
+    fn add_layer(&mut self, layer: NewLayer) -> Result<Answer, Stop>
+        ensures ok { IfOk result (λ answer. layer_turn (hooks_in self.old) (setup_state self.old) (layer_seen layer)
+            ≡ record { text = answer_text answer; state = setup_state self.new }) }
+        ensures memory { IfErr result (λ stop. stop ≡ Stop.Memory) }
+        ensures hooks { OnOk result (hooks_in self.new ≡ hooks_in self.old) }
+    {
+        if self.added >= MAX_LAYERS {
+            return Ok(Answer::Refused(Fault::TooManyLayers));
+        }
+        let Some(hooks) = self.hooks.pop() else {
+            return Ok(Answer::Refused(Fault::TooManyLayers));
+        };
+        let NewLayer { style, rule } = layer;
+        match self.layers.add(Layer { style, rule, hooks }) {
+            Ok(number) => {
+                self.added += 1;
+                Ok(Answer::Layer(number))
+            }
+            Err(_) => Err(Stop::Memory),
+        }
+    }
+
+    /// The limits, and what the layers admit, want and write.
+    pub fn split(self) -> (Checked, Filters, Tellers)
+        ensures limits { result.0 ≡ (setup_state self).core.limits }
+        ensures rules { result.1.rules ≡ (setup_state self).core.rules }
+        ensures forms { result.2.forms ≡ (setup_state self).core.forms }
+    {
+        let (filters, tellers) = self.layers.split();
+        (self.checked, filters, tellers)
+    }
+}

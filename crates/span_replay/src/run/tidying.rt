@@ -1,0 +1,199 @@
+//! The tidying at the end of a script, and the last line.
+ghost use Rattle.std.specs.Prelude.{◌≡◌, ◌^◌, ◌<◌, ℕ, map, IfOk, IfErr, OnOk};
+ghost use Rattle.std.specs.List.{range_with_len};
+ghost use Rattle.std.specs.Io.KnownBytes.{Appends};
+ghost use Rattle.span_replay.specs.Answer.{left_text};
+ghost use Rattle.span_replay.specs.Counted.{inner_of, failed_of, flushes_of};
+ghost use Rattle.span_replay.specs.Meaning.{last_part};
+ghost use Rattle.span_script.specs.Operation.{Stage};
+ghost use Rattle.span_replay.specs.Replayed.{Runs};
+ghost use Rattle.span_replay.specs.Requests.{request_of_call};
+ghost use Rattle.span_replay.specs.RunFault.{EndsAsCounted};
+ghost use Rattle.span_replay.specs.inside.Running.{IsWritten, core_in, labels_in, state_at};
+ghost use Rattle.span_replay.specs.inside.Turns.{TextFails, AreMade};
+ghost use Rattle.span_replay.specs.Written.{call_written, calls_written, closes, each_written, exits};
+ghost use Rattle.span_replay.specs.declared.run.fault.RunFault.TheVariants.{Memory};
+
+use crate::devices::counted::Counted;
+use crate::devices::transfer::write_text;
+use crate::run::answer::write_left;
+use crate::run::fault::RunFault;
+use crate::run::labels::Labels;
+use crate::run::script::Script;
+use span_id::Id;
+use span_layers::Say;
+use span_script::SpanCall;
+use std::alloc::Global;
+use std::io::Write;
+use std::mem;
+
+/// Leaves what is entered, worker by worker, closes what the labels name, label by label, and writes how many spans
+/// are left open, which is the answer.
+pub fn tidy<V: Say, W: Write>(
+    alloc: Global,
+    mut script: Script<V>,
+    text: &mut Vec<u8>,
+    output: &mut Counted<W>,
+) -> Result<u64, RunFault>
+    requires failed { failed_of output.old < 2 ^ 63 }
+    requires written { IsWritten script }
+    ensures runs { (stage : Stage) → Runs (last_part (state_at script stage))
+        (W.contents (inner_of output.old)) (W.contents (inner_of output.new)) result }
+    ensures counts { EndsAsCounted 0 0 (failed_of output.old) (failed_of output.new) result }
+    ensures flushes { flushes_of output.new ≡ flushes_of output.old }
+{
+    if let Err(fault) = leave_all(alloc, &mut script, text, output) {
+        return Err(fault);
+    }
+    let labels = mem::replace(&mut script.labels, Labels::new(alloc));
+    if let Err(fault) = close_all(alloc, &mut script, &labels, text, output) {
+        return Err(fault);
+    }
+    finish(script.open_spans(), text, output)
+}
+
+/// Leaves what the workers have entered, worker by worker, the last entry first.
+fn leave_all<V: Say, W: Write>(
+    alloc: Global,
+    script: &mut Script<V>,
+    text: &mut Vec<u8>,
+    output: &mut Counted<W>,
+) -> Result<(), RunFault>
+    requires failed { failed_of output.old < 2 ^ 63 }
+    requires written { IsWritten script.old }
+    ensures made { OnOk result (AreMade
+        (each_written exits (core_in script.old) (range_with_len 0 script.old.workers))
+        (core_in script.new) (W.contents (inner_of output.old)) (W.contents (inner_of output.new))) }
+    ensures written { OnOk result (IsWritten script.new) }
+    ensures labels { labels_in script.new ≡ labels_in script.old }
+    ensures workers { script.new.workers ≡ script.old.workers }
+    ensures err { IfErr result (TextFails
+        (each_written exits (core_in script.old) (range_with_len 0 script.old.workers)).text
+        (W.contents (inner_of output.old)) (W.contents (inner_of output.new))) }
+    ensures counts { EndsAsCounted 0 0 (failed_of output.old) (failed_of output.new) result }
+    ensures flushes { flushes_of output.new ≡ flushes_of output.old }
+{
+    for worker in 0..script.workers {
+        let Ok(ids) = script.entered(alloc, worker) else {
+            return Err(RunFault::Memory);
+        };
+        if let Err(fault) = call_all(SpanCall::Exit, worker, &ids, script, text, output) {
+            return Err(fault);
+        }
+    }
+    Ok(())
+}
+
+/// Closes what the labels name, label by label, as often as it has handles.
+fn close_all<V: Say, W: Write>(
+    alloc: Global,
+    script: &mut Script<V>,
+    labels: &Labels,
+    text: &mut Vec<u8>,
+    output: &mut Counted<W>,
+) -> Result<(), RunFault>
+    requires worker { 0 < script.old.workers }
+    requires failed { failed_of output.old < 2 ^ 63 }
+    requires written { IsWritten script.old }
+    ensures made { OnOk result (AreMade
+        (each_written closes (core_in script.old) (map (λ entry. entry.1) labels.now))
+        (core_in script.new) (W.contents (inner_of output.old)) (W.contents (inner_of output.new))) }
+    ensures err { IfErr result (TextFails
+        (each_written closes (core_in script.old) (map (λ entry. entry.1) labels.now)).text
+        (W.contents (inner_of output.old)) (W.contents (inner_of output.new))) }
+    ensures counts { EndsAsCounted 0 0 (failed_of output.old) (failed_of output.new) result }
+    ensures flushes { flushes_of output.new ≡ flushes_of output.old }
+{
+    for id in labels.ids() {
+        let Ok(ids) = vec![in alloc; *id; script.handles(*id) as usize] else {
+            return Err(RunFault::Memory);
+        };
+        if let Err(fault) = call_all(SpanCall::Close, 0, &ids, script, text, output) {
+            return Err(fault);
+        }
+    }
+    Ok(())
+}
+
+/// Makes a worker's call on these spans, one after another.
+fn call_all<V: Say, W: Write>(
+    call: SpanCall,
+    worker: u32,
+    ids: &[Id],
+    script: &mut Script<V>,
+    text: &mut Vec<u8>,
+    output: &mut Counted<W>,
+) -> Result<(), RunFault>
+    requires worker { worker < script.old.workers }
+    requires failed { failed_of output.old < 2 ^ 63 }
+    requires written { IsWritten script.old }
+    ensures made { OnOk result (AreMade
+        (calls_written (core_in script.old) (map (request_of_call call worker) ids.now))
+        (core_in script.new) (W.contents (inner_of output.old)) (W.contents (inner_of output.new))) }
+    ensures written { OnOk result (IsWritten script.new) }
+    ensures labels { labels_in script.new ≡ labels_in script.old }
+    ensures workers { script.new.workers ≡ script.old.workers }
+    ensures err { IfErr result (TextFails
+        (calls_written (core_in script.old) (map (request_of_call call worker) ids.now)).text
+        (W.contents (inner_of output.old)) (W.contents (inner_of output.new))) }
+    ensures counts { EndsAsCounted 0 0 (failed_of output.old) (failed_of output.new) result }
+    ensures flushes { flushes_of output.new ≡ flushes_of output.old }
+{
+    for id in ids {
+        if let Err(fault) = call_one(call, worker, *id, script, text, output) {
+            return Err(fault);
+        }
+    }
+    Ok(())
+}
+
+/// Makes a worker's call on a span, and writes its notes and its answer.
+fn call_one<V: Say, W: Write>(
+    call: SpanCall,
+    worker: u32,
+    id: Id,
+    script: &mut Script<V>,
+    text: &mut Vec<u8>,
+    output: &mut Counted<W>,
+) -> Result<(), RunFault>
+    requires worker { worker < script.old.workers }
+    requires failed { failed_of output.old < 2 ^ 63 }
+    requires written { IsWritten script.old }
+    ensures made { OnOk result (AreMade
+        (call_written (core_in script.old) (request_of_call call worker id))
+        (core_in script.new) (W.contents (inner_of output.old)) (W.contents (inner_of output.new))) }
+    ensures written { OnOk result (IsWritten script.new) }
+    ensures labels { labels_in script.new ≡ labels_in script.old }
+    ensures workers { script.new.workers ≡ script.old.workers }
+    ensures err { IfErr result (TextFails
+        (call_written (core_in script.old) (request_of_call call worker id)).text
+        (W.contents (inner_of output.old)) (W.contents (inner_of output.new))) }
+    ensures counts { EndsAsCounted 0 0 (failed_of output.old) (failed_of output.new) result }
+    ensures flushes { flushes_of output.new ≡ flushes_of output.old }
+{
+    text.clear();
+    match script.call(call, worker, id, text) {
+        Ok(()) => write_text(output, text.as_slice()),
+        Err(_) => Err(RunFault::Memory),
+    }
+}
+
+/// Writes the last line: how many spans are open.
+fn finish<W: Write>(left: u32, text: &mut Vec<u8>, output: &mut Counted<W>) -> Result<u64, RunFault>
+    requires { failed_of output.old < 2 ^ 63 }
+    ensures ok { IfOk result (λ n. (n ≡ left)
+        × Appends (W.contents (inner_of output.old)) (W.contents (inner_of output.new)) (left_text left)) }
+    ensures err { IfErr result (TextFails (left_text left)
+        (W.contents (inner_of output.old)) (W.contents (inner_of output.new))) }
+    ensures counts { EndsAsCounted 0 0 (failed_of output.old) (failed_of output.new) result }
+    ensures flushes { flushes_of output.new ≡ flushes_of output.old }
+{
+    text.clear();
+    if write_left(text, left).is_err() {
+        return Err(RunFault::Memory);
+    }
+    match write_text(output, text.as_slice()) {
+        Ok(()) => Ok(u64::from(left)),
+        Err(fault) => Err(fault),
+    }
+}
