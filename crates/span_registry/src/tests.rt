@@ -1,3 +1,13 @@
-//! That a user of the registry names this crate alone: its words are the core's and the outlet's.
+//! What no clause says: the calls run, with their answers and their reports.
+mod acts;
 mod caller;
+mod ended;
+mod endings;
+mod handed_on;
+mod held;
+mod layers;
 mod names;
+mod on_core;
+mod on_registry;
+mod scripts;
+mod threads;
