@@ -3,11 +3,16 @@
 #![tactic(auto)]
 
 mod batch;
+mod drain;
 mod kept;
 mod line;
 mod outlet;
+mod ring;
+mod told;
 
 pub use batch::{Batch, Call, ParentOf, Reply};
+pub use drain::{Drain, Step};
 pub use kept::Kept;
 pub use line::Line;
 pub use outlet::Outlet;
+pub use ring::{Ring, Tap};
