@@ -1,10 +1,13 @@
 //! What takes the batches out of a ring and writes the lines of their notes.
-ghost use Rattle.std.specs.Prelude.{◌≡◌, ◌++◌, [], List, IfSome, IfNone, map, length, All};
+ghost use Rattle.std.specs.Prelude.{◌≡◌, ◌^◌, ◌<◌, [], List, IfSome, IfNone, map, length, All};
 ghost use mathlib.Core.List.{IsPrefix};
-ghost use Rattle.span_outlet.specs.Lines.{lines_of, plain_line};
+ghost use Rattle.std.specs.Iterator.{YieldsFirstRef};
+ghost use Rattle.std.specs.Iterator.Runs.{YieldsRefsInOrder};
+ghost use Rattle.span_outlet.specs.Lines.{lines_of, lines_of_layer, plain_line};
 ghost use Rattle.span_outlet.specs.Kept.{AreKept, AreTold, HasNoLine, NumberedNote, numbered};
 ghost use Rattle.span_outlet.specs.Drain.{TakesBatch};
 
+use crate::layer_lines::LayerLines;
 use crate::line::Line;
 use crate::ring::{Consuming, Ring, Tap};
 use crate::told::Told;
@@ -145,6 +148,18 @@ impl<V> Drain<V> {
         ensures whole { self.now.refused ≡ 0 → map plain_line result.now ≡ lines_of self.now.forms self.now.taken }
     {
         self.told.lines.as_slice()
+    }
+
+    /// The lines of one layer, in order.
+    pub fn lines(&self, layer: u32) -> LayerLines<'_>
+        ensures lines { map plain_line result ≡ lines_of_layer layer self.now.lines }
+        ensures fits { length result < 2 ^ 64 }
+        ensures runs { YieldsRefsInOrder (YieldsFirstRef {A = Line} (λ rest. rest)) (λ rest. rest) }
+    {
+        LayerLines {
+            lines: self.told.lines.as_slice().iter(),
+            layer,
+        }
     }
 
     /// How many batches were taken.

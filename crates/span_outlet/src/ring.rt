@@ -93,6 +93,13 @@ impl Ring {
         Ok((ring, Tap { consumer }))
     }
 
+    /// How often there was no place when `room` was asked. It stays at its greatest value.
+    pub fn times_full(&self) -> u64
+        ensures { result ≡ self.now.times_full }
+    {
+        self.times_full
+    }
+
     // For a thread that has both ends: what was taken and what stands in the ring is all that was sent.
     pub(crate) fn look_beside(&mut self, consumer: &mut Consuming) -> usize
         requires pair { self.old.name ≡ name_of_consumer consumer.old }
