@@ -1,5 +1,5 @@
 -- Batches that are taken one by one.
-use Rattle.std.proofs.Common.{◌≡◌, ℕ, ◌+◌, ◌-◌, ◌^◌, ◌≤◌, List, [], ◌∷◌, ◌++◌, length, map, min, refl, sym, ap, ◌∙◌, subst, arith, append_assoc}
+use Rattle.std.proofs.Common.{◌≡◌, ℕ, ◌+◌, ◌-◌, ◌≤◌, List, [], ◌∷◌, ◌++◌, length, map, refl, sym, ap, ◌∙◌, subst, arith, append_assoc}
 use mathlib.Core.List.{IsPrefix}
 use Rattle.std.proofs.lemmas.List.{append-nil, length-append, length-map, map-append}
 use Rattle.std.proofs.lemmas.List.FromFn.{length-enumerate_from}
@@ -11,10 +11,9 @@ use Rattle.span_outlet.specs.declared.line.Line.{Line}
 use Rattle.span_outlet.specs.Batch.{PlainBatch, plain_batch}
 use Rattle.span_outlet.specs.Outlet.{RingName}
 use Rattle.span_outlet.specs.Lines.{PlainLine, plain_line}
-use Rattle.span_outlet.specs.Kept.{NumberedNote, numbered, numbered_in, AreTold, AreKept, GainsLines}
+use Rattle.span_outlet.specs.Kept.{NumberedNote, numbered_in, AreTold, GainsLines}
 use Rattle.span_outlet.specs.Kept.AreTold.{none, told, missed}
-use Rattle.span_outlet.specs.Drain.{DrainView, TakesBatch}
-use Rattle.span_outlet.proofs.Keeping.{kept_more, batch_kept}
+use Rattle.span_outlet.specs.Drain.{TakesBatch}
 
 -- ---- each note is told or missed
 
@@ -48,8 +47,8 @@ pub batch_taken : (name same : RingName) (forms kept : List Form) (old new : Lis
     → GainsLines forms (numbered_in (number, plain_batch batch)) (map plain_line lines) refused (map plain_line after) more
     → notes ≡ length batch.notes.items → length lines + fresh ≡ length after
     → TakesBatch (record { name = name; forms = forms; taken = map plain_batch old; lines = map plain_line lines; refused = refused })
-        (record { name = same; forms = kept; taken = map plain_batch new; lines = map plain_line after; refused = more })
-        (record { told = fresh; refused = notes - fresh })
+    (record { name = same; forms = kept; taken = map plain_batch new; lines = map plain_line after; refused = more })
+    (record { told = fresh; refused = notes - fresh })
 batch_taken name same forms kept old new batch number lines after refused more notes fresh name_is forms_are number_is is gains notes_are counted =
     let before = length-map lines plain_line in
     let now = length-map after plain_line in

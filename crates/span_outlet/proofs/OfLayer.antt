@@ -1,6 +1,6 @@
 -- What a search for the next line of a layer finds.
-use Rattle.std.proofs.Common.{◌≡◌, ℕ, ◌+◌, ◌≤◌, Bool, true, false, cond, List, [], ◌∷◌, length, eqb, refl, sym, ap, subst, ◌∙◌, arith, map, Option, Some, None, Bor, Iter, MatchOption, IfSome}
-use Rattle.std.specs.Prelude.{◌==◌, filter}
+use Rattle.std.proofs.Common.{◌≡◌, ℕ, ◌≤◌, Bool, true, false, cond, List, [], ◌∷◌, length, refl, sym, ap, subst, ◌∙◌, arith, map, Option, Some, None, Bor, Iter, IfSome}
+use Rattle.std.specs.Prelude.{◌==◌}
 use denote.Param.Members.{Mut}
 use Rattle.std.specs.Fn.{CalledAt}
 use Rattle.std.specs.List.{FoldsTo}

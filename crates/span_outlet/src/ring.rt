@@ -79,7 +79,11 @@ impl Ring {
     pub fn pair(alloc: Global, limits: &Checked) -> Result<(Ring, Tap), Fault>
         ensures pair { IfOk result (λ ends. ends.0.name ≡ ends.1) }
         ensures new { IfOk result (λ ends. ends.0 ≡ record {
-            name = ends.0.name; sent = []; free = limits.now.ring; ready = false; times_full = 0
+          name = ends.0.name;
+          sent = [];
+          free = limits.now.ring;
+          ready = false;
+          times_full = 0;
         }) }
         ensures memory { IfErr result (λ fault. fault ≡ Fault.Memory) }
     {
@@ -127,9 +131,9 @@ impl Outlet for Ring {
     /// Whether the ring has a free place. It is no error that there is none, and it takes no memory.
     fn room(&mut self) -> Result<bool, AllocError>
         ensures asked { IsOkAnd result (λ yes. self.new ≡ record self.old {
-            free = self.new.free;
-            ready = yes;
-            times_full = if yes then self.old.times_full else one_more self.old.times_full
+          free = self.new.free;
+          ready = yes;
+          times_full = if yes then self.old.times_full else one_more self.old.times_full;
         }) }
         ensures free { self.old.free ≤ self.new.free }
         ensures answer { IsTrue self.new.ready ↔ (0 < self.new.free) }

@@ -31,11 +31,16 @@ fn kept_lines<V: Say>(rt: &impl Abort, alloc: Global, kept: Kept<V>) -> Result<S
     shown(alloc, kept.all())
 }
 
+// What a step answers that told and missed so many.
+fn did(told: usize, refused: usize) -> Option<Step> {
+    Some(Step { told, refused })
+}
+
 // The drain takes the three one by one, and then none.
 fn takes_three<V: Say>(rt: &impl Abort, drain: &mut Drain<V>) {
-    assert_eq!(rt; drain.step(), Some(Step { told: 2, refused: 0 }));
-    assert_eq!(rt; drain.step(), Some(Step { told: 0, refused: 0 }));
-    assert_eq!(rt; drain.step(), Some(Step { told: 2, refused: 0 }));
+    assert_eq!(rt; drain.step(), did(2, 0));
+    assert_eq!(rt; drain.step(), did(0, 0));
+    assert_eq!(rt; drain.step(), did(2, 0));
     assert_eq!(rt; drain.step(), None);
     assert_eq!(rt; drain.taken(), 3);
     assert_eq!(rt; drain.refused(), 0);
@@ -63,7 +68,9 @@ fn the_lines_of_each_layer(rt: HostRuntime) -> Result<(), Fail> {
     let (mut ring, mut drain) = opened(alloc, 8, &FORMS)?;
     assert!(rt; send_three(alloc, &mut ring)?);
     takes_three(&rt, &mut drain);
-    let json = "0 0 0 {\"fields\":[],\"id\":1,\"kind\":\"enter\",\"path\":\"a\",\"worker\":0}\n2 1 0 {\"fields\":[],\"id\":1,\"kind\":\"exit\",\"path\":\"a\",\"worker\":0}\n";
+    let json = r#"0 0 0 {"fields":[],"id":1,"kind":"enter","path":"a","worker":0}
+2 1 0 {"fields":[],"id":1,"kind":"exit","path":"a","worker":0}
+"#;
     let compact = "0 1 1 enter 1 w0 a\n2 0 1 exit 1 w0 a\n";
     assert_eq!(rt; shown_of(alloc, &drain, 0)?.as_str(), json);
     assert_eq!(rt; shown_of(alloc, &drain, 1)?.as_str(), compact);
@@ -77,8 +84,8 @@ fn a_note_whose_text_is_refused_memory(rt: HostRuntime) -> Result<(), Fail> {
     let (mut ring, mut drain) = opened(alloc, 8, &[Form::Compact])?;
     assert!(rt; send(&mut ring, batch(alloc, Kind::OnNew, &[0])?)?);
     assert!(rt; send(&mut ring, batch(alloc, Kind::OnClose, &[0])?)?);
-    assert_eq!(rt; drain.step(), Some(Step { told: 0, refused: 1 }));
-    assert_eq!(rt; drain.step(), Some(Step { told: 1, refused: 0 }));
+    assert_eq!(rt; drain.step(), did(0, 1));
+    assert_eq!(rt; drain.step(), did(1, 0));
     assert_eq!(rt; drain.step(), None);
     assert_eq!(rt; shown(alloc, drain.all())?.as_str(), "1 0 0 close 1 w0 a\n");
     assert_eq!(rt; drain.taken(), 2);
@@ -91,7 +98,7 @@ fn notes_of_a_layer_without_a_teller(rt: HostRuntime) -> Result<(), Fail> {
     let alloc = rt.alloc();
     let (mut ring, mut drain) = opened(alloc, 8, &[Form::Compact])?;
     assert!(rt; send(&mut ring, batch(alloc, Kind::OnEnter, &[1, 0, 7])?)?);
-    assert_eq!(rt; drain.step(), Some(Step { told: 1, refused: 2 }));
+    assert_eq!(rt; drain.step(), did(1, 2));
     assert_eq!(rt; shown(alloc, drain.all())?.as_str(), "0 1 0 enter 1 w0 a\n");
     assert_eq!(rt; drain.refused(), 2);
     Ok(())
@@ -102,7 +109,7 @@ fn the_last_batches(rt: HostRuntime) -> Result<(), Fail> {
     let alloc = rt.alloc();
     let (mut ring, mut drain) = opened(alloc, 3, &FORMS)?;
     assert!(rt; send_three(alloc, &mut ring)?);
-    assert_eq!(rt; drain.step(), Some(Step { told: 2, refused: 0 }));
+    assert_eq!(rt; drain.step(), did(2, 0));
     drain.last(&mut ring);
     assert_eq!(rt; drain.taken(), 3);
     assert_eq!(rt; drain.step(), None);

@@ -1,4 +1,4 @@
-use Rattle.std.proofs.Common.{rules, ◌≡◌, ◌+◌, ◌∷◌, ◌++◌, [], length, map, ap, ◌∙◌, arith}
+use Rattle.std.proofs.Common.{rules, ◌≡◌, ◌∷◌, ◌++◌, [], length, map, ap, ◌∙◌, arith}
 use Rattle.rtrb.specs.Ring.{received, known_items}
 use Rattle.std.proofs.lemmas.List.{map-append}
 use Rattle.span_outlet.specs.Batch.{plain_batch}

@@ -1,4 +1,4 @@
-use Rattle.std.proofs.Common.{rules, ◌≡◌, arith, ap, ◌∙◌, map, length}
+use Rattle.std.proofs.Common.{◌≡◌, arith, ap, ◌∙◌, map, length}
 use Rattle.std.specs.Iterator.{YieldsFirstRef}
 use Rattle.std.specs.Slice.Iter.{iter_rest}
 use Rattle.std.proofs.iter.runs.Sources.{from_front}

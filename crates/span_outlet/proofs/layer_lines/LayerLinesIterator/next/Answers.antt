@@ -1,7 +1,5 @@
-use Rattle.std.proofs.Common.{rules, subst}
-use Rattle.std.specs.Iterator.{YieldsFirstRef}
+use Rattle.std.proofs.Common.{rules}
 use borrow.Author.Tests.{tests}
-use Rattle.span_outlet.specs.inside.OfLayer.{of_layer}
 use Rattle.span_outlet.proofs.OfLayer.{found_of_layer, one_less}
 use Rattle.span_outlet.proofs.layer_lines.LayerLinesIterator.next.Goals as goal
 
