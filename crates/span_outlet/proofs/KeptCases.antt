@@ -1,4 +1,4 @@
--- Worked cases of what the outlet that keeps lines has of a history.
+-- Worked cases of what is kept of a history, and of what a drain does with a batch.
 use Rattle.std.proofs.Common.{◌≡◌, ℕ, true, List, [], ◌∷◌, None, refl}
 use Rattle.std.specs.Prelude.{codes}
 use Rattle.std.specs.Fmt.{digits}
@@ -9,9 +9,11 @@ use Rattle.span_layers.specs.Note.{PlainNote}
 use Rattle.span_layers.specs.Text.{text_of}
 use Rattle.span_outlet.specs.Request.{enter, entered, clone_span, cloned}
 use Rattle.span_outlet.specs.Batch.{PlainBatch}
-use Rattle.span_outlet.specs.Lines.{PlainLine}
+use Rattle.span_outlet.specs.Outlet.{RingName}
+use Rattle.span_outlet.specs.Lines.{PlainLine, lines_of_layer}
 use Rattle.span_outlet.specs.Kept.{NumberedNote, numbered, numbered_in, AreKept, GainsLines}
 use Rattle.span_outlet.specs.Kept.AreTold.{none, told, missed}
+use Rattle.span_outlet.specs.Drain.{DrainView, TakesBatch}
 
 -- worker 0 entered span 1, whose name is `a`
 abbrev note : ℕ → PlainNote
@@ -75,3 +77,32 @@ gained = record {
   lines_are = refl;
   counted = refl;
 }
+
+-- a drain that took the clone, and has missed 5 notes of which nothing else is said here
+abbrev clone_taken : RingName → DrainView
+clone_taken name =
+    record { name = name; forms = forms; taken = record { request = clone_span 0 1; answer = cloned; notes = [] } ∷ []; lines = []; refused = 5 }
+
+-- it takes the entry, whose second note is missed: two were told, and one was missed
+entry_taken : (name : RingName) → TakesBatch (clone_taken name) (record { name = name; forms = forms; taken = history; lines = line 1 0 0 ∷ line 1 2 2 ∷ []; refused = 6 }) (record { told = 2; refused = 1 })
+unfolding text_of digits
+entry_taken name = record {
+  batch = record { request = enter 0 1; answer = entered true; notes = note 0 ∷ note 1 ∷ note 2 ∷ [] };
+  taken = refl;
+  gains = record {
+    added = line 1 0 0 ∷ line 1 2 2 ∷ [];
+    missed = at 1 1 1 ∷ [];
+    each = told (at 1 0 0) (line 1 0 0) refl (missed (at 1 1 1) (told (at 1 2 2) (line 1 2 2) refl none));
+    lines_are = refl;
+    counted = refl;
+  };
+  told = refl;
+  refused = refl;
+}
+
+-- the lines of a layer keep their order, and a layer that wrote nothing has none
+of_one_layer : lines_of_layer 1 (line 1 0 0 ∷ line 1 1 1 ∷ line 2 0 1 ∷ line 2 1 0 ∷ []) ≡ line 1 1 1 ∷ line 2 0 1 ∷ []
+of_one_layer = refl
+
+of_no_layer : lines_of_layer 2 (line 1 0 0 ∷ line 1 1 1 ∷ []) ≡ []
+of_no_layer = refl

@@ -1,5 +1,5 @@
 -- The lines of a history.
-use Rattle.std.specs.Prelude.{ℕ, List, flat_map, Option, slice_get}
+use Rattle.std.specs.Prelude.{ℕ, ◌==◌, List, flat_map, filter, Option, slice_get}
 use Rattle.std.specs.List.{enumerate_from, filter_map}
 use Rattle.std.specs.Option.{option_map}
 use Rattle.span_layers.specs.declared.form.Form.{Form}
@@ -32,3 +32,7 @@ lines_of_batch forms batch = filter_map (line_of forms batch.0) (enumerate_from 
 -- the lines of a history: for each batch, and in it for each note, in that order
 abbrev pub lines_of : List Form → List PlainBatch → List PlainLine
 lines_of forms history = flat_map (lines_of_batch forms) (enumerate_from 0 history)
+
+-- those lines that a layer wrote, in order
+abbrev pub lines_of_layer : ℕ → List PlainLine → List PlainLine
+lines_of_layer layer lines = filter (λ line. line.layer == layer) lines

@@ -1,49 +1,16 @@
 //! The outlet that keeps the batches and writes their notes at once.
-ghost use Rattle.std.specs.Prelude.{◌≡◌, ◌+◌, ◌-◌, ◌^◌, ◌<◌, ◌≤◌, ◌++◌, ◌∷◌, [], List, true, false, Some, None, IfSome, IfOk, OnErr, map, length, min, All};
-ghost use Rattle.span_layers.specs.Note.{plain_note};
+ghost use Rattle.std.specs.Prelude.{◌≡◌, ◌-◌, ◌^◌, ◌<◌, ◌++◌, ◌∷◌, [], List, true, false, None, IfOk, OnErr, map, length, All};
 ghost use Rattle.span_outlet.specs.Batch.{plain_batch};
-ghost use Rattle.span_outlet.specs.Lines.{lines_of, line_of, plain_line};
+ghost use Rattle.span_outlet.specs.Lines.{lines_of, plain_line};
 ghost use Rattle.span_outlet.specs.Kept.{AreKept, AreTold, GainsLines, HasNoLine, NumberedNote, numbered, numbered_in};
 
 use crate::batch::Batch;
 use crate::line::Line;
 use crate::outlet::Outlet;
-use span_layers::{Formatters, Forms, Note, Say, Tellers};
+use crate::told::Told;
+use span_layers::{Formatters, Say, Tellers};
 use std::alloc::{AllocError, Global};
 use std::marker::Model;
-
-/// The lines so far, and how many notes were missed.
-#[derive(Drop)]
-struct Told {
-    forms: Forms,
-    lines: Vec<Line>,
-    // Stays at its greatest value.
-    refused: u64,
-    // The range of a `u64`, known where it isn't read.
-    ghost in_range: { refused ≤ 2 ^ 64 - 1 },
-}
-
-// The line of a note, if its layer has a form, its place fits and there is memory for its text.
-fn line_of_note<V: Say>(
-    forms: &Forms,
-    formatters: &V,
-    batch: u64,
-    place: usize,
-    note: &Note,
-) -> Option<Line>
-    ensures { IfSome result (λ line. line_of forms.now batch (place, plain_note note.now) ≡ Some (plain_line line)) }
-{
-    let form = forms.get(note.layer)?;
-    let place = u32::try_from(place).ok()?;
-    let mut text = formatters.say(form, note).ok()?;
-    text.shrink_to_fit();
-    Some(Line {
-        batch,
-        place,
-        layer: note.layer,
-        text,
-    })
-}
 
 // The batch with no room for further notes, since it is kept as long as the outlet is.
 fn trimmed(batch: Batch) -> Batch
@@ -52,46 +19,6 @@ fn trimmed(batch: Batch) -> Batch
     let mut kept = batch;
     kept.notes.shrink_to_fit();
     kept
-}
-
-impl Told {
-    // Counts a note that is missed.
-    fn miss(&mut self)
-        ensures forms { self.new.forms ≡ self.old.forms }
-        ensures lines { self.new.lines ≡ self.old.lines }
-        ensures refused { self.new.refused ≡ min (2 ^ 64 - 1) (self.old.refused + 1) }
-    {
-        self.refused = self.refused.saturating_add(1);
-    }
-
-    // Tells a note: its line is appended, or it is missed and counted.
-    fn tell<V: Say>(&mut self, formatters: &V, batch: u64, place: usize, note: &Note)
-        ensures forms { self.new.forms ≡ self.old.forms }
-        ensures told { GainsLines self.old.forms
-            ((record { batch = batch; place = place; note = plain_note note.now }) ∷ [])
-            (map plain_line self.old.lines.items) self.old.refused
-            (map plain_line self.new.lines.items) self.new.refused }
-    {
-        let Some(line) = line_of_note(&self.forms, formatters, batch, place, note) else {
-            self.miss();
-            return;
-        };
-        if self.lines.push(line).is_err() {
-            self.miss();
-        }
-    }
-
-    // Tells the notes of the batch of this number, in order.
-    fn tell_all<V: Say>(&mut self, formatters: &V, number: u64, batch: &Batch)
-        ensures forms { self.new.forms ≡ self.old.forms }
-        ensures told { GainsLines self.old.forms (numbered_in (number, plain_batch batch.now))
-            (map plain_line self.old.lines.items) self.old.refused
-            (map plain_line self.new.lines.items) self.new.refused }
-    {
-        for (place, note) in batch.notes.iter().enumerate() {
-            self.tell(formatters, number, place, note);
-        }
-    }
 }
 
 /// An outlet that keeps the batches, and at once the lines of their notes.

@@ -3,11 +3,20 @@
 #![tactic(auto)]
 
 mod batch;
+mod drain;
 mod kept;
+mod layer_lines;
 mod line;
 mod outlet;
+mod ring;
+#[cfg(test)]
+mod tests;
+mod told;
 
 pub use batch::{Batch, Call, ParentOf, Reply};
+pub use drain::{Drain, Step};
 pub use kept::Kept;
+pub use layer_lines::LayerLines;
 pub use line::Line;
 pub use outlet::Outlet;
+pub use ring::{Ring, Tap};

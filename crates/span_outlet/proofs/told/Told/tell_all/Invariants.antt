@@ -3,7 +3,7 @@ use Rattle.span_layers.specs.Note.{plain_note}
 use Rattle.span_outlet.specs.Lines.{plain_line}
 use Rattle.span_outlet.specs.Kept.{GainsLines}
 use Rattle.span_outlet.proofs.Keeping.{numbered_first}
-use Rattle.span_outlet.proofs.kept.Told.tell_all.Given as goal
+use Rattle.span_outlet.proofs.told.Told.tell_all.Given as goal
 
 -- the notes before the place were told or missed
 abbrev pub invariant-loop-place : goal.invariant-loop-place

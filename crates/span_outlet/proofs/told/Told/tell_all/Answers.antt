@@ -1,6 +1,7 @@
 use Rattle.std.proofs.Common.{rules, ◌≡◌, ◌<◌, ◌≤◌, length, get_or, refl, ◌∙◌}
 use Rattle.span_outlet.proofs.Keeping.{gains_none, next_gains, all_gained}
-use Rattle.span_outlet.proofs.kept.Told.tell_all.Goals as goal
+use Rattle.span_outlet.proofs.Draining.{most_gained}
+use Rattle.span_outlet.proofs.told.Told.tell_all.Goals as goal
 
 pub loop-place-init : goal.loop-place-init
 loop-place-init g c = record { forms = refl; so_far = gains_none _ _ _ c.args.self.now.in_range }
@@ -18,3 +19,6 @@ pub returns-clause-told : goal.returns-clause-told
 returns-clause-told g c =
     let ends : length c.args.batch.now.notes.items ≤ c.loop-place.place = search rules in
     all_gained _ _ _ _ _ _ _ _ ends c.loop-place.invariant.so_far
+
+pub returns-clause-most : goal.returns-clause-most
+returns-clause-most g c = most_gained _ _ c.args.batch.now _ _ _ _ (returns-clause-told g c)

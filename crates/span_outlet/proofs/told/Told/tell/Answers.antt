@@ -1,6 +1,6 @@
 use Rattle.std.proofs.Common.{rules, ◌≡◌, ◌++◌, ◌∷◌, []}
 use Rattle.span_outlet.proofs.Keeping.{gains_told, gains_missed}
-use Rattle.span_outlet.proofs.kept.Told.tell.Goals as goal
+use Rattle.span_outlet.proofs.told.Told.tell.Goals as goal
 
 pub returns-in_default-clause-told : goal.returns-in_default-clause-told
 returns-in_default-clause-told g c = gains_missed _ _ _ _ _ _ (search rules) c.miss.ensures.refused

@@ -1,0 +1,14 @@
+use Rattle.std.proofs.Common.{rules, map}
+use Rattle.span_outlet.specs.Lines.{plain_line}
+use Rattle.span_outlet.specs.Kept.{AreKept, numbered}
+use Rattle.span_outlet.proofs.Keeping.{whole}
+use Rattle.span_outlet.proofs.Apart.{elsewhere}
+use Rattle.span_outlet.proofs.drain.Drain.into_lines.Goals as goal
+
+pub returns-clause-apart : goal.returns-clause-apart
+returns-clause-apart g c = λ missed each. elsewhere c.args.self.forms c.args.self.taken _ missed each
+
+pub returns-clause-whole : goal.returns-clause-whole
+returns-clause-whole g c =
+    let kept : AreKept c.args.self.forms (numbered c.args.self.taken) (map plain_line c.self.inside.told.lines.items) c.args.self.refused = search rules in
+    λ none_refused. whole _ c.args.self.taken _ _ kept none_refused

@@ -1,0 +1,13 @@
+-- What a contract sees of a ring: its end that takes the batches in.
+use Rattle.std.specs.Prelude.{ℕ, Bool, List}
+use Rattle.span_outlet.specs.Batch.{PlainBatch}
+use Rattle.span_outlet.specs.Outlet.{RingName}
+
+-- its name, the batches sent so far, how many places it knows to be free, whether the last `room` answered true and
+-- no `put` came since, and how often `room` answered false
+pub record RingView : Type 0 where
+  pub name : RingName
+  pub sent : List PlainBatch
+  pub free : ℕ
+  pub ready : Bool
+  pub times_full : ℕ

@@ -1,0 +1,161 @@
+//! The ring through which batches leave the thread of the core.
+ghost use Rattle.std.specs.Prelude.{◌≡◌, ◌+◌, ◌-◌, ◌^◌, ◌<◌, ◌≤◌, ◌++◌, ◌∷◌, [], true, false, Some, IfOk, IfErr, IsOkAnd, map, length, if◌then◌else◌, IsTrue, ◌↔◌};
+ghost use Rattle.rtrb.specs.Ring.{received, known_items, ConsumerLooked};
+ghost use Rattle.span_outlet.specs.Batch.{plain_batch};
+ghost use Rattle.span_outlet.specs.Outlet.{one_more};
+ghost use Rattle.span_outlet.specs.inside.Ends.{name_of_consumer};
+
+use crate::batch::Batch;
+use crate::outlet::Outlet;
+use rtrb::{Consumer, Producer, Protocol, RingBuffer};
+use span_id::{Checked, Fault};
+use std::alloc::{AllocError, Global};
+use std::marker::Model;
+
+/// What both ends know of each batch: fewer than 2^64 - 1 went before it.
+pub(crate) struct Few;
+
+impl Protocol<Batch> for Few {
+    ghost use Rattle.std.specs.Prelude.{◌<◌, ◌-◌, ◌^◌, length};
+
+    ghost allows = { λ before batch. length before < 2 ^ 64 - 1 };
+}
+
+/// The end that gives the batches out.
+pub(crate) type Consuming = Consumer<Batch, Global, Few>;
+
+/// The end of a ring that puts batches in: the outlet of a core whose batches another thread takes.
+///
+/// It keeps no batch once it was taken. It writes no text, so it has no forms.
+#[derive(Drop)]
+pub struct Ring {
+    producer: Producer<Batch, Global, Few>,
+    ready: bool,
+    // Stays at its greatest value.
+    times_full: u64,
+}
+
+impl Model for Ring {
+    ghost use Rattle.std.specs.Prelude.{◌≡◌, ◌-◌, ◌^◌, ◌≤◌, ◌<◌, true, map};
+    ghost use Rattle.rtrb.specs.Ring.{sent, known_free};
+    ghost use Rattle.span_outlet.specs.Batch.{plain_batch};
+    ghost use Rattle.span_outlet.specs.Ring.{RingView};
+    ghost use Rattle.span_outlet.specs.inside.Ends.{name_of_producer};
+
+    ghost Value = { RingView };
+
+    ghost view = { λ ring. record {
+      name = name_of_producer ring.producer;
+      sent = map plain_batch (sent ring.producer);
+      free = known_free ring.producer;
+      ready = ring.ready;
+      times_full = ring.times_full;
+    } };
+
+    ghost invariant = { λ ring. ring.ready ≡ true → 0 < known_free ring.producer };
+}
+
+/// The end of a ring that gives batches out, as long as none was taken. A `Drain` takes them.
+#[derive(Drop)]
+pub struct Tap {
+    pub(crate) consumer: Consuming,
+}
+
+impl Model for Tap {
+    ghost use Rattle.std.specs.Prelude.{◌≡◌, []};
+    ghost use Rattle.rtrb.specs.Ring.{received};
+    ghost use Rattle.span_outlet.specs.Outlet.{RingName};
+    ghost use Rattle.span_outlet.specs.inside.Ends.{name_of_consumer};
+
+    ghost Value = { RingName };
+
+    ghost view = { λ tap. name_of_consumer tap.consumer };
+
+    ghost invariant = { λ tap. received tap.consumer ≡ [] };
+}
+
+impl Ring {
+    /// Both ends of a new ring, with as many places as the limits say. The only error is `Memory`.
+    pub fn pair(alloc: Global, limits: &Checked) -> Result<(Ring, Tap), Fault>
+        ensures pair { IfOk result (λ ends. ends.0.name ≡ ends.1) }
+        ensures new { IfOk result (λ ends. ends.0 ≡ record {
+          name = ends.0.name;
+          sent = [];
+          free = limits.now.ring;
+          ready = false;
+          times_full = 0;
+        }) }
+        ensures memory { IfErr result (λ fault. fault ≡ Fault.Memory) }
+    {
+        let places = limits.limits().ring as usize;
+        let (producer, consumer) = RingBuffer::with_protocol::<Global, Few>(alloc, places)?;
+        let ring = Ring {
+            producer,
+            ready: false,
+            times_full: 0,
+        };
+        Ok((ring, Tap { consumer }))
+    }
+
+    /// How often there was no place when `room` was asked. It stays at its greatest value.
+    pub fn times_full(&self) -> u64
+        ensures { result ≡ self.now.times_full }
+    {
+        self.times_full
+    }
+
+    // For a thread that has both ends: what was taken and what stands in the ring is all that was sent.
+    pub(crate) fn look_beside(&mut self, consumer: &mut Consuming) -> usize
+        requires pair { self.old.name ≡ name_of_consumer consumer.old }
+        ensures ring { self.new ≡ record self.old { free = self.new.free } }
+        ensures free { self.old.free ≤ self.new.free }
+        ensures looked { ConsumerLooked consumer.old consumer.new }
+        ensures value { result ≡ length (known_items consumer.new) }
+        ensures fifo { map plain_batch (received consumer.new ++ known_items consumer.new) ≡ self.old.sent }
+    {
+        consumer.slots_beside(&mut self.producer)
+    }
+}
+
+impl Outlet for Ring {
+    ghost sent = { λ ring. ring.sent };
+
+    ghost ready = { λ ring. ring.ready };
+
+    ghost times_full = { λ ring. ring.times_full };
+
+    ghost forms = { λ ring. [] };
+
+    ghost name = { λ ring. Some ring.name };
+
+    /// Whether the ring has a free place. It is no error that there is none, and it takes no memory.
+    fn room(&mut self) -> Result<bool, AllocError>
+        ensures asked { IsOkAnd result (λ yes. self.new ≡ record self.old {
+          free = self.new.free;
+          ready = yes;
+          times_full = if yes then self.old.times_full else one_more self.old.times_full;
+        }) }
+        ensures free { self.old.free ≤ self.new.free }
+        ensures answer { IsTrue self.new.ready ↔ (0 < self.new.free) }
+    {
+        self.ready = !self.producer.is_full();
+        if !self.ready {
+            self.times_full = self.times_full.saturating_add(1);
+        }
+        Ok(self.ready)
+    }
+
+    /// The batch takes one of the free places.
+    fn put(&mut self, batch: Batch)
+        requires ready { self.old.ready ≡ true }
+        requires countable { length self.old.sent < 2 ^ 64 - 1 }
+        ensures sent { self.new.sent ≡ self.old.sent ++ plain_batch batch ∷ [] }
+        ensures free { self.new.free + 1 ≡ self.old.free }
+        ensures ready { self.new.ready ≡ false }
+        ensures name { self.new.name ≡ self.old.name }
+        ensures times_full { self.new.times_full ≡ self.old.times_full }
+    {
+        self.ready = false;
+        self.producer.push_reserved(batch);
+    }
+}

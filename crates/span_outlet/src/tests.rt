@@ -1,0 +1,5 @@
+//! What no clause says: when the ring has room, worked lines, and each call once.
+
+mod batches;
+mod drain;
+mod ring;
