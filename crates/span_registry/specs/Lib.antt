@@ -4,6 +4,8 @@ pub use Rattle.span_outlet.specs.Batch
 pub use Rattle.span_outlet.specs.Outlet
 pub use Rattle.span_outlet.specs.Lines
 pub use Rattle.span_outlet.specs.Kept
+pub use Rattle.span_outlet.specs.Ring
+pub use Rattle.span_outlet.specs.Drain
 pub use Rattle.span_core.specs.World
 pub use Rattle.span_core.specs.Parent
 pub use Rattle.span_core.specs.Happening

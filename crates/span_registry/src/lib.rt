@@ -33,6 +33,8 @@ pub use report::Report;
 pub use setup::Setup;
 pub use share::Share;
 pub use span_core::Core;
-pub use span_outlet::{Batch, Call, Kept, Line, Outlet, ParentOf, Reply};
+pub use span_outlet::{
+    Batch, Call, Drain, Kept, LayerLines, Line, Outlet, ParentOf, Reply, Ring, Step, Tap,
+};
 pub use span_seats::{SeatTable, TableName};
 pub use worker::Worker;
