@@ -16,7 +16,10 @@ use Rattle.span_core.specs.Core.{CoreView}
 -- parts: of its book of handles and its book of calls, of the root of its handles' seats, and of its core. Beside this
 -- every core knows: each open span's count is its handles, the workers inside it and its open children, is positive, and
 -- its parent is open; an id that isn't open finds nothing.
-pub record HoldsWhenFree (limits : Limits) (rules : List Filter) (ring : Option RingName) (handle_parts call_parts : ℕ) (handles calls : ℕ) (root : RootView) (core : CoreView) : Type 0 where
+pub record HoldsWhenFree
+    (limits : Limits) (rules : List Filter) (ring : Option RingName) (handle_parts call_parts : ℕ)
+    (handles calls : ℕ) (root : RootView) (core : CoreView)
+    : Type 0 where
   -- the registry's limits, rules and ring are those that it was made with
   pub limits_are : core.limits ≡ limits
   pub rules_are : core.rules ≡ rules

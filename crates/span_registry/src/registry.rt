@@ -29,9 +29,9 @@ const WORKER_PARTS: u64 = 1 << 55;
 /// Its type names what it was made with: the ledger of its handles `H`, the ledger of its accepted calls `C`, its
 /// limits, rules, ring and table `S`, and its outlet `O`. So a handle or a worker of another registry isn't taken.
 ///
-/// Each call but `new` and `finish_kept` takes the lock, so it may wait for other threads. While it has the lock it runs the function of
-/// its name in [`laws`](crate::laws), whose contract says in full what it does. The clauses here are those that can be
-/// said without the locked value.
+/// Each call but `new` and `finish_kept` takes the lock, so it may wait for other threads. While it has the lock it
+/// runs the function of its name in [`laws`](crate::laws), whose contract says in full what it does. The clauses here
+/// are those that can be said without the locked value.
 #[derive(Drop)]
 pub struct Registry<H: Ledger, C: Ledger, S: Setup, O: Outlet, A = Admitters> {
     locked: Mutex<Locked<H, C, S, O, A>>,
@@ -39,8 +39,8 @@ pub struct Registry<H: Ledger, C: Ledger, S: Setup, O: Outlet, A = Admitters> {
 
 impl<H: Ledger, C: Ledger, S: Setup, O: Outlet + Drop, F: Drop> Registry<H, C, S, O, Admitters<F>> {
     /// An empty registry, and its workers, numbered from 0, as many as the limits say. No call was accepted of them,
-    /// and each may make 2^55 handles at least. Their shares together are the whole one: of the ledger of calls each has one
-    /// part.
+    /// and each may make 2^55 handles at least. Their shares together are the whole one: of the ledger of calls each
+    /// has one part.
     ///
     /// The two blanks are new ledgers, of `HANDLE_PARTS` parts for handles and of one part a worker for calls. The
     /// table has a word for each slot. The names `H`, `C` and `S` are picked by the caller of a function that is

@@ -28,7 +28,8 @@ use std::sync::ledger::Ledger;
 ///
 /// Refused in this order: `CountFull` where the worker has no part of the ledger of handles left; then as
 /// `Core::new_span`, where the answer `None` comes after `BadName` and before `Unknown`. The slot of its id is no open
-/// span's, so while a handle of a span is there its slot isn't given again. A refused call changes nothing but how often the outlet lacked a place.
+/// span's, so while a handle of a span is there its slot isn't given again. A refused call changes nothing but how
+/// often the outlet lacked a place.
 pub fn new_span<H: Ledger, C: Ledger, S: Setup, O: Outlet, A: Admit>(
     locked: &mut Locked<H, C, S, O, A>,
     worker: &mut Worker<H, C>,

@@ -1,8 +1,10 @@
 //! The calls, which take the lock.
 ghost use Rattle.std.specs.Prelude.{◌≡◌, ◌≢◌, ◌+◌, ◌-◌, ◌<◌, true, false, IfOk, IfErr, OnOk, OnErr, IfNone, OnSome};
-ghost use Rattle.span_id.specs.declared.fault.Fault.TheVariants.{Unknown, CountFull};
-ghost use Rattle.span_id.specs.Meta.{plain_meta};
+ghost use Rattle.span_id.specs.declared.fault.Fault.TheVariants.{Unknown, CountFull, BadName};
+ghost use Rattle.span_id.specs.Meta.{plain_meta, plain_fields};
+ghost use Rattle.span_outlet.specs.Request.{event, record_fields};
 ghost use Rattle.span_core.specs.Step.{is_wanted};
+ghost use Rattle.span_core.specs.Core.{is_named};
 ghost use Rattle.span_registry.specs.Worker.{after_call};
 
 use crate::found::Found;
@@ -60,6 +62,10 @@ impl<H: Ledger, C: Ledger, S: Setup, O: Outlet, A: Admit> Registry<H, C, S, O, A
     ) -> Result<(), Fault>
         ensures worker { OnOk result (worker.new ≡ after_call worker.old worker.old.spare) }
         ensures unchanged { OnErr result (worker.new ≡ worker.old) }
+        ensures named { OnOk result (is_named
+            (event worker.old.number (plain_meta meta.now) message.now (plain_fields fields.now)) ≡ true) }
+        ensures bad_name { IfErr result (λ fault. fault ≡ BadName → is_named
+            (event worker.old.number (plain_meta meta.now) message.now (plain_fields fields.now)) ≡ false) }
     {
         laws::event(&mut *self.locked.lock(rt), worker, meta, message, fields)
     }
@@ -83,6 +89,7 @@ impl<H: Ledger, C: Ledger, S: Setup, O: Outlet, A> Registry<H, C, S, O, A> {
         ensures unchanged { OnErr result (worker.new ≡ worker.old) }
         ensures never_unknown { IfErr result (λ fault. fault ≢ Unknown) }
         ensures keeps_id { handle.new.id ≡ handle.old.id }
+        ensures no_names { IfErr result (λ fault. fault ≢ BadName) }
     {
         laws::clone_span(&mut *self.locked.lock(rt), worker, handle)
     }
@@ -102,6 +109,7 @@ impl<H: Ledger, C: Ledger, S: Setup, O: Outlet, A> Registry<H, C, S, O, A> {
         ensures unchanged { OnErr result (worker.new ≡ worker.old) }
         ensures never_unknown { IfErr result (λ fault. fault ≢ Unknown) }
         ensures keeps_id { handle.new.id ≡ handle.old.id }
+        ensures no_names { IfErr result (λ fault. fault ≢ BadName) }
     {
         laws::enter(&mut *self.locked.lock(rt), worker, handle)
     }
@@ -114,6 +122,7 @@ impl<H: Ledger, C: Ledger, S: Setup, O: Outlet, A> Registry<H, C, S, O, A> {
     pub fn exit<R: Wait>(&self, rt: &R, worker: &mut Worker<H, C>, id: Id) -> Result<bool, Fault>
         ensures worker { OnOk result (worker.new ≡ after_call worker.old worker.old.spare) }
         ensures unchanged { OnErr result (worker.new ≡ worker.old) }
+        ensures no_names { IfErr result (λ fault. fault ≢ BadName) }
     {
         laws::exit(&mut *self.locked.lock(rt), worker, id)
     }
@@ -132,6 +141,7 @@ impl<H: Ledger, C: Ledger, S: Setup, O: Outlet, A> Registry<H, C, S, O, A> {
         ensures unchanged { OnErr result (worker.new ≡ worker.old) }
         ensures never_unknown { IfErr result (λ e. e.1 ≢ Unknown) }
         ensures back { IfErr result (λ e. e.0.id ≡ handle.id) }
+        ensures no_names { IfErr result (λ e. e.1 ≢ BadName) }
     {
         laws::try_close(&mut *self.locked.lock(rt), worker, handle)
     }
@@ -151,6 +161,10 @@ impl<H: Ledger, C: Ledger, S: Setup, O: Outlet, A> Registry<H, C, S, O, A> {
         ensures unchanged { OnErr result (worker.new ≡ worker.old) }
         ensures never_unknown { IfErr result (λ fault. fault ≢ Unknown) }
         ensures keeps_id { handle.new.id ≡ handle.old.id }
+        ensures named { OnOk result (is_named
+            (record_fields worker.old.number handle.old.id (plain_fields fields.now)) ≡ true) }
+        ensures bad_name { IfErr result (λ fault. fault ≡ BadName → is_named
+            (record_fields worker.old.number handle.old.id (plain_fields fields.now)) ≡ false) }
     {
         laws::record(&mut *self.locked.lock(rt), worker, handle, fields)
     }
