@@ -34,7 +34,8 @@ numbered history = flat_map numbered_in (enumerate_from 0 history)
 -- missed there is none. A note whose layer has no form has no line, so it is missed.
 pub data AreTold (forms : List Form) : List NumberedNote → List PlainLine → List NumberedNote → Type 0 where
   none : AreTold forms [] [] []
-  told : (note : NumberedNote) (line : PlainLine) {notes : List NumberedNote} {lines : List PlainLine} {missed : List NumberedNote}
+  told : (note : NumberedNote) (line : PlainLine)
+      {notes : List NumberedNote} {lines : List PlainLine} {missed : List NumberedNote}
       → line_of forms note.batch (note.place, note.note) ≡ Some line → AreTold forms notes lines missed
       → AreTold forms (note ∷ notes) (line ∷ lines) missed
   missed : (note : NumberedNote) {notes : List NumberedNote} {lines : List PlainLine} {missed : List NumberedNote}
@@ -48,7 +49,10 @@ pub record AreKept (forms : List Form) (notes : List NumberedNote) (lines : List
 
 -- More notes: after the lines so far stand those of these notes, but for the ones that were missed, which are
 -- counted; the count stays at the greatest `u64`.
-pub record GainsLines (forms : List Form) (notes : List NumberedNote) (lines : List PlainLine) (refused : ℕ) (new_lines : List PlainLine) (new_refused : ℕ) : Type 0 where
+pub record GainsLines
+    (forms : List Form) (notes : List NumberedNote)
+    (lines : List PlainLine) (refused : ℕ) (new_lines : List PlainLine) (new_refused : ℕ)
+    : Type 0 where
   pub added : List PlainLine
   pub missed : List NumberedNote
   pub each : AreTold forms notes added missed

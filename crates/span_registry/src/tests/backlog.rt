@@ -16,7 +16,7 @@ fn ends<R: Threads + Wait + Abort + Sync>(
     rt: &R,
     alloc: Global,
     plans: &[Plan],
-    acts: &[Act],
+    acts: &[(u32, Act)],
     ending: &Ending,
 ) -> Result<(), Fail> {
     let limits = Limits {
@@ -24,11 +24,7 @@ fn ends<R: Threads + Wait + Abort + Sync>(
         ring: 1,
         ..Limits::default()
     };
-    let mut calls = Vec::new(alloc);
-    for act in acts {
-        calls.push((0, *act))?;
-    }
-    let ended = run_to_end_on_a_ring(rt, alloc, limits, plans, calls.as_slice())?;
+    let ended = run_to_end_on_a_ring(rt, alloc, limits, plans, acts)?;
     is_ending(rt, alloc, &ended, ending)
 }
 
@@ -44,12 +40,12 @@ fn event(message: &str) -> Act<'_> {
 #[test]
 fn a_handle_comes_back_from_a_full_ring(rt: HostRuntime) -> Result<(), Fail> {
     let acts = [
-        new("a"),
-        Act::Clone(1),
-        Act::Close(1),
-        Act::Step,
-        Act::Step,
-        Act::Close(1),
+        (0, new("a")),
+        (0, Act::Clone(1)),
+        (0, Act::Close(1)),
+        (0, Act::Step),
+        (0, Act::Step),
+        (0, Act::Close(1)),
     ];
     let ending = Ending {
         answers: "= 1\n! backlog\n! backlog\n= told 0 refused 0\n= no batch\n= closed\n",
@@ -83,23 +79,23 @@ const EVERY_ANSWER: &str = "\
 #[test]
 fn every_call_meets_a_full_ring(rt: HostRuntime) -> Result<(), Fail> {
     let acts = [
-        new("a"),
-        Act::Step,
-        Act::Enter(1),
-        new("b"),
-        Act::Clone(1),
-        Act::Enter(1),
-        Act::Exit(1),
-        Act::Record(1, &[("k", "v")]),
-        event("m"),
-        Act::Close(1),
-        Act::Exit(2),
-        new("a b"),
-        Act::Find(1),
-        Act::Step,
-        Act::Exit(1),
-        Act::Step,
-        Act::Close(1),
+        (0, new("a")),
+        (0, Act::Step),
+        (0, Act::Enter(1)),
+        (0, new("b")),
+        (0, Act::Clone(1)),
+        (0, Act::Enter(1)),
+        (0, Act::Exit(1)),
+        (0, Act::Record(1, &[("k", "v")])),
+        (0, event("m")),
+        (0, Act::Close(1)),
+        (0, Act::Exit(2)),
+        (0, new("a b")),
+        (0, Act::Find(1)),
+        (0, Act::Step),
+        (0, Act::Exit(1)),
+        (0, Act::Step),
+        (0, Act::Close(1)),
     ];
     let ending = Ending {
         answers: EVERY_ANSWER,
@@ -113,7 +109,7 @@ fn every_call_meets_a_full_ring(rt: HostRuntime) -> Result<(), Fail> {
 #[test]
 fn a_span_that_is_not_wanted_needs_no_place(rt: HostRuntime) -> Result<(), Fail> {
     let elsewhere: Plan = (Form::Compact, FmtSpan::FULL, "elsewhere", Level::Trace);
-    let acts = [event("m"), new("a"), event("m")];
+    let acts = [(0, event("m")), (0, new("a")), (0, event("m"))];
     let ending = Ending {
         answers: "= told\n= not wanted\n! backlog\n",
         counts: "units 0 accepted 1\n",

@@ -41,7 +41,9 @@ times_in k (x ∷ xs) = cond (x == k) 1 0 + times_in k xs
 
 -- What is always true of the parts of a table. The freed slots are those whose rows may be given again,
 -- each once; and both lists have room for every slot, so that no call grows them.
-pub record IsSound {T : Type 0} (slots last len room_cells room_freed : ℕ) (rows : List (ℕ × Option T)) (freed : List ℕ) : Type 0 where
+pub record IsSound {T : Type 0}
+    (slots last len room_cells room_freed : ℕ) (rows : List (ℕ × Option T)) (freed : List ℕ)
+    : Type 0 where
   pub used : length rows ≤ slots
   pub slots_high : slots ≤ slots_in_layout
   pub last_high : last ≤ 4294967295
