@@ -1,10 +1,10 @@
-//! The calls that answer which spans closed, and the counts after them.
+//! The closing lists that calls show, and the counts after them.
 ghost use Rattle.std.specs.Prelude.{◌≡◌, []};
 
 use crate::Core;
 use crate::tests::acts::{Act, child, play};
 use crate::tests::layers::layers;
-use span_id::{Id, Limits};
+use span_id::{Fault, Id, Limits};
 use span_layers::{Filters, Say};
 use span_outlet::Kept;
 use std::alloc::Global;
@@ -41,6 +41,32 @@ fn entered_again<V: Say>(
     Ok(())
 }
 
+// Keeps a copy of a list that is shown.
+fn keep(alloc: Global, shown: &mut Option<Vec<Id>>, ids: &[Id]) {
+    *shown = ids.to_vec(alloc).ok();
+}
+
+// A worker that isn't inside the span doesn't leave it, and is shown no list. The same holds of a span that isn't there.
+fn refused_shows_nothing<V: Say>(
+    rt: &impl Abort,
+    alloc: Global,
+    core: &mut Core<Kept<V>>,
+    below: Id,
+) -> Result<(), Fail>
+    requires { 2 ≡ core.old.limits.workers }
+    ensures { core.new.limits ≡ core.old.limits }
+{
+    let mut shown = None;
+    let left = core.exit_with(1, below, &mut shown, |shown, ids| keep(alloc, shown, ids));
+    assert_eq!(rt; (left, shown), (Err(Fault::NotEntered), None));
+    let mut shown = None;
+    let absent = Id::pack(1, 7);
+    let closed = core.try_close_with(1, absent, &mut shown, |shown, ids| keep(alloc, shown, ids));
+    assert_eq!(rt; (closed, shown), (Err(Fault::Unknown), None));
+    assert_eq!(rt; (core.handles(), core.entries(), core.calls()), (1, 1, 8));
+    Ok(())
+}
+
 // A root and its child, which is entered; then all holders are given back.
 fn closed_in_turn<V: Say>(
     rt: &impl Abort,
@@ -62,9 +88,14 @@ fn closed_in_turn<V: Say>(
     assert_eq!(rt; text.as_str(), "= 1\n= 2\n= entered\n= open\n");
     entered_again(rt, alloc, &mut core)?;
     let (root, below) = (Id::pack(0, 0), Id::pack(1, 0));
-    assert!(rt; core.give_back(0, below)?.is_empty());
+    refused_shows_nothing(rt, alloc, &mut core, below)?;
+    let mut shown = None;
+    let closed = core.try_close_with(0, below, &mut shown, |shown, ids| keep(alloc, shown, ids))?;
+    assert_eq!(rt; (closed, shown), (false, Some(Vec::new(alloc))));
     assert_eq!(rt; (core.handles(), core.total()), (0, 1));
-    assert_eq!(rt; core.leave(0, below)?.as_slice(), [below, root].as_slice());
+    let mut shown = None;
+    let closed = core.exit_with(0, below, &mut shown, |shown, ids| keep(alloc, shown, ids))?;
+    assert_eq!(rt; (closed, shown), (true, Some([below, root].to_vec(alloc)?)));
     assert_eq!(rt; (core.made(), core.closed(), core.entries()), (2, 2, 0));
     Ok(())
 }
