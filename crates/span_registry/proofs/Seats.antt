@@ -91,6 +91,14 @@ pub seated_told : (core new : CoreView) (worker : ℕ) (meta : PlainMeta) (messa
 seated_told core new worker meta message fields r accepted a =
     seated_slots core new r accepted.limits (subst (λ (v : World). Agree r core.limits.slots (spans_seen v.spans)) (sym accepted.step.changes) a)
 
+-- what the root is after it was shown a closing list
+pub shown_handles : (lent left r r₁ : RootView) → lent ≡ r → left ≡ r₁ → left.handles ≡ lent.handles → r₁.handles ≡ r.handles
+shown_handles lent left r r₁ lent_is left_is same = ap (λ (x : RootView). x.handles) (sym left_is) ∙ same ∙ ap (λ (x : RootView). x.handles) lent_is
+
+pub shown_words : (lent left r r₁ : RootView) (list ids : List ℕ) → lent ≡ r → left ≡ r₁ → list ≡ ids → left.words ≡ closed_words lent.words list → r₁.words ≡ closed_words r.words ids
+shown_words lent left r r₁ list ids lent_is left_is list_is closed =
+    ap (λ (x : RootView). x.words) (sym left_is) ∙ closed ∙ (λ j. closed_words (lent_is j).words (list_is j))
+
 -- a call on a handle: the join has shown its number
 module _ (core : CoreView) (r r₁ : RootView) (h : HandleView) (id : ℕ) (a : AreSeated r core) (shown : has_number h.id h.number r.handles ≡ true) (is : h.id ≡ id) (joined : r₁ ≡ without_number r h.id h.number) where
   pub span_is_held : 0 < held_in Handle (find core.world.spans id)

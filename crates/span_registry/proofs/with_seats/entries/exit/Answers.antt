@@ -1,8 +1,5 @@
-use Rattle.std.proofs.Common.{sym, ap, ◌∙◌}
-use Rattle.span_seats.specs.declared.view.RootView.{RootView}
-use Rattle.span_seats.specs.RootView.{closed_words}
 use Rattle.span_registry.proofs.Bridge.{sound_of}
-use Rattle.span_registry.proofs.Seats.{exited_may_close, seated_exited}
+use Rattle.span_registry.proofs.Seats.{shown_handles, shown_words, exited_may_close, seated_exited}
 use Rattle.span_registry.proofs.with_seats.entries.exit.Goals as goal
 
 pub exit_with-requires-clause-may : goal.exit_with-requires-clause-may
@@ -16,6 +13,6 @@ returns-in-Ok-clause-seated g c =
     let l = c.each_slot_has_one_open_span.ensures in
     let shown = c.in-Ok.ensures.shown in
     seated_exited c.args.core.now c.args.worker c.args.id c.calls.ensures.legal (sound_of _ l.one_slot l.in_layout) c.in-Ok.ensures.accepted.due.known c.args.root.now c.requires.seated
-    _ c.in-Ok.ensures.accepted c.exit_with.new.state
-    (sym (ap (λ (x : RootView). x.handles) shown.left_is) ∙ shown.called.0 ∙ ap (λ (x : RootView). x.handles) shown.lent_is)
-    (sym (ap (λ (x : RootView). x.words) shown.left_is) ∙ shown.called.1.1 ∙ (λ j. closed_words (shown.lent_is j).words (shown.list_is j)))
+    c.exit_with.new.self c.in-Ok.ensures.accepted c.exit_with.new.state
+    (shown_handles _ _ c.args.root.now c.exit_with.new.state shown.lent_is shown.left_is shown.called.0)
+    (shown_words _ _ c.args.root.now c.exit_with.new.state _ _ shown.lent_is shown.left_is shown.list_is shown.called.1.1)

@@ -1,9 +1,8 @@
-use Rattle.std.proofs.Common.{sym, ap, ◌∙◌}
+use Rattle.std.proofs.Common.{ap, ◌∙◌}
 use Rattle.span_core.proofs.Deciding.{handle_from}
-use Rattle.span_seats.specs.declared.view.RootView.{RootView}
-use Rattle.span_seats.specs.RootView.{with_number, closed_words}
+use Rattle.span_seats.specs.RootView.{with_number}
 use Rattle.span_registry.proofs.Bridge.{sound_of}
-use Rattle.span_registry.proofs.Seats.{span_is_held, seated_back, seated_released, released_may_close, seated_refused, never_unknown}
+use Rattle.span_registry.proofs.Seats.{shown_handles, shown_words, span_is_held, seated_back, seated_released, released_may_close, seated_refused, never_unknown}
 use Rattle.span_registry.proofs.with_seats.handles.try_close.Goals as goal
 
 pub try_close_with-done-requires-clause-may : goal.try_close_with-done-requires-clause-may
@@ -17,9 +16,9 @@ returns-in-Ok-clause-seated g c =
     let l = c.each_slot_has_one_open_span.ensures in
     let shown = c.in-Ok.ensures.shown in
     seated_released c.args.core.now c.args.root.now c.join.new.self c.args.seat c.args.id c.requires.seated c.join.ensures.in_set c.requires.shown c.join.ensures.root c.calls.ensures.legal (sound_of _ l.one_slot l.in_layout)
-    _ _ c.in-Ok.ensures.accepted c.try_close_with-done.new.state
-    (sym (ap (λ (x : RootView). x.handles) shown.left_is) ∙ shown.called.0 ∙ ap (λ (x : RootView). x.handles) shown.lent_is)
-    (sym (ap (λ (x : RootView). x.words) shown.left_is) ∙ shown.called.1.1 ∙ (λ j. closed_words (shown.lent_is j).words (shown.list_is j)))
+    c.try_close_with-done.new.self c.args.worker c.in-Ok.ensures.accepted c.try_close_with-done.new.state
+    (shown_handles _ _ c.join.new.self c.try_close_with-done.new.state shown.lent_is shown.left_is shown.called.0)
+    (shown_words _ _ c.join.new.self c.try_close_with-done.new.state _ _ shown.lent_is shown.left_is shown.list_is shown.called.1.1)
 
 pub returns-in-Err-clause-seated : goal.returns-in-Err-clause-seated
 returns-in-Err-clause-seated g c =
