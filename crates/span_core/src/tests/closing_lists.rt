@@ -41,29 +41,44 @@ fn entered_again<V: Say>(
     Ok(())
 }
 
-// Keeps a copy of a list that is shown.
-fn keep(alloc: Global, shown: &mut Option<Vec<Id>>, ids: &[Id]) {
-    *shown = ids.to_vec(alloc).ok();
+// What is kept of a list that is shown: how long it is, and its two ends.
+type Ends = Option<(usize, Option<Id>, Option<Id>)>;
+
+fn keep(ends: &mut Ends, ids: &[Id]) {
+    *ends = Some((ids.len(), ids.first().copied(), ids.last().copied()));
 }
 
-// A worker that isn't inside the span doesn't leave it, and is shown no list. The same holds of a span that isn't there.
-fn refused_shows_nothing<V: Say>(
+// A worker that isn't inside the span doesn't leave it, and no list is shown. The same holds of an id that isn't there.
+fn refused_shows_nothing<V: Say>(rt: &impl Abort, core: &mut Core<Kept<V>>, below: Id)
+    requires { 2 ≡ core.old.limits.workers }
+    ensures { core.new.limits ≡ core.old.limits }
+{
+    let mut shown = None;
+    let left = core.exit_with(1, below, &mut shown, keep);
+    assert!(rt; left == Err(Fault::NotEntered));
+    let closed = core.try_close_with(1, Id::pack(1, 7), &mut shown, keep);
+    assert!(rt; closed == Err(Fault::Unknown));
+    assert!(rt; shown.is_none());
+}
+
+// The last handle of the child goes, which closes nothing, and then its entry, which closes it and its parent.
+fn both_are_shown<V: Say>(
     rt: &impl Abort,
-    alloc: Global,
     core: &mut Core<Kept<V>>,
     below: Id,
+    root: Id,
 ) -> Result<(), Fail>
     requires { 2 ≡ core.old.limits.workers }
     ensures { core.new.limits ≡ core.old.limits }
 {
     let mut shown = None;
-    let left = core.exit_with(1, below, &mut shown, |shown, ids| keep(alloc, shown, ids));
-    assert_eq!(rt; (left, shown), (Err(Fault::NotEntered), None));
-    let mut shown = None;
-    let absent = Id::pack(1, 7);
-    let closed = core.try_close_with(1, absent, &mut shown, |shown, ids| keep(alloc, shown, ids));
-    assert_eq!(rt; (closed, shown), (Err(Fault::Unknown), None));
-    assert_eq!(rt; (core.handles(), core.entries(), core.calls()), (1, 1, 8));
+    let closed = core.try_close_with(0, below, &mut shown, keep)?;
+    assert!(rt; !closed);
+    assert!(rt; shown == Some((0, None, None)));
+    assert_eq!(rt; (core.handles(), core.total()), (0, 1));
+    let closed = core.exit_with(0, below, &mut shown, keep)?;
+    assert!(rt; closed);
+    assert!(rt; shown == Some((2, Some(below), Some(root))));
     Ok(())
 }
 
@@ -88,14 +103,8 @@ fn closed_in_turn<V: Say>(
     assert_eq!(rt; text.as_str(), "= 1\n= 2\n= entered\n= open\n");
     entered_again(rt, alloc, &mut core)?;
     let (root, below) = (Id::pack(0, 0), Id::pack(1, 0));
-    refused_shows_nothing(rt, alloc, &mut core, below)?;
-    let mut shown = None;
-    let closed = core.try_close_with(0, below, &mut shown, |shown, ids| keep(alloc, shown, ids))?;
-    assert_eq!(rt; (closed, shown), (false, Some(Vec::new(alloc))));
-    assert_eq!(rt; (core.handles(), core.total()), (0, 1));
-    let mut shown = None;
-    let closed = core.exit_with(0, below, &mut shown, |shown, ids| keep(alloc, shown, ids))?;
-    assert_eq!(rt; (closed, shown), (true, Some([below, root].to_vec(alloc)?)));
+    refused_shows_nothing(rt, &mut core, below);
+    both_are_shown(rt, &mut core, below, root)?;
     assert_eq!(rt; (core.made(), core.closed(), core.entries()), (2, 2, 0));
     Ok(())
 }
