@@ -8,4 +8,5 @@ pub mod Core
 pub mod Outcome
 pub mod ClosedSpans
 pub mod Handles
+pub mod Shown
 pub mod inside

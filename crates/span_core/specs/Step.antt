@@ -86,7 +86,10 @@ is_open_parent spans None = true
 is_open_parent spans (Some id) = is_open spans id
 
 -- a span is made under an id that was never issued
-pub record MakesSpan (rules : List Filter) (issued : List ℕ) (old : World) (meta : PlainMeta) (fields : List KeyValue) (parent : Option ℕ) (id : ℕ) (new : World) : Type 0 where
+pub record MakesSpan
+    (rules : List Filter) (issued : List ℕ) (old : World) (meta : PlainMeta) (fields : List KeyValue)
+    (parent : Option ℕ) (id : ℕ) (new : World)
+    : Type 0 where
   pub in_layout : IsId id
   pub not_issued : stands_in id issued ≡ false
   pub wanted : is_wanted rules meta ≡ true
@@ -136,7 +139,10 @@ Changes rules issued old _ _ new = ⊥
 
 -- one accepted call: the caller is one of the workers, the world changes as the call says, and the notes are
 -- those of the call's happenings
-pub record IsStep (rules : List Filter) (issued : List ℕ) (old : World) (request : Request) (answer : Answer) (notes : List PlainNote) (new : World) : Type 0 where
+pub record IsStep
+    (rules : List Filter) (issued : List ℕ) (old : World) (request : Request) (answer : Answer)
+    (notes : List PlainNote) (new : World)
+    : Type 0 where
   pub within : worker_of request < length old.stacks
   pub changes : Changes rules issued old request answer new
   pub notes_are : notes ≡ notes_of_all rules (worker_of request) (happenings rules old request answer new)

@@ -1,5 +1,4 @@
 //! The calls of a core that change something.
-mod closed;
 mod entries;
 mod events;
 mod handles;

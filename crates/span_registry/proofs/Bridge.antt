@@ -18,9 +18,9 @@ use Rattle.span_forest.proofs.Nodes.{held_open, find-changed_same, find-changed_
 use Rattle.span_forest.proofs.Adds.{find-with_same, find-with_other}
 use Rattle.span_forest.proofs.Spared.{kept_passes, passing_kept, not_some, none_open, gone_exactly, listed_open}
 use Rattle.span_forest.proofs.Upheld.{IsUpheld}
-use Rattle.span_outlet.specs.Request.{clone_span, cloned, new_span, made, try_close, released, exit, exited}
+use Rattle.span_outlet.specs.Request.{clone_span, cloned, new_span, made}
 use Rattle.span_core.specs.World.{World}
-use Rattle.span_core.specs.Step.{made_node, stays_inside, closed_by_exit, is_open}
+use Rattle.span_core.specs.Step.{made_node, is_open}
 use Rattle.span_core.specs.History.{IsLegal}
 use Rattle.span_core.specs.Core.{CoreView, IsAccepted}
 use Rattle.span_core.proofs.Legal.{whole}
@@ -106,18 +106,21 @@ handles-fewer spans id x held =
       | inr t ↦ rw t.0 (let q = handles-released_other spans id x (λ e. t.1 (sym e)) in omega (arith, q))
     ]
 
-pub released_of : (core new : CoreView) (worker id : ℕ) → IsLegal core.rules core.limits.workers core.sent core.world
-    → IsAccepted core (try_close worker id) (released (closing_list core.world.spans id Handle)) new
-    → IsReleased true id (closing_list core.world.spans id Handle) (spans_seen core.world.spans) (spans_seen new.world.spans)
-released_of core new worker id legal accepted =
-    let up = (whole _ _ _ _ legal).settled.upheld in
-    let spans = core.world.spans in
+-- where spans close, no two that are left have one slot
+pub sound_left : (spans : Spans) (id : ℕ) (holder : Holder) → IsSound (spans_seen spans) → IsSound (spans_seen (spans_left spans id holder))
+sound_left spans id holder before = record {
+  held = λ x h. held_open (spans_left spans id holder) x Handle h;
+  positive = λ x o. before.positive x (left_open spans id holder x o);
+  alone = λ x y p q e. before.alone x y (left_open spans id holder x p) (left_open spans id holder y q) e;
+}
+
+pub released_of : (spans : Spans) (id : ℕ) → IsUpheld spans → IsHeld spans id Handle
+    → IsReleased true id (closing_list spans id Handle) (spans_seen spans) (spans_seen (spans_left spans id Handle))
+released_of spans id up held =
     let closed = closing_list spans id Handle in
-    let held = accepted.step.changes.held in
-    let after : new.world.spans ≡ spans_left spans id Handle = ap (λ (v : World). v.spans) accepted.step.changes.after in
     record {
-      fewer = λ x. handles-fewer spans id x held ∙ ap (λ (s : Spans). (if id == x then 1 else 0) + held_in Handle (find s x)) (sym after);
-      rest = λ x. ap (λ (s : Spans). is_open s x) after ∙ open-left spans up id Handle x ∙ ap (λ b. is_open spans x && not b) (sym (among_is x closed));
+      fewer = λ x. handles-fewer spans id x held;
+      rest = λ x. open-left spans up id Handle x ∙ ap (λ b. is_open spans x && not b) (sym (among_is x closed));
       were = λ x t. listed_open spans up.forest up.positive id Handle (held_open spans id Handle held) x (sym (among_is x closed) ∙ t);
     }
 
@@ -125,27 +128,26 @@ and_all : (b : Bool) → b ≡ (b && not false)
 and_all true = refl
 and_all false = refl
 
-left_of : (spans : Spans) (id : ℕ) → IsUpheld spans → IsOpen spans id → (stays : Bool)
-    → IsReleased false id (cond stays [] (closing_list spans id Entry)) (spans_seen spans) (spans_seen (cond stays spans (spans_left spans id Entry)))
-left_of spans id up there true = record {
+-- the spans after an exit, which may leave the entry
+abbrev pub spans_exited : Spans → ℕ → Bool → Spans
+spans_exited spans id stays = cond stays spans (spans_left spans id Entry)
+
+pub sound_exited : (spans : Spans) (id : ℕ) (stays : Bool) → IsSound (spans_seen spans) → IsSound (spans_seen (spans_exited spans id stays))
+sound_exited spans id true before = before
+sound_exited spans id false before = sound_left spans id Entry before
+
+pub exited_of : (spans : Spans) (id : ℕ) → IsUpheld spans → IsOpen spans id → (stays : Bool)
+    → IsReleased false id (cond stays [] (closing_list spans id Entry)) (spans_seen spans) (spans_seen (spans_exited spans id stays))
+exited_of spans id up there true = record {
   fewer = λ x. omega arith;
   rest = λ x. and_all (is_open spans x);
   were = λ x t. absurd (false≢true t);
 }
-left_of spans id up there false = record {
+exited_of spans id up there false = record {
   fewer = λ x. let q = handles-left spans id x in omega (arith, q);
   rest = λ x. open-left spans up id Entry x ∙ ap (λ b. is_open spans x && not b) (sym (among_is x (closing_list spans id Entry)));
   were = λ x t. listed_open spans up.forest up.positive id Entry there x (sym (among_is x (closing_list spans id Entry)) ∙ t);
 }
-
-pub exited_of : (core new : CoreView) (worker id : ℕ) → IsLegal core.rules core.limits.workers core.sent core.world
-    → IsAccepted core (exit worker id) (exited (closed_by_exit core.world worker id)) new
-    → IsReleased false id (closed_by_exit core.world worker id) (spans_seen core.world.spans) (spans_seen new.world.spans)
-exited_of core new worker id legal accepted =
-    let up = (whole _ _ _ _ legal).settled.upheld in
-    let after : new.world.spans ≡ cond (stays_inside core.world worker id) core.world.spans (spans_left core.world.spans id Entry) = ap (λ (v : World). v.spans) accepted.step.changes.after in
-    subst (λ (s : Spans). IsReleased false id (closed_by_exit core.world worker id) (spans_seen core.world.spans) (spans_seen s)) (sym after)
-    (left_of core.world.spans id up accepted.due.known (stays_inside core.world worker id))
 
 -- ---- a new span
 

@@ -7,23 +7,24 @@ use Rattle.span_id.specs.declared.fault.Fault.{Fault}
 use Rattle.span_id.specs.declared.fault.Fault.TheVariants.{Unknown, Backlog, Memory}
 use Rattle.span_forest.specs.declared.span.Holder.TheVariants.{Handle, Entry}
 use Rattle.span_forest.specs.Node.{with_fields}
-use Rattle.span_forest.specs.Spans.{Spans, find, with_change}
+use Rattle.span_forest.specs.Spans.{Spans, find, IsOpen, with_change}
 use Rattle.span_forest.specs.Holders.{held_in, with_more}
 use Rattle.span_forest.specs.Keep.{with_holder}
-use Rattle.span_forest.specs.Release.{closing_list}
+use Rattle.span_forest.specs.Release.{closing_list, spans_left}
 use Rattle.span_outlet.specs.Request.{Request, clone_span, cloned, new_span, made, try_close, released, enter, entered, exit, exited, record_fields, recorded, event, told}
 use Rattle.span_core.specs.World.{World}
-use Rattle.span_core.specs.Step.{closed_by_exit, is_open}
+use Rattle.span_core.specs.Step.{closed_by_exit, stays_inside, is_open}
 use Rattle.span_core.specs.History.{IsLegal}
 use Rattle.span_core.specs.Core.{CoreView, IsAccepted, IsRefused, IsNotWanted, is_known}
+use Rattle.span_core.proofs.Legal.{whole}
 use Rattle.span_core.proofs.Holds.{held-changed}
 use Rattle.span_seats.specs.declared.view.HandleView.{HandleView}
 use Rattle.span_seats.specs.declared.view.RootView.{RootView}
 use Rattle.span_seats.specs.RootView.{handle_count, has_number, IsOpenIn, HasNoHandle, MayClose, stored, with_number, without_number, closed_words}
-use Rattle.span_seats.specs.OpenSpans.{OpenSpans, IsSound, IsAdded, Agree}
+use Rattle.span_seats.specs.OpenSpans.{OpenSpans, IsSound, IsAdded, IsReleased, Agree}
 use Rattle.span_seats.proofs.Agreed.{handle_counts, refused_agrees, cloned_agrees, released_counts, released_words, left_counts, may_close, closed_agrees, added_slot, added_free, added_opens, added_id, added_agrees}
 use Rattle.span_registry.specs.inside.Seated.{spans_seen, AreSeated}
-use Rattle.span_registry.proofs.Bridge.{open-changed, cloned_of, released_of, exited_of}
+use Rattle.span_registry.proofs.Bridge.{open-changed, cloned_of, sound_left, released_of, spans_exited, sound_exited, exited_of}
 
 -- what stands in an option
 pub some_of : {X : Type 0} (o : Option X) (P : X → Type 0) (x : X) → o ≡ Some x → IfSome o P → P x
@@ -90,6 +91,14 @@ pub seated_told : (core new : CoreView) (worker : ℕ) (meta : PlainMeta) (messa
 seated_told core new worker meta message fields r accepted a =
     seated_slots core new r accepted.limits (subst (λ (v : World). Agree r core.limits.slots (spans_seen v.spans)) (sym accepted.step.changes) a)
 
+-- what the root is after it was shown a closing list
+pub shown_handles : (lent left r r₁ : RootView) → lent ≡ r → left ≡ r₁ → left.handles ≡ lent.handles → r₁.handles ≡ r.handles
+shown_handles lent left r r₁ lent_is left_is same = ap (λ (x : RootView). x.handles) (sym left_is) ∙ same ∙ ap (λ (x : RootView). x.handles) lent_is
+
+pub shown_words : (lent left r r₁ : RootView) (list ids : List ℕ) → lent ≡ r → left ≡ r₁ → list ≡ ids → left.words ≡ closed_words lent.words list → r₁.words ≡ closed_words r.words ids
+shown_words lent left r r₁ list ids lent_is left_is list_is closed =
+    ap (λ (x : RootView). x.words) (sym left_is) ∙ closed ∙ (λ j. closed_words (lent_is j).words (list_is j))
+
 -- a call on a handle: the join has shown its number
 module _ (core : CoreView) (r r₁ : RootView) (h : HandleView) (id : ℕ) (a : AreSeated r core) (shown : has_number h.id h.number r.handles ≡ true) (is : h.id ≡ id) (joined : r₁ ≡ without_number r h.id h.number) where
   pub span_is_held : 0 < held_in Handle (find core.world.spans id)
@@ -105,33 +114,55 @@ module _ (core : CoreView) (r r₁ : RootView) (h : HandleView) (id : ℕ) (a : 
       seated_slots core new r₃ accepted.limits (cloned_agrees (spans_seen core.world.spans) core.limits.slots r r₁ h id a shown is joined (spans_seen new.world.spans) r₂ r₃ back given (cloned_of core new worker id accepted))
 
   -- a handle given back
-  module _ (new : CoreView) (worker : ℕ) (legal : IsLegal core.rules core.limits.workers core.sent core.world) (before : IsSound (spans_seen core.world.spans)) (after : IsSound (spans_seen new.world.spans))
-      (accepted : IsAccepted core (try_close worker id) (released (closing_list core.world.spans id Handle)) new) where
-    counted : (x : ℕ) → handle_count x r₁.handles ≡ held_in Handle (find new.world.spans x)
-    counted = released_counts (spans_seen core.world.spans) core.limits.slots r r₁ h id a shown is joined (spans_seen new.world.spans) (closing_list core.world.spans id Handle) (released_of core new worker id legal accepted)
+  module _ (legal : IsLegal core.rules core.limits.workers core.sent core.world) (before : IsSound (spans_seen core.world.spans)) where
+    abbrev left : Spans
+    left = spans_left core.world.spans id Handle
+
+    gone : IsReleased true id (closing_list core.world.spans id Handle) (spans_seen core.world.spans) (spans_seen left)
+    gone = released_of core.world.spans id (whole _ _ _ _ legal).settled.upheld span_is_held
+
+    after : IsSound (spans_seen left)
+    after = sound_left core.world.spans id Handle before
+
+    counted : (x : ℕ) → handle_count x r₁.handles ≡ held_in Handle (find left x)
+    counted = released_counts (spans_seen core.world.spans) core.limits.slots r r₁ h id a shown is joined (spans_seen left) (closing_list core.world.spans id Handle) gone
 
     same_words : r₁.words ≡ r.words
     same_words = released_words (spans_seen core.world.spans) core.limits.slots r r₁ h id a shown is joined
 
     pub released_may_close : MayClose r₁ (closing_list core.world.spans id Handle)
-    released_may_close = may_close true id _ _ _ before after (released_of core new worker id legal accepted) core.limits.slots r r₁ a counted same_words
+    released_may_close = may_close true id _ _ _ before after gone core.limits.slots r r₁ a counted same_words
 
-    pub seated_released : (r₂ : RootView) → r₂.handles ≡ r₁.handles → r₂.words ≡ closed_words r₁.words (closing_list core.world.spans id Handle) → AreSeated r₂ new
-    seated_released r₂ handles words =
-        seated_slots core new r₂ accepted.limits (closed_agrees true id _ _ _ before after (released_of core new worker id legal accepted) core.limits.slots r r₁ a counted same_words r₂ handles words)
+    pub seated_released : (new : CoreView) (worker : ℕ) → IsAccepted core (try_close worker id) (released (closing_list core.world.spans id Handle)) new
+        → (r₂ : RootView) → r₂.handles ≡ r₁.handles → r₂.words ≡ closed_words r₁.words (closing_list core.world.spans id Handle) → AreSeated r₂ new
+    seated_released new worker accepted r₂ handles words =
+        let spans_are : new.world.spans ≡ left = ap (λ (v : World). v.spans) accepted.step.changes.after in
+        seated_slots core new r₂ accepted.limits
+        (subst (λ (s : Spans). Agree r₂ core.limits.slots (spans_seen s)) (sym spans_are) (closed_agrees true id _ _ _ before after gone core.limits.slots r r₁ a counted same_words r₂ handles words))
 
 -- an exit, which takes no handle
-module _ (core new : CoreView) (worker id : ℕ) (legal : IsLegal core.rules core.limits.workers core.sent core.world) (before : IsSound (spans_seen core.world.spans)) (after : IsSound (spans_seen new.world.spans))
-    (accepted : IsAccepted core (exit worker id) (exited (closed_by_exit core.world worker id)) new) (r : RootView) (a : AreSeated r core) where
-  still_counted : (x : ℕ) → handle_count x r.handles ≡ held_in Handle (find new.world.spans x)
-  still_counted = left_counts (spans_seen core.world.spans) (spans_seen new.world.spans) core.limits.slots r id (closed_by_exit core.world worker id) a (exited_of core new worker id legal accepted)
+module _ (core : CoreView) (worker id : ℕ) (legal : IsLegal core.rules core.limits.workers core.sent core.world) (before : IsSound (spans_seen core.world.spans)) (there : IsOpen core.world.spans id) (r : RootView) (a : AreSeated r core) where
+  abbrev left_open : Spans
+  left_open = spans_exited core.world.spans id (stays_inside core.world worker id)
+
+  gone_exited : IsReleased false id (closed_by_exit core.world worker id) (spans_seen core.world.spans) (spans_seen left_open)
+  gone_exited = exited_of core.world.spans id (whole _ _ _ _ legal).settled.upheld there (stays_inside core.world worker id)
+
+  after_exited : IsSound (spans_seen left_open)
+  after_exited = sound_exited core.world.spans id (stays_inside core.world worker id) before
+
+  still_counted : (x : ℕ) → handle_count x r.handles ≡ held_in Handle (find left_open x)
+  still_counted = left_counts (spans_seen core.world.spans) (spans_seen left_open) core.limits.slots r id (closed_by_exit core.world worker id) a gone_exited
 
   pub exited_may_close : MayClose r (closed_by_exit core.world worker id)
-  exited_may_close = may_close false id _ _ _ before after (exited_of core new worker id legal accepted) core.limits.slots r r a still_counted refl
+  exited_may_close = may_close false id _ _ _ before after_exited gone_exited core.limits.slots r r a still_counted refl
 
-  pub seated_exited : (r₂ : RootView) → r₂.handles ≡ r.handles → r₂.words ≡ closed_words r.words (closed_by_exit core.world worker id) → AreSeated r₂ new
-  seated_exited r₂ handles words =
-      seated_slots core new r₂ accepted.limits (closed_agrees false id _ _ _ before after (exited_of core new worker id legal accepted) core.limits.slots r r a still_counted refl r₂ handles words)
+  pub seated_exited : (new : CoreView) → IsAccepted core (exit worker id) (exited (closed_by_exit core.world worker id)) new
+      → (r₂ : RootView) → r₂.handles ≡ r.handles → r₂.words ≡ closed_words r.words (closed_by_exit core.world worker id) → AreSeated r₂ new
+  seated_exited new accepted r₂ handles words =
+      let spans_are : new.world.spans ≡ left_open = ap (λ (v : World). v.spans) accepted.step.changes.after in
+      seated_slots core new r₂ accepted.limits
+      (subst (λ (s : Spans). Agree r₂ core.limits.slots (spans_seen s)) (sym spans_are) (closed_agrees false id _ _ _ before after_exited gone_exited core.limits.slots r r a still_counted refl r₂ handles words))
 
 -- a new span: its slot's word is stored, and its handle gets a seat
 module _ (core new : CoreView) (id : ℕ) (before : IsSound (spans_seen core.world.spans)) (added : IsAdded id core.limits.slots (spans_seen core.world.spans) (spans_seen new.world.spans)) (r : RootView) (a : AreSeated r core) where

@@ -39,7 +39,10 @@ place_in places layer = slice_index_or places layer None
 
 -- each layer's place is such a one, where `next` says for each layer at which span; a layer that wants no closes has
 -- none
-pub record AreBelow (rules : List Filter) (spans : Spans) (notes : List PlainNote) (next : ℕ → Option ℕ) (places : List (Option ℕ)) : Type 0 where
+pub record AreBelow
+    (rules : List Filter) (spans : Spans) (notes : List PlainNote) (next : ℕ → Option ℕ)
+    (places : List (Option ℕ))
+    : Type 0 where
   pub below : (layer : ℕ) → IsBelow spans notes layer (next layer) (place_in places layer)
   pub wanted : (layer : ℕ) → layer_wants rules layer OnClose ≡ false → place_in places layer ≡ None
 

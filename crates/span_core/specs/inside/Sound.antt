@@ -31,7 +31,10 @@ forest_with limits spans used = record {
 -- the parts agree: the number of calls is that of the batches sent, the forest has the slots that the
 -- history used, each issued id and no other is counted there, each worker has a stack, and the history is
 -- legal and leaves this world
-pub record IsSound (limits : Limits) (forest : ForestView) (stacks : List (List ℕ)) (rules : List Filter) (calls : ℕ) (sent : List PlainBatch) : Type 0 where
+pub record IsSound
+    (limits : Limits) (forest : ForestView) (stacks : List (List ℕ)) (rules : List Filter) (calls : ℕ)
+    (sent : List PlainBatch)
+    : Type 0 where
   pub calls_are : calls ≡ length sent
   pub forest_is : forest ≡ forest_with limits forest.spans (slots_after limits.last_generation sent)
   pub counted : (id : ℕ) → stands_in id (issued sent) ≡ true → generation_of id < slice_index forest.given (slot_of id)

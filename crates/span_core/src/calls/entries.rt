@@ -1,5 +1,5 @@
 //! The calls that change a worker's stack.
-ghost use Rattle.std.specs.Prelude.{◌≡◌, ◌≢◌, ◌<◌, ◌↔◌, true, false, if◌then◌else◌, [], nat_lt, length, None, IsTrue, IfOk, IfErr, OnOk};
+ghost use Rattle.std.specs.Prelude.{◌≡◌, ◌≢◌, ◌<◌, ◌↔◌, true, false, if◌then◌else◌, [], nat_lt, length, None, IsTrue, IfOk, IfErr, OnOk, OnErr};
 ghost use Rattle.span_forest.specs.declared.span.Holder.TheVariants.{Handle, Entry};
 ghost use Rattle.span_forest.specs.Spans.{find};
 ghost use Rattle.span_forest.specs.Count.{reference_count};
@@ -9,10 +9,10 @@ ghost use Rattle.span_forest.specs.Release.{closing_list, spans_left, freed_afte
 ghost use Rattle.span_core.specs.inside.ClosingPaths.{IsChain};
 ghost use Rattle.span_outlet.specs.Request.{enter, entered, exit, exited};
 ghost use Rattle.span_core.specs.Step.{closed_by_exit};
-ghost use Rattle.span_core.specs.Core.{IsAccepted, IsRefused};
+ghost use Rattle.span_core.specs.Core.{IsDue, IsAccepted, IsRefused};
+ghost use Rattle.span_core.specs.Shown.{MayBeShown, IsShown};
 
 use crate::Core;
-use crate::calls::closed::{Closed, closed_of};
 use crate::calls::held::{closing_of, held_span, open_bits};
 use crate::calls::room::ask;
 use crate::laws::the_named_span_closes_first;
@@ -85,30 +85,31 @@ impl<O: Outlet, A> Core<O, A> {
         ensures refused { IfErr result (λ fault. IsRefused self.old (exit worker id) fault self.new) }
     {
         the_named_span_closes_first(self);
-        Ok(self.step_out(worker, id, false)?.any)
+        self.exit_with(worker, id, &mut (), |_, _| ())
     }
 
-    /// A worker leaves a span, as `exit` does and with the same refusals. It answers the ids of the spans that closed,
-    /// child first: none where the span stays open.
-    pub fn leave(&mut self, worker: u32, id: Id) -> Result<Vec<Id>, Fault>
-        requires { worker < self.old.limits.workers }
+    /// A worker leaves a span, as `exit` does and with the same refusals; which spans close is shown.
+    ///
+    /// Where nothing stands against the call any longer, `see` is called with `state` and the ids of the spans that
+    /// close, child first, of which there may be none; then their list goes to the outlet. A refused call shows `see`
+    /// nothing. What `see` changes is `state`: contracts tell what becomes of it.
+    pub fn exit_with<S, F: FnOnce(&mut S, &[Id])>(
+        &mut self,
+        worker: u32,
+        id: Id,
+        state: &mut S,
+        see: F,
+    ) -> Result<bool, Fault>
+        requires worker { worker < self.old.limits.workers }
+        requires may { IsDue self.old (exit worker id) →
+            MayBeShown F.FnOnce see state.old (closed_by_exit self.old.world worker id) }
         ensures accepted { OnOk result (IsAccepted self.old (exit worker id)
             (exited (closed_by_exit self.old.world worker id)) self.new) }
-        ensures closed { IfOk result (λ closed. closed.items ≡ closed_by_exit self.old.world worker id) }
+        ensures closed { IfOk result (λ closed. closed ≡ nat_lt 0 (length (closed_by_exit self.old.world worker id))) }
+        ensures shown { OnOk result
+            (IsShown F.FnOnce see state.old (closed_by_exit self.old.world worker id) state.new) }
         ensures refused { IfErr result (λ fault. IsRefused self.old (exit worker id) fault self.new) }
-    {
-        Ok(self.step_out(worker, id, true)?.ids)
-    }
-
-    // A worker leaves a span. The list of the spans that close is moved into the batch.
-    fn step_out(&mut self, worker: u32, id: Id, with_ids: bool) -> Result<Closed, Fault>
-        requires { worker < self.old.limits.workers }
-        ensures accepted { OnOk result (IsAccepted self.old (exit worker id)
-            (exited (closed_by_exit self.old.world worker id)) self.new) }
-        ensures any { IfOk result (λ closed. closed.any ≡ nat_lt 0 (length (closed_by_exit self.old.world worker id))) }
-        ensures ids { IfOk result (λ closed. with_ids ≡ true → closed.ids.items
-            ≡ closed_by_exit self.old.world worker id) }
-        ensures refused { IfErr result (λ fault. IsRefused self.old (exit worker id) fault self.new) }
+        ensures not_shown { OnErr result (state.new ≡ state.old) }
     {
         let Some(bits) = open_bits(&self.forest, id) else {
             return Err(Fault::Unknown);
@@ -121,7 +122,6 @@ impl<O: Outlet, A> Core<O, A> {
         };
         ask(&mut self.outlet)?;
         let closing = closing_on_exit(self.alloc, &self.forest, stays, id)?;
-        let closed = closed_of(self.alloc, closing.as_slice(), with_ids)?;
         let what = Happening {
             worker,
             kind: Kind::OnExit,
@@ -135,6 +135,8 @@ impl<O: Outlet, A> Core<O, A> {
             &what,
             closing.as_slice(),
         )?;
+        see(state, closing.as_slice());
+        let closed = !closing.is_empty();
         release_on_exit(&mut self.forest, stays, id, closing.as_slice());
         pop_at(&mut self.stacks, worker, id);
         self.calls += 1;

@@ -1,14 +1,14 @@
 //! The calls on a handle that enter no stack: one more handle, fields appended, a handle given back.
-ghost use Rattle.std.specs.Prelude.{◌≡◌, ◌<◌, ◌↔◌, true, nat_lt, length, None, IsTrue, OnOk, IfOk, IfErr};
+ghost use Rattle.std.specs.Prelude.{◌≡◌, ◌<◌, ◌↔◌, nat_lt, length, None, IsTrue, OnOk, OnErr, IfOk, IfErr};
 ghost use Rattle.span_forest.specs.declared.span.Holder.TheVariants.{Handle};
 ghost use Rattle.span_forest.specs.Spans.{find};
 ghost use Rattle.span_forest.specs.Release.{closing_list};
 ghost use Rattle.span_id.specs.Meta.{plain_fields};
 ghost use Rattle.span_outlet.specs.Request.{clone_span, cloned, record_fields, recorded, try_close, released, request_of};
-ghost use Rattle.span_core.specs.Core.{IsAccepted, IsRefused};
+ghost use Rattle.span_core.specs.Core.{IsDue, IsAccepted, IsRefused};
+ghost use Rattle.span_core.specs.Shown.{MayBeShown, IsShown};
 
 use crate::Core;
-use crate::calls::closed::{Closed, closed_of};
 use crate::calls::held::{closing_of, held_span};
 use crate::calls::names::are_keys;
 use crate::calls::room::ask;
@@ -115,31 +115,32 @@ impl<O: Outlet, A> Core<O, A> {
         ensures refused { IfErr result (λ fault. IsRefused self.old (try_close worker id) fault self.new) }
     {
         the_named_span_closes_first(self);
-        Ok(self.release(worker, id, false)?.any)
+        self.try_close_with(worker, id, &mut (), |_, _| ())
     }
 
-    /// Gives a handle of a span back, as `try_close` does and with the same refusals, and answers the ids of the spans
-    /// that closed, child first: none where the span stays open.
-    pub fn give_back(&mut self, worker: u32, id: Id) -> Result<Vec<Id>, Fault>
-        requires { worker < self.old.limits.workers }
+    /// Gives a handle of a span back, as `try_close` does and with the same refusals, and shows which spans close.
+    ///
+    /// Where nothing stands against the call any longer, `see` is called with `state` and the ids of the spans that
+    /// close, child first, of which there may be none; then their list goes to the outlet. A refused call shows `see`
+    /// nothing. What `see` changes is `state`: contracts tell what becomes of it.
+    pub fn try_close_with<S, F: FnOnce(&mut S, &[Id])>(
+        &mut self,
+        worker: u32,
+        id: Id,
+        state: &mut S,
+        see: F,
+    ) -> Result<bool, Fault>
+        requires worker { worker < self.old.limits.workers }
+        requires may { IsDue self.old (try_close worker id) →
+            MayBeShown F.FnOnce see state.old (closing_list self.old.world.spans id Handle) }
         ensures accepted { OnOk result (IsAccepted self.old (try_close worker id)
             (released (closing_list self.old.world.spans id Handle)) self.new) }
-        ensures closed { IfOk result (λ closed. closed.items ≡ closing_list self.old.world.spans id Handle) }
-        ensures refused { IfErr result (λ fault. IsRefused self.old (try_close worker id) fault self.new) }
-    {
-        Ok(self.release(worker, id, true)?.ids)
-    }
-
-    // Gives a handle back. The list of the spans that close is moved into the batch.
-    fn release(&mut self, worker: u32, id: Id, with_ids: bool) -> Result<Closed, Fault>
-        requires { worker < self.old.limits.workers }
-        ensures accepted { OnOk result (IsAccepted self.old (try_close worker id)
-            (released (closing_list self.old.world.spans id Handle)) self.new) }
-        ensures any { IfOk result (λ closed. closed.any
+        ensures closed { IfOk result (λ closed. closed
             ≡ nat_lt 0 (length (closing_list self.old.world.spans id Handle))) }
-        ensures ids { IfOk result (λ closed. with_ids ≡ true → closed.ids.items
-            ≡ closing_list self.old.world.spans id Handle) }
+        ensures shown { OnOk result
+            (IsShown F.FnOnce see state.old (closing_list self.old.world.spans id Handle) state.new) }
         ensures refused { IfErr result (λ fault. IsRefused self.old (try_close worker id) fault self.new) }
+        ensures not_shown { OnErr result (state.new ≡ state.old) }
     {
         let Some(_) = held_span(&self.forest, id) else {
             return Err(Fault::Unknown);
@@ -149,7 +150,6 @@ impl<O: Outlet, A> Core<O, A> {
         }
         ask(&mut self.outlet)?;
         let closing = closing_of(&self.forest, id, Holder::Handle)?;
-        let closed = closed_of(self.alloc, closing.as_slice(), with_ids)?;
         let mut notes = Vec::new(self.alloc);
         push_closes(
             self.alloc,
@@ -159,6 +159,8 @@ impl<O: Outlet, A> Core<O, A> {
             worker,
             closing.as_slice(),
         )?;
+        see(state, closing.as_slice());
+        let closed = !closing.is_empty();
         self.forest
             .release_closing(id, Holder::Handle, closing.as_slice());
         self.calls += 1;

@@ -1,10 +1,10 @@
-//! The calls that answer which spans closed, and the counts after them.
+//! The closing lists that calls show, and the counts after them.
 ghost use Rattle.std.specs.Prelude.{◌≡◌, []};
 
 use crate::Core;
 use crate::tests::acts::{Act, child, play};
 use crate::tests::layers::layers;
-use span_id::{Id, Limits};
+use span_id::{Fault, Id, Limits};
 use span_layers::{Filters, Say};
 use span_outlet::Kept;
 use std::alloc::Global;
@@ -41,6 +41,47 @@ fn entered_again<V: Say>(
     Ok(())
 }
 
+// What is kept of a list that is shown: how long it is, and its two ends.
+type Ends = Option<(usize, Option<Id>, Option<Id>)>;
+
+fn keep(ends: &mut Ends, ids: &[Id]) {
+    *ends = Some((ids.len(), ids.first().copied(), ids.last().copied()));
+}
+
+// A worker that isn't inside the span doesn't leave it, and no list is shown. The same holds of an id that isn't there.
+fn refused_shows_nothing<V: Say>(rt: &impl Abort, core: &mut Core<Kept<V>>, below: Id)
+    requires { 2 ≡ core.old.limits.workers }
+    ensures { core.new.limits ≡ core.old.limits }
+{
+    let mut shown = None;
+    let left = core.exit_with(1, below, &mut shown, keep);
+    assert!(rt; left == Err(Fault::NotEntered));
+    let closed = core.try_close_with(1, Id::pack(1, 7), &mut shown, keep);
+    assert!(rt; closed == Err(Fault::Unknown));
+    assert!(rt; shown.is_none());
+}
+
+// The last handle of the child goes, which closes nothing, and then its entry, which closes it and its parent.
+fn both_are_shown<V: Say>(
+    rt: &impl Abort,
+    core: &mut Core<Kept<V>>,
+    below: Id,
+    root: Id,
+) -> Result<(), Fail>
+    requires { 2 ≡ core.old.limits.workers }
+    ensures { core.new.limits ≡ core.old.limits }
+{
+    let mut shown = None;
+    let closed = core.try_close_with(0, below, &mut shown, keep)?;
+    assert!(rt; !closed);
+    assert!(rt; shown == Some((0, None, None)));
+    assert_eq!(rt; (core.handles(), core.total()), (0, 1));
+    let closed = core.exit_with(0, below, &mut shown, keep)?;
+    assert!(rt; closed);
+    assert!(rt; shown == Some((2, Some(below), Some(root))));
+    Ok(())
+}
+
 // A root and its child, which is entered; then all holders are given back.
 fn closed_in_turn<V: Say>(
     rt: &impl Abort,
@@ -62,9 +103,8 @@ fn closed_in_turn<V: Say>(
     assert_eq!(rt; text.as_str(), "= 1\n= 2\n= entered\n= open\n");
     entered_again(rt, alloc, &mut core)?;
     let (root, below) = (Id::pack(0, 0), Id::pack(1, 0));
-    assert!(rt; core.give_back(0, below)?.is_empty());
-    assert_eq!(rt; (core.handles(), core.total()), (0, 1));
-    assert_eq!(rt; core.leave(0, below)?.as_slice(), [below, root].as_slice());
+    refused_shows_nothing(rt, &mut core, below);
+    both_are_shown(rt, &mut core, below, root)?;
     assert_eq!(rt; (core.made(), core.closed(), core.entries()), (2, 2, 0));
     Ok(())
 }

@@ -70,12 +70,10 @@ pub(crate) fn exit<T: TableName, O: Outlet, A>(
 {
     core.calls();
     each_slot_has_one_open_span(core);
-    match core.leave(worker, id) {
+    match core.exit_with(worker, id, root, RootSeat::mark_closed) {
         Ok(closed) => {
             core.calls();
-            each_slot_has_one_open_span(core);
-            root.mark_closed(closed.as_slice());
-            Ok(!closed.is_empty())
+            Ok(closed)
         }
         Err(fault) => {
             core.calls();

@@ -120,18 +120,11 @@ pub(crate) fn try_close<T: TableName, O: Outlet, A>(
     root.join(seat);
     core.calls();
     each_slot_has_one_open_span(core);
-    match core.give_back(worker, id) {
-        Ok(closed) => {
-            core.calls();
-            each_slot_has_one_open_span(core);
-            root.mark_closed(closed.as_slice());
-            Ok(!closed.is_empty())
-        }
-        Err(fault) => {
-            core.calls();
-            let back = root.split();
-            Err((back, fault))
-        }
+    let done = core.try_close_with(worker, id, root, RootSeat::mark_closed);
+    core.calls();
+    match done {
+        Ok(closed) => Ok(closed),
+        Err(fault) => Err((root.split(), fault)),
     }
 }
 

@@ -1,19 +1,18 @@
-use Rattle.std.proofs.Common.{ℕ, List, sym, ap, ◌∙◌, subst}
-use Rattle.span_seats.specs.RootView.{MayClose, closed_words}
 use Rattle.span_registry.proofs.Bridge.{sound_of}
-use Rattle.span_registry.proofs.Seats.{exited_may_close, seated_exited}
+use Rattle.span_registry.proofs.Seats.{shown_handles, shown_words, exited_may_close, seated_exited}
 use Rattle.span_registry.proofs.with_seats.entries.exit.Goals as goal
 
-pub mark_closed-requires : goal.mark_closed-requires
-mark_closed-requires g c =
+pub exit_with-requires-clause-may : goal.exit_with-requires-clause-may
+exit_with-requires-clause-may g c due lent list lent_is list_is =
     let l = c.each_slot_has_one_open_span.ensures in
-    let m = c.each_slot_has_one_open_span-in-Ok.ensures in
-    subst (λ (ids : List ℕ). MayClose c.args.root.now ids) (sym (c.as_slice.ensures.value ∙ c.in-Ok.ensures.closed))
-    (exited_may_close c.args.core.now c.leave.new.self _ _ c.calls.ensures.legal (sound_of _ l.one_slot l.in_layout) (sound_of _ m.one_slot m.in_layout) c.in-Ok.ensures.accepted _ c.requires.seated)
+    rw (lent_is, list_is)
+    (exited_may_close c.args.core.now c.args.worker c.args.id c.calls.ensures.legal (sound_of _ l.one_slot l.in_layout) due.known c.args.root.now c.requires.seated)
 
 pub returns-in-Ok-clause-seated : goal.returns-in-Ok-clause-seated
 returns-in-Ok-clause-seated g c =
     let l = c.each_slot_has_one_open_span.ensures in
-    let m = c.each_slot_has_one_open_span-in-Ok.ensures in
-    seated_exited c.args.core.now c.leave.new.self _ _ c.calls.ensures.legal (sound_of _ l.one_slot l.in_layout) (sound_of _ m.one_slot m.in_layout) c.in-Ok.ensures.accepted _ c.requires.seated
-    c.mark_closed.new.self c.mark_closed.ensures.handles (c.mark_closed.ensures.words ∙ ap (λ (ids : List ℕ). closed_words c.args.root.now.words ids) (c.as_slice.ensures.value ∙ c.in-Ok.ensures.closed))
+    let shown = c.in-Ok.ensures.shown in
+    seated_exited c.args.core.now c.args.worker c.args.id c.calls.ensures.legal (sound_of _ l.one_slot l.in_layout) c.in-Ok.ensures.accepted.due.known c.args.root.now c.requires.seated
+    c.exit_with.new.self c.in-Ok.ensures.accepted c.exit_with.new.state
+    (shown_handles _ _ c.args.root.now c.exit_with.new.state shown.lent_is shown.left_is shown.called.0)
+    (shown_words _ _ c.args.root.now c.exit_with.new.state _ _ shown.lent_is shown.left_is shown.list_is shown.called.1.1)
