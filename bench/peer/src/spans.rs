@@ -94,27 +94,30 @@ impl Spans {
         }
     }
 
-    /// The span, its parent, that one's parent, and so on.
-    pub fn walk(&self, id: Id) -> impl Iterator<Item = (Id, &Span)> {
-        let of_id = |id: Id| self.get(id).map(|span| (id, span));
-        std::iter::successors(of_id(id), move |(_, span)| span.parent.and_then(of_id))
-    }
-
-    /// The names on the walk that the layer admits, root first, joined by `:`. `places` is room to work in.
+    /// The names on the way from the root to the span that the layer admits, joined by `:`. `places` is room to work
+    /// in.
     pub fn path(&self, layer: u32, id: Id, places: &mut Vec<u32>) -> Box<str> {
         places.clear();
-        let mut length = 0;
-        for (id, span) in self.walk(id).filter(|(_, span)| span.admitted.has(layer)) {
-            places.push(id.slot());
-            length += span.name.len() + 1;
+        let (mut next, mut length) = (Some(id), 0);
+        while let Some((id, span)) = next.and_then(|id| Some((id, self.in_slot(id.slot())?))) {
+            if span.admitted.has(layer) {
+                places.push(id.slot());
+                length += span.name.len() + 1;
+            }
+            next = span.parent;
         }
         let mut path = String::with_capacity(length.saturating_sub(1));
         for place in places.iter().rev() {
             if !path.is_empty() {
                 path.push(':');
             }
-            path.push_str(self.slots[*place as usize].span.as_ref().map_or("", |span| &span.name));
+            path.push_str(self.in_slot(*place).map_or("", |span| &span.name));
         }
         path.into_boxed_str()
+    }
+
+    /// The span in the slot of an id that is known to be open.
+    fn in_slot(&self, slot: u32) -> Option<&Span> {
+        self.slots.get(slot as usize)?.span.as_ref()
     }
 }
