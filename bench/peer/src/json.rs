@@ -4,6 +4,19 @@ use std::borrow::Cow;
 /// Arrays and objects stand in one another at most so deep.
 const MOST_LEVELS: u32 = 127;
 
+/// The bytes that don't stand in a text as they are.
+const ENDS_RUN: [bool; 256] = {
+    let mut ends = [false; 256];
+    let mut byte = 0;
+    while byte < b' ' {
+        ends[byte as usize] = true;
+        byte += 1;
+    }
+    ends[b'"' as usize] = true;
+    ends[b'\\' as usize] = true;
+    ends
+};
+
 /// A value. Only what scripts use is told apart.
 pub enum Value<'a> {
     Null,
@@ -181,9 +194,11 @@ impl<'a> Reader<'a> {
     /// Passes over what stands in a text as it is.
     fn run(&mut self) -> &'a str {
         let start = self.place;
-        let is_plain = |byte: &u8| !matches!(byte, b'"' | b'\\' | 0..=0x1f);
         let rest = &self.text.as_bytes()[start..];
-        self.place += rest.iter().position(|byte| !is_plain(byte)).unwrap_or(rest.len());
+        self.place += rest
+            .iter()
+            .position(|byte| ENDS_RUN[usize::from(*byte)])
+            .unwrap_or(rest.len());
         &self.text[start..self.place]
     }
 

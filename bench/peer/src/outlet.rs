@@ -3,7 +3,10 @@ use crate::field::Fields;
 use crate::id::Id;
 use crate::layer::{Form, Level};
 use crate::note::Note;
+use std::mem;
 use std::sync::Arc;
+
+const LONG_TEXT: usize = 1 << 14;
 
 /// An accepted call, with its arguments.
 #[expect(
@@ -95,16 +98,26 @@ impl Lines {
     /// Adds the lines of the next batch.
     pub fn add(&mut self, batch: &Batch) {
         for (place, note) in batch.notes.iter().enumerate() {
-            self.text.clear();
             note.write(self.forms[note.layer as usize], &mut self.text);
+            let text = self.take_text();
             self.all.push(Line {
                 batch: self.batches,
                 place: place as u32,
                 layer: note.layer,
-                text: self.text.as_slice().into(),
+                text,
             });
         }
         self.batches += 1;
+    }
+
+    /// The text that was written last. A long one isn't copied.
+    fn take_text(&mut self) -> Box<[u8]> {
+        if self.text.len() >= LONG_TEXT {
+            return mem::take(&mut self.text).into_boxed_slice();
+        }
+        let text = self.text.as_slice().into();
+        self.text.clear();
+        text
     }
 }
 
