@@ -51,7 +51,7 @@ class Picture:
             x += 90
 
     def write(self, path):
-        with open(path, "w") as file:
+        with open(path, "w", encoding="utf-8") as file:
             file.write(
                 f'<svg xmlns="http://www.w3.org/2000/svg" viewBox="0 0 {self.width} {self.height}" '
                 f'width="{self.width}" height="{self.height}" font-family="{FONT}">\n'
@@ -68,7 +68,7 @@ def round_step(most, steps):
 
 def bars(rows, title, what, unit, scale):
     """For each kind two bars, and how tracerun's is to the peer's."""
-    left, top, step, width = 210, 66, 34, 860
+    left, top, step, width = 240, 66, 34, 890
     picture = Picture(width, top + step * len(rows) + 40, title)
     picture.legend(20, 52)
     room = width - left - 120
@@ -87,7 +87,7 @@ def bars(rows, title, what, unit, scale):
             length = room * row[who][what] * scale / most
             picture.rectangle(left, y + 2 + 11 * shift, max(length, 1), 10, color)
         end = left + room * max(row[who][what] for who in WHO) * scale / most
-        picture.text(end + 8, y + 16, f"{ratio(row, what):.2f} times", 11, PALE)
+        picture.text(end + 8, y + 16, f"{ratio(row, what):.2f} ×", 11, PALE)
     return picture
 
 
@@ -101,9 +101,14 @@ class Logarithmic:
         part = (math.log(value) - self.least) / (self.most - self.least)
         return self.start + (self.end - self.start) * part
 
-    def tens(self):
-        first, last = math.ceil(self.least / math.log(10) - 1e-9), math.floor(self.most / math.log(10) + 1e-9)
-        return [10.0**power for power in range(first, last + 1)]
+    def marks(self):
+        """The powers of ten on the axis; where they are fewer than two, also twice and five times them."""
+        powers = range(math.floor(self.least / math.log(10)), math.ceil(self.most / math.log(10)) + 1)
+        tens = self.of_axis(10.0**power for power in powers)
+        return tens if len(tens) > 1 else self.of_axis(10.0**power * it for power in powers for it in (1, 2, 5))
+
+    def of_axis(self, values):
+        return [value for value in values if self.least <= math.log(value) <= self.most]
 
 
 def storms(rows):
@@ -125,7 +130,7 @@ def storms(rows):
     for row in rows:
         picture.text(across(row["workers"]), bottom + 18, str(row["workers"]), 11, PALE, "middle")
         slower = max(row[who]["middle_clock"] for who in WHO) * 1e3
-        picture.text(across(row["workers"]), up(slower) - 9, f"{ratio(row, 'middle_clock'):.2f} times", 11, PALE, "middle")
+        picture.text(across(row["workers"]), up(slower) - 9, f"{ratio(row, 'middle_clock'):.2f} ×", 11, PALE, "middle")
     picture.text((left + right) / 2, bottom + 38, "workers", 11, PALE, "middle")
     for who, (_, color) in WHO.items():
         picture.curve([(across(row["workers"]), up(row[who]["middle_clock"] * 1e3)) for row in rows], color)
@@ -144,9 +149,9 @@ def panel(picture, rows, x, y, width, height):
     up = Logarithmic(min(costs) / 1.3, max(*costs, straight) * 1.3, bottom, top)
     picture.line(left, top, left, bottom)
     picture.line(left, bottom, x + width, bottom)
-    for ten in up.tens():
-        picture.line(left, up(ten), x + width, up(ten))
-        picture.text(left - 4, up(ten) + 4, f"{ten:g}", 10, PALE, "end")
+    for mark in up.marks():
+        picture.line(left, up(mark), x + width, up(mark))
+        picture.text(left - 4, up(mark) + 4, f"{mark:g}", 10, PALE, "end")
     for row in rows:
         picture.text(across(row["mib"]), bottom + 14, f"{row['mib']:g}", 10, PALE, "middle")
     first, last = rows[0], rows[-1]

@@ -90,7 +90,8 @@ def all_tables(results):
             growth_table(rows),
         ]
     if results.get("storm"):
-        parts += [f"## Storms, the middle and the least of {results['storm_runs']} runs\n", storm_table(results["storm"])]
+        parts.append(f"## Storms, the middle and the least of {results['storm_runs']} runs\n")
+        parts.append(storm_table(results["storm"]))
     if results.get("note"):
         parts.append(results["note"] + "\n")
     return "\n".join(parts)
