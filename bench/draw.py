@@ -188,7 +188,8 @@ def draw_all(results, folder):
 
 
 def main():
-    parser = argparse.ArgumentParser(description=__doc__.partition("\nusage:")[0], formatter_class=argparse.RawDescriptionHelpFormatter)
+    told = __doc__.partition("\nusage:")[0]
+    parser = argparse.ArgumentParser(description=told, formatter_class=argparse.RawDescriptionHelpFormatter)
     parser.add_argument("folder", metavar="FOLDER")
     folder = parser.parse_args().folder
     with open(os.path.join(folder, "results.json")) as file:

@@ -152,7 +152,8 @@ def sizes_of(text):
 
 
 def options():
-    parser = argparse.ArgumentParser(description=__doc__.partition("\nusage:")[0], formatter_class=argparse.RawDescriptionHelpFormatter)
+    told = __doc__.partition("\nusage:")[0]
+    parser = argparse.ArgumentParser(description=told, formatter_class=argparse.RawDescriptionHelpFormatter)
     parser.add_argument("names", nargs="*", metavar="NAME", help=f"kinds of scripts, or {STORM}; none means all")
     parser.add_argument("--out", metavar="FOLDER", help="where tables, numbers and pictures go")
     parser.add_argument("--sizes", type=sizes_of, default=[1, 4, 16], metavar="MIB,..", help="default: 1,4,16")
