@@ -1,91 +1,193 @@
 #!/usr/bin/env python3
-"""Runs the built tracerun on large scripts and prints how fast it was, as a table.
+"""Measures tracerun beside the peer, a program in plain Rust that does the same (bench/peer), and prints tables.
 
-Each script has at most 16 MiB. A line of the table tells the script, its lines and megabytes (10^6 bytes), the
-output's megabytes, the least CPU seconds (user and system) and the least time on the clock of the runs, lines and
-input megabytes a second by CPU, and the peak memory (never less than the 15 megabytes of this Python process). The
-output goes through a pipe and is thrown away.
+Each kind of script is run at each size, by both programs in turn. `CPU` is user and system seconds together, the
+least of the runs; `peak` is the most memory that stayed in RAM; a ratio is tracerun's by the peer's. Both have to
+write the same bytes, or nothing is told. Scripts that cost more than their size are run at an eighth of each size.
+Storms are runs of `storm`, by so many workers; their time is by the clock, from the start of the program to its end,
+the middle one of the runs and the least one.
 
-usage: run.py [--program FILE] [--mib N] [--runs N] [NAME..]      (--list tells the names)
+With --out the tables, their numbers (results.json) and pictures of them (bench/draw.py) go to a folder.
+
+usage: run.py [--out FOLDER] [--sizes MIB,MIB,..] [--runs N] [--storm-runs N] [--program FILE] [--peer FILE] [NAME..]
 """
 import argparse
+import datetime
+import json
 import os
+import platform
+import statistics
 import subprocess
 import sys
 import tempfile
-import threading
-import time
 
-from scripts import ALL, SCRIPTS
+import draw
+import tables
+from measure import become_parent_of_orphans, run_once
+from scripts import ALL, COSTLY
 
 HERE = os.path.dirname(os.path.abspath(__file__))
 TOP = os.path.dirname(HERE)
 PROGRAM = os.path.join(TOP, "crates", "tracerun", "out", "tracerun")
+PEER = os.path.join(HERE, "peer", "target", "release", "peer")
 MEBIBYTE = 1024 * 1024
+MOST_MIB = 16  # the most that a script may have
+COSTLY_PART = 8
+STORM = "storm"
+STORM_WORKERS = (1, 2, 4, 8, 16)
+STORM_ROUNDS = 400
 
 
-def read_away(pipe, sizes):
-    """Reads to the end and keeps only how much it was and how it ended."""
-    size, last = 0, b""
-    while block := pipe.read(MEBIBYTE):
-        size += len(block)
-        last = (last + block[-64:])[-64:]
-    sizes.append((size, last))
+def said(text):
+    print(f"run.py: {text}", file=sys.stderr, flush=True)
 
 
-def measured(program, path):
-    """CPU seconds, seconds on the clock, peak memory in kilobytes, bytes of output of one run."""
-    with open(path, "rb") as script:
-        start = time.monotonic()
-        run = subprocess.Popen([program, "replay"], stdin=script, stdout=subprocess.PIPE)
-        sizes = []
-        reader = threading.Thread(target=read_away, args=(run.stdout, sizes))
-        reader.start()
-        _, status, used = os.wait4(run.pid, 0)
-        reader.join()
-        clock = time.monotonic() - start
-        run.returncode = os.waitstatus_to_exitcode(status)
-    (size, last) = sizes[0]
-    if run.returncode != 0 or not last.endswith(b"left 0\n"):
-        sys.exit(f"run.py: the program ended with status {run.returncode} and {last!r}")
-    return used.ru_utime + used.ru_stime, clock, used.ru_maxrss, size
+def build_peer():
+    """Builds the peer where cargo finds it out of date."""
+    words = ["cargo", "build", "--release", "--offline", "--quiet"]
+    if subprocess.run(words, cwd=os.path.join(HERE, "peer")).returncode != 0:
+        sys.exit("run.py: the peer was not built")
 
 
-def row(program, name, size, runs):
+def in_turn(commands, path, runs):
+    """The runs of each command, which take turns."""
+    found = {name: [] for name in commands}
+    for _ in range(runs):
+        for name, words in commands.items():
+            run = run_once(words, path)
+            if run.status != 0:
+                sys.exit(f"run.py: {' '.join(words)} ended with status {run.status}: {run.error}")
+            found[name].append(run)
+    if len({run.sum for runs in found.values() for run in runs}) != 1:
+        sys.exit(f"run.py: {' and '.join(commands)} write different texts for the script {path}")
+    return found
+
+
+def summary(runs):
+    return {
+        "cpu": min(run.cpu for run in runs),
+        "clock": min(run.clock for run in runs),
+        "middle_clock": statistics.median(run.clock for run in runs),
+        "peak": max(run.peak for run in runs),
+        "each_cpu": [round(run.cpu, 6) for run in runs],
+        "each_clock": [round(run.clock, 6) for run in runs],
+    }
+
+
+def replay_row(programs, name, mib, runs):
+    """One kind of script at one size."""
+    said(f"{name}, {mib:g} MiB")
+    script = ALL[name](int(mib * MEBIBYTE)).encode()
+    lines, size = script.count(b"\n"), len(script)
     with tempfile.NamedTemporaryFile(suffix=".jsonl") as file:
-        # By a process of its own: a child's peak memory is never less than its parent's memory.
-        subprocess.run([sys.executable, os.path.join(HERE, "scripts.py"), name, str(size)], stdout=file, check=True)
-        megabytes = os.path.getsize(file.name) / 1e6
-        with open(file.name, "rb") as script:
-            lines = sum(1 for _ in script)
-        found = [measured(program, file.name) for _ in range(runs)]
-    cpu, clock = min(f[0] for f in found), min(f[1] for f in found)
-    peak, out = max(f[2] for f in found) * 1024 / 1e6, found[0][3] / 1e6
-    return (f"| {name} | {lines:,} | {megabytes:.1f} | {out:.1f} | {cpu:.2f} | {clock:.2f} "
-            f"| {lines / cpu:,.0f} | {megabytes / cpu:.1f} | {peak:.0f} |")
+        file.write(script)
+        file.flush()
+        del script
+        found = in_turn({it: [path, "replay"] for it, path in programs.items()}, file.name, runs)
+    if not found["peer"][0].last.endswith(b"left 0\n"):
+        sys.exit(f"run.py: the script {name} leaves spans open")
+    row = {"kind": name, "mib": mib, "lines": lines, "size": size, "output": found["peer"][0].size}
+    return {**row, **{it: summary(of_program) for it, of_program in found.items()}}
+
+
+def knows_storm(program):
+    return run_once([program, STORM, "--workers", "1", "--rounds", "1"]).status == 0
+
+
+def storm_row(programs, workers, runs):
+    said(f"{STORM}, {workers} workers")
+    words = [STORM, "--workers", str(workers), "--rounds", str(STORM_ROUNDS)]
+    found = in_turn({it: [path, *words] for it, path in programs.items()}, os.devnull, runs)
+    row = {"workers": workers, "rounds": STORM_ROUNDS, "calls": 9 * workers * STORM_ROUNDS}
+    return {**row, **{it: summary(of_program) for it, of_program in found.items()}}
+
+
+def storms(programs, runs):
+    """The rows of the storms, and why there are none."""
+    without = [name for name, path in programs.items() if not knows_storm(path)]
+    if without:
+        return [], f"No storms were measured: {' and '.join(without)} has no order `{STORM}`."
+    return [storm_row(programs, workers, runs) for workers in STORM_WORKERS], None
+
+
+def machine():
+    with open("/proc/cpuinfo") as file:
+        names = [line.split(":", 1)[1].strip() for line in file if line.startswith("model name")]
+    return {
+        "processor": names[0] if names else platform.machine(),
+        "processors": os.cpu_count(),
+        "kernel": platform.release(),
+        "load": os.getloadavg()[0],
+        "date": datetime.datetime.now().isoformat(timespec="minutes"),
+    }
+
+
+def measured(words):
+    programs = {"program": words.program, "peer": words.peer}
+    results = {"machine": machine(), "runs": words.runs, "storm_runs": words.storm_runs, "replay": []}
+    for name in [it for it in words.names or ALL if it != STORM]:
+        for mib in words.sizes:
+            part = COSTLY_PART if name in COSTLY else 1
+            results["replay"].append(replay_row(programs, name, mib / part, words.runs))
+    if not words.names or STORM in words.names:
+        results["storm"], results["note"] = storms(programs, words.storm_runs)
+    return results
+
+
+def write(folder, results):
+    os.makedirs(folder, exist_ok=True)
+    with open(os.path.join(folder, "results.json"), "w") as file:
+        json.dump(results, file, indent=1)
+        file.write("\n")
+    with open(os.path.join(folder, "tables.md"), "w") as file:
+        file.write(tables.all_tables(results))
+    draw.draw_all(results, folder)
+
+
+def sizes_of(text):
+    sizes = sorted(float(it) for it in text.split(","))
+    if not all(0 < it <= MOST_MIB for it in sizes):
+        raise argparse.ArgumentTypeError(f"a size is over 0 and at most {MOST_MIB} MiB")
+    return sizes
+
+
+def options():
+    told = __doc__.partition("\nusage:")[0]
+    parser = argparse.ArgumentParser(description=told, formatter_class=argparse.RawDescriptionHelpFormatter)
+    parser.add_argument("names", nargs="*", metavar="NAME", help=f"kinds of scripts, or {STORM}; none means all")
+    parser.add_argument("--out", metavar="FOLDER", help="where tables, numbers and pictures go")
+    parser.add_argument("--sizes", type=sizes_of, default=[1, 4, 16], metavar="MIB,..", help="default: 1,4,16")
+    parser.add_argument("--runs", type=int, default=5, help="of each program for each script, default 5")
+    parser.add_argument("--storm-runs", type=int, default=21, help="of each program for each storm, default 21")
+    parser.add_argument("--program", default=PROGRAM, metavar="FILE", help="in place of the built tracerun")
+    parser.add_argument("--peer", metavar="FILE", help="in place of the one in bench/peer, which is built before")
+    parser.add_argument("--list", action="store_true", help="tells the kinds of scripts")
+    words = parser.parse_args()
+    unknown = [name for name in words.names if name not in ALL and name != STORM]
+    if unknown:
+        parser.error(f"no such kind: {', '.join(unknown)}")
+    if min(words.runs, words.storm_runs) < 1:
+        parser.error("at least one run")
+    return words
 
 
 def main():
-    parser = argparse.ArgumentParser(description=__doc__, formatter_class=argparse.RawDescriptionHelpFormatter)
-    parser.add_argument("names", nargs="*", metavar="NAME", help="scripts to run; none means all but the costly ones")
-    parser.add_argument("--program", default=PROGRAM)
-    parser.add_argument("--mib", type=float, default=16, help="size of each script in MiB, at most 16")
-    parser.add_argument("--runs", type=int, default=3)
-    parser.add_argument("--list", action="store_true", help="tells the scripts")
-    words = parser.parse_args()
+    words = options()
     if words.list:
         for name, made in ALL.items():
             print(f"{name}: {made.__doc__}")
         return
-    unknown = [name for name in words.names if name not in ALL]
-    if unknown or not 0 < words.mib <= 16 or words.runs < 1:
-        parser.error(f"no such script: {', '.join(unknown)}" if unknown else "--mib is over 0 and at most 16, --runs at least 1")
-    if not os.access(words.program, os.X_OK):
-        sys.exit(f"run.py: {words.program} is not built; ./tracerun builds it")
-    print("| script | lines | MB in | MB out | CPU s | clock s | lines/s | MB/s | peak MB |")
-    print("|---|---:|---:|---:|---:|---:|---:|---:|---:|")
-    for name in words.names or SCRIPTS:
-        print(row(words.program, name, int(words.mib * MEBIBYTE), words.runs), flush=True)
+    if words.peer is None:
+        build_peer()
+        words.peer = PEER
+    for path in (words.program, words.peer):
+        if not os.access(path, os.X_OK):
+            sys.exit(f"run.py: {path} isn't there; ./tracerun builds the program")
+    become_parent_of_orphans()
+    results = measured(words)
+    print(tables.all_tables(results), end="")
+    if words.out:
+        write(words.out, results)
 
 
 if __name__ == "__main__":

@@ -102,6 +102,41 @@ def events(size):
     return filled(head, lambda n: '{"op":"event","message":"the cache is cold","fields":[["n","7"]]}\n', size)
 
 
+def json_layer(size):
+    """Spans with fields, records and events, under one layer in the JSON form."""
+    fields = '[["user","ada"],["path","/a/b?c=\\"d\\""]]'
+    block = (
+        f'{{"op":"new","name":"request","fields":{fields}}}\n{{"op":"enter","span":"request"}}\n'
+        '{"op":"record","span":"request","fields":[["status","200"]]}\n'
+        '{"op":"event","message":"the cache is cold\\n","level":"WARN","fields":[["n","7"]]}\n'
+        '{"op":"exit","span":"request"}\n{"op":"close","span":"request"}\n'
+    )
+    return filled('{"op":"layer","form":"json"}\n', lambda n: block, size)
+
+
+def handles_without_layers(size):
+    """Handles of one span that are given out and given back, with no layer: the shortest calls."""
+    head = '{"op":"new","name":"a"}\n'
+    return filled(head, lambda n: '{"op":"clone","span":1}\n{"op":"close","span":1}\n', size)
+
+
+def records(size):
+    """Fields that are recorded on one span, each told to one layer; the last close tells them all."""
+    head = '{"op":"layer"}\n{"op":"new","name":"a"}\n'
+    return filled(head, lambda n: f'{{"op":"record","span":"a","fields":[["key","{n}"]]}}\n', size)
+
+
+def one_long_text(size):
+    """One event whose message is nearly the whole script, under one layer in each form."""
+    head = '{"op":"layer"}\n{"op":"layer","form":"json"}\n{"op":"event","message":"'
+    return filled(head, lambda n: "the cache is cold, ", size, '"}\n')
+
+
+def blank_lines(size):
+    """Lines with nothing on them."""
+    return "\n" * size
+
+
 def workers(size):
     """Eight workers that enter and leave one span, each entry told to one layer."""
     head = '{"op":"limits","workers":8}\n{"op":"layer"}\n{"op":"new","name":"shared"}\n'
@@ -141,8 +176,7 @@ def entered_again(size):
 
 
 def events_far_from_the_root(size):
-    """A chain in the first half; then events at its end, under a layer that admits the last span alone: each event's
-    path has one name, and is looked for on the whole walk."""
+    """A chain in the first half; then events at its end, told to a layer that admits the last span alone."""
     links = deep_chain(size // 2).split("\n", 2)[2]
     last = links.count("\n") // 2
     head = (
@@ -162,11 +196,11 @@ def by_name(*made):
 
 
 SCRIPTS = by_name(
-    spans_without_layers, short_spans, deep_chain, told_chains, eight_layers, wide_fields, events, workers,
-    deep_stack
+    spans_without_layers, handles_without_layers, short_spans, deep_chain, told_chains, eight_layers, json_layer,
+    wide_fields, records, events, one_long_text, workers, deep_stack, blank_lines
 )
 
-# Scripts whose time or memory grows faster than the script, or far beyond it: run where they are named, at small sizes.
+# Scripts whose time or memory grows faster than the script, or far beyond it: for small sizes.
 COSTLY = by_name(two_deep_stacks, entered_again, events_far_from_the_root, sixty_four_layers)
 ALL = {**SCRIPTS, **COSTLY}
 

@@ -1,0 +1,95 @@
+//! What `tracerun` does, in plain Rust and with no proof, to be measured beside it.
+mod field;
+mod id;
+mod json;
+mod layer;
+mod note;
+mod operation;
+mod outlet;
+mod registry;
+mod replay;
+mod ring;
+mod spans;
+mod stack;
+mod storm;
+mod text;
+
+use replay::Fault;
+use std::io::{self, Write};
+use std::ops::RangeInclusive;
+use std::process::ExitCode;
+
+const USAGE: &str = "usage: peer replay
+       peer storm --workers 1..16 --rounds 1..400";
+
+enum Order {
+    Replay,
+    Storm { workers: u32, rounds: u32 },
+}
+
+fn order_of(words: &[String]) -> Option<Order> {
+    let (first, rest) = words.split_first()?;
+    match first.as_str() {
+        "replay" if rest.is_empty() => Some(Order::Replay),
+        "storm" => storm_of(rest),
+        _ => None,
+    }
+}
+
+/// The options of `storm`, each once and in its range.
+fn storm_of(words: &[String]) -> Option<Order> {
+    let (mut workers, mut rounds) = (None, None);
+    for pair in words.chunks(2) {
+        let [option, value] = pair else { return None };
+        let (place, range): (_, RangeInclusive<u32>) = match option.as_str() {
+            "--workers" => (&mut workers, 1..=16),
+            "--rounds" => (&mut rounds, 1..=400),
+            _ => return None,
+        };
+        let number = value.parse().ok().filter(|number| range.contains(number))?;
+        if place.replace(number).is_some() {
+            return None;
+        }
+    }
+    Some(Order::Storm {
+        workers: workers?,
+        rounds: rounds?,
+    })
+}
+
+fn fail(status: u8, text: impl std::fmt::Display) -> ExitCode {
+    eprintln!("{text}");
+    ExitCode::from(status)
+}
+
+fn run_replay() -> ExitCode {
+    match replay::replay(io::stdin().lock(), io::stdout().lock()) {
+        Ok(()) => ExitCode::SUCCESS,
+        Err(fault @ Fault::Script(..)) => fail(1, fault),
+        Err(fault) => fail(3, fault),
+    }
+}
+
+fn run_storm(workers: u32, rounds: u32) -> ExitCode {
+    let report = match storm::storm(workers, rounds) {
+        Ok(report) => report,
+        Err(refusal) => return fail(3, format_args!("refused: {}", refusal.text())),
+    };
+    let mut output = io::stdout().lock();
+    match write!(output, "{report}").and_then(|()| output.flush()) {
+        Ok(()) => ExitCode::SUCCESS,
+        Err(_) => fail(3, Fault::Write),
+    }
+}
+
+fn main() -> ExitCode {
+    let words: Option<Vec<String>> = std::env::args_os()
+        .skip(1)
+        .map(|word| word.into_string().ok())
+        .collect();
+    match words.as_deref().and_then(order_of) {
+        Some(Order::Replay) => run_replay(),
+        Some(Order::Storm { workers, rounds }) => run_storm(workers, rounds),
+        None => fail(2, USAGE),
+    }
+}
