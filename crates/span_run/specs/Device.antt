@@ -2,8 +2,8 @@
 use Rattle.std.specs.Prelude.{◌≡◌, ℕ, ◌+◌, ◌++◌, List, length, Option}
 use Rattle.std.specs.Io.KnownBytes.{Appends, Consumes}
 use Rattle.span_script.specs.Script.{most_bytes}
-use Rattle.span_replay.specs.declared.run.fault.RunFault.{RunFault}
-use Rattle.span_replay.specs.declared.run.fault.RunFault.TheVariants.{Script, Memory, Device}
+use Rattle.span_run.specs.declared.fault.RunFault.{RunFault}
+use Rattle.span_run.specs.declared.fault.RunFault.TheVariants.{Script, Memory, Device, Refused, Held}
 use Rattle.span_script.specs.declared.reason.Reason.TheVariants.{TooLong}
 
 -- the writer took a front of the text and nothing else
@@ -19,3 +19,5 @@ ReadFails old new (Script line reason) =
     (line ≡ 0) × (reason ≡ TooLong) × ((bytes : List ℕ) × Consumes old new bytes × (length bytes ≡ most_bytes + 1))
 ReadFails old new Memory = Unit {0}
 ReadFails old new (Device side) = Unit {0}
+ReadFails old new (Refused fault) = ⊥
+ReadFails old new (Held party) = ⊥

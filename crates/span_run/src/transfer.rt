@@ -1,13 +1,13 @@
 //! Reading a script to its end, and writing text, each by a loop over single calls.
 ghost use Rattle.std.specs.Prelude.{◌≡◌, true, ◌+◌, ◌^◌, ◌<◌, ◌≤◌, IfOk, IfErr, OnOk, OnErr, vec_len};
 ghost use Rattle.std.specs.Io.KnownBytes.{Appends, Consumes, IsAtEnd, Keeps};
-ghost use Rattle.span_replay.specs.Counted.{inner_of, calls_of, failed_of, flushes_of, flushed_of, one_more};
-ghost use Rattle.span_replay.specs.Device.{AppendsFront, ReadFails};
+ghost use Rattle.span_run.specs.Counted.{inner_of, calls_of, failed_of, flushes_of, flushed_of, one_more};
+ghost use Rattle.span_run.specs.Device.{AppendsFront, ReadFails};
 ghost use Rattle.span_script.specs.Script.{most_bytes};
-ghost use Rattle.span_replay.specs.RunFault.{EndsAsCounted};
+ghost use Rattle.span_run.specs.RunFault.{EndsAsCounted};
 
-use crate::devices::counted::Counted;
-use crate::run::fault::{RunFault, Side};
+use crate::counted::Counted;
+use crate::fault::{RunFault, Side};
 use span_script::Reason;
 use std::alloc::Global;
 use std::io::{Read, Write};

@@ -1,6 +1,6 @@
 -- What a clause reads of a counted reader or writer.
 use Rattle.std.specs.Prelude.{Bool, ℕ, ◌+◌, ◌-◌, ◌^◌, min}
-use Rattle.span_replay.specs.declared.devices.counted.Counted.{Counted}
+use Rattle.span_run.specs.declared.counted.Counted.{Counted}
 
 -- the reader or writer inside
 abbrev pub inner_of : {T : Type 0} → Counted T → T

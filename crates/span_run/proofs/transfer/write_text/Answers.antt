@@ -4,8 +4,8 @@ use Rattle.std.specs.Prelude.{Option}
 use Rattle.std.proofs.KnownBytes.{Appends-trans, Appends-kept}
 use Rattle.std.proofs.lemmas.List.{take_rest}
 use Rattle.std.proofs.Math.Seq.{take-add}
-use Rattle.span_replay.specs.Device.{AppendsFront}
-use Rattle.span_replay.proofs.devices.transfer.write_text.Goals as goal
+use Rattle.span_run.specs.Device.{AppendsFront}
+use Rattle.span_run.proofs.transfer.write_text.Goals as goal
 
 -- a front was taken, then n more of the rest
 more_taken : (a b c : Option (List ℕ)) (text : List ℕ) (done n : ℕ) → Appends a b (take done text) → Appends b c (take n (take (length text - done) (drop done text))) → Appends a c (take (done + n) text)

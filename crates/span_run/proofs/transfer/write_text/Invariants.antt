@@ -1,7 +1,7 @@
 use Rattle.std.proofs.Common.{◌≡◌, ◌-◌, ◌≤◌, length, take}
 use Rattle.std.specs.Io.KnownBytes.{Appends}
-use Rattle.span_replay.specs.Counted.{inner_of, failed_of, flushes_of}
-use Rattle.span_replay.proofs.devices.transfer.write_text.Given as goal
+use Rattle.span_run.specs.Counted.{inner_of, failed_of, flushes_of}
+use Rattle.span_run.proofs.transfer.write_text.Given as goal
 
 abbrev pub invariant-loop-done : goal.invariant-loop-done
 invariant-loop-done g l = record {
