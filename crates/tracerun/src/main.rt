@@ -1,13 +1,17 @@
-//! The program `tracerun`, which runs scripts of calls on the span registry.
+//! The program `tracerun`, which runs scripts of calls, and storms of workers, on the span registry.
 #![tactic(auto)]
 
+ghost use Rattle.std.specs.Prelude.{◌≤◌};
+
 mod command_line;
+mod storms;
 #[cfg(test)]
 mod tests;
 
 use crate::command_line::orders::Order;
 use span_layers::MAX_LAYERS;
-use span_replay::{Counted, RunFault, replay_with_layers};
+use span_replay::replay_with_layers;
+use span_run::{Counted, RunFault};
 use std::io;
 use std::io::{BufWriter, ErrorKind};
 use std::process::ExitCode;
@@ -35,6 +39,7 @@ fn words(rt: &HostRuntime) -> io::Result<Vec<String>> {
 fn obey(rt: &HostRuntime, words: &[String]) -> io::Result<ExitCode> {
     match command_line::order_of(rt.alloc(), words) {
         Ok(Order::Replay) => status_of(rt, replay(rt)),
+        Ok(Order::Storm { workers, rounds }) => status_of(rt, storm(rt, workers, rounds)),
         Err(error) => match command_line::status(&error) {
             3 => status_of(rt, Err(RunFault::Memory)),
             status => {
@@ -57,6 +62,15 @@ fn replay(rt: &HostRuntime) -> Result<(), RunFault> {
         Ok(_) => Ok(()),
         Err(fault) => Err(fault),
     }
+}
+
+/// Runs a storm. How it ended goes to standard output.
+fn storm(rt: &HostRuntime, workers: u32, rounds: u32) -> Result<(), RunFault>
+    requires workers { (1 ≤ workers) × (workers ≤ 16) }
+    requires rounds { (1 ≤ rounds) × (rounds ≤ 400) }
+{
+    let mut output = Counted::new(rt.stdout());
+    storms::run(rt, rt.alloc(), workers, rounds, &mut output)
 }
 
 /// The status with which the program ends. A fault is told on standard error as one line.
