@@ -4,5 +4,6 @@ mod chain;
 mod closing_lists;
 mod layers;
 mod missed;
+mod on_a_ring;
 mod rows;
 mod workers;

@@ -19,7 +19,7 @@ pub use handles::{clone_span, try_close};
 pub use promises::{
     a_handles_span_is_open, two_handles_have_two_numbers, whenever_the_lock_is_free,
 };
-pub use reports::finish_kept;
+pub use reports::{finish, finish_kept};
 pub use span_core::laws::{
     closes_are_announced_once, each_slot_has_one_open_span, empty_where_nothing_is_held,
     entries_are_counted_once, entries_are_the_workers_inside, full_where_each_slot_is_used_up,

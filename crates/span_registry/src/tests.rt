@@ -1,7 +1,9 @@
 //! What no clause says: the calls run, with their answers and their reports.
 mod acts;
+mod backlog;
 mod caller;
 mod ended;
+mod ended_on_a_ring;
 mod endings;
 mod handed_on;
 mod held;
@@ -10,4 +12,5 @@ mod names;
 mod on_core;
 mod on_registry;
 mod scripts;
+mod steps;
 mod threads;

@@ -23,8 +23,8 @@ const LIMITS: Limits = Limits {
     ring: 1,
 };
 
-// Hooks whose text of an enter is refused memory.
-fn refused_at_enters(alloc: Global) -> Result<Hooks, AllocError> {
+/// Hooks whose texts of notes of this kind are refused memory.
+pub(crate) fn refused_at(alloc: Global, kind: Kind) -> Result<Hooks, AllocError> {
     Ok(Hooks::new(
         Box::new(
             alloc,
@@ -35,20 +35,21 @@ fn refused_at_enters(alloc: Global) -> Result<Hooks, AllocError> {
         )?,
         Box::new(
             alloc,
-            |alloc: Global, form: Form, note: &Note| -> Result<Vec<u8>, AllocError>
+            move |alloc: Global, form: Form, note: &Note| -> Result<Vec<u8>, AllocError>
                 ensures { ForOk result (λ text. text.items ≡ text_of form (plain_note note.now)) }
             {
-                match note.kind {
-                    Kind::OnEnter => Err(AllocError),
-                    _ => text(alloc, form, note),
+                if note.kind == kind {
+                    Err(AllocError)
+                } else {
+                    text(alloc, form, note)
                 }
             },
         )?,
     ))
 }
 
-// The number of the batch, the place, the layer and the text of each line.
-fn numbered(alloc: Global, lines: &[Line]) -> Result<String, Fail> {
+/// The number of the batch, the place, the layer and the text of each line.
+pub(crate) fn numbered(alloc: Global, lines: &[Line]) -> Result<String, Fail> {
     let mut text = Vec::new(alloc);
     for line in lines {
         let numbers = format!(in alloc; "{} {} {} ", line.batch, line.place, line.layer)?;
@@ -88,7 +89,7 @@ fn entered_and_left<V: Say>(
 fn a_note_whose_text_is_refused_memory(rt: HostRuntime) -> Result<(), Fail> {
     let alloc = rt.alloc();
     let mut both = Layers::new(alloc);
-    let first = both.add(layer(alloc, &EVERYTHING, refused_at_enters(alloc)?)?);
+    let first = both.add(layer(alloc, &EVERYTHING, refused_at(alloc, Kind::OnEnter)?)?);
     assert!(&rt; first.is_ok());
     let second = both.add(layer(alloc, &EVERYTHING, hooks(alloc)?)?);
     assert!(&rt; second.is_ok());

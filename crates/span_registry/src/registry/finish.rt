@@ -1,7 +1,7 @@
 //! The end of a registry.
-ghost use Rattle.std.specs.Prelude.{◌≡◌, ◌+◌, ◌↔◌};
+ghost use Rattle.std.specs.Prelude.{◌≡◌, ◌+◌, ◌↔◌, Some};
 ghost use Rattle.span_registry.specs.Share.{IsWhole};
-ghost use Rattle.span_registry.specs.Report.{IsEnd};
+ghost use Rattle.span_registry.specs.Report.{IsEnd, IsDrainedEnd};
 
 use crate::laws;
 use crate::registry::Registry;
@@ -9,7 +9,7 @@ use crate::report::Report;
 use crate::setup::Setup;
 use crate::share::Share;
 use span_layers::Say;
-use span_outlet::Kept;
+use span_outlet::{Drain, Kept, Ring};
 use std::sync::ledger::Ledger;
 
 impl<H: Ledger, C: Ledger, S: Setup, V: Say + Drop, A: Drop> Registry<H, C, S, Kept<V>, A> {
@@ -27,5 +27,23 @@ impl<H: Ledger, C: Ledger, S: Setup, V: Say + Drop, A: Drop> Registry<H, C, S, K
         ensures ended { IsEnd S.limits S.rules result }
     {
         laws::finish_kept(self.locked.into_inner(), share)
+    }
+}
+
+impl<H: Ledger, C: Ledger, S: Setup, A: Drop> Registry<H, C, S, Ring, A> {
+    /// Ends the registry with the whole share and the drain of its ring, as `finish_kept` does.
+    ///
+    /// The drain first takes what still stands in the ring. The lines are the drain's, of everything that was sent;
+    /// those that it had stand first. It cannot fail: a note whose line memory is refused is counted as missed.
+    pub fn finish<V: Say + Drop>(self, share: Share<H, C>, drain: Drain<V>) -> Report
+        requires whole { IsWhole H.parts C.parts share }
+        requires pair { Some drain.name ≡ S.ring }
+        ensures units { result.handles ≡ share.units }
+        ensures accepted { result.calls ≡ share.accepted }
+        ensures empty { (result.left ≡ 0) ↔ ((result.handles ≡ 0) × (result.entries ≡ 0)) }
+        ensures balance { result.made ≡ result.closed + result.left }
+        ensures ended { IsDrainedEnd S.limits S.rules drain result }
+    {
+        laws::finish(self.locked.into_inner(), share, drain)
     }
 }

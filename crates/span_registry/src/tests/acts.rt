@@ -1,5 +1,5 @@
 //! Calls as data, and what is answered to them as text.
-use crate::{Found, ParentOf};
+use crate::{Found, ParentOf, Step};
 use span_id::{Fault, Id, Level};
 use span_outlet::Line;
 use std::alloc::{AllocError, Global};
@@ -28,6 +28,8 @@ pub(crate) enum Act<'a> {
         fields: Fields<'a>,
     },
     Find(u64),
+    /// A step of the drain, where there is one.
+    Step,
 }
 
 /// A new span whose parent is the current span.
@@ -61,6 +63,7 @@ pub(crate) enum Answer {
     Recorded,
     Told,
     Found(Option<Found>),
+    Stepped(Option<Step>),
     Refused(Fault),
 }
 
@@ -88,6 +91,10 @@ pub(crate) fn answer_text(alloc: Global, answer: &Answer) -> Result<String, Allo
         Answer::Made(id) => return format!(in alloc; "= {id}\n"),
         Answer::Found(found) => return found_text(alloc, found),
         Answer::Refused(fault) => return format!(in alloc; "! {fault}\n"),
+        Answer::Stepped(Some(Step { told, refused })) => {
+            return format!(in alloc; "= told {told} refused {refused}\n");
+        }
+        Answer::Stepped(None) => "= no batch\n",
         Answer::NotWanted => "= not wanted\n",
         Answer::Cloned => "= cloned\n",
         Answer::Entered(true) => "= entered\n",

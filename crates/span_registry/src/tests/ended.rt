@@ -6,8 +6,9 @@ use crate::tests::handed_on::hand_jobs_on;
 use crate::tests::held::{Gathered, finished, gather};
 use crate::tests::layers::{Plan, layers};
 use crate::tests::on_registry::calls;
+use crate::tests::steps::{NoDrain, Steps};
 use crate::tests::threads::two_rounds;
-use crate::{HANDLE_PARTS, Kept, Registry, Report, SeatTable, Setup, Worker};
+use crate::{HANDLE_PARTS, Kept, Outlet, Registry, Report, SeatTable, Setup, Worker};
 use span_id::{Checked, Limits};
 use span_layers::{Filters, Say};
 use std::alloc::Global;
@@ -36,26 +37,30 @@ pub(crate) struct Done<H: Ledger, C: Ledger> {
     pub(crate) gathered: Gathered<H, C>,
 }
 
-// Does this.
-fn perform<
+/// Does this.
+pub(crate) fn perform<
     H: Ledger + Send + Sync,
     C: Ledger + Send + Sync,
     S: Setup + Send + Sync,
-    V: Say + Send,
+    O: Outlet + Send,
+    D: Steps,
     R: Threads + Wait + Sync,
 >(
     rt: &R,
     alloc: Global,
-    registry: &Registry<H, C, S, Kept<V>>,
+    registry: &Registry<H, C, S, O>,
+    drain: &mut D,
     workers: Vec<Worker<H, C>>,
     deed: Deed,
     acts: &[(u32, Act)],
-) -> Result<Done<H, C>, Fail> {
+) -> Result<Done<H, C>, Fail>
+    ensures name { D.name drain.new ≡ D.name drain.old }
+{
     match deed {
         Deed::Calls => {
             let mut workers = workers;
             let mut held = Vec::new(alloc);
-            let transcript = calls(rt, alloc, registry, &mut workers, &mut held, acts)?;
+            let transcript = calls(rt, alloc, registry, drain, &mut workers, &mut held, acts)?;
             Ok(Done {
                 transcript,
                 gathered: gather(alloc, workers, held)?,
@@ -105,7 +110,7 @@ fn named<
     let (registry, workers) = Registry::<H, C, S, Kept<V>>::new(
         alloc, checked, filters, outlet, handles, calls, table,
     )?;
-    let done = perform(rt, alloc, &registry, workers, deed, acts)?;
+    let done = perform(rt, alloc, &registry, &mut NoDrain, workers, deed, acts)?;
     let Gathered { whole, counts } = done.gathered;
     let whole = whole.ok_or("there are no parts")?;
     let workers = u64::from(checked.limits().workers);

@@ -1,6 +1,7 @@
 //! Registries that end with handles given up, entries left or nothing.
 use crate::tests::acts::{Act, child, new};
-use crate::tests::ended::{Deed, numbers, run_to_end};
+use crate::tests::ended::{Deed, Ended, numbers, run_to_end};
+use crate::tests::ended_on_a_ring::run_to_end_on_a_ring;
 use crate::tests::layers::{EVERYTHING, Plan};
 use span_id::{Level, Limits};
 use span_outlet::Line;
@@ -25,14 +26,14 @@ fn numbered(alloc: Global, lines: &[Line]) -> Result<String, Fail> {
 /// How a registry ends: what it answers, what is left of each worker and then of each handle, its report's numbers and
 /// its lines.
 #[derive(Drop)]
-struct Ending<'a> {
-    answers: &'a str,
-    counts: &'a str,
-    numbers: &'a str,
-    lines: &'a str,
+pub(crate) struct Ending<'a> {
+    pub(crate) answers: &'a str,
+    pub(crate) counts: &'a str,
+    pub(crate) numbers: &'a str,
+    pub(crate) lines: &'a str,
 }
 
-// A registry with so many workers and slots and one layer ends so after these calls.
+// A registry of these limits and layers ends so after these calls, whether its outlet keeps the lines or is a ring.
 fn ends<R: Threads + Wait + Abort + Sync>(
     rt: &R,
     alloc: Global,
@@ -41,7 +42,19 @@ fn ends<R: Threads + Wait + Abort + Sync>(
     acts: &[(u32, Act)],
     ending: &Ending,
 ) -> Result<(), Fail> {
-    let ended = run_to_end(rt, alloc, limits, plans, Deed::Calls, acts)?;
+    let kept = run_to_end(rt, alloc, limits, plans, Deed::Calls, acts)?;
+    is_ending(rt, alloc, &kept, ending)?;
+    let drained = run_to_end_on_a_ring(rt, alloc, limits, plans, acts)?;
+    is_ending(rt, alloc, &drained, ending)
+}
+
+// A registry ended so.
+pub(crate) fn is_ending<R: Abort>(
+    rt: &R,
+    alloc: Global,
+    ended: &Ended,
+    ending: &Ending,
+) -> Result<(), Fail> {
     assert_eq!(rt;
         str::from_utf8(ended.transcript.answers.as_slice())?,
         ending.answers

@@ -4,9 +4,9 @@ use crate::tests::ended::{Deed, Done, numbers, run_to_end};
 use crate::tests::held::{Held, close, gather};
 use crate::tests::layers::{EVERYTHING, meta_of};
 use crate::tests::threads::begin_job;
-use crate::{Kept, Registry, Setup, Worker};
+use crate::{Outlet, Registry, Setup, Worker};
 use span_id::{Fault, Id, Level, Limits};
-use span_layers::{FmtSpan, Form, Say};
+use span_layers::{FmtSpan, Form};
 use span_outlet::Line;
 use std::alloc::Global;
 use std::sync::Wait;
@@ -38,10 +38,10 @@ struct Station<H: Ledger, C: Ledger, S: Setup> {
     closed_by_exit: u32,
 }
 
-fn make_jobs<H: Ledger, C: Ledger, S: Setup, V: Say, R: Wait>(
+fn make_jobs<H: Ledger, C: Ledger, S: Setup, O: Outlet, R: Wait>(
     rt: &R,
     alloc: Global,
-    registry: &Registry<H, C, S, Kept<V>>,
+    registry: &Registry<H, C, S, O>,
     station: &mut Station<H, C, S>,
     rounds: u32,
 ) -> Result<(), Fault> {
@@ -52,10 +52,10 @@ fn make_jobs<H: Ledger, C: Ledger, S: Setup, V: Say, R: Wait>(
     Ok(())
 }
 
-fn enter_jobs<H: Ledger, C: Ledger, S: Setup, V: Say, R: Wait>(
+fn enter_jobs<H: Ledger, C: Ledger, S: Setup, O: Outlet, R: Wait>(
     rt: &R,
     alloc: Global,
-    registry: &Registry<H, C, S, Kept<V>>,
+    registry: &Registry<H, C, S, O>,
     station: &mut Station<H, C, S>,
 ) -> Result<(), Fault> {
     let meta = meta_of(alloc, "event", "app", Level::Info)?;
@@ -67,10 +67,10 @@ fn enter_jobs<H: Ledger, C: Ledger, S: Setup, V: Say, R: Wait>(
     Ok(())
 }
 
-fn close_jobs<H: Ledger, C: Ledger, S: Setup, V: Say, R: Wait>(
+fn close_jobs<H: Ledger, C: Ledger, S: Setup, O: Outlet, R: Wait>(
     rt: &R,
     alloc: Global,
-    registry: &Registry<H, C, S, Kept<V>>,
+    registry: &Registry<H, C, S, O>,
     station: &mut Station<H, C, S>,
 ) -> Result<(), Fault> {
     let jobs = mem::replace(&mut station.held, Vec::new(alloc));
@@ -85,9 +85,9 @@ fn close_jobs<H: Ledger, C: Ledger, S: Setup, V: Say, R: Wait>(
     Ok(())
 }
 
-fn leave_jobs<H: Ledger, C: Ledger, S: Setup, V: Say, R: Wait>(
+fn leave_jobs<H: Ledger, C: Ledger, S: Setup, O: Outlet, R: Wait>(
     rt: &R,
-    registry: &Registry<H, C, S, Kept<V>>,
+    registry: &Registry<H, C, S, O>,
     station: &mut Station<H, C, S>,
 ) -> Result<(), Fault> {
     for id in &station.inside {
@@ -98,10 +98,10 @@ fn leave_jobs<H: Ledger, C: Ledger, S: Setup, V: Say, R: Wait>(
 }
 
 // What one thread does.
-fn work<H: Ledger, C: Ledger, S: Setup, V: Say, R: Wait>(
+fn work<H: Ledger, C: Ledger, S: Setup, O: Outlet, R: Wait>(
     rt: &R,
     alloc: Global,
-    registry: &Registry<H, C, S, Kept<V>>,
+    registry: &Registry<H, C, S, O>,
     station: Station<H, C, S>,
     phase: Phase,
 ) -> Result<Station<H, C, S>, Fault> {
@@ -124,13 +124,13 @@ fn start<
     H: Ledger + Send + Sync + 's,
     C: Ledger + Send + Sync + 's,
     S: Setup + Send + Sync + 's,
-    V: Say + Send + 's,
+    O: Outlet + Send + 's,
     R: Wait + Sync,
 >(
     rt: &'s R,
     scope: &Scope<'s, E>,
     alloc: Global,
-    registry: &'s Registry<H, C, S, Kept<V>>,
+    registry: &'s Registry<H, C, S, O>,
     station: Station<H, C, S>,
     phase: Phase,
 ) -> Result<Running<H, C, S>, Fault> {
@@ -147,13 +147,13 @@ fn start_all<
     H: Ledger + Send + Sync + 's,
     C: Ledger + Send + Sync + 's,
     S: Setup + Send + Sync + 's,
-    V: Say + Send + 's,
+    O: Outlet + Send + 's,
     R: Wait + Sync,
 >(
     rt: &'s R,
     scope: &Scope<'s, E>,
     alloc: Global,
-    registry: &'s Registry<H, C, S, Kept<V>>,
+    registry: &'s Registry<H, C, S, O>,
     stations: Vec<Station<H, C, S>>,
     phase: Phase,
 ) -> Result<Vec<Running<H, C, S>>, Fault> {
@@ -181,12 +181,12 @@ fn in_threads<
     H: Ledger + Send + Sync,
     C: Ledger + Send + Sync,
     S: Setup + Send + Sync,
-    V: Say + Send,
+    O: Outlet + Send,
     R: Threads + Wait + Sync,
 >(
     rt: &R,
     alloc: Global,
-    registry: &Registry<H, C, S, Kept<V>>,
+    registry: &Registry<H, C, S, O>,
     stations: Vec<Station<H, C, S>>,
     phase: Phase,
 ) -> Result<Vec<Station<H, C, S>>, Fault> {
@@ -235,12 +235,12 @@ pub(crate) fn hand_jobs_on<
     H: Ledger + Send + Sync,
     C: Ledger + Send + Sync,
     S: Setup + Send + Sync,
-    V: Say + Send,
+    O: Outlet + Send,
     R: Threads + Wait + Sync,
 >(
     rt: &R,
     alloc: Global,
-    registry: &Registry<H, C, S, Kept<V>>,
+    registry: &Registry<H, C, S, O>,
     workers: Vec<Worker<H, C>>,
     rounds: u32,
 ) -> Result<Done<H, C>, Fail> {

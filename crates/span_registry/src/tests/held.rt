@@ -1,10 +1,10 @@
 //! Handles that may be dropped, and shares that know how many parts they have.
-ghost use Rattle.std.specs.Prelude.{◌≡◌, IfSome};
+ghost use Rattle.std.specs.Prelude.{◌≡◌, Some};
 
 use crate::{HANDLE_PARTS, Handle, Registry, Report, Setup, Share, Worker};
 use span_id::Fault;
 use span_layers::{Admit, Say};
-use span_outlet::Kept;
+use span_outlet::{Drain, Kept, Outlet, Ring};
 use std::alloc::Global;
 use std::sync::Wait;
 use std::sync::ledger::Ledger;
@@ -31,9 +31,9 @@ impl<H: Ledger, C: Ledger, S: Setup> Held<H, C, S> {
 }
 
 /// Closes the span of a handle.
-pub(crate) fn close<H: Ledger, C: Ledger, S: Setup, V: Say, A: Admit, R: Wait>(
+pub(crate) fn close<H: Ledger, C: Ledger, S: Setup, O: Outlet, A: Admit, R: Wait>(
     rt: &R,
-    registry: &Registry<H, C, S, Kept<V>, A>,
+    registry: &Registry<H, C, S, O, A>,
     worker: &mut Worker<H, C>,
     held: Held<H, C, S>,
 ) -> Result<bool, (Held<H, C, S>, Fault)> {
@@ -147,4 +147,20 @@ pub(crate) fn finished<H: Ledger, C: Ledger, S: Setup, V: Say, A: Admit>(
         return None;
     }
     Some(registry.finish_kept(whole.share))
+}
+
+/// The same of a registry whose outlet is the ring of this drain.
+pub(crate) fn drained<H: Ledger, C: Ledger, S: Setup, V: Say, A: Admit>(
+    registry: Registry<H, C, S, Ring, A>,
+    workers: u64,
+    whole: Part<H, C>,
+    drain: Drain<V>,
+) -> Option<Report>
+    requires parts { (H.parts ≡ HANDLE_PARTS) × (C.parts ≡ workers) }
+    requires pair { Some drain.name ≡ S.ring }
+{
+    if whole.handle_parts != HANDLE_PARTS || whole.call_parts != workers {
+        return None;
+    }
+    Some(registry.finish(whole.share, drain))
 }

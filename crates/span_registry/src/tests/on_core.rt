@@ -93,6 +93,7 @@ fn call<V: Say>(
             message,
             fields,
         } => tell(alloc, core, worker, *level, message, fields),
+        Act::Step => Ok(Answer::Stepped(None)),
         Act::Clone(number)
         | Act::Enter(number)
         | Act::Exit(number)

@@ -1,20 +1,22 @@
 //! Calls on a registry, with the handles that it gave.
+ghost use Rattle.std.specs.Prelude.{◌≡◌};
+
 use crate::tests::acts::{Act, Answer, Fields, Transcript};
 use crate::tests::held::{Held, close};
 use crate::tests::layers::{fields_of, meta_of};
-use crate::{Kept, ParentOf, Registry, Setup, Worker};
+use crate::tests::steps::Steps;
+use crate::{Outlet, ParentOf, Registry, Setup, Worker};
 use span_id::{Fault, Id, Level};
-use span_layers::Say;
 use std::alloc::Global;
 use std::sync::Wait;
 use std::sync::ledger::Ledger;
 use std::test::Fail;
 
 // A new span, whose handle is kept.
-fn make_span<H: Ledger, C: Ledger, S: Setup, V: Say, R: Wait>(
+fn make_span<H: Ledger, C: Ledger, S: Setup, O: Outlet, R: Wait>(
     rt: &R,
     alloc: Global,
-    registry: &Registry<H, C, S, Kept<V>>,
+    registry: &Registry<H, C, S, O>,
     worker: &mut Worker<H, C>,
     held: &mut Vec<Held<H, C, S>>,
     names: (&str, &str),
@@ -32,10 +34,10 @@ fn make_span<H: Ledger, C: Ledger, S: Setup, V: Say, R: Wait>(
 }
 
 // An event.
-fn tell<H: Ledger, C: Ledger, S: Setup, V: Say, R: Wait>(
+fn tell<H: Ledger, C: Ledger, S: Setup, O: Outlet, R: Wait>(
     rt: &R,
     alloc: Global,
-    registry: &Registry<H, C, S, Kept<V>>,
+    registry: &Registry<H, C, S, O>,
     worker: &mut Worker<H, C>,
     level: Level,
     message: &str,
@@ -58,10 +60,10 @@ fn place_of<H: Ledger, C: Ledger, S: Setup>(held: &[Held<H, C, S>], number: u64)
 }
 
 // A call that is lent a handle.
-fn call_on<H: Ledger, C: Ledger, S: Setup, V: Say, R: Wait>(
+fn call_on<H: Ledger, C: Ledger, S: Setup, O: Outlet, R: Wait>(
     rt: &R,
     alloc: Global,
-    registry: &Registry<H, C, S, Kept<V>>,
+    registry: &Registry<H, C, S, O>,
     worker: &mut Worker<H, C>,
     held: &mut Vec<Held<H, C, S>>,
     act: &Act,
@@ -85,9 +87,9 @@ fn call_on<H: Ledger, C: Ledger, S: Setup, V: Say, R: Wait>(
 }
 
 // Gives a handle back.
-fn give_back<H: Ledger, C: Ledger, S: Setup, V: Say, R: Wait>(
+fn give_back<H: Ledger, C: Ledger, S: Setup, O: Outlet, R: Wait>(
     rt: &R,
-    registry: &Registry<H, C, S, Kept<V>>,
+    registry: &Registry<H, C, S, O>,
     worker: &mut Worker<H, C>,
     held: &mut Vec<Held<H, C, S>>,
     number: u64,
@@ -105,15 +107,18 @@ fn give_back<H: Ledger, C: Ledger, S: Setup, V: Say, R: Wait>(
     }
 }
 
-// A call.
-fn call<H: Ledger, C: Ledger, S: Setup, V: Say, R: Wait>(
+// A call, or a step of the drain.
+fn call<H: Ledger, C: Ledger, S: Setup, O: Outlet, D: Steps, R: Wait>(
     rt: &R,
     alloc: Global,
-    registry: &Registry<H, C, S, Kept<V>>,
+    registry: &Registry<H, C, S, O>,
+    drain: &mut D,
     worker: &mut Worker<H, C>,
     held: &mut Vec<Held<H, C, S>>,
     act: &Act,
-) -> Result<Answer, Fault> {
+) -> Result<Answer, Fault>
+    ensures name { D.name drain.new ≡ D.name drain.old }
+{
     match act {
         Act::New {
             name,
@@ -138,26 +143,30 @@ fn call<H: Ledger, C: Ledger, S: Setup, V: Say, R: Wait>(
             Ok(Answer::Found(registry.find(rt, alloc, id)?))
         }
         Act::Close(number) => give_back(rt, registry, worker, held, *number),
+        Act::Step => Ok(Answer::Stepped(drain.step())),
         Act::Clone(number) | Act::Enter(number) | Act::Record(number, _) => {
             call_on(rt, alloc, registry, worker, held, act, *number)
         }
     }
 }
 
-/// All calls, each made by the worker beside it. The handles that are left are kept.
-pub(crate) fn calls<H: Ledger, C: Ledger, S: Setup, V: Say, R: Wait>(
+/// All calls, each made by the worker beside it, and the steps of the drain. The handles that are left are kept.
+pub(crate) fn calls<H: Ledger, C: Ledger, S: Setup, O: Outlet, D: Steps, R: Wait>(
     rt: &R,
     alloc: Global,
-    registry: &Registry<H, C, S, Kept<V>>,
+    registry: &Registry<H, C, S, O>,
+    drain: &mut D,
     workers: &mut Vec<Worker<H, C>>,
     held: &mut Vec<Held<H, C, S>>,
     acts: &[(u32, Act)],
-) -> Result<Transcript, Fail> {
+) -> Result<Transcript, Fail>
+    ensures name { D.name drain.new ≡ D.name drain.old }
+{
     let mut transcript = Transcript::new(alloc);
     let mut ids = Vec::new(alloc);
     for (number, act) in acts {
         let worker = workers.get_mut(*number as usize).ok_or("no such worker")?;
-        let answer = match call(rt, alloc, registry, worker, held, act) {
+        let answer = match call(rt, alloc, registry, drain, worker, held, act) {
             Ok(answer) => answer,
             Err(fault) => Answer::Refused(fault),
         };

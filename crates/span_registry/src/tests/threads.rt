@@ -2,9 +2,8 @@
 use crate::tests::ended::{Deed, numbers, run_to_end};
 use crate::tests::held::{Gathered, Held, Part, close};
 use crate::tests::layers::meta_of;
-use crate::{Kept, ParentOf, Registry, Setup, Worker};
+use crate::{Outlet, ParentOf, Registry, Setup, Worker};
 use span_id::{Fault, Level, Limits};
-use span_layers::Say;
 use std::alloc::Global;
 use std::sync::Wait;
 use std::sync::ledger::Ledger;
@@ -13,10 +12,10 @@ use std::thread;
 use std::thread::{JoinHandle, Scope, Threads};
 
 // A new span that has to be wanted.
-fn new<H: Ledger, C: Ledger, S: Setup, V: Say, R: Wait>(
+fn new<H: Ledger, C: Ledger, S: Setup, O: Outlet, R: Wait>(
     rt: &R,
     alloc: Global,
-    registry: &Registry<H, C, S, Kept<V>>,
+    registry: &Registry<H, C, S, O>,
     worker: &mut Worker<H, C>,
     name: &str,
     parent: ParentOf,
@@ -29,10 +28,10 @@ fn new<H: Ledger, C: Ledger, S: Setup, V: Say, R: Wait>(
 }
 
 /// The first eight calls of a round: a job, with one handle left.
-pub(crate) fn begin_job<H: Ledger, C: Ledger, S: Setup, V: Say, R: Wait>(
+pub(crate) fn begin_job<H: Ledger, C: Ledger, S: Setup, O: Outlet, R: Wait>(
     rt: &R,
     alloc: Global,
-    registry: &Registry<H, C, S, Kept<V>>,
+    registry: &Registry<H, C, S, O>,
     worker: &mut Worker<H, C>,
 ) -> Result<Held<H, C, S>, Fault> {
     let mut job = new(rt, alloc, registry, worker, "job", ParentOf::Root)?;
@@ -50,10 +49,10 @@ pub(crate) fn begin_job<H: Ledger, C: Ledger, S: Setup, V: Say, R: Wait>(
 }
 
 // Nine calls.
-fn round<H: Ledger, C: Ledger, S: Setup, V: Say, R: Wait>(
+fn round<H: Ledger, C: Ledger, S: Setup, O: Outlet, R: Wait>(
     rt: &R,
     alloc: Global,
-    registry: &Registry<H, C, S, Kept<V>>,
+    registry: &Registry<H, C, S, O>,
     worker: &mut Worker<H, C>,
 ) -> Result<(), Fault> {
     let job = begin_job(rt, alloc, registry, worker)?;
@@ -62,10 +61,10 @@ fn round<H: Ledger, C: Ledger, S: Setup, V: Say, R: Wait>(
 }
 
 // What a thread does.
-fn work<H: Ledger, C: Ledger, S: Setup, V: Say, R: Wait>(
+fn work<H: Ledger, C: Ledger, S: Setup, O: Outlet, R: Wait>(
     rt: &R,
     alloc: Global,
-    registry: &Registry<H, C, S, Kept<V>>,
+    registry: &Registry<H, C, S, O>,
     worker: Worker<H, C>,
 ) -> Result<Part<H, C>, Fault> {
     let mut worker = worker;
@@ -79,13 +78,13 @@ fn start<
     H: Ledger + Send + Sync + 's,
     C: Ledger + Send + Sync + 's,
     S: Setup + Send + Sync + 's,
-    V: Say + Send + 's,
+    O: Outlet + Send + 's,
     R: Wait + Sync,
 >(
     rt: &'s R,
     scope: &Scope<'s, E>,
     alloc: Global,
-    registry: &'s Registry<H, C, S, Kept<V>>,
+    registry: &'s Registry<H, C, S, O>,
     worker: Worker<H, C>,
 ) -> Result<JoinHandle<Result<Part<H, C>, Fault>>, Fault> {
     match scope.spawn(move || work(rt, alloc, registry, worker)) {
@@ -99,12 +98,12 @@ fn scoped<
     H: Ledger + Send + Sync,
     C: Ledger + Send + Sync,
     S: Setup + Send + Sync,
-    V: Say + Send,
+    O: Outlet + Send,
     R: Threads + Wait + Sync,
 >(
     rt: &R,
     alloc: Global,
-    registry: &Registry<H, C, S, Kept<V>>,
+    registry: &Registry<H, C, S, O>,
     first: Worker<H, C>,
     second: Worker<H, C>,
 ) -> Result<Option<Part<H, C>>, Fault> {
@@ -126,12 +125,12 @@ pub(crate) fn two_rounds<
     H: Ledger + Send + Sync,
     C: Ledger + Send + Sync,
     S: Setup + Send + Sync,
-    V: Say + Send,
+    O: Outlet + Send,
     R: Threads + Wait + Sync,
 >(
     rt: &R,
     alloc: Global,
-    registry: &Registry<H, C, S, Kept<V>>,
+    registry: &Registry<H, C, S, O>,
     workers: Vec<Worker<H, C>>,
 ) -> Result<Gathered<H, C>, Fail> {
     let mut workers = workers;

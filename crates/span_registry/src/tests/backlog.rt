@@ -1,0 +1,124 @@
+//! A ring of one place that is full: calls are refused, and made again after a step of the drain.
+use crate::tests::acts::{Act, new};
+use crate::tests::ended_on_a_ring::run_to_end_on_a_ring;
+use crate::tests::endings::{Ending, is_ending};
+use crate::tests::layers::{EVERYTHING, Plan};
+use span_id::{Level, Limits};
+use span_layers::{FmtSpan, Form};
+use std::alloc::Global;
+use std::process::Abort;
+use std::sync::Wait;
+use std::test::Fail;
+use std::thread::Threads;
+
+// A registry with one worker over a ring of one place ends so after these calls and steps.
+fn ends<R: Threads + Wait + Abort + Sync>(
+    rt: &R,
+    alloc: Global,
+    plans: &[Plan],
+    acts: &[Act],
+    ending: &Ending,
+) -> Result<(), Fail> {
+    let limits = Limits {
+        workers: 1,
+        ring: 1,
+        ..Limits::default()
+    };
+    let mut calls = Vec::new(alloc);
+    for act in acts {
+        calls.push((0, *act))?;
+    }
+    let ended = run_to_end_on_a_ring(rt, alloc, limits, plans, calls.as_slice())?;
+    is_ending(rt, alloc, &ended, ending)
+}
+
+// An event without fields.
+fn event(message: &str) -> Act<'_> {
+    Act::Event {
+        level: Level::Info,
+        message,
+        fields: &[],
+    }
+}
+
+#[test]
+fn a_handle_comes_back_from_a_full_ring(rt: HostRuntime) -> Result<(), Fail> {
+    let acts = [
+        new("a"),
+        Act::Clone(1),
+        Act::Close(1),
+        Act::Step,
+        Act::Step,
+        Act::Close(1),
+    ];
+    let ending = Ending {
+        answers: "= 1\n! backlog\n! backlog\n= told 0 refused 0\n= no batch\n= closed\n",
+        counts: "units 0 accepted 2\n",
+        numbers: "left 0 handles 0 entries 0 calls 2 made 1 closed 1 refused 0",
+        lines: "",
+    };
+    ends(&rt, rt.alloc(), &[], &acts, &ending)
+}
+
+const EVERY_ANSWER: &str = "\
+= 1
+= told 1 refused 0
+= entered
+! backlog
+! backlog
+! backlog
+! backlog
+! backlog
+! backlog
+! backlog
+! unknown
+! bad name
+= a parent 0 handles 1 entries 1 count 2
+= told 1 refused 0
+= open
+= told 1 refused 0
+= closed
+";
+
+#[test]
+fn every_call_meets_a_full_ring(rt: HostRuntime) -> Result<(), Fail> {
+    let acts = [
+        new("a"),
+        Act::Step,
+        Act::Enter(1),
+        new("b"),
+        Act::Clone(1),
+        Act::Enter(1),
+        Act::Exit(1),
+        Act::Record(1, &[("k", "v")]),
+        event("m"),
+        Act::Close(1),
+        Act::Exit(2),
+        new("a b"),
+        Act::Find(1),
+        Act::Step,
+        Act::Exit(1),
+        Act::Step,
+        Act::Close(1),
+    ];
+    let ending = Ending {
+        answers: EVERY_ANSWER,
+        counts: "units 0 accepted 4\n",
+        numbers: "left 0 handles 0 entries 0 calls 4 made 1 closed 1 refused 0",
+        lines: "0 0 0 new 1 w0 a\n1 0 0 enter 1 w0 a\n2 0 0 exit 1 w0 a\n3 0 0 close 1 w0 a\n",
+    };
+    ends(&rt, rt.alloc(), &[EVERYTHING], &acts, &ending)
+}
+
+#[test]
+fn a_span_that_is_not_wanted_needs_no_place(rt: HostRuntime) -> Result<(), Fail> {
+    let elsewhere: Plan = (Form::Compact, FmtSpan::FULL, "elsewhere", Level::Trace);
+    let acts = [event("m"), new("a"), event("m")];
+    let ending = Ending {
+        answers: "= told\n= not wanted\n! backlog\n",
+        counts: "units 0 accepted 1\n",
+        numbers: "left 0 handles 0 entries 0 calls 1 made 0 closed 0 refused 0",
+        lines: "",
+    };
+    ends(&rt, rt.alloc(), &[elsewhere], &acts, &ending)
+}
