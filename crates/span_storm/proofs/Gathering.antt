@@ -45,6 +45,10 @@ spare_of party = party.worker.spare
 abbrev pub AreNew : ℕ → List PartyView → Type 0
 AreNew rounds parties = All (λ party. (party.rounds ≡ rounds) × (party.worker.accepted ≡ 0)) parties
 
+-- the next worker is new, and so are the rest
+pub new_of : (rounds : ℕ) (party : PartyView) (xs ys : List PartyView) → xs ≡ party ∷ ys → AreNew rounds xs → ((party.rounds ≡ rounds) × (party.worker.accepted ≡ 0)) × AreNew rounds ys
+new_of rounds party xs ys is new = all_of_cons xs ys party is (λ (p : PartyView). (p.rounds ≡ rounds) × (p.worker.accepted ≡ 0)) new
+
 module _ (rounds : ℕ) (party : PartyView) (xs ys : List PartyView) (is : xs ≡ party ∷ ys) (rounds_are : party.rounds ≡ rounds) (new : party.worker.accepted ≡ 0) where
   fewer : length xs ≡ length ys + 1
   fewer = ap length is ∙ omega arith
@@ -62,7 +66,7 @@ module _ (rounds : ℕ) (party : PartyView) (xs ys : List PartyView) (is : xs �
       (back.units, omega (arith, back.call_parts, fewer), made share back ∙ omega (arith, ap (λ k. k * (9 * rounds)) back.call_parts), omega (arith, back.handle_parts, parts_left))
 
   -- one worker more
-  pub gathered_next : (n all : ℕ) (whole r : Result ShareView RunFault) → Gathers whole n (length xs) (9 * rounds) all (sum_by spare_of xs)
+  gathered_next : (n all : ℕ) (whole r : Result ShareView RunFault) → Gathers whole n (length xs) (9 * rounds) all (sum_by spare_of xs)
       → IfOk r (ComesBack party.worker party.rounds) → Gathers (both_shares whole r) n (length ys) (9 * rounds) all (sum_by spare_of ys)
   gathered_next n all (Err fault) r g back = tt
   gathered_next n all (Ok before) (Err fault) g back = tt
@@ -73,6 +77,10 @@ module _ (rounds : ℕ) (party : PartyView) (xs ys : List PartyView) (is : xs �
         omega (arith, g.2, made share back, ap (λ k. k * (9 * rounds)) one_more),
         omega (arith, g.3, back.handle_parts, parts_left),
       )
+
+  pub gathered_also : (n all : ℕ) (whole r next : Result ShareView RunFault) → next ≡ both_shares whole r → Gathers whole n (length xs) (9 * rounds) all (sum_by spare_of xs)
+      → IfOk r (ComesBack party.worker party.rounds) → Gathers next n (length ys) (9 * rounds) all (sum_by spare_of ys)
+  gathered_also n all whole r next same g back = subst (λ x. Gathers x n (length ys) (9 * rounds) all (sum_by spare_of ys)) (sym same) (gathered_next n all whole r g back)
 
   -- the shares of at most 16 workers, which make at most 400 rounds each, can be put together
   pub parts_fit : (n all : ℕ) (whole r : Result ShareView RunFault) → rounds ≤ 400 → n ≤ 16 → Gathers whole n (length xs) (9 * rounds) all (sum_by spare_of xs)
@@ -86,6 +94,10 @@ module _ (rounds : ℕ) (party : PartyView) (xs ys : List PartyView) (is : xs �
 
 -- ---- all workers
 
+-- as many calls as nine for each round of each worker
+pub nine_each : (n rounds : ℕ) → n * (9 * rounds) ≡ 9 * (n * rounds)
+nine_each n rounds = search arith
+
 pub has_all : (workers : List WorkerView) (parties : List PartyView) (rounds : ℕ) (r : Result ShareView RunFault) → map (λ party. party.worker) parties ≡ workers
     → Gathers r (length parties) 0 (9 * rounds) (sum_by spare_of parties) 0 → IfOk r (HasAll workers rounds)
 has_all workers parties rounds (Err fault) same g = tt
@@ -95,11 +107,7 @@ has_all workers parties rounds (Ok share) same g =
     let sum : sum_by spare_of parties ≡ sum_by (λ worker. worker.spare) workers = sum_of_map (λ party. party.worker) (λ worker. worker.spare) parties ∙ ap (λ ws. sum_by (λ worker. worker.spare) ws) same in
     record {
       units = g.0;
-      accepted = g.2 ∙ ap (λ k. k * (9 * rounds)) all;
+      accepted = g.2 ∙ ap (λ k. k * (9 * rounds)) all ∙ nine_each (length workers) rounds;
       handle_parts = omega (arith, g.3, sum);
       call_parts = all;
     }
-
--- as many calls as nine for each round of each worker
-pub nine_each : (n rounds : ℕ) → n * (9 * rounds) ≡ 9 * (n * rounds)
-nine_each n rounds = search arith

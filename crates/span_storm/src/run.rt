@@ -107,7 +107,7 @@ fn run<
     requires handles { (handles.name ≡ H.name) × (handles.parts ≡ H.parts) × (H.parts ≡ HANDLE_PARTS) }
     requires calls { (calls.name ≡ C.name) × (calls.parts ≡ C.parts) × (C.parts ≡ checked.now.workers) }
     requires table { (table ≡ S.table) × (table.words ≡ checked.now.slots) }
-    ensures calls { IfOk result (λ report. report.calls ≡ checked.now.workers * (9 * rounds)) }
+    ensures calls { IfOk result (λ report. report.calls ≡ 9 * (checked.now.workers * rounds)) }
     ensures handles { IfOk result (λ report. report.handles ≡ 0) }
     ensures empty { IfOk result (λ report. (report.left ≡ 0) ↔ ((report.handles ≡ 0) × (report.entries ≡ 0))) }
     ensures balance { IfOk result (λ report. report.made ≡ report.closed + report.left) }

@@ -20,7 +20,7 @@ pub record ComesBack (worker : WorkerView) (rounds : ℕ) (share : ShareView) : 
 -- the shares of these workers together, each of which has come back
 pub record HasAll (workers : List WorkerView) (rounds : ℕ) (share : ShareView) : Type 0 where
   pub units : share.units ≡ 0
-  pub accepted : share.accepted ≡ length workers * (9 * rounds)
+  pub accepted : share.accepted ≡ 9 * (length workers * rounds)
   pub handle_parts : share.handle_parts ≡ sum_by (λ worker. worker.spare) workers
   pub call_parts : share.call_parts ≡ length workers
 
