@@ -9,10 +9,7 @@ one_layer : (spans : ℕ) → wants_jobs (record { pairs = ([], Trace) ∷ []; s
 unfolding is_admitted
 one_layer spans = refl
 
-no_layer : wants_jobs [] ≡ true
-no_layer = refl
-
--- one layer whose rule has the empty prefix at the lowest level
-pub wants_all : (filters : List Filter) (filter : Filter) → filters ≡ [] ++ filter ∷ [] → filter.pairs ≡ ([], Trace) ∷ [] → wants_jobs filters ≡ true
-wants_all filters filter is pairs =
-    ap wants_jobs is ∙ ap (λ p. wants_jobs (record { pairs = p; spans = filter.spans } ∷ [])) pairs ∙ one_layer filter.spans
+-- one layer more than none, whose rule has the empty prefix at the lowest level
+pub wants_all : (filters before : List Filter) (filter : Filter) → filters ≡ before ++ filter ∷ [] → before ≡ [] → filter.pairs ≡ ([], Trace) ∷ [] → wants_jobs filters ≡ true
+wants_all filters before filter is none pairs =
+    ap wants_jobs (is ∙ ap (λ l. l ++ filter ∷ []) none) ∙ ap (λ p. wants_jobs (record { pairs = p; spans = filter.spans } ∷ [])) pairs ∙ one_layer filter.spans

@@ -1,14 +1,13 @@
 //! The program `tracerun`, which runs scripts of calls, and storms of workers, on the span registry.
 #![tactic(auto)]
 
-ghost use Rattle.std.specs.Prelude.{◌≤◌};
-
 mod command_line;
 mod storms;
 #[cfg(test)]
 mod tests;
 
 use crate::command_line::orders::Order;
+use clap::Error;
 use span_layers::MAX_LAYERS;
 use span_replay::replay_with_layers;
 use span_run::{Counted, RunFault};
@@ -17,15 +16,23 @@ use std::io::{BufWriter, ErrorKind};
 use std::process::ExitCode;
 
 fn main(rt: HostRuntime) -> io::Result<ExitCode> {
-    match words(&rt) {
-        Ok(words) => obey(&rt, words.as_slice()),
+    let order = match words(&rt) {
+        Ok(words) => command_line::order_of(rt.alloc(), words.as_slice()),
         Err(error) if matches!(error.kind(), ErrorKind::OutOfMemory) => {
-            status_of(&rt, Err(RunFault::Memory))
+            return status_of(&rt, Err(RunFault::Memory));
         }
         Err(_) => {
             eprintln!(rt; "error: a word of the command line isn't UTF-8")?;
-            Ok(ExitCode::from(2))
+            return Ok(ExitCode::from(2));
         }
+    };
+    match order {
+        Ok(Order::Replay) => status_of(&rt, replay(&rt)),
+        Ok(Order::Storm { workers, rounds }) => {
+            let mut output = Counted::new(rt.stdout());
+            status_of(&rt, storms::run(&rt, rt.alloc(), workers, rounds, &mut output))
+        }
+        Err(error) => no_order(&rt, &error),
     }
 }
 
@@ -35,18 +42,14 @@ fn words(rt: &HostRuntime) -> io::Result<Vec<String>> {
     Ok(words)
 }
 
-/// Does what the words ask for, and tells on standard error where it can't.
-fn obey(rt: &HostRuntime, words: &[String]) -> io::Result<ExitCode> {
-    match command_line::order_of(rt.alloc(), words) {
-        Ok(Order::Replay) => status_of(rt, replay(rt)),
-        Ok(Order::Storm { workers, rounds }) => status_of(rt, storm(rt, workers, rounds)),
-        Err(error) => match command_line::status(&error) {
-            3 => status_of(rt, Err(RunFault::Memory)),
-            status => {
-                rt.eprint(&error)?;
-                Ok(ExitCode::from(status))
-            }
-        },
+/// Tells on standard error why the words give no order.
+fn no_order(rt: &HostRuntime, error: &Error) -> io::Result<ExitCode> {
+    match command_line::status(error) {
+        3 => status_of(rt, Err(RunFault::Memory)),
+        status => {
+            rt.eprint(error)?;
+            Ok(ExitCode::from(status))
+        }
     }
 }
 
@@ -62,15 +65,6 @@ fn replay(rt: &HostRuntime) -> Result<(), RunFault> {
         Ok(_) => Ok(()),
         Err(fault) => Err(fault),
     }
-}
-
-/// Runs a storm. How it ended goes to standard output.
-fn storm(rt: &HostRuntime, workers: u32, rounds: u32) -> Result<(), RunFault>
-    requires workers { (1 ≤ workers) × (workers ≤ 16) }
-    requires rounds { (1 ≤ rounds) × (rounds ≤ 400) }
-{
-    let mut output = Counted::new(rt.stdout());
-    storms::run(rt, rt.alloc(), workers, rounds, &mut output)
 }
 
 /// The status with which the program ends. A fault is told on standard error as one line.

@@ -7,7 +7,7 @@ ghost use Rattle.span_layers.specs.Rule.{pairs_of, is_admitted};
 ghost use Rattle.span_layers.specs.Text.{text_of};
 ghost use Rattle.span_run.specs.Counted.{failed_of};
 
-use span_id::{Level, Meta, copy_text};
+use span_id::{Fault, Level, Meta, copy_text};
 use span_layers::{FmtSpan, Form, Hooks, Layer, Layers, Note, Rule, Style, admits, text};
 use span_run::{Counted, RunFault, flush};
 use span_storm::{Open, show, storm};
@@ -57,16 +57,16 @@ pub fn run<R: Threads + Wait + Sync, W: Write>(
         hooks: Hooks::new(admit, say),
     };
     let mut layers = Layers::new(alloc);
-    if layers.add(layer).is_err() {
+    let Ok(_) = layers.add(layer) else {
         return Err(RunFault::Memory);
-    }
+    };
     let report = storm(rt, alloc, workers, rounds, layers, &Open)?;
     show(workers, rounds, &report, output)?;
     flush(output)
 }
 
 // The rule that admits everything.
-fn everything(alloc: Global) -> Result<Rule, AllocError>
+fn everything(alloc: Global) -> Result<Rule, Fault>
     ensures { IfOk result (λ rule. pairs_of rule ≡ ([], Trace) ∷ []) }
 {
     let mut pairs = Vec::with_capacity(alloc, 1)?;

@@ -60,9 +60,9 @@ pub(crate) fn storm_of_all<G: Gate + Sync, R: Threads + Wait + Sync>(
         rule,
         hooks: Hooks::new(admit, say),
     };
-    if layers.add(layer).is_err() {
+    let Ok(_) = layers.add(layer) else {
         return Err(RunFault::Memory);
-    }
+    };
     storm(rt, alloc, workers, rounds, layers, gate)
 }
 

@@ -38,7 +38,10 @@ fn met<R: Threads + Wait + Sync>(rt: &R, alloc: Global) -> Result<Report, RunFau
     let Ok(said) = Arc::new(alloc, AtomicBool::new(false)) else {
         return Err(RunFault::Memory);
     };
-    let gate = Meeting::new(said.clone());
+    let Ok(seen) = said.clone() else {
+        return Err(RunFault::Memory);
+    };
+    let gate = Meeting::new(seen);
     storm_of_all(rt, alloc, 2, 3, said, &gate)
 }
 
