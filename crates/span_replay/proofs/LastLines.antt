@@ -10,8 +10,8 @@ use Rattle.span_replay.specs.Replayed.{Fails, Runs}
 use Rattle.span_replay.specs.State.{State}
 use Rattle.span_replay.specs.inside.Turns.{AreMade, Sent, TextFails}
 use Rattle.span_replay.specs.Written.{Written, closes, each_written, exits}
-use Rattle.span_replay.specs.declared.run.fault.RunFault.{RunFault}
-use Rattle.span_replay.specs.declared.run.fault.RunFault.TheVariants.{Script, Memory, Device}
+use Rattle.span_run.specs.declared.fault.RunFault.{RunFault}
+use Rattle.span_run.specs.declared.fault.RunFault.TheVariants.{Script, Memory, Device, Refused, Held}
 use Rattle.span_replay.proofs.Written.{Known, front_more, fails_after, runs_after}
 
 -- where a text fails that the whole begins with, the whole fails
@@ -19,6 +19,8 @@ text_fails : (a b : Known) (t : Transcript) (text more : List ℕ) (e : RunFault
 text_fails a b t text more (Script line reason) is p = absurd p
 text_fails a b t text more Memory is p = rw is (front_more a b text more p)
 text_fails a b t text more (Device side) is p = rw is (front_more a b text more p)
+text_fails a b t text more (Refused fault) is p = absurd p
+text_fails a b t text more (Held party) is p = absurd p
 
 -- the exits of all workers, of which there are as many as the limits say
 abbrev left_by : CoreView → ℕ → Written

@@ -1,14 +1,14 @@
 -- From what a line's JSON value does to what the line does, and a loop over lines whose hooks are any.
 use Rattle.std.proofs.Common.{◌≡◌, ℕ, List, refl, sym, subst, Result, Ok, Err, IfErr, OnOk}
 use Rattle.std.specs.Prelude.{OnErr, ⊤}
-use Rattle.span_replay.specs.Device.{AppendsFront}
+use Rattle.span_run.specs.Device.{AppendsFront}
 use Rattle.span_replay.specs.Meaning.{Turn}
 use Rattle.span_replay.specs.State.{State}
 use Rattle.span_replay.specs.inside.Turns.{HasTurned, TurnFails}
 use Rattle.span_script.specs.declared.reason.Reason.{Reason}
-use Rattle.span_replay.specs.declared.run.fault.RunFault.{RunFault}
-use Rattle.span_replay.specs.declared.run.fault.RunFault.TheVariants.{Device}
-use Rattle.span_replay.specs.declared.run.fault.Side.TheVariants.{Write}
+use Rattle.span_run.specs.declared.fault.RunFault.{RunFault}
+use Rattle.span_run.specs.declared.fault.RunFault.TheVariants.{Device}
+use Rattle.span_run.specs.declared.fault.Side.TheVariants.{Write}
 use Rattle.span_replay.proofs.Written.{Known}
 use Rattle.span_replay.proofs.LineTurns.{turn_begun}
 

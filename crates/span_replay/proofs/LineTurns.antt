@@ -3,7 +3,7 @@ use Rattle.std.proofs.Common.{◌≡◌, ℕ, List, false, refl, sym, ◌∙◌,
 use Rattle.std.specs.Io.KnownBytes.{Appends}
 use Rattle.std.proofs.KnownBytes.{Keeps-refl}
 use Rattle.serde_json.specs.Data.{Data}
-use Rattle.span_replay.specs.Device.{AppendsFront}
+use Rattle.span_run.specs.Device.{AppendsFront}
 use Rattle.span_replay.specs.inside.Ended.{fault_at}
 use Rattle.span_replay.specs.Meaning.{Turn, line_turn, read_turn, value_turn}
 use Rattle.span_script.specs.Operation.{json_of}
@@ -12,9 +12,9 @@ use Rattle.span_script.specs.Script.{is_skipped}
 use Rattle.span_replay.specs.State.{State}
 use Rattle.span_replay.specs.inside.Turns.{HasTurned, TurnFails}
 use Rattle.span_script.specs.declared.reason.Reason.{Reason}
-use Rattle.span_replay.specs.declared.run.fault.RunFault.{RunFault}
-use Rattle.span_replay.specs.declared.run.fault.RunFault.TheVariants.{Device}
-use Rattle.span_replay.specs.declared.run.fault.Side.{Side}
+use Rattle.span_run.specs.declared.fault.RunFault.{RunFault}
+use Rattle.span_run.specs.declared.fault.RunFault.TheVariants.{Device}
+use Rattle.span_run.specs.declared.fault.Side.{Side}
 use Rattle.span_script.specs.declared.stop.Stop.{Stop}
 use Rattle.span_script.specs.declared.stop.Stop.TheVariants.{Memory, Refused}
 use Rattle.span_replay.proofs.Written.{Known}

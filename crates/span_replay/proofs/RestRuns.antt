@@ -15,7 +15,7 @@ use Rattle.span_replay.specs.Replayed.{Fails, Runs}
 use Rattle.span_script.specs.Script.{lines_of}
 use Rattle.span_replay.specs.State.{State}
 use Rattle.span_replay.specs.inside.Turns.{HasTurned, Sent, TurnFails, opened_state, resumed_run}
-use Rattle.span_replay.specs.declared.run.fault.RunFault.{RunFault}
+use Rattle.span_run.specs.declared.fault.RunFault.{RunFault}
 use Rattle.span_replay.proofs.Openings.{when_some}
 use Rattle.span_replay.proofs.Resumed.{staged, value_same}
 use Rattle.span_replay.proofs.Written.{Known, sent_none, sent_trans, fails_after, runs_after, turned_more, turned_fails, loop_ends}

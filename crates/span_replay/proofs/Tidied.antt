@@ -13,11 +13,11 @@ use Rattle.std.specs.List.{range_with_len}
 use Rattle.std.proofs.KnownBytes.{Appends-nil, Appends-trans}
 use Rattle.span_core.specs.Core.{CoreView}
 use Rattle.span_outlet.specs.Request as call
-use Rattle.span_replay.specs.Device.{AppendsFront}
+use Rattle.span_run.specs.Device.{AppendsFront}
 use Rattle.span_replay.specs.inside.Turns.{AreMade, ArePartlyMade, TextFails}
 use Rattle.span_replay.specs.Written.{Written, written_after, call_written, calls_written, each_written, exits, closes}
-use Rattle.span_replay.specs.declared.run.fault.RunFault.{RunFault}
-use Rattle.span_replay.specs.declared.run.fault.RunFault.TheVariants.{Script, Memory, Device}
+use Rattle.span_run.specs.declared.fault.RunFault.{RunFault}
+use Rattle.span_run.specs.declared.fault.RunFault.TheVariants.{Script, Memory, Device, Refused, Held}
 use Rattle.span_replay.proofs.Written.{Known, front_after, front_more}
 
 pub part_none : (a : Known) (w : Written) → ArePartlyMade a a w w
@@ -37,11 +37,15 @@ pub part_fails : (a b c : Known) (whole more : Written) (e : RunFault) → ArePa
 part_fails a b c whole more (Script line reason) s p = p
 part_fails a b c whole more Memory s p = part_front a b c whole more s p
 part_fails a b c whole more (Device side) s p = part_front a b c whole more s p
+part_fails a b c whole more (Refused fault) s p = p
+part_fails a b c whole more (Held party) s p = p
 
 first_fails : (b c : Known) (text more : List ℕ) (e : RunFault) → TextFails text b c e → TextFails (text ++ more) b c e
 first_fails b c text more (Script line reason) p = p
 first_fails b c text more Memory p = front_more b c text more p
 first_fails b c text more (Device side) p = front_more b c text more p
+first_fails b c text more (Refused fault) p = p
+first_fails b c text more (Held party) p = p
 
 pub part_ends : (a b : Known) (whole : Written) (core : CoreView) → ArePartlyMade a b whole (record { text = []; core = core }) → AreMade whole core a b
 part_ends a b whole core s = record {

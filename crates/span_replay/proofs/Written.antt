@@ -3,18 +3,18 @@ use Rattle.std.proofs.Common.{◌≡◌, ℕ, ◌+◌, ◌<◌, List, [], ◌∷
 use Rattle.std.specs.Io.KnownBytes.{Appends, Consumes, Keeps}
 use Rattle.std.proofs.KnownBytes.{Appends-nil, Appends-trans, Appends-kept, Keeps-refl}
 use Rattle.std.proofs.lemmas.Bool.{lt-leb}
-use Rattle.span_replay.specs.Device.{AppendsFront, ReadFails}
+use Rattle.span_run.specs.Device.{AppendsFront, ReadFails}
 use Rattle.span_replay.specs.Meaning.{Turn, Transcript, faulty, after, turn_then, run, meaning, line_turn, last_part}
 use Rattle.span_replay.specs.Replayed.{Fails, Runs, KeepsUnread}
 use Rattle.span_script.specs.Script.{lines_of, most_bytes}
 use Rattle.span_replay.specs.State.{State}
 use Rattle.span_replay.specs.inside.Turns.{HasTurned, TurnFails, Sent}
-use Rattle.span_replay.specs.declared.run.fault.RunFault.{RunFault}
-use Rattle.span_replay.specs.declared.run.fault.RunFault.TheVariants.{Script, Memory, Device}
+use Rattle.span_run.specs.declared.fault.RunFault.{RunFault}
+use Rattle.span_run.specs.declared.fault.RunFault.TheVariants.{Script, Memory, Device, Refused, Held}
 use Rattle.span_script.specs.declared.reason.Reason.{Reason}
 use Rattle.span_script.specs.declared.reason.Reason.TheVariants.{TooLong}
-use Rattle.span_replay.specs.declared.run.fault.Side.TheVariants.{Read, Write}
-use Rattle.span_replay.specs.RunFault.{EndsAsCounted}
+use Rattle.span_run.specs.declared.fault.Side.TheVariants.{Read, Write}
+use Rattle.span_run.specs.RunFault.{EndsAsCounted}
 
 abbrev pub Known : Type 0
 Known = Option (List ℕ)
@@ -66,6 +66,8 @@ pub fails_after : (a b c : Known) (whole more : Transcript) (e : RunFault) → S
 fails_after a b c whole more (Script number reason) s p = (ap (λ t. t.ending) s.is ∙ p.0, sent_text a b c whole more s p.1)
 fails_after a b c whole more Memory s p = sent_front a b c whole more s p
 fails_after a b c whole more (Device side) s p = sent_front a b c whole more s p
+fails_after a b c whole more (Refused fault) s p = p
+fails_after a b c whole more (Held party) s p = p
 
 -- what the rest of a run leaves is what the whole run leaves
 pub runs_after : (a b c : Known) (whole more : Transcript) (r : Result ℕ RunFault) → Sent a b whole more → Runs more b c r → Runs whole a c r
@@ -89,6 +91,8 @@ turned_fails a b number meant more Memory p = front_none a b _ p
 turned_fails a b number meant more (Device side) p =
     let is = ap (λ m. turn_then number m more) p.is in
     subst (AppendsFront a b) (sym (ap (λ t. t.text) is)) (front_more a b p.turn.text (more p.turn.state).text p.front)
+turned_fails a b number meant more (Refused fault) p = p
+turned_fails a b number meant more (Held party) p = p
 
 -- ---- a turn of a loop over lines: `rest` is what is left, `line` its first line, `tail` what follows
 
@@ -142,6 +146,8 @@ unread_runs hooks i j a (Script number reason) (at, is, (bytes, all, long)) =
     if_some i (λ xs p. (p.0 ∙ ap (λ k. faulty k TooLong) (sym at) ∙ ap (faulty number) (sym is), p.1)) (long_runs hooks i j a bytes all (omega (arith, long)))
 unread_runs hooks i j a Memory p = always i (λ xs. empty_front a (meaning hooks xs).text)
 unread_runs hooks i j a (Device side) p = always i (λ xs. empty_front a (meaning hooks xs).text)
+unread_runs hooks i j a (Refused fault) p = absurd p
+unread_runs hooks i j a (Held party) p = absurd p
 
 -- ---- where the reader failed
 
@@ -150,6 +156,8 @@ unread_kept a (Script number reason) = tt
 unread_kept a Memory = tt
 unread_kept a (Device Read) = Keeps-refl a
 unread_kept a (Device Write) = tt
+unread_kept a (Refused fault) = tt
+unread_kept a (Held party) = tt
 
 -- a script that was read isn't ended by the reader
 pub read_kept : (writes writes' : ℕ) (a b : Known) (r : Result ℕ RunFault) → EndsAsCounted 0 0 writes writes' r → IfErr r (KeepsUnread a b)
@@ -158,3 +166,5 @@ read_kept writes writes' a b (Err (Script number reason)) c = tt
 read_kept writes writes' a b (Err Memory) c = tt
 read_kept writes writes' a b (Err (Device Read)) c = let none = c.0 in absurd (omega (arith, none))
 read_kept writes writes' a b (Err (Device Write)) c = tt
+read_kept writes writes' a b (Err (Refused fault)) c = tt
+read_kept writes writes' a b (Err (Held party)) c = tt

@@ -1,6 +1,8 @@
-pub mod Counted
-pub mod RunFault
-pub mod Device
+-- The words of what each run has, again.
+pub use Rattle.span_run.specs.Counted
+pub use Rattle.span_run.specs.RunFault
+pub use Rattle.span_run.specs.Device
+-- The meaning of a script, and what a run leaves.
 pub mod Answer
 pub mod Labels
 pub mod Faults

@@ -1,19 +1,21 @@
 -- What a run leaves in the writer, and what it answers.
 use Rattle.std.specs.Prelude.{◌≡◌, ℕ, Bool, true, ◌⊎◌, List, Option, Result, Ok, Err, IfSome, MatchResult}
 use Rattle.std.specs.Io.KnownBytes.{Appends, Keeps}
-use Rattle.span_replay.specs.Counted.{one_more}
-use Rattle.span_replay.specs.Device.{AppendsFront}
+use Rattle.span_run.specs.Counted.{one_more}
+use Rattle.span_run.specs.Device.{AppendsFront}
 use Rattle.span_replay.specs.Meaning.{Transcript, finished, faulty, meaning}
-use Rattle.span_replay.specs.declared.run.fault.RunFault.{RunFault}
-use Rattle.span_replay.specs.declared.run.fault.RunFault.TheVariants.{Script, Memory, Device}
-use Rattle.span_replay.specs.declared.run.fault.Side.TheVariants.{Read, Write}
+use Rattle.span_run.specs.declared.fault.RunFault.{RunFault}
+use Rattle.span_run.specs.declared.fault.RunFault.TheVariants.{Script, Memory, Device, Refused, Held}
+use Rattle.span_run.specs.declared.fault.Side.TheVariants.{Read, Write}
 
 -- After a fault of the script the text that is meant stands, and the fault is the one that is meant. Where
--- memory was refused or a device failed, a front of the text stands.
+-- memory was refused or a device failed, a front of the text stands. A script has no other end.
 abbrev pub Fails : Transcript → Option (List ℕ) → Option (List ℕ) → RunFault → Type 0
 Fails meant old new (Script number reason) = (meant.ending ≡ faulty number reason) × Appends old new meant.text
 Fails meant old new Memory = AppendsFront old new meant.text
 Fails meant old new (Device side) = AppendsFront old new meant.text
+Fails meant old new (Refused fault) = ⊥
+Fails meant old new (Held party) = ⊥
 
 -- the text that is meant was written and nothing else, and the answer is how many spans are left open; or a fault
 abbrev pub Runs : Transcript → Option (List ℕ) → Option (List ℕ) → Result ℕ RunFault → Type 0
@@ -30,6 +32,8 @@ KeepsUnread old new (Script number reason) = Unit {0}
 KeepsUnread old new Memory = Unit {0}
 KeepsUnread old new (Device Read) = Keeps old new
 KeepsUnread old new (Device Write) = Unit {0}
+KeepsUnread old new (Refused fault) = Unit {0}
+KeepsUnread old new (Held party) = Unit {0}
 
 -- the whole text that is meant was written, where the script's bytes are known
 abbrev pub IsWhole : ℕ → Option (List ℕ) → Option (List ℕ) → Option (List ℕ) → Type 0
@@ -46,3 +50,5 @@ FlushesOnce Whole flushes flushes' flushed (Err Memory) = flushes' ≡ flushes
 FlushesOnce Whole flushes flushes' flushed (Err (Device Read)) = flushes' ≡ flushes
 FlushesOnce Whole flushes flushes' flushed (Err (Device Write)) =
     (flushes' ≡ flushes) ⊎ (Whole × (flushes' ≡ one_more flushes))
+FlushesOnce Whole flushes flushes' flushed (Err (Refused fault)) = ⊥
+FlushesOnce Whole flushes flushes' flushed (Err (Held party)) = ⊥

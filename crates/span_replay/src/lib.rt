@@ -5,12 +5,10 @@
 //! `replay_with_layers` makes the layers' hooks itself).
 #![tactic(auto)]
 
-mod devices;
 mod run;
 #[cfg(test)]
 mod tests;
 
-pub use devices::counted::Counted;
-pub use run::fault::{RunFault, Side};
 pub use run::hooks::replay_with_layers;
 pub use run::replay::replay;
+pub use span_run::{Counted, RunFault, Side};

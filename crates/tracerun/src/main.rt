@@ -1,27 +1,38 @@
-//! The program `tracerun`, which runs scripts of calls on the span registry.
+//! The program `tracerun`, which runs scripts of calls, and storms of workers, on the span registry.
 #![tactic(auto)]
 
 mod command_line;
+mod storms;
 #[cfg(test)]
 mod tests;
 
 use crate::command_line::orders::Order;
+use clap::Error;
 use span_layers::MAX_LAYERS;
-use span_replay::{Counted, RunFault, replay_with_layers};
+use span_replay::replay_with_layers;
+use span_run::{Counted, RunFault};
 use std::io;
 use std::io::{BufWriter, ErrorKind};
 use std::process::ExitCode;
 
 fn main(rt: HostRuntime) -> io::Result<ExitCode> {
-    match words(&rt) {
-        Ok(words) => obey(&rt, words.as_slice()),
+    let order = match words(&rt) {
+        Ok(words) => command_line::order_of(rt.alloc(), words.as_slice()),
         Err(error) if matches!(error.kind(), ErrorKind::OutOfMemory) => {
-            status_of(&rt, Err(RunFault::Memory))
+            return status_of(&rt, Err(RunFault::Memory));
         }
         Err(_) => {
             eprintln!(rt; "error: a word of the command line isn't UTF-8")?;
-            Ok(ExitCode::from(2))
+            return Ok(ExitCode::from(2));
         }
+    };
+    match order {
+        Ok(Order::Replay) => status_of(&rt, replay(&rt)),
+        Ok(Order::Storm { workers, rounds }) => {
+            let mut output = Counted::new(rt.stdout());
+            status_of(&rt, storms::run(&rt, rt.alloc(), workers, rounds, &mut output))
+        }
+        Err(error) => no_order(&rt, &error),
     }
 }
 
@@ -31,17 +42,14 @@ fn words(rt: &HostRuntime) -> io::Result<Vec<String>> {
     Ok(words)
 }
 
-/// Does what the words ask for, and tells on standard error where it can't.
-fn obey(rt: &HostRuntime, words: &[String]) -> io::Result<ExitCode> {
-    match command_line::order_of(rt.alloc(), words) {
-        Ok(Order::Replay) => status_of(rt, replay(rt)),
-        Err(error) => match command_line::status(&error) {
-            3 => status_of(rt, Err(RunFault::Memory)),
-            status => {
-                rt.eprint(&error)?;
-                Ok(ExitCode::from(status))
-            }
-        },
+/// Tells on standard error why the words give no order.
+fn no_order(rt: &HostRuntime, error: &Error) -> io::Result<ExitCode> {
+    match command_line::status(error) {
+        3 => status_of(rt, Err(RunFault::Memory)),
+        status => {
+            rt.eprint(error)?;
+            Ok(ExitCode::from(status))
+        }
     }
 }
 

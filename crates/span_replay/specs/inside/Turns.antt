@@ -7,15 +7,15 @@ use Rattle.span_layers.specs.Filter.{Filter}
 use Rattle.span_layers.specs.declared.form.Form.{Form}
 use Rattle.span_core.specs.Core.{CoreView}
 use Rattle.span_core.specs.World.{empty_world}
-use Rattle.span_replay.specs.Device.{AppendsFront}
+use Rattle.span_run.specs.Device.{AppendsFront}
 use Rattle.span_replay.specs.Meaning.{Turn, Transcript, after, value_turn, turn_then, run}
 use Rattle.span_script.specs.Operation.{Operation, Stage, set_limits, add_layer}
 use Rattle.span_script.specs.Script.{lines_of}
 use Rattle.span_replay.specs.State.{State}
 use Rattle.span_replay.specs.Written.{Written, written_after}
 use Rattle.span_script.specs.declared.reason.Reason.{Reason}
-use Rattle.span_replay.specs.declared.run.fault.RunFault.{RunFault}
-use Rattle.span_replay.specs.declared.run.fault.RunFault.TheVariants.{Script, Memory, Device}
+use Rattle.span_run.specs.declared.fault.RunFault.{RunFault}
+use Rattle.span_run.specs.declared.fault.RunFault.TheVariants.{Script, Memory, Device, Refused, Held}
 
 -- an operation that comes before all calls
 abbrev pub SetsUp : Operation → Type 0
@@ -62,6 +62,8 @@ abbrev pub TurnFails : Result Turn Reason → ℕ → Option (List ℕ) → Opti
 TurnFails meant number old new (Script line reason) = (line ≡ number) × (meant ≡ Err reason) × Keeps old new
 TurnFails meant number old new Memory = Keeps old new
 TurnFails meant number old new (Device side) = HasBegun meant old new
+TurnFails meant number old new (Refused fault) = ⊥
+TurnFails meant number old new (Held party) = ⊥
 
 -- a text was written, and it is what is meant as a whole, before what is still meant for the rest
 pub record Sent (old new : Option (List ℕ)) (whole more : Transcript) : Type 0 where
@@ -79,6 +81,8 @@ abbrev pub TextFails : List ℕ → Option (List ℕ) → Option (List ℕ) → 
 TextFails text old new (Script line reason) = ⊥
 TextFails text old new Memory = AppendsFront old new text
 TextFails text old new (Device side) = AppendsFront old new text
+TextFails text old new (Refused fault) = ⊥
+TextFails text old new (Held party) = ⊥
 
 -- a text was written, and it is that of the calls as a whole, before those that are still to be made
 pub record ArePartlyMade (old new : Option (List ℕ)) (whole more : Written) : Type 0 where

@@ -5,15 +5,14 @@ ghost use Rattle.std.specs.Result.{ForOk};
 ghost use Rattle.span_layers.specs.Note.{plain_note};
 ghost use Rattle.span_layers.specs.Rule.{pairs_of, is_admitted};
 ghost use Rattle.span_layers.specs.Text.{text_of};
-ghost use Rattle.span_replay.specs.Counted.{inner_of, calls_of, failed_of, flushes_of, flushed_of};
+ghost use Rattle.span_run.specs.Counted.{inner_of, calls_of, failed_of, flushes_of, flushed_of};
 ghost use Rattle.span_replay.specs.Replayed.{FlushesOnce, IsReplayed, IsWhole, KeepsUnread};
-ghost use Rattle.span_replay.specs.RunFault.{EndsAsCounted};
+ghost use Rattle.span_run.specs.RunFault.{EndsAsCounted};
 
-use crate::devices::counted::Counted;
-use crate::run::fault::RunFault;
 use crate::run::replay::replay;
 use span_id::Meta;
 use span_layers::{Form, Hooks, Note, Rule, admits, text};
+use span_run::{Counted, RunFault};
 use std::alloc::{AllocError, Global};
 use std::io::{Read, Write};
 

@@ -3,20 +3,19 @@ ghost use Rattle.std.specs.Prelude.{◌≡◌, ◌+◌, ◌^◌, ◌<◌, ◌≤
 ghost use Rattle.std.specs.Option.{option_map};
 ghost use Rattle.std.specs.Io.KnownBytes.{Keeps};
 ghost use Rattle.serde_json.specs.View.{view};
-ghost use Rattle.span_replay.specs.Counted.{inner_of, failed_of, flushes_of};
+ghost use Rattle.span_run.specs.Counted.{inner_of, failed_of, flushes_of};
 ghost use Rattle.span_replay.specs.Meaning.{line_turn, run, value_turn};
 ghost use Rattle.span_script.specs.Operation.{is_setup};
 ghost use Rattle.span_replay.specs.Replayed.{Fails};
-ghost use Rattle.span_replay.specs.RunFault.{EndsAsCounted};
+ghost use Rattle.span_run.specs.RunFault.{EndsAsCounted};
 ghost use Rattle.span_script.specs.Script.{lines_of, most_bytes};
 ghost use Rattle.span_replay.specs.inside.Setup.{hooks_in, setup_state};
 ghost use Rattle.span_replay.specs.inside.Turns.{HasTurned, Sent, TurnFails, resumed_run};
 
-use crate::devices::counted::Counted;
-use crate::devices::transfer::write_text;
-use crate::run::fault::{RunFault, at_line};
+use crate::run::fault::at_line;
 use crate::run::setup::Setup;
 use serde_json::Value;
+use span_run::{Counted, RunFault, write_text};
 use span_script::{cut_line, is_setup, is_skipped, json_value};
 use std::alloc::Global;
 use std::io::Write;

@@ -1,21 +1,19 @@
 //! Running a whole script: reading it, its lines, the tidying and the last line, and writing out.
 ghost use Rattle.std.specs.Prelude.{◌≡◌, ◌+◌, ◌^◌, ◌<◌, ◌≤◌, IfOk, IfErr, IfSome, OnOk, length, vec_len};
 ghost use Rattle.std.specs.Io.KnownBytes.{IsAtEnd};
-ghost use Rattle.span_replay.specs.Counted.{inner_of, calls_of, failed_of, flushes_of, flushed_of};
+ghost use Rattle.span_run.specs.Counted.{inner_of, calls_of, failed_of, flushes_of, flushed_of};
 ghost use Rattle.span_replay.specs.Meaning.{run};
 ghost use Rattle.span_replay.specs.Replayed.{FlushesOnce, IsReplayed, IsWhole, KeepsUnread, Runs};
-ghost use Rattle.span_replay.specs.RunFault.{EndsAsCounted};
+ghost use Rattle.span_run.specs.RunFault.{EndsAsCounted};
 ghost use Rattle.span_script.specs.Script.{lines_of, most_bytes};
 ghost use Rattle.span_replay.specs.State.{first_state};
 
-use crate::devices::counted::Counted;
-use crate::devices::transfer::{flush, read_script};
-use crate::run::fault::RunFault;
 use crate::run::lines::run_rest;
 use crate::run::opening::open;
 use crate::run::setup::Setup;
 use span_layers::Hooks;
 use span_outlet::Kept;
+use span_run::{Counted, RunFault, flush, read_script};
 use std::alloc::Global;
 use std::io::{Read, Write};
 
@@ -61,6 +59,8 @@ pub fn replay<R: Read, W: Write>(
         },
         Err(RunFault::Memory) => Err(RunFault::Memory),
         Err(RunFault::Device(side)) => Err(RunFault::Device(side)),
+        // A script's calls that are refused are answered, and nobody holds a run.
+        Err(RunFault::Refused(_) | RunFault::Held(_)) => unreachable!(),
     }
 }
 

@@ -1,12 +1,11 @@
 //! When a run flushes its writer.
 ghost use Rattle.std.specs.Prelude.{◌≡◌};
-ghost use Rattle.span_replay.specs.Counted.{failed_of};
+ghost use Rattle.span_run.specs.Counted.{failed_of};
 
-use crate::devices::counted::Counted;
-use crate::run::fault::RunFault;
 use crate::run::hooks::replay_with_layers;
 use crate::run::replay::replay;
 use crate::tests::hooks::hooks;
+use span_run::{Counted, RunFault};
 use std::alloc::{AllocError, Global};
 use std::io;
 use std::io::{ErrorKind, Read, Write};

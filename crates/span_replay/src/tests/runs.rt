@@ -1,7 +1,6 @@
 //! Whole runs of scripts.
-use crate::devices::counted::Counted;
-use crate::run::fault::RunFault;
 use crate::run::hooks::replay_with_layers;
+use span_run::{Counted, RunFault};
 use std::alloc::{AllocError, Global};
 use std::io;
 use std::io::{ErrorKind, Read, Write};

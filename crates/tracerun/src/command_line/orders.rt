@@ -5,4 +5,6 @@
 pub enum Order {
     /// Run a script from standard input.
     Replay,
+    /// Have so many workers, 1 to 16, make so many rounds of calls, 1 to 400.
+    Storm { workers: u32, rounds: u32 },
 }

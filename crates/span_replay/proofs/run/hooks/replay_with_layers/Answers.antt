@@ -1,5 +1,5 @@
 use Rattle.std.proofs.Common.{None}
-use Rattle.span_replay.specs.declared.run.fault.RunFault.TheVariants.{Memory}
+use Rattle.span_run.specs.declared.fault.RunFault.TheVariants.{Memory}
 use Rattle.span_replay.proofs.Written.{unread_runs}
 use Rattle.span_replay.proofs.run.hooks.replay_with_layers.Goals as goal
 

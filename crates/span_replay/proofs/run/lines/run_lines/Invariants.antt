@@ -1,5 +1,5 @@
 use Rattle.std.proofs.Common.{◌≡◌, ◌+◌, ◌≤◌, ℕ, length}
-use Rattle.span_replay.specs.Counted.{inner_of, failed_of, flushes_of}
+use Rattle.span_run.specs.Counted.{inner_of, failed_of, flushes_of}
 use Rattle.span_replay.specs.Meaning.{run}
 use Rattle.span_script.specs.Operation.{running}
 use Rattle.span_replay.specs.inside.Running.{IsWritten, state_at}

@@ -1,5 +1,5 @@
 use Rattle.std.proofs.Common.{◌≡◌, ◌+◌, ◌≤◌, length}
-use Rattle.span_replay.specs.Counted.{inner_of, failed_of, flushes_of}
+use Rattle.span_run.specs.Counted.{inner_of, failed_of, flushes_of}
 use Rattle.span_replay.specs.Meaning.{run}
 use Rattle.span_script.specs.Script.{lines_of}
 use Rattle.span_replay.specs.inside.Setup.{hooks_in, setup_state}

@@ -1,5 +1,5 @@
 use Rattle.std.proofs.Common.{◌≡◌, map, drop}
-use Rattle.span_replay.specs.Counted.{inner_of, failed_of, flushes_of}
+use Rattle.span_run.specs.Counted.{inner_of, failed_of, flushes_of}
 use Rattle.span_replay.specs.Requests.{request_of_call}
 use Rattle.span_replay.specs.inside.Running.{IsWritten, core_in, labels_in}
 use Rattle.span_replay.specs.inside.Turns.{ArePartlyMade}

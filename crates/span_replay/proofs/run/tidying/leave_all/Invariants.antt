@@ -1,6 +1,6 @@
 use Rattle.std.proofs.Common.{◌≡◌, ◌-◌}
 use Rattle.std.specs.List.{range_with_len}
-use Rattle.span_replay.specs.Counted.{inner_of, failed_of, flushes_of}
+use Rattle.span_run.specs.Counted.{inner_of, failed_of, flushes_of}
 use Rattle.span_replay.specs.inside.Running.{IsWritten, core_in, labels_in}
 use Rattle.span_replay.specs.inside.Turns.{ArePartlyMade}
 use Rattle.span_replay.specs.Written.{each_written, exits}

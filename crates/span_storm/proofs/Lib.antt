@@ -1,0 +1,4 @@
+pub mod Gathering
+pub mod Everything
+pub mod Lines
+pub mod Examples

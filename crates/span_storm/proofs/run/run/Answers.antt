@@ -1,0 +1,20 @@
+use Rattle.std.proofs.Common.{◌≡◌, List, subst}
+use Rattle.span_id.specs.declared.limits.Limits.{Limits}
+use Rattle.span_layers.specs.declared.form.Form.{Form}
+use Rattle.span_layers.specs.Filter.{Filter}
+use Rattle.span_outlet.specs.Drain.{DrainView}
+use Rattle.span_registry.specs.declared.report.Report.{Report}
+use Rattle.span_registry.specs.Report.{IsDrainedEnd, Tells}
+use Rattle.span_storm.specs.Storm.{IsStormEnd}
+use Rattle.span_storm.proofs.run.run.Goals as goal
+
+-- what a drained end says, without what the drain had before
+storm_end : (limits : Limits) (rules : List Filter) (forms : List Form) (drain : DrainView) (report : Report) → drain.forms ≡ forms → IsDrainedEnd limits rules drain report → IsStormEnd limits rules forms report
+storm_end limits rules forms drain report same end = record {
+  core = end.core;
+  legal = end.legal;
+  told = subst (λ f. Tells end.core f report) same end.told;
+}
+
+pub returns-clause-ended : goal.returns-clause-ended
+returns-clause-ended g c = storm_end _ _ _ _ _ c.in_ok-whole.ensures.drain.forms c.finish.ensures.ended

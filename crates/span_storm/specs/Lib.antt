@@ -1,0 +1,3 @@
+pub mod Storm
+pub mod Show
+pub mod inside

@@ -1,0 +1,28 @@
+-- The numbers of a storm, as text.
+use Rattle.std.specs.Prelude.{ℕ, List, [], ◌∷◌, ◌++◌, flat_map, vec_len, codes}
+use Rattle.std.specs.Fmt.{decimal}
+use Rattle.span_registry.specs.declared.report.Report.{Report}
+use Rattle.span_run.specs.declared.fault.RunFault.{RunFault}
+use Rattle.span_run.specs.declared.fault.RunFault.TheVariants.{Device}
+use Rattle.span_run.specs.declared.fault.Side.TheVariants.{Write}
+
+-- a number and what it counts, on a line
+abbrev pub number_line : List ℕ → ℕ → List ℕ
+number_line label number = label ++ (codes " " ++ (decimal number ++ codes "\n"))
+
+-- the eight lines of a storm with so many workers and rounds
+abbrev pub shown : ℕ → ℕ → Report → List ℕ
+shown workers rounds report = flat_map (λ (row : List ℕ × ℕ). number_line row.0 row.1) (
+    (codes "workers", workers)
+    ∷ (codes "rounds", rounds)
+    ∷ (codes "made", report.made)
+    ∷ (codes "closed", report.closed)
+    ∷ (codes "calls", report.calls)
+    ∷ (codes "lines", vec_len report.lines)
+    ∷ (codes "refused", report.refused)
+    ∷ (codes "left", report.left)
+    ∷ [])
+
+-- a device failed at writing
+abbrev pub write_failed : RunFault
+write_failed = Device Write

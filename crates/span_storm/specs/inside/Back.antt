@@ -1,0 +1,47 @@
+-- What comes back of the threads of a storm: no public clause cites it.
+use Rattle.std.specs.Prelude.{◌≡◌, ℕ, ◌+◌, ◌*◌, ◌^◌, ◌<◌, List, length, sum_by, Result, Ok, Err, IfOk}
+use Rattle.span_outlet.specs.Drain.{DrainView}
+use Rattle.span_registry.specs.Worker.{WorkerView}
+use Rattle.span_registry.specs.Share.{ShareView, joined}
+use Rattle.span_run.specs.declared.fault.RunFault.{RunFault}
+
+-- a worker that makes so many rounds
+pub record PartyView : Type 0 where
+  pub worker : WorkerView
+  pub rounds : ℕ
+
+-- what comes back of a worker that has made its rounds: all its parts, nine accepted calls for each round, and no handle
+pub record ComesBack (worker : WorkerView) (rounds : ℕ) (share : ShareView) : Type 0 where
+  pub units : share.units ≡ 0
+  pub accepted : share.accepted ≡ worker.accepted + 9 * rounds
+  pub handle_parts : share.handle_parts ≡ worker.spare
+  pub call_parts : share.call_parts ≡ 1
+
+-- the shares of these workers together, each of which has come back
+pub record HasAll (workers : List WorkerView) (rounds : ℕ) (share : ShareView) : Type 0 where
+  pub units : share.units ≡ 0
+  pub accepted : share.accepted ≡ 9 * (length workers * rounds)
+  pub handle_parts : share.handle_parts ≡ sum_by (λ worker. worker.spare) workers
+  pub call_parts : share.call_parts ≡ length workers
+
+-- What is put together of n workers when as many as `rest` have not been joined, unless one had a fault: each has made
+-- so many calls, and of all parts so many are left.
+abbrev pub Gathers : Result ShareView RunFault → ℕ → ℕ → ℕ → ℕ → ℕ → Type 0
+Gathers whole n rest each all left = IfOk whole (λ share.
+    (share.units ≡ 0) × (share.call_parts + rest ≡ n) × (share.accepted ≡ share.call_parts * each)
+    × (share.handle_parts + left ≡ all))
+
+-- both shares, or the fault of the first that has one
+abbrev pub both_shares : Result ShareView RunFault → Result ShareView RunFault → Result ShareView RunFault
+both_shares (Err fault) other = Err fault
+both_shares (Ok one) (Err fault) = Err fault
+both_shares (Ok one) (Ok other) = Ok (joined one other)
+
+-- the sums of two shares fit in a `u64`
+abbrev pub Fit : Result ShareView RunFault → Result ShareView RunFault → Type 0
+Fit one other = IfOk one (λ a. IfOk other (λ b. (a.units + b.units < 2 ^ 64) × (a.accepted + b.accepted < 2 ^ 64)))
+
+-- the drain of the same ring, which writes in the same forms
+pub record IsSameDrain (went back : DrainView) : Type 0 where
+  pub name : back.name ≡ went.name
+  pub forms : back.forms ≡ went.forms

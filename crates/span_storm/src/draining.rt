@@ -1,0 +1,116 @@
+//! The drain's thread.
+ghost use Rattle.std.specs.Prelude.{◌≡◌, IfOk};
+ghost use Rattle.span_outlet.specs.Drain.{DrainView};
+ghost use Rattle.span_storm.specs.inside.Back.{IsSameDrain};
+
+use crate::gate::Gate;
+use span_layers::Say;
+use span_registry::Drain;
+use span_run::RunFault;
+use std::marker::Model;
+use std::snapshot::Snapshot;
+use std::sync::Wait;
+use std::sync::atomic::{AtomicBool, Ordering};
+use std::thread;
+use std::thread::{Promise, PromisedHandle, Scope, Threads};
+
+/// The drain that comes back is that of the same ring.
+#[derive(Drop)]
+pub(crate) struct BackAgain<V> {
+    drain: Snapshot<Drain<V>>,
+}
+
+impl<V> Promise<Result<Drain<V>, RunFault>> for BackAgain<V> {
+    ghost use Rattle.std.specs.Prelude.{IfOk};
+    ghost use Rattle.span_storm.specs.inside.Back.{IsSameDrain};
+
+    ghost kept_by = { λ back result. IfOk result (λ drain. IsSameDrain back.drain.value drain) };
+}
+
+/// The drain in its thread, or why there is no thread.
+#[derive(Drop)]
+pub(crate) struct Draining<V> {
+    drain: Snapshot<Drain<V>>,
+    running: Result<PromisedHandle<Result<Drain<V>, RunFault>, BackAgain<V>>, RunFault>,
+}
+
+impl<V> Model for Draining<V> {
+    ghost use Rattle.std.specs.Prelude.{◌≡◌, IfOk};
+    ghost use Rattle.span_outlet.specs.Drain.{DrainView};
+
+    ghost Value = { DrainView };
+
+    ghost view = { λ draining. draining.drain.value };
+
+    ghost invariant = { λ draining. IfOk draining.running (λ handle.
+        handle.promise.drain.value ≡ draining.drain.value) };
+}
+
+impl<V: Drop> Draining<V> {
+    /// The drain, once its thread has ended.
+    pub(crate) fn join<R: Threads>(self, rt: &R) -> Result<Drain<V>, RunFault>
+        ensures { IfOk result (λ drain. IsSameDrain self drain) }
+    {
+        let Draining { drain: _, running } = self;
+        match running {
+            Ok(handle) => handle.join(rt),
+            Err(fault) => Err(fault),
+        }
+    }
+}
+
+/// Starts the thread of the drain, as the party of this number. It steps until all workers have come back.
+pub(crate) fn start_drain<'s, E: 's, V: Say + Drop + Send + 's, G: Gate + Sync + 's, R: Wait + Sync>(
+    rt: &'s R,
+    scope: &Scope<'s, E>,
+    gate: &'s G,
+    party: u32,
+    drain: Drain<V>,
+    all_back: &'s AtomicBool,
+) -> Draining<V>
+    ensures { result ≡ drain }
+{
+    let went = Snapshot::of(&drain);
+    let promise = BackAgain {
+        drain: Snapshot::of(&drain),
+    };
+    let started = scope.spawn_with(
+        promise,
+        move || -> Result<Drain<V>, RunFault>
+            ensures { IfOk result (λ back. IsSameDrain drain back) }
+        { step_beside(rt, gate, party, drain, all_back) },
+    );
+    let running = match started {
+        Ok(handle) => Ok(handle),
+        Err(_) => Err(RunFault::Memory),
+    };
+    Draining {
+        drain: went,
+        running,
+    }
+}
+
+// Steps until all workers have come back, if the drain isn't held.
+fn step_beside<V: Say, G: Gate, R: Wait>(
+    rt: &R,
+    gate: &G,
+    party: u32,
+    drain: Drain<V>,
+    all_back: &AtomicBool,
+) -> Result<Drain<V>, RunFault>
+    ensures { IfOk result (λ back. IsSameDrain drain back) }
+{
+    if !gate.before(party, 1) {
+        return Err(RunFault::Held(party));
+    }
+    let mut drain = drain;
+    for _ in rt.forever() {
+        if drain.step().is_none() {
+            if all_back.load(Ordering::SeqCst) {
+                return Ok(drain);
+            }
+            thread::yield_now();
+        }
+    }
+    unreachable!()
+}

@@ -1,0 +1,109 @@
+//! The numbers of a storm, as text.
+ghost use Rattle.std.specs.Prelude.{◌≡◌, ◌^◌, ◌<◌, OnOk, OnErr, IfErr};
+ghost use Rattle.std.specs.Io.KnownBytes.{Appends};
+ghost use Rattle.span_run.specs.Counted.{inner_of, failed_of};
+ghost use Rattle.span_run.specs.Device.{AppendsFront};
+ghost use Rattle.span_run.specs.RunFault.{EndsAsCounted};
+ghost use Rattle.span_storm.specs.Show.{number_line, shown, write_failed};
+ghost use Rattle.span_storm.specs.inside.Rows.{text_of_rows};
+
+use itoa::Buffer;
+use span_registry::Report;
+use span_run::{Counted, RunFault, write_text};
+use std::io::Write;
+
+// A number and what it counts.
+#[derive(Clone, Copy)]
+struct Row {
+    label: &'static str,
+    number: u64,
+}
+
+/// Writes how a storm of so many workers and rounds ended: eight lines with a number each. It takes no memory, and does
+/// not flush.
+///
+/// The only error is `Device`; then a front of the text went out.
+pub fn show<W: Write>(
+    workers: u32,
+    rounds: u32,
+    report: &Report,
+    output: &mut Counted<W>,
+) -> Result<(), RunFault>
+    requires { failed_of output.old < 2 ^ 63 }
+    ensures ok { OnOk result (Appends (W.contents (inner_of output.old)) (W.contents (inner_of output.new))
+        (shown workers rounds report.now)) }
+    ensures front { OnErr result (AppendsFront (W.contents (inner_of output.old)) (W.contents (inner_of output.new))
+        (shown workers rounds report.now)) }
+    ensures device { IfErr result (λ fault. fault ≡ write_failed) }
+    ensures counts { EndsAsCounted 0 0 (failed_of output.old) (failed_of output.new) result }
+{
+    let rows = [
+        Row {
+            label: "workers",
+            number: u64::from(workers),
+        },
+        Row {
+            label: "rounds",
+            number: u64::from(rounds),
+        },
+        Row {
+            label: "made",
+            number: report.made,
+        },
+        Row {
+            label: "closed",
+            number: report.closed,
+        },
+        Row {
+            label: "calls",
+            number: report.calls,
+        },
+        Row {
+            label: "lines",
+            number: report.lines.len() as u64,
+        },
+        Row {
+            label: "refused",
+            number: report.refused,
+        },
+        Row {
+            label: "left",
+            number: u64::from(report.left),
+        },
+    ];
+    write_rows(&rows, output)
+}
+
+// Writes a line for each.
+fn write_rows<W: Write>(rows: &[Row], output: &mut Counted<W>) -> Result<(), RunFault>
+    requires { failed_of output.old < 2 ^ 63 }
+    ensures ok { OnOk result (Appends (W.contents (inner_of output.old)) (W.contents (inner_of output.new))
+        (text_of_rows rows.now)) }
+    ensures front { OnErr result (AppendsFront (W.contents (inner_of output.old)) (W.contents (inner_of output.new))
+        (text_of_rows rows.now)) }
+    ensures device { IfErr result (λ fault. fault ≡ write_failed) }
+    ensures counts { EndsAsCounted 0 0 (failed_of output.old) (failed_of output.new) result }
+{
+    for row in rows {
+        if let Err(fault) = write_line(row.label, row.number, output) {
+            return Err(fault);
+        }
+    }
+    Ok(())
+}
+
+// Writes one line.
+fn write_line<W: Write>(label: &str, number: u64, output: &mut Counted<W>) -> Result<(), RunFault>
+    requires { failed_of output.old < 2 ^ 63 }
+    ensures ok { OnOk result (Appends (W.contents (inner_of output.old)) (W.contents (inner_of output.new))
+        (number_line label.now number)) }
+    ensures front { OnErr result (AppendsFront (W.contents (inner_of output.old)) (W.contents (inner_of output.new))
+        (number_line label.now number)) }
+    ensures device { IfErr result (λ fault. fault ≡ write_failed) }
+    ensures counts { EndsAsCounted 0 0 (failed_of output.old) (failed_of output.new) result }
+{
+    write_text(output, label.as_bytes())?;
+    write_text(output, b" ")?;
+    write_text(output, Buffer::new().format(number).as_bytes())?;
+    write_text(output, b"\n")
+}

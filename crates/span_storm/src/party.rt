@@ -1,0 +1,110 @@
+//! The workers' threads.
+ghost use Rattle.std.specs.Prelude.{◌≡◌, true, IfOk};
+ghost use Rattle.span_storm.specs.Storm.{wants_jobs};
+ghost use Rattle.span_storm.specs.inside.Back.{ComesBack, PartyView};
+
+use crate::gate::Gate;
+use crate::metas::Metas;
+use crate::round::work;
+use span_registry::{Registry, Ring, Setup, Share, Worker};
+use span_run::RunFault;
+use std::marker::Model;
+use std::snapshot::Snapshot;
+use std::sync::Wait;
+use std::sync::ledger::Ledger;
+use std::thread::{Promise, PromisedHandle, Scope, Threads};
+
+/// What comes back of a worker that makes all its rounds.
+#[derive(Drop)]
+pub(crate) struct Back<H: Ledger, C: Ledger> {
+    worker: Snapshot<Worker<H, C>>,
+    rounds: u32,
+}
+
+impl<H: Ledger, C: Ledger> Promise<Result<Share<H, C>, RunFault>> for Back<H, C> {
+    ghost use Rattle.std.specs.Prelude.{IfOk};
+    ghost use Rattle.span_storm.specs.inside.Back.{ComesBack};
+
+    ghost kept_by = { λ back result. IfOk result (λ share. ComesBack back.worker.value back.rounds share) };
+}
+
+/// A worker in its thread, or why there is no thread.
+#[derive(Drop)]
+pub(crate) struct Party<H: Ledger, C: Ledger> {
+    worker: Snapshot<Worker<H, C>>,
+    rounds: u32,
+    running: Result<PromisedHandle<Result<Share<H, C>, RunFault>, Back<H, C>>, RunFault>,
+}
+
+impl<H: Ledger, C: Ledger> Model for Party<H, C> {
+    ghost use Rattle.std.specs.Prelude.{◌≡◌, IfOk};
+    ghost use Rattle.span_storm.specs.inside.Back.{PartyView};
+
+    ghost Value = { PartyView };
+
+    ghost view = { λ party. record { worker = party.worker.value; rounds = party.rounds } };
+
+    ghost invariant = { λ party. IfOk party.running (λ handle.
+        (handle.promise.worker.value ≡ party.worker.value) × (handle.promise.rounds ≡ party.rounds)) };
+}
+
+impl<H: Ledger, C: Ledger> Party<H, C> {
+    /// What comes back of the worker, once its thread has ended.
+    pub(crate) fn join<R: Threads>(self, rt: &R) -> Result<Share<H, C>, RunFault>
+        ensures { IfOk result (λ share. ComesBack self.worker self.rounds share) }
+    {
+        let Party {
+            worker: _,
+            rounds: _,
+            running,
+        } = self;
+        match running {
+            Ok(handle) => handle.join(rt),
+            Err(fault) => Err(fault),
+        }
+    }
+}
+
+/// Starts the thread of a worker. Where there can be none, that is the worker's fault `Memory`.
+pub(crate) fn start<
+    's,
+    E: 's,
+    H: Ledger + Send + Sync + 's,
+    C: Ledger + Send + Sync + 's,
+    S: Setup + Send + Sync + 's,
+    G: Gate + Sync + 's,
+    R: Wait + Sync,
+>(
+    rt: &'s R,
+    scope: &Scope<'s, E>,
+    registry: &'s Registry<H, C, S, Ring>,
+    gate: &'s G,
+    metas: &'s Metas,
+    worker: Worker<H, C>,
+    rounds: u32,
+) -> Party<H, C>
+    requires { wants_jobs S.rules ≡ true }
+    ensures { result ≡ record { worker = worker; rounds = rounds } }
+{
+    let went = Snapshot::of(&worker);
+    let promise = Back {
+        worker: Snapshot::of(&worker),
+        rounds,
+    };
+    let started = scope.spawn_with(
+        promise,
+        move || -> Result<Share<H, C>, RunFault>
+            requires { wants_jobs S.rules ≡ true }
+            ensures { IfOk result (λ share. ComesBack worker rounds share) }
+        { work(rt, registry, gate, metas, worker, rounds) },
+    );
+    let running = match started {
+        Ok(handle) => Ok(handle),
+        Err(_) => Err(RunFault::Memory),
+    };
+    Party {
+        worker: went,
+        rounds,
+        running,
+    }
+}

@@ -1,0 +1,122 @@
+//! What one worker does.
+ghost use Rattle.std.specs.Prelude.{◌≡◌, ◌+◌, ◌-◌, ◌<◌, true, IfOk, OnOk};
+ghost use Rattle.span_id.specs.Meta.{plain_meta};
+ghost use Rattle.span_core.specs.Step.{is_wanted};
+ghost use Rattle.span_registry.specs.Worker.{after_call};
+ghost use Rattle.span_storm.specs.Storm.{wants_jobs};
+ghost use Rattle.span_storm.specs.inside.Back.{ComesBack};
+
+use crate::gate::Gate;
+use crate::held::Held;
+use crate::metas::Metas;
+use span_id::Meta;
+use span_registry::{ParentOf, Registry, Ring, Setup, Share, Worker};
+use span_run::RunFault;
+use std::sync::Wait;
+use std::sync::ledger::Ledger;
+
+/// Makes so many rounds of calls, and leaves. A worker that is refused or held gives up its handles and stops.
+pub(crate) fn work<H: Ledger, C: Ledger, S: Setup, G: Gate, R: Wait>(
+    rt: &R,
+    registry: &Registry<H, C, S, Ring>,
+    gate: &G,
+    metas: &Metas,
+    worker: Worker<H, C>,
+    rounds: u32,
+) -> Result<Share<H, C>, RunFault>
+    requires { wants_jobs S.rules ≡ true }
+    ensures { IfOk result (λ share. ComesBack worker rounds share) }
+{
+    let mut worker = worker;
+    for _ in 0..rounds {
+        round(rt, registry, gate, metas, &mut worker)?;
+    }
+    Ok(worker.leave())
+}
+
+// Nine calls: a job, of which there are two handles for a time, and a step inside it.
+fn round<H: Ledger, C: Ledger, S: Setup, G: Gate, R: Wait>(
+    rt: &R,
+    registry: &Registry<H, C, S, Ring>,
+    gate: &G,
+    metas: &Metas,
+    worker: &mut Worker<H, C>,
+) -> Result<(), RunFault>
+    requires { wants_jobs S.rules ≡ true }
+    ensures accepted { OnOk result (worker.new.accepted ≡ worker.old.accepted + 9) }
+    ensures spare { OnOk result (worker.new.spare ≡ worker.old.spare) }
+{
+    let mut job = open(rt, registry, gate, worker, &metas.job, ParentOf::Root)?;
+    ask(gate, worker)?;
+    let other = match registry.clone_span(rt, worker, &mut job.handle) {
+        Ok(handle) => Held { handle },
+        Err(fault) => return Err(RunFault::Refused(fault)),
+    };
+    ask(gate, worker)?;
+    if let Err(fault) = registry.enter(rt, worker, &mut job.handle) {
+        return Err(RunFault::Refused(fault));
+    }
+    ask(gate, worker)?;
+    if let Err(fault) = registry.event(rt, worker, &metas.event, "tick", &[]) {
+        return Err(RunFault::Refused(fault));
+    }
+    let step = open(rt, registry, gate, worker, &metas.step, ParentOf::Current)?;
+    close(rt, registry, gate, worker, step)?;
+    ask(gate, worker)?;
+    if let Err(fault) = registry.exit(rt, worker, job.handle.id()) {
+        return Err(RunFault::Refused(fault));
+    }
+    close(rt, registry, gate, worker, other)?;
+    close(rt, registry, gate, worker, job)
+}
+
+// Asks whether the worker may make its next call: all calls before it were accepted.
+fn ask<H: Ledger, C: Ledger, G: Gate>(gate: &G, worker: &Worker<H, C>) -> Result<(), RunFault> {
+    let party = worker.number();
+    if gate.before(party, worker.accepted().saturating_add(1)) {
+        Ok(())
+    } else {
+        Err(RunFault::Held(party))
+    }
+}
+
+// Makes a span, which is wanted.
+fn open<H: Ledger, C: Ledger, S: Setup, G: Gate, R: Wait>(
+    rt: &R,
+    registry: &Registry<H, C, S, Ring>,
+    gate: &G,
+    worker: &mut Worker<H, C>,
+    meta: &Meta,
+    parent: ParentOf,
+) -> Result<Held<H, C, S>, RunFault>
+    requires { is_wanted S.rules (plain_meta meta.now) ≡ true }
+    ensures worker { OnOk result (worker.new ≡ after_call worker.old (worker.old.spare - 1)) }
+    ensures part { OnOk result (0 < worker.old.spare) }
+{
+    ask(gate, worker)?;
+    match registry.new_span(rt, worker, meta, &[], parent) {
+        Ok(Some(handle)) => Ok(Held { handle }),
+        Ok(None) => unreachable!(),
+        Err(fault) => Err(RunFault::Refused(fault)),
+    }
+}
+
+// Gives a handle back.
+fn close<H: Ledger, C: Ledger, S: Setup, G: Gate, R: Wait>(
+    rt: &R,
+    registry: &Registry<H, C, S, Ring>,
+    gate: &G,
+    worker: &mut Worker<H, C>,
+    held: Held<H, C, S>,
+) -> Result<(), RunFault>
+    ensures { OnOk result (worker.new ≡ after_call worker.old (worker.old.spare + 1)) }
+{
+    ask(gate, worker)?;
+    match registry.try_close(rt, worker, held.into_handle()) {
+        Ok(_closed) => Ok(()),
+        Err((handle, fault)) => {
+            drop(handle.into_share());
+            Err(RunFault::Refused(fault))
+        }
+    }
+}

@@ -1,0 +1,127 @@
+//! A whole storm, from the making of its registry to its report.
+ghost use Rattle.std.specs.Prelude.{◌≡◌, ◌+◌, ◌*◌, ◌<◌, ◌≤◌, ◌↔◌, [], Some, true, IfOk};
+ghost use Rattle.span_layers.specs.Layers.{filters_in, forms_in};
+ghost use Rattle.span_storm.specs.Storm.{IsStormEnd, storm_limits, wants_jobs};
+
+use crate::gate::Gate;
+use crate::metas::Metas;
+use crate::threads::in_threads;
+use span_id::{Checked, Limits};
+use span_layers::{Filters, Layers, Say};
+use span_registry::{HANDLE_PARTS, Drain, Registry, Report, Ring, SeatTable, Setup};
+use span_run::RunFault;
+use std::alloc::Global;
+use std::marker::Brand;
+use std::sync::Wait;
+use std::sync::ledger::{Blank, Ledger};
+use std::thread::Threads;
+
+/// Has so many workers, 1 to 16, make so many rounds of nine calls, 1 to 400, on one registry with these layers, each in
+/// a thread of its own, while a drain in another writes the lines. Answers how the registry ended.
+///
+/// In a round a worker makes a root span `job`, clones it, enters it, tells the event `tick`, makes a span `step` inside,
+/// closes that, leaves `job`, and closes both its handles. All are of target `app` and level INFO, without fields; one of
+/// the layers has to admit that, if there are any. The limits are the default ones, with these workers and a ring of
+/// 65536. Before each of its calls worker `i` asks `gate.before(i, k)`, where `k` counts its calls from 1, and the drain
+/// asks `gate.before(workers, 1)` before its first step.
+///
+/// `Refused` where a call of a worker was refused, for want of memory too; `Held` where the gate answered false; `Memory`
+/// where a thread can't be made, or memory was refused outside the workers' calls. All threads end first; of more faults
+/// than one that of the lowest party is answered. It may wait, for the lock and for the gate.
+pub fn storm<G: Gate + Sync, R: Threads + Wait + Sync>(
+    rt: &R,
+    alloc: Global,
+    workers: u32,
+    rounds: u32,
+    layers: Layers,
+    gate: &G,
+) -> Result<Report, RunFault>
+    requires workers { (0 < workers) × (workers ≤ 16) }
+    requires rounds { (0 < rounds) × (rounds ≤ 400) }
+    requires wanted { wants_jobs (filters_in layers) ≡ true }
+    ensures calls { IfOk result (λ report. report.calls ≡ 9 * (workers * rounds)) }
+    ensures handles { IfOk result (λ report. report.handles ≡ 0) }
+    ensures empty { IfOk result (λ report. (report.left ≡ 0) ↔ (report.entries ≡ 0)) }
+    ensures balance { IfOk result (λ report. report.made ≡ report.closed + report.left) }
+    ensures ended { IfOk result (λ report.
+        IsStormEnd (storm_limits workers) (filters_in layers) (forms_in layers) report) }
+{
+    let limits = Limits {
+        workers,
+        ring: 65536,
+        ..Limits::default()
+    };
+    let Ok(checked) = limits.check() else {
+        unreachable!()
+    };
+    let Ok(table) = SeatTable::new(alloc, checked.limits().slots) else {
+        return Err(RunFault::Memory);
+    };
+    let Ok((ring, tap)) = Ring::pair(alloc, &checked) else {
+        return Err(RunFault::Memory);
+    };
+    let (filters, tellers) = layers.split();
+    let drain = Drain::new(alloc, tap, tellers);
+    run::<Brand, Brand, Brand, _, _, _>(
+        rt,
+        alloc,
+        rounds,
+        gate,
+        &checked,
+        filters,
+        ring,
+        drain,
+        Blank::new(HANDLE_PARTS),
+        Blank::new(u64::from(workers)),
+        table,
+    )
+}
+
+// Makes the registry, lets its workers run, and ends it. It is generic in the registry's names, so that its caller picks
+// them.
+fn run<
+    H: Ledger + Send + Sync,
+    C: Ledger + Send + Sync,
+    S: Setup + Send + Sync,
+    V: Say + Drop + Send,
+    G: Gate + Sync,
+    R: Threads + Wait + Sync,
+>(
+    rt: &R,
+    alloc: Global,
+    rounds: u32,
+    gate: &G,
+    checked: &Checked,
+    filters: Filters,
+    ring: Ring,
+    drain: Drain<V>,
+    handles: Blank,
+    calls: Blank,
+    table: SeatTable,
+) -> Result<Report, RunFault>
+    requires workers { checked.now.workers ≤ 16 }
+    requires rounds { rounds ≤ 400 }
+    requires setup { (checked.now ≡ S.limits) × (filters.rules ≡ S.rules) × (Some ring.name ≡ S.ring) }
+    requires wanted { wants_jobs S.rules ≡ true }
+    requires ring { (ring.sent ≡ []) × (Some drain.name ≡ S.ring) }
+    requires handles { (handles.name ≡ H.name) × (handles.parts ≡ H.parts) × (H.parts ≡ HANDLE_PARTS) }
+    requires calls { (calls.name ≡ C.name) × (calls.parts ≡ C.parts) × (C.parts ≡ checked.now.workers) }
+    requires table { (table ≡ S.table) × (table.words ≡ checked.now.slots) }
+    ensures calls { IfOk result (λ report. report.calls ≡ 9 * (checked.now.workers * rounds)) }
+    ensures handles { IfOk result (λ report. report.handles ≡ 0) }
+    ensures empty { IfOk result (λ report. (report.left ≡ 0) ↔ ((report.handles ≡ 0) × (report.entries ≡ 0))) }
+    ensures balance { IfOk result (λ report. report.made ≡ report.closed + report.left) }
+    ensures ended { IfOk result (λ report. IsStormEnd S.limits S.rules drain.forms report) }
+{
+    let Ok(metas) = Metas::new(alloc) else {
+        return Err(RunFault::Memory);
+    };
+    let made = Registry::<H, C, S, Ring>::new(
+        alloc, checked, filters, ring, handles, calls, table,
+    );
+    let Ok((registry, workers)) = made else {
+        return Err(RunFault::Memory);
+    };
+    let (whole, drain) = in_threads(rt, alloc, &registry, gate, &metas, workers, rounds, drain)?;
+    Ok(registry.finish(whole, drain))
+}

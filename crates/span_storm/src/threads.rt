@@ -1,0 +1,164 @@
+//! All threads of a storm, and what comes back of them.
+ghost use Rattle.std.specs.Prelude.{◌≡◌, ◌+◌, ◌*◌, ◌^◌, ◌<◌, ◌≤◌, true, IfOk, All, map, length, vec_len, sum_by};
+ghost use Rattle.span_storm.specs.Storm.{wants_jobs};
+ghost use Rattle.span_storm.specs.inside.Back.{both_shares, Fit, Gathers, HasAll, IsSameDrain};
+
+use crate::draining::start_drain;
+use crate::gate::Gate;
+use crate::metas::Metas;
+use crate::party::{Party, start};
+use span_layers::Say;
+use span_registry::{Drain, Registry, Ring, Setup, Share, Worker};
+use span_run::RunFault;
+use std::alloc::Global;
+use std::sync::Wait;
+use std::sync::atomic::{AtomicBool, Ordering};
+use std::sync::ledger::Ledger;
+use std::thread;
+use std::thread::{Scope, Threads};
+
+/// Runs each worker in a thread of its own, and the drain in one beside them. The whole share and the drain come back,
+/// or the fault of the lowest party that has one; the drain is the party after the workers.
+pub(crate) fn in_threads<
+    H: Ledger + Send + Sync,
+    C: Ledger + Send + Sync,
+    S: Setup + Send + Sync,
+    V: Say + Drop + Send,
+    G: Gate + Sync,
+    R: Threads + Wait + Sync,
+>(
+    rt: &R,
+    alloc: Global,
+    registry: &Registry<H, C, S, Ring>,
+    gate: &G,
+    metas: &Metas,
+    workers: Vec<Worker<H, C>>,
+    rounds: u32,
+    drain: Drain<V>,
+) -> Result<(Share<H, C>, Drain<V>), RunFault>
+    requires wanted { wants_jobs S.rules ≡ true }
+    requires some { (0 < vec_len workers) × (vec_len workers ≤ 16) }
+    requires rounds { rounds ≤ 400 }
+    requires new { All (λ worker. worker.accepted ≡ 0) workers.items }
+    ensures whole { IfOk result (λ back. HasAll workers.items rounds back.0) }
+    ensures drain { IfOk result (λ back. IsSameDrain drain back.1) }
+{
+    let all_back = AtomicBool::new(false);
+    let flag = &all_back;
+    thread::scope(
+        thread::scope_env(),
+        rt,
+        move |scope| -> Result<(Share<H, C>, Drain<V>), RunFault>
+            requires wanted { wants_jobs S.rules ≡ true }
+            requires some { (0 < vec_len workers) × (vec_len workers ≤ 16) }
+            requires rounds { rounds ≤ 400 }
+            requires new { All (λ worker. worker.accepted ≡ 0) workers.items }
+            ensures whole { IfOk result (λ back. HasAll workers.items rounds back.0) }
+            ensures drain { IfOk result (λ back. IsSameDrain drain back.1) }
+        {
+            let draining = start_drain(rt, scope, gate, workers.len() as u32, drain, flag);
+            let whole = run_workers(rt, scope, alloc, registry, gate, metas, workers, rounds);
+            flag.store(true, Ordering::SeqCst);
+            let drain = draining.join(rt);
+            Ok((whole?, drain?))
+        },
+    )
+}
+
+// Starts the workers and joins them.
+fn run_workers<
+    's,
+    E: 's,
+    H: Ledger + Send + Sync + 's,
+    C: Ledger + Send + Sync + 's,
+    S: Setup + Send + Sync + 's,
+    G: Gate + Sync + 's,
+    R: Threads + Wait + Sync,
+>(
+    rt: &'s R,
+    scope: &Scope<'s, E>,
+    alloc: Global,
+    registry: &'s Registry<H, C, S, Ring>,
+    gate: &'s G,
+    metas: &'s Metas,
+    workers: Vec<Worker<H, C>>,
+    rounds: u32,
+) -> Result<Share<H, C>, RunFault>
+    requires wanted { wants_jobs S.rules ≡ true }
+    requires some { (0 < vec_len workers) × (vec_len workers ≤ 16) }
+    requires rounds { rounds ≤ 400 }
+    requires new { All (λ worker. worker.accepted ≡ 0) workers.items }
+    ensures { IfOk result (λ whole. HasAll workers.items rounds whole) }
+{
+    let parties = start_all(rt, scope, alloc, registry, gate, metas, workers, rounds)?;
+    join_all(rt, parties, rounds)
+}
+
+// Starts a thread for each worker. The memory for all of them is there before the first is started.
+fn start_all<
+    's,
+    E: 's,
+    H: Ledger + Send + Sync + 's,
+    C: Ledger + Send + Sync + 's,
+    S: Setup + Send + Sync + 's,
+    G: Gate + Sync + 's,
+    R: Wait + Sync,
+>(
+    rt: &'s R,
+    scope: &Scope<'s, E>,
+    alloc: Global,
+    registry: &'s Registry<H, C, S, Ring>,
+    gate: &'s G,
+    metas: &'s Metas,
+    workers: Vec<Worker<H, C>>,
+    rounds: u32,
+) -> Result<Vec<Party<H, C>>, RunFault>
+    requires { wants_jobs S.rules ≡ true }
+    ensures same { IfOk result (λ parties. map (λ party. party.worker) parties.items ≡ workers.items) }
+    ensures rounds { IfOk result (λ parties. All (λ party. party.rounds ≡ rounds) parties.items) }
+{
+    let Ok(mut parties) = Vec::with_capacity(alloc, workers.len()) else {
+        return Err(RunFault::Memory);
+    };
+    for worker in workers {
+        parties.push_reserved(start(rt, scope, registry, gate, metas, worker, rounds));
+    }
+    Ok(parties)
+}
+
+// Joins the threads in the order of their workers, all of them, and puts what comes back together.
+fn join_all<H: Ledger, C: Ledger, R: Threads>(
+    rt: &R,
+    parties: Vec<Party<H, C>>,
+    rounds: u32,
+) -> Result<Share<H, C>, RunFault>
+    requires some { (0 < vec_len parties) × (vec_len parties ≤ 16) }
+    requires rounds { rounds ≤ 400 }
+    requires each { All (λ party. (party.rounds ≡ rounds) × (party.worker.accepted ≡ 0)) parties.items }
+    ensures { Gathers result (length parties.items) 0 (9 * rounds)
+        (sum_by (λ party. party.worker.spare) parties.items) 0 }
+{
+    let mut parties = parties.into_iter();
+    let Some(first) = parties.next() else {
+        unreachable!()
+    };
+    let mut whole = first.join(rt);
+    for party in parties {
+        whole = both(whole, party.join(rt));
+    }
+    whole
+}
+
+// What came back of two: both shares together, or the fault of the first that has one.
+fn both<H: Ledger, C: Ledger>(
+    one: Result<Share<H, C>, RunFault>,
+    other: Result<Share<H, C>, RunFault>,
+) -> Result<Share<H, C>, RunFault>
+    requires { Fit one other }
+    ensures { result ≡ both_shares one other }
+{
+    match (one, other) {
+        (Err(fault), _) | (Ok(_), Err(fault)) => Err(fault),
+        (Ok(one), Ok(other)) => Ok(one.join(other)),
+    }
+}

@@ -1,0 +1,75 @@
+//! A storm whose one layer is told of everything.
+ghost use Rattle.std.specs.Prelude.{◌≡◌, ◌^◌, ◌<◌, ◌≤◌, [], ◌∷◌, IfOk, string_bytes};
+ghost use Rattle.std.specs.Result.{ForOk};
+ghost use Rattle.span_id.specs.declared.level.Level.TheVariants.{Trace};
+ghost use Rattle.span_layers.specs.Note.{plain_note};
+ghost use Rattle.span_layers.specs.Rule.{pairs_of, is_admitted};
+ghost use Rattle.span_layers.specs.Text.{text_of};
+ghost use Rattle.span_run.specs.Counted.{failed_of};
+
+use span_id::{Fault, Level, Meta, copy_text};
+use span_layers::{FmtSpan, Form, Hooks, Layer, Layers, Note, Rule, Style, admits, text};
+use span_run::{Counted, RunFault, flush};
+use span_storm::{Open, show, storm};
+use std::alloc::{AllocError, Global};
+use std::io::Write;
+use std::sync::Wait;
+use std::thread::Threads;
+
+/// Runs the storm and writes how it ended. The closures' contracts are what `Hooks::new` asks for.
+pub fn run<R: Threads + Wait + Sync, W: Write>(
+    rt: &R,
+    alloc: Global,
+    workers: u32,
+    rounds: u32,
+    output: &mut Counted<W>,
+) -> Result<(), RunFault>
+    requires workers { (1 ≤ workers) × (workers ≤ 16) }
+    requires rounds { (1 ≤ rounds) × (rounds ≤ 400) }
+    requires failed { failed_of output.old < 2 ^ 63 }
+{
+    let Ok(admit) = Box::new(
+        alloc,
+        |rule: &Rule, meta: &Meta| -> bool
+            ensures { result
+                ≡ is_admitted (pairs_of rule.now) (string_bytes meta.now.target) meta.now.level }
+        { admits(rule, meta) },
+    ) else {
+        return Err(RunFault::Memory);
+    };
+    let Ok(say) = Box::new(
+        alloc,
+        |alloc: Global, form: Form, note: &Note| -> Result<Vec<u8>, AllocError>
+            ensures { ForOk result (λ text. text.items ≡ text_of form (plain_note note.now)) }
+        { text(alloc, form, note) },
+    ) else {
+        return Err(RunFault::Memory);
+    };
+    let Ok(rule) = everything(alloc) else {
+        return Err(RunFault::Memory);
+    };
+    let layer = Layer {
+        style: Style {
+            form: Form::Compact,
+            spans: FmtSpan::FULL,
+        },
+        rule,
+        hooks: Hooks::new(admit, say),
+    };
+    let mut layers = Layers::new(alloc);
+    let Ok(_) = layers.add(layer) else {
+        return Err(RunFault::Memory);
+    };
+    let report = storm(rt, alloc, workers, rounds, layers, &Open)?;
+    show(workers, rounds, &report, output)?;
+    flush(output)
+}
+
+// The rule that admits everything.
+fn everything(alloc: Global) -> Result<Rule, Fault>
+    ensures { IfOk result (λ rule. pairs_of rule ≡ ([], Trace) ∷ []) }
+{
+    let mut pairs = Vec::with_capacity(alloc, 1)?;
+    pairs.push_reserved((copy_text(alloc, "")?, Level::Trace));
+    Ok(Rule { pairs })
+}
