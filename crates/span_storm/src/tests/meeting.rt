@@ -37,7 +37,7 @@ impl Gate for Meeting {
     fn before(&self, party: u32, call: u64) -> bool {
         match (party, call) {
             (_, 1) => come(&self.begun, party),
-            (0, 2) => in_time(|| self.said.load(Ordering::SeqCst)),
+            (0, 2) => is_up_in_time(&self.said),
             (_, 5) => come(&self.fifth, party),
             _ => true,
         }
@@ -50,13 +50,18 @@ fn come(flags: &[AtomicBool], party: u32) -> bool {
         Some(flag) => flag.store(true, Ordering::SeqCst),
         None => return false,
     }
-    in_time(|| flags.iter().all(|flag| flag.load(Ordering::SeqCst)))
+    for flag in flags {
+        if !is_up_in_time(flag) {
+            return false;
+        }
+    }
+    true
 }
 
-// Whether it happens before so many looks are over.
-fn in_time<F: Fn() -> bool>(happens: F) -> bool {
+// Whether the flag is up before so many looks are over.
+fn is_up_in_time(flag: &AtomicBool) -> bool {
     for _ in 0..TURNS {
-        if happens() {
+        if flag.load(Ordering::SeqCst) {
             return true;
         }
         thread::yield_now();
