@@ -48,10 +48,7 @@ impl RunFault {
     {
         match self {
             RunFault::Script(_, _) => 1,
-            RunFault::Memory
-            | RunFault::Device(_)
-            | RunFault::Refused(_)
-            | RunFault::Held(_) => 3,
+            RunFault::Memory | RunFault::Device(_) | RunFault::Refused(_) | RunFault::Held(_) => 3,
         }
     }
 }

@@ -13,7 +13,11 @@ fn faults_have_their_text_and_status(rt: HostRuntime) -> io::Result<()> {
         (RunFault::Device(Side::Read), "device: read failed", 3),
         (RunFault::Device(Side::Write), "device: write failed", 3),
         (RunFault::Refused(Fault::Backlog), "refused: backlog", 3),
-        (RunFault::Refused(Fault::Memory), "refused: out of memory", 3),
+        (
+            RunFault::Refused(Fault::Memory),
+            "refused: out of memory",
+            3,
+        ),
         (RunFault::Held(0), "worker 0 was held", 3),
         (RunFault::Held(16), "worker 16 was held", 3),
     ];

@@ -89,8 +89,8 @@ module _ (rounds : ℕ) (party : PartyView) (xs ys : List PartyView) (is : xs �
   parts_fit n all (Ok before) (Err fault) few some g back = tt
   parts_fit n all (Ok before) (Ok share) few some g back =
       (omega (arith, g.0, back.units), bound before.call_parts before.accepted (omega (arith, g.1, some)) g.2) where
-    bound : (k a : ℕ) → k ≤ 16 → a ≡ k * (9 * rounds) → a + share.accepted < 2 ^ 64
-    bound k a low is = let most : k * (9 * rounds) ≤ 16 * (9 * 400) = search arith in omega (arith, is, most, made share back, few)
+        bound : (k a : ℕ) → k ≤ 16 → a ≡ k * (9 * rounds) → a + share.accepted < 2 ^ 64
+        bound k a low is = let most : k * (9 * rounds) ≤ 16 * (9 * 400) = search arith in omega (arith, is, most, made share back, few)
 
 -- ---- all workers
 

@@ -60,7 +60,13 @@ impl<V: Drop> Draining<V> {
 }
 
 /// Starts the thread of the drain, as the party of this number. It steps until all workers have come back.
-pub(crate) fn start_drain<'s, E: 's, V: Say + Drop + Send + 's, G: Gate + Sync + 's, R: Wait + Sync>(
+pub(crate) fn start_drain<
+    's,
+    E: 's,
+    V: Say + Drop + Send + 's,
+    G: Gate + Sync + 's,
+    R: Wait + Sync,
+>(
     rt: &'s R,
     scope: &Scope<'s, E>,
     gate: &'s G,

@@ -8,7 +8,7 @@ use crate::metas::Metas;
 use crate::threads::in_threads;
 use span_id::{Checked, Limits};
 use span_layers::{Filters, Layers, Say};
-use span_registry::{HANDLE_PARTS, Drain, Registry, Report, Ring, SeatTable, Setup};
+use span_registry::{Drain, HANDLE_PARTS, Registry, Report, Ring, SeatTable, Setup};
 use span_run::RunFault;
 use std::alloc::Global;
 use std::marker::Brand;
@@ -116,9 +116,7 @@ fn run<
     let Ok(metas) = Metas::new(alloc) else {
         return Err(RunFault::Memory);
     };
-    let made = Registry::<H, C, S, Ring>::new(
-        alloc, checked, filters, ring, handles, calls, table,
-    );
+    let made = Registry::<H, C, S, Ring>::new(alloc, checked, filters, ring, handles, calls, table);
     let Ok((registry, workers)) = made else {
         return Err(RunFault::Memory);
     };

@@ -30,7 +30,10 @@ fn main(rt: HostRuntime) -> io::Result<ExitCode> {
         Ok(Order::Replay) => status_of(&rt, replay(&rt)),
         Ok(Order::Storm { workers, rounds }) => {
             let mut output = Counted::new(rt.stdout());
-            status_of(&rt, storms::run(&rt, rt.alloc(), workers, rounds, &mut output))
+            status_of(
+                &rt,
+                storms::run(&rt, rt.alloc(), workers, rounds, &mut output),
+            )
         }
         Err(error) => no_order(&rt, &error),
     }

@@ -35,9 +35,21 @@ fn reads_orders(rt: HostRuntime) -> io::Result<()> {
     let words = ["tracerun", "replay"];
     assert!(rt; matches!(order(rt.alloc(), words.as_slice()), Ok(Order::Replay)));
     for (words, workers, rounds) in [
-        (["tracerun", "storm", "--workers", "2", "--rounds", "3"].as_slice(), 2, 3),
-        (["tracerun", "storm", "--rounds=400", "--workers=16"].as_slice(), 16, 400),
-        (["tracerun", "storm", "--workers", "1", "--rounds", "1"].as_slice(), 1, 1),
+        (
+            ["tracerun", "storm", "--workers", "2", "--rounds", "3"].as_slice(),
+            2,
+            3,
+        ),
+        (
+            ["tracerun", "storm", "--rounds=400", "--workers=16"].as_slice(),
+            16,
+            400,
+        ),
+        (
+            ["tracerun", "storm", "--workers", "1", "--rounds", "1"].as_slice(),
+            1,
+            1,
+        ),
     ] {
         match order(rt.alloc(), words) {
             Ok(order) => assert!(rt; order == Order::Storm { workers, rounds }),

@@ -12,9 +12,8 @@ use span_layers::{FmtSpan, Form, Hooks, Layer, Layers, Note, Rule, Style, admits
 use span_registry::Report;
 use span_run::RunFault;
 use std::alloc::{AllocError, Global};
-use std::sync::Arc;
-use std::sync::Wait;
 use std::sync::atomic::{AtomicBool, Ordering};
+use std::sync::{Arc, Wait};
 use std::thread::Threads;
 
 /// Runs a storm whose layer admits everything, writes in the compact form, and raises the flag when it writes.

@@ -69,7 +69,10 @@ fn a_writer_that_fails_has_a_front(rt: HostRuntime) -> io::Result<()> {
             Err(fault) => assert!(rt; fault.to_string(alloc)?.as_str() == "device: write failed"),
         }
         assert!(rt; output.failed() == 1);
-        assert!(rt; taken.as_slice() == &SHOWN.as_bytes()[..room], "with room for {room}");
+        assert!(rt;
+            taken.as_slice() == &SHOWN.as_bytes()[..room],
+            "with room for {room}"
+        );
     }
     Ok(())
 }

@@ -6,9 +6,8 @@ use span_layers::Layers;
 use span_registry::Report;
 use span_run::{Counted, RunFault};
 use std::alloc::Global;
-use std::sync::Arc;
-use std::sync::Wait;
 use std::sync::atomic::AtomicBool;
+use std::sync::{Arc, Wait};
 use std::test::Fail;
 use std::thread;
 use std::thread::Threads;
@@ -69,7 +68,8 @@ fn two_storms_run_at_once(rt: HostRuntime) -> Result<(), Fail> {
 fn a_storm_needs_no_layer(rt: HostRuntime) -> Result<(), Fail> {
     let alloc = rt.alloc();
     let ended = storm(&rt, alloc, 3, 2, Layers::new(alloc), &Open);
-    let expected = "workers 3\nrounds 2\nmade 12\nclosed 12\ncalls 54\nlines 0\nrefused 0\nleft 0\n";
+    let expected =
+        "workers 3\nrounds 2\nmade 12\nclosed 12\ncalls 54\nlines 0\nrefused 0\nleft 0\n";
     assert_eq!(&rt; told(alloc, 3, 2, ended)?.as_str(), expected);
     Ok(())
 }
