@@ -1,7 +1,8 @@
 //! A storm: many workers who make calls on one registry, each in a thread of its own, beside a drain in another.
 //!
-//! [`storm`] runs it and answers how the registry ended, [`show`] writes that down. A [`Gate`] is asked before each call
-//! whether the caller may go on, so that a test can say what has to happen at the same time; [`Open`] never holds anybody.
+//! [`storm`] runs it and answers how the registry ended, [`show`] writes that down. A [`Gate`] is asked before each
+//! call whether the caller may go on, so that a test can say what has to happen at the same time; [`Open`] never holds
+//! anybody.
 #![tactic(auto)]
 
 mod draining;

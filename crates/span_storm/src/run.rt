@@ -16,18 +16,18 @@ use std::sync::Wait;
 use std::sync::ledger::{Blank, Ledger};
 use std::thread::Threads;
 
-/// Has so many workers, 1 to 16, make so many rounds of nine calls, 1 to 400, on one registry with these layers, each in
-/// a thread of its own, while a drain in another writes the lines. Answers how the registry ended.
+/// Has so many workers, 1 to 16, make so many rounds of nine calls, 1 to 400, on one registry with these layers, each
+/// in a thread of its own, while a drain in another writes the lines. Answers how the registry ended.
 ///
-/// In a round a worker makes a root span `job`, clones it, enters it, tells the event `tick`, makes a span `step` inside,
-/// closes that, leaves `job`, and closes both its handles. All are of target `app` and level INFO, without fields; one of
-/// the layers has to admit that, if there are any. The limits are the default ones, with these workers and a ring of
-/// 65536. Before each of its calls worker `i` asks `gate.before(i, k)`, where `k` counts its calls from 1, and the drain
-/// asks `gate.before(workers, 1)` before its first step.
+/// In a round a worker makes a root span `job`, clones it, enters it, tells the event `tick`, makes a span `step`
+/// inside, closes that, leaves `job`, and closes both its handles. All are of target `app` and level INFO, without
+/// fields; one of the layers has to admit that, if there are any. The limits are the default ones, with these workers
+/// and a ring of 65536. Before each of its calls worker `i` asks `gate.before(i, k)`, where `k` counts its calls from
+/// 1, and the drain asks `gate.before(workers, 1)` before its first step.
 ///
-/// `Refused` where a call of a worker was refused, for want of memory too; `Held` where the gate answered false; `Memory`
-/// where a thread can't be made, or memory was refused outside the workers' calls. All threads end first; of more faults
-/// than one that of the lowest party is answered. It may wait, for the lock and for the gate.
+/// `Refused` where a call of a worker was refused, for want of memory too; `Held` where the gate answered false;
+/// `Memory` where a thread can't be made, or memory was refused outside the workers' calls. All threads end first; of
+/// more faults than one that of the lowest party is answered. It may wait, for the lock and for the gate.
 pub fn storm<G: Gate + Sync, R: Threads + Wait + Sync>(
     rt: &R,
     alloc: Global,
@@ -77,8 +77,8 @@ pub fn storm<G: Gate + Sync, R: Threads + Wait + Sync>(
     )
 }
 
-// Makes the registry, lets its workers run, and ends it. It is generic in the registry's names, so that its caller picks
-// them.
+// Makes the registry, lets its workers run, and ends it. It is generic in the registry's names, so that its caller
+// picks them.
 fn run<
     H: Ledger + Send + Sync,
     C: Ledger + Send + Sync,
