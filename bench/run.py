@@ -9,7 +9,7 @@ the middle one of the runs and the least one.
 
 With --out the tables, their numbers (results.json) and pictures of them (bench/draw.py) go to a folder.
 
-usage: run.py [--out FOLDER] [--sizes MIB,MIB,..] [--runs N] [--storm-runs N] [--program FILE] [--peer FILE] [NAME..]
+usage: run.py [--out FOLDER] [--sizes MIB,MIB,..] [--runs N] [--storm-runs N] [--program FILE] [--peer FILE] [--list] [NAME..]
 """
 import argparse
 import datetime

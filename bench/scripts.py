@@ -187,7 +187,7 @@ def events_far_from_the_root(size):
 
 
 def sixty_four_layers(size):
-    """Events under 64 layers that admit them: an output of 56 times the script."""
+    """Events under 64 layers that admit them: an output of 53 times the script."""
     return filled('{"op":"layer"}\n' * 64, lambda n: '{"op":"event","message":"m"}\n', size)
 
 

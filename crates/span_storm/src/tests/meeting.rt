@@ -69,7 +69,7 @@ fn is_up_in_time(flag: &AtomicBool) -> bool {
     false
 }
 
-/// Holds each party at its call of this number.
+/// Holds the parties from `first` on, at each of their calls from number `call` on.
 #[derive(Clone, Copy)]
 pub(crate) struct HoldsAt {
     pub(crate) first: u32,
