@@ -12,17 +12,17 @@ use span_layers::{FmtSpan, Form, Hooks, Layer, Layers, Note, Rule, Style, admits
 use span_registry::Report;
 use span_run::RunFault;
 use std::alloc::{AllocError, Global};
-use std::sync::atomic::{AtomicBool, Ordering};
+use std::sync::atomic::{AtomicU64, Ordering};
 use std::sync::{Arc, Wait};
 use std::thread::Threads;
 
-/// Runs a storm whose layer admits everything, writes in the compact form, and raises the flag when it writes.
+/// Runs a storm whose layer admits everything, writes in the compact form, and counts what it writes.
 pub(crate) fn storm_of_all<G: Gate + Sync, R: Threads + Wait + Sync>(
     rt: &R,
     alloc: Global,
     workers: u32,
     rounds: u32,
-    said: Arc<AtomicBool>,
+    said: Arc<AtomicU64>,
     gate: &G,
 ) -> Result<Report, RunFault>
     requires { (0 < workers) × (workers ≤ 16) × (0 < rounds) × (rounds ≤ 400) }
@@ -42,7 +42,7 @@ pub(crate) fn storm_of_all<G: Gate + Sync, R: Threads + Wait + Sync>(
         move |alloc: Global, form: Form, note: &Note| -> Result<Vec<u8>, AllocError>
             ensures { ForOk result (λ text. text.items ≡ text_of form (plain_note note.now)) }
         {
-            said.store(true, Ordering::SeqCst);
+            said.fetch_add(1, Ordering::SeqCst);
             text(alloc, form, note)
         },
     ) else {
