@@ -6,7 +6,7 @@ use Rattle.std.proofs.lemmas.List.Sums.{sum_by-cons}
 use Rattle.std.proofs.lemmas.List.Elements.{All-head, All-tail, All-push}
 use Rattle.span_registry.specs.Worker.{WorkerView}
 use Rattle.span_registry.specs.Share.{ShareView}
-use Rattle.span_run.specs.declared.fault.RunFault.{RunFault}
+use Rattle.span_storm.specs.declared.stopped.Stopped.{Stopped}
 use Rattle.span_storm.specs.inside.Back.{ComesBack, Gathers, HasAll, PartyView, both_shares, Fit}
 
 -- ---- lists that grow
@@ -60,13 +60,13 @@ module _ (rounds : ℕ) (party : PartyView) (xs ys : List PartyView) (is : xs �
   made share back = back.accepted ∙ omega (arith, new, rounds_are)
 
   -- the first worker
-  pub gathered_first : (r : Result ShareView RunFault) → IfOk r (ComesBack party.worker party.rounds) → Gathers r (length xs) (length ys) (9 * rounds) (sum_by spare_of xs) (sum_by spare_of ys)
+  pub gathered_first : (r : Result ShareView Stopped) → IfOk r (ComesBack party.worker party.rounds) → Gathers r (length xs) (length ys) (9 * rounds) (sum_by spare_of xs) (sum_by spare_of ys)
   gathered_first (Err fault) back = tt
   gathered_first (Ok share) back =
       (back.units, omega (arith, back.call_parts, fewer), made share back ∙ omega (arith, ap (λ k. k * (9 * rounds)) back.call_parts), omega (arith, back.handle_parts, parts_left))
 
   -- one worker more
-  gathered_next : (n all : ℕ) (whole r : Result ShareView RunFault) → Gathers whole n (length xs) (9 * rounds) all (sum_by spare_of xs)
+  gathered_next : (n all : ℕ) (whole r : Result ShareView Stopped) → Gathers whole n (length xs) (9 * rounds) all (sum_by spare_of xs)
       → IfOk r (ComesBack party.worker party.rounds) → Gathers (both_shares whole r) n (length ys) (9 * rounds) all (sum_by spare_of ys)
   gathered_next n all (Err fault) r g back = tt
   gathered_next n all (Ok before) (Err fault) g back = tt
@@ -78,12 +78,12 @@ module _ (rounds : ℕ) (party : PartyView) (xs ys : List PartyView) (is : xs �
         omega (arith, g.3, back.handle_parts, parts_left),
       )
 
-  pub gathered_also : (n all : ℕ) (whole r next : Result ShareView RunFault) → next ≡ both_shares whole r → Gathers whole n (length xs) (9 * rounds) all (sum_by spare_of xs)
+  pub gathered_also : (n all : ℕ) (whole r next : Result ShareView Stopped) → next ≡ both_shares whole r → Gathers whole n (length xs) (9 * rounds) all (sum_by spare_of xs)
       → IfOk r (ComesBack party.worker party.rounds) → Gathers next n (length ys) (9 * rounds) all (sum_by spare_of ys)
   gathered_also n all whole r next same g back = subst (λ x. Gathers x n (length ys) (9 * rounds) all (sum_by spare_of ys)) (sym same) (gathered_next n all whole r g back)
 
   -- the shares of at most 16 workers, which make at most 400 rounds each, can be put together
-  pub parts_fit : (n all : ℕ) (whole r : Result ShareView RunFault) → rounds ≤ 400 → n ≤ 16 → Gathers whole n (length xs) (9 * rounds) all (sum_by spare_of xs)
+  pub parts_fit : (n all : ℕ) (whole r : Result ShareView Stopped) → rounds ≤ 400 → n ≤ 16 → Gathers whole n (length xs) (9 * rounds) all (sum_by spare_of xs)
       → IfOk r (ComesBack party.worker party.rounds) → Fit whole r
   parts_fit n all (Err fault) r few some g back = tt
   parts_fit n all (Ok before) (Err fault) few some g back = tt
@@ -98,7 +98,7 @@ module _ (rounds : ℕ) (party : PartyView) (xs ys : List PartyView) (is : xs �
 pub nine_each : (n rounds : ℕ) → n * (9 * rounds) ≡ 9 * (n * rounds)
 nine_each n rounds = search arith
 
-pub has_all : (workers : List WorkerView) (parties : List PartyView) (rounds : ℕ) (r : Result ShareView RunFault) → map (λ party. party.worker) parties ≡ workers
+pub has_all : (workers : List WorkerView) (parties : List PartyView) (rounds : ℕ) (r : Result ShareView Stopped) → map (λ party. party.worker) parties ≡ workers
     → Gathers r (length parties) 0 (9 * rounds) (sum_by spare_of parties) 0 → IfOk r (HasAll workers rounds)
 has_all workers parties rounds (Err fault) same g = tt
 has_all workers parties rounds (Ok share) same g =

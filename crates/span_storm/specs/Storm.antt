@@ -10,6 +10,8 @@ use Rattle.span_core.specs.History.{IsLegal}
 use Rattle.span_core.specs.Core.{CoreView}
 use Rattle.span_registry.specs.declared.report.Report.{Report}
 use Rattle.span_registry.specs.Report.{Tells}
+use Rattle.span_run.specs.declared.fault.RunFault.{RunFault}
+use Rattle.span_run.specs.declared.fault.RunFault.TheVariants.{Script, Memory, Device, Refused, Held}
 
 -- what has this name is of the target `app`, at the level of information
 abbrev pub app_meta : List ℕ → PlainMeta
@@ -35,3 +37,11 @@ pub record IsStormEnd (limits : Limits) (rules : List Filter) (forms : List Form
   pub core : CoreView
   pub legal : IsLegal rules limits.workers core.sent core.world
   pub told : Tells core forms report
+
+-- a storm ends early for want of memory, for a call that was refused, or for a party that was held
+abbrev pub IsStormFault : RunFault → Type 0
+IsStormFault Memory = Unit {0}
+IsStormFault (Refused fault) = Unit {0}
+IsStormFault (Held party) = Unit {0}
+IsStormFault (Script line reason) = ⊥
+IsStormFault (Device side) = ⊥

@@ -4,9 +4,9 @@ ghost use Rattle.span_outlet.specs.Drain.{DrainView};
 ghost use Rattle.span_storm.specs.inside.Back.{IsSameDrain};
 
 use crate::gate::Gate;
+use crate::stopped::Stopped;
 use span_layers::Say;
 use span_registry::Drain;
-use span_run::RunFault;
 use std::marker::Model;
 use std::snapshot::Snapshot;
 use std::sync::Wait;
@@ -20,7 +20,7 @@ pub(crate) struct BackAgain<V> {
     drain: Snapshot<Drain<V>>,
 }
 
-impl<V> Promise<Result<Drain<V>, RunFault>> for BackAgain<V> {
+impl<V> Promise<Result<Drain<V>, Stopped>> for BackAgain<V> {
     ghost use Rattle.std.specs.Prelude.{IfOk};
     ghost use Rattle.span_storm.specs.inside.Back.{IsSameDrain};
 
@@ -31,7 +31,7 @@ impl<V> Promise<Result<Drain<V>, RunFault>> for BackAgain<V> {
 #[derive(Drop)]
 pub(crate) struct Draining<V> {
     drain: Snapshot<Drain<V>>,
-    running: Result<PromisedHandle<Result<Drain<V>, RunFault>, BackAgain<V>>, RunFault>,
+    running: Result<PromisedHandle<Result<Drain<V>, Stopped>, BackAgain<V>>, Stopped>,
 }
 
 impl<V> Model for Draining<V> {
@@ -48,7 +48,7 @@ impl<V> Model for Draining<V> {
 
 impl<V: Drop> Draining<V> {
     /// The drain, once its thread has ended.
-    pub(crate) fn join<R: Threads>(self, rt: &R) -> Result<Drain<V>, RunFault>
+    pub(crate) fn join<R: Threads>(self, rt: &R) -> Result<Drain<V>, Stopped>
         ensures { IfOk result (λ drain. IsSameDrain self drain) }
     {
         let Draining { drain: _, running } = self;
@@ -82,13 +82,13 @@ pub(crate) fn start_drain<
     };
     let started = scope.spawn_with(
         promise,
-        move || -> Result<Drain<V>, RunFault>
+        move || -> Result<Drain<V>, Stopped>
             ensures { IfOk result (λ back. IsSameDrain drain back) }
         { step_beside(rt, gate, party, drain, all_back) },
     );
     let running = match started {
         Ok(handle) => Ok(handle),
-        Err(_) => Err(RunFault::Memory),
+        Err(_) => Err(Stopped::Memory),
     };
     Draining {
         drain: went,
@@ -103,11 +103,11 @@ fn step_beside<V: Say, G: Gate, R: Wait>(
     party: u32,
     drain: Drain<V>,
     all_back: &AtomicBool,
-) -> Result<Drain<V>, RunFault>
+) -> Result<Drain<V>, Stopped>
     ensures { IfOk result (λ back. IsSameDrain drain back) }
 {
     if !gate.before(party, 1) {
-        return Err(RunFault::Held(party));
+        return Err(Stopped::Held(party));
     }
     let mut drain = drain;
     for _ in rt.forever() {

@@ -13,6 +13,7 @@ mod numbers;
 mod party;
 mod round;
 mod run;
+mod stopped;
 #[cfg(test)]
 mod tests;
 mod threads;

@@ -1,7 +1,7 @@
 //! The numbers of a storm, as text.
 ghost use Rattle.std.specs.Prelude.{◌≡◌, ◌^◌, ◌<◌, OnOk, OnErr, IfErr};
 ghost use Rattle.std.specs.Io.KnownBytes.{Appends};
-ghost use Rattle.span_run.specs.Counted.{inner_of, failed_of};
+ghost use Rattle.span_run.specs.Counted.{inner_of, failed_of, flushes_of};
 ghost use Rattle.span_run.specs.Device.{AppendsFront};
 ghost use Rattle.span_run.specs.RunFault.{EndsAsCounted};
 ghost use Rattle.span_storm.specs.Show.{number_line, shown, write_failed};
@@ -36,6 +36,7 @@ pub fn show<W: Write>(
         (shown workers rounds report.now)) }
     ensures device { IfErr result (λ fault. fault ≡ write_failed) }
     ensures counts { EndsAsCounted 0 0 (failed_of output.old) (failed_of output.new) result }
+    ensures flushes { flushes_of output.new ≡ flushes_of output.old }
 {
     let rows = [
         Row {
@@ -83,6 +84,7 @@ fn write_rows<W: Write>(rows: &[Row], output: &mut Counted<W>) -> Result<(), Run
         (text_of_rows rows.now)) }
     ensures device { IfErr result (λ fault. fault ≡ write_failed) }
     ensures counts { EndsAsCounted 0 0 (failed_of output.old) (failed_of output.new) result }
+    ensures flushes { flushes_of output.new ≡ flushes_of output.old }
 {
     for row in rows {
         if let Err(fault) = write_line(row.label, row.number, output) {
@@ -101,6 +103,7 @@ fn write_line<W: Write>(label: &str, number: u64, output: &mut Counted<W>) -> Re
         (number_line label.now number)) }
     ensures device { IfErr result (λ fault. fault ≡ write_failed) }
     ensures counts { EndsAsCounted 0 0 (failed_of output.old) (failed_of output.new) result }
+    ensures flushes { flushes_of output.new ≡ flushes_of output.old }
 {
     write_text(output, label.as_bytes())?;
     write_text(output, b" ")?;

@@ -6,8 +6,8 @@ ghost use Rattle.span_storm.specs.inside.Back.{ComesBack, PartyView};
 use crate::gate::Gate;
 use crate::metas::Metas;
 use crate::round::work;
+use crate::stopped::Stopped;
 use span_registry::{Registry, Ring, Setup, Share, Worker};
-use span_run::RunFault;
 use std::marker::Model;
 use std::snapshot::Snapshot;
 use std::sync::Wait;
@@ -21,7 +21,7 @@ pub(crate) struct Back<H: Ledger, C: Ledger> {
     rounds: u32,
 }
 
-impl<H: Ledger, C: Ledger> Promise<Result<Share<H, C>, RunFault>> for Back<H, C> {
+impl<H: Ledger, C: Ledger> Promise<Result<Share<H, C>, Stopped>> for Back<H, C> {
     ghost use Rattle.std.specs.Prelude.{IfOk};
     ghost use Rattle.span_storm.specs.inside.Back.{ComesBack};
 
@@ -33,7 +33,7 @@ impl<H: Ledger, C: Ledger> Promise<Result<Share<H, C>, RunFault>> for Back<H, C>
 pub(crate) struct Party<H: Ledger, C: Ledger> {
     worker: Snapshot<Worker<H, C>>,
     rounds: u32,
-    running: Result<PromisedHandle<Result<Share<H, C>, RunFault>, Back<H, C>>, RunFault>,
+    running: Result<PromisedHandle<Result<Share<H, C>, Stopped>, Back<H, C>>, Stopped>,
 }
 
 impl<H: Ledger, C: Ledger> Model for Party<H, C> {
@@ -50,7 +50,7 @@ impl<H: Ledger, C: Ledger> Model for Party<H, C> {
 
 impl<H: Ledger, C: Ledger> Party<H, C> {
     /// What comes back of the worker, once its thread has ended.
-    pub(crate) fn join<R: Threads>(self, rt: &R) -> Result<Share<H, C>, RunFault>
+    pub(crate) fn join<R: Threads>(self, rt: &R) -> Result<Share<H, C>, Stopped>
         ensures { IfOk result (λ share. ComesBack self.worker self.rounds share) }
     {
         let Party {
@@ -93,14 +93,14 @@ pub(crate) fn start<
     };
     let started = scope.spawn_with(
         promise,
-        move || -> Result<Share<H, C>, RunFault>
+        move || -> Result<Share<H, C>, Stopped>
             requires { wants_jobs S.rules ≡ true }
             ensures { IfOk result (λ share. ComesBack worker rounds share) }
         { work(rt, registry, gate, metas, worker, rounds) },
     );
     let running = match started {
         Ok(handle) => Ok(handle),
-        Err(_) => Err(RunFault::Memory),
+        Err(_) => Err(Stopped::Memory),
     };
     Party {
         worker: went,

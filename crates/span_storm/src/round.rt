@@ -9,9 +9,9 @@ ghost use Rattle.span_storm.specs.inside.Back.{ComesBack};
 use crate::gate::Gate;
 use crate::held::Held;
 use crate::metas::Metas;
+use crate::stopped::Stopped;
 use span_id::Meta;
 use span_registry::{ParentOf, Registry, Ring, Setup, Share, Worker};
-use span_run::RunFault;
 use std::sync::Wait;
 use std::sync::ledger::Ledger;
 
@@ -23,7 +23,7 @@ pub(crate) fn work<H: Ledger, C: Ledger, S: Setup, G: Gate, R: Wait>(
     metas: &Metas,
     worker: Worker<H, C>,
     rounds: u32,
-) -> Result<Share<H, C>, RunFault>
+) -> Result<Share<H, C>, Stopped>
     requires { wants_jobs S.rules ≡ true }
     ensures { IfOk result (λ share. ComesBack worker rounds share) }
 {
@@ -41,7 +41,7 @@ fn round<H: Ledger, C: Ledger, S: Setup, G: Gate, R: Wait>(
     gate: &G,
     metas: &Metas,
     worker: &mut Worker<H, C>,
-) -> Result<(), RunFault>
+) -> Result<(), Stopped>
     requires { wants_jobs S.rules ≡ true }
     ensures accepted { OnOk result (worker.new.accepted ≡ worker.old.accepted + 9) }
     ensures spare { OnOk result (worker.new.spare ≡ worker.old.spare) }
@@ -50,33 +50,33 @@ fn round<H: Ledger, C: Ledger, S: Setup, G: Gate, R: Wait>(
     ask(gate, worker)?;
     let other = match registry.clone_span(rt, worker, &mut job.handle) {
         Ok(handle) => Held { handle },
-        Err(fault) => return Err(RunFault::Refused(fault)),
+        Err(fault) => return Err(Stopped::Refused(fault)),
     };
     ask(gate, worker)?;
     if let Err(fault) = registry.enter(rt, worker, &mut job.handle) {
-        return Err(RunFault::Refused(fault));
+        return Err(Stopped::Refused(fault));
     }
     ask(gate, worker)?;
     if let Err(fault) = registry.event(rt, worker, &metas.event, "tick", &[]) {
-        return Err(RunFault::Refused(fault));
+        return Err(Stopped::Refused(fault));
     }
     let step = open(rt, registry, gate, worker, &metas.step, ParentOf::Current)?;
     close(rt, registry, gate, worker, step)?;
     ask(gate, worker)?;
     if let Err(fault) = registry.exit(rt, worker, job.handle.id()) {
-        return Err(RunFault::Refused(fault));
+        return Err(Stopped::Refused(fault));
     }
     close(rt, registry, gate, worker, other)?;
     close(rt, registry, gate, worker, job)
 }
 
 // Asks whether the worker may make its next call: all calls before it were accepted.
-fn ask<H: Ledger, C: Ledger, G: Gate>(gate: &G, worker: &Worker<H, C>) -> Result<(), RunFault> {
+fn ask<H: Ledger, C: Ledger, G: Gate>(gate: &G, worker: &Worker<H, C>) -> Result<(), Stopped> {
     let party = worker.number();
     if gate.before(party, worker.accepted().saturating_add(1)) {
         Ok(())
     } else {
-        Err(RunFault::Held(party))
+        Err(Stopped::Held(party))
     }
 }
 
@@ -88,7 +88,7 @@ fn open<H: Ledger, C: Ledger, S: Setup, G: Gate, R: Wait>(
     worker: &mut Worker<H, C>,
     meta: &Meta,
     parent: ParentOf,
-) -> Result<Held<H, C, S>, RunFault>
+) -> Result<Held<H, C, S>, Stopped>
     requires { is_wanted S.rules (plain_meta meta.now) ≡ true }
     ensures worker { OnOk result (worker.new ≡ after_call worker.old (worker.old.spare - 1)) }
     ensures part { OnOk result (0 < worker.old.spare) }
@@ -97,7 +97,7 @@ fn open<H: Ledger, C: Ledger, S: Setup, G: Gate, R: Wait>(
     match registry.new_span(rt, worker, meta, &[], parent) {
         Ok(Some(handle)) => Ok(Held { handle }),
         Ok(None) => unreachable!(),
-        Err(fault) => Err(RunFault::Refused(fault)),
+        Err(fault) => Err(Stopped::Refused(fault)),
     }
 }
 
@@ -108,7 +108,7 @@ fn close<H: Ledger, C: Ledger, S: Setup, G: Gate, R: Wait>(
     gate: &G,
     worker: &mut Worker<H, C>,
     held: Held<H, C, S>,
-) -> Result<(), RunFault>
+) -> Result<(), Stopped>
     ensures { OnOk result (worker.new ≡ after_call worker.old (worker.old.spare + 1)) }
 {
     ask(gate, worker)?;
@@ -116,7 +116,7 @@ fn close<H: Ledger, C: Ledger, S: Setup, G: Gate, R: Wait>(
         Ok(_closed) => Ok(()),
         Err((handle, fault)) => {
             drop(handle.into_share());
-            Err(RunFault::Refused(fault))
+            Err(Stopped::Refused(fault))
         }
     }
 }

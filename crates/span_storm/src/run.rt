@@ -1,10 +1,11 @@
 //! A whole storm, from the making of its registry to its report.
-ghost use Rattle.std.specs.Prelude.{◌≡◌, ◌+◌, ◌*◌, ◌<◌, ◌≤◌, ◌↔◌, [], Some, true, IfOk};
+ghost use Rattle.std.specs.Prelude.{◌≡◌, ◌+◌, ◌*◌, ◌<◌, ◌≤◌, ◌↔◌, [], Some, true, IfOk, IfErr};
 ghost use Rattle.span_layers.specs.Layers.{filters_in, forms_in};
-ghost use Rattle.span_storm.specs.Storm.{IsStormEnd, storm_limits, wants_jobs};
+ghost use Rattle.span_storm.specs.Storm.{IsStormEnd, IsStormFault, storm_limits, wants_jobs};
 
 use crate::gate::Gate;
 use crate::metas::Metas;
+use crate::stopped::Stopped;
 use crate::threads::in_threads;
 use span_id::{Checked, Limits};
 use span_layers::{Filters, Layers, Say};
@@ -45,6 +46,7 @@ pub fn storm<G: Gate + Sync, R: Threads + Wait + Sync>(
     ensures balance { IfOk result (λ report. report.made ≡ report.closed + report.left) }
     ensures ended { IfOk result (λ report.
         IsStormEnd (storm_limits workers) (filters_in layers) (forms_in layers) report) }
+    ensures faults { IfErr result IsStormFault }
 {
     let limits = Limits {
         workers,
@@ -62,7 +64,7 @@ pub fn storm<G: Gate + Sync, R: Threads + Wait + Sync>(
     };
     let (filters, tellers) = layers.split();
     let drain = Drain::new(alloc, tap, tellers);
-    run::<Brand, Brand, Brand, _, _, _>(
+    let ended = run::<Brand, Brand, Brand, _, _, _>(
         rt,
         alloc,
         rounds,
@@ -74,7 +76,11 @@ pub fn storm<G: Gate + Sync, R: Threads + Wait + Sync>(
         Blank::new(HANDLE_PARTS),
         Blank::new(u64::from(workers)),
         table,
-    )
+    );
+    match ended {
+        Ok(report) => Ok(report),
+        Err(stopped) => Err(stopped.fault()),
+    }
 }
 
 // Makes the registry, lets its workers run, and ends it. It is generic in the registry's names, so that its caller
@@ -98,7 +104,7 @@ fn run<
     handles: Blank,
     calls: Blank,
     table: SeatTable,
-) -> Result<Report, RunFault>
+) -> Result<Report, Stopped>
     requires workers { checked.now.workers ≤ 16 }
     requires rounds { rounds ≤ 400 }
     requires setup { (checked.now ≡ S.limits) × (filters.rules ≡ S.rules) × (Some ring.name ≡ S.ring) }
@@ -114,11 +120,11 @@ fn run<
     ensures ended { IfOk result (λ report. IsStormEnd S.limits S.rules drain.forms report) }
 {
     let Ok(metas) = Metas::new(alloc) else {
-        return Err(RunFault::Memory);
+        return Err(Stopped::Memory);
     };
     let made = Registry::<H, C, S, Ring>::new(alloc, checked, filters, ring, handles, calls, table);
     let Ok((registry, workers)) = made else {
-        return Err(RunFault::Memory);
+        return Err(Stopped::Memory);
     };
     let (whole, drain) = in_threads(rt, alloc, &registry, gate, &metas, workers, rounds, drain)?;
     Ok(registry.finish(whole, drain))

@@ -7,9 +7,9 @@ use crate::draining::start_drain;
 use crate::gate::Gate;
 use crate::metas::Metas;
 use crate::party::{Party, start};
+use crate::stopped::Stopped;
 use span_layers::Say;
 use span_registry::{Drain, Registry, Ring, Setup, Share, Worker};
-use span_run::RunFault;
 use std::alloc::Global;
 use std::sync::Wait;
 use std::sync::atomic::{AtomicBool, Ordering};
@@ -35,7 +35,7 @@ pub(crate) fn in_threads<
     workers: Vec<Worker<H, C>>,
     rounds: u32,
     drain: Drain<V>,
-) -> Result<(Share<H, C>, Drain<V>), RunFault>
+) -> Result<(Share<H, C>, Drain<V>), Stopped>
     requires wanted { wants_jobs S.rules ≡ true }
     requires some { (0 < vec_len workers) × (vec_len workers ≤ 16) }
     requires rounds { rounds ≤ 400 }
@@ -48,7 +48,7 @@ pub(crate) fn in_threads<
     thread::scope(
         thread::scope_env(),
         rt,
-        move |scope| -> Result<(Share<H, C>, Drain<V>), RunFault>
+        move |scope| -> Result<(Share<H, C>, Drain<V>), Stopped>
             requires wanted { wants_jobs S.rules ≡ true }
             requires some { (0 < vec_len workers) × (vec_len workers ≤ 16) }
             requires rounds { rounds ≤ 400 }
@@ -83,7 +83,7 @@ fn run_workers<
     metas: &'s Metas,
     workers: Vec<Worker<H, C>>,
     rounds: u32,
-) -> Result<Share<H, C>, RunFault>
+) -> Result<Share<H, C>, Stopped>
     requires wanted { wants_jobs S.rules ≡ true }
     requires some { (0 < vec_len workers) × (vec_len workers ≤ 16) }
     requires rounds { rounds ≤ 400 }
@@ -112,13 +112,13 @@ fn start_all<
     metas: &'s Metas,
     workers: Vec<Worker<H, C>>,
     rounds: u32,
-) -> Result<Vec<Party<H, C>>, RunFault>
+) -> Result<Vec<Party<H, C>>, Stopped>
     requires { wants_jobs S.rules ≡ true }
     ensures same { IfOk result (λ parties. map (λ party. party.worker) parties.items ≡ workers.items) }
     ensures rounds { IfOk result (λ parties. All (λ party. party.rounds ≡ rounds) parties.items) }
 {
     let Ok(mut parties) = Vec::with_capacity(alloc, workers.len()) else {
-        return Err(RunFault::Memory);
+        return Err(Stopped::Memory);
     };
     for worker in workers {
         parties.push_reserved(start(rt, scope, registry, gate, metas, worker, rounds));
@@ -131,7 +131,7 @@ fn join_all<H: Ledger, C: Ledger, R: Threads>(
     rt: &R,
     parties: Vec<Party<H, C>>,
     rounds: u32,
-) -> Result<Share<H, C>, RunFault>
+) -> Result<Share<H, C>, Stopped>
     requires some { (0 < vec_len parties) × (vec_len parties ≤ 16) }
     requires rounds { rounds ≤ 400 }
     requires each { All (λ party. (party.rounds ≡ rounds) × (party.worker.accepted ≡ 0)) parties.items }
@@ -151,9 +151,9 @@ fn join_all<H: Ledger, C: Ledger, R: Threads>(
 
 // What came back of two: both shares together, or the fault of the first that has one.
 fn both<H: Ledger, C: Ledger>(
-    one: Result<Share<H, C>, RunFault>,
-    other: Result<Share<H, C>, RunFault>,
-) -> Result<Share<H, C>, RunFault>
+    one: Result<Share<H, C>, Stopped>,
+    other: Result<Share<H, C>, Stopped>,
+) -> Result<Share<H, C>, Stopped>
     requires { Fit one other }
     ensures { result ≡ both_shares one other }
 {

@@ -3,7 +3,7 @@ use Rattle.std.specs.Prelude.{◌≡◌, ℕ, ◌+◌, ◌*◌, ◌^◌, ◌<◌
 use Rattle.span_outlet.specs.Drain.{DrainView}
 use Rattle.span_registry.specs.Worker.{WorkerView}
 use Rattle.span_registry.specs.Share.{ShareView, joined}
-use Rattle.span_run.specs.declared.fault.RunFault.{RunFault}
+use Rattle.span_storm.specs.declared.stopped.Stopped.{Stopped}
 
 -- a worker that makes so many rounds
 pub record PartyView : Type 0 where
@@ -26,19 +26,19 @@ pub record HasAll (workers : List WorkerView) (rounds : ℕ) (share : ShareView)
 
 -- What is put together of n workers when as many as `rest` have not been joined, unless one had a fault: each has made
 -- so many calls, and of all parts so many are left.
-abbrev pub Gathers : Result ShareView RunFault → ℕ → ℕ → ℕ → ℕ → ℕ → Type 0
+abbrev pub Gathers : Result ShareView Stopped → ℕ → ℕ → ℕ → ℕ → ℕ → Type 0
 Gathers whole n rest each all left = IfOk whole (λ share.
     (share.units ≡ 0) × (share.call_parts + rest ≡ n) × (share.accepted ≡ share.call_parts * each)
     × (share.handle_parts + left ≡ all))
 
 -- both shares, or the fault of the first that has one
-abbrev pub both_shares : Result ShareView RunFault → Result ShareView RunFault → Result ShareView RunFault
+abbrev pub both_shares : Result ShareView Stopped → Result ShareView Stopped → Result ShareView Stopped
 both_shares (Err fault) other = Err fault
 both_shares (Ok one) (Err fault) = Err fault
 both_shares (Ok one) (Ok other) = Ok (joined one other)
 
 -- the sums of two shares fit in a `u64`
-abbrev pub Fit : Result ShareView RunFault → Result ShareView RunFault → Type 0
+abbrev pub Fit : Result ShareView Stopped → Result ShareView Stopped → Type 0
 Fit one other = IfOk one (λ a. IfOk other (λ b. (a.units + b.units < 2 ^ 64) × (a.accepted + b.accepted < 2 ^ 64)))
 
 -- the drain of the same ring, which writes in the same forms
