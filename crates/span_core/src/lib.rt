@@ -15,8 +15,6 @@ mod calls;
 pub mod laws;
 mod notes;
 mod stacks;
-#[cfg(test)]
-mod tests;
 
 use crate::laws::{entries_are_counted_once, made_spans_are_open_or_closed};
 use crate::stacks::empty_stacks;

@@ -20,8 +20,6 @@ mod registry;
 mod report;
 mod setup;
 mod share;
-#[cfg(test)]
-mod tests;
 mod with_seats;
 mod worker;
 

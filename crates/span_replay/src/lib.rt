@@ -6,8 +6,6 @@
 #![tactic(auto)]
 
 mod run;
-#[cfg(test)]
-mod tests;
 
 pub use run::hooks::replay_with_layers;
 pub use run::replay::replay;

@@ -14,8 +14,6 @@ mod party;
 mod round;
 mod run;
 mod stopped;
-#[cfg(test)]
-mod tests;
 mod threads;
 
 pub use gate::{Gate, Open};

@@ -1,0 +1,165 @@
+//! Calls on a core, which has no lock.
+ghost use Rattle.std.specs.Prelude.{◌≡◌, ◌<◌, []};
+
+use span_registry::Core;
+use span_registry::found::Found;
+use crate::tests::acts::{Act, Answer, Fields, Transcript, lines_text};
+use crate::tests::layers::{Plan, fields_of, layers, meta_of};
+use span_id::{Fault, Id, Level, Limits};
+use span_layers::{Filters, Say};
+use span_outlet::Kept;
+use std::alloc::Global;
+use std::test::Fail;
+
+// What `find` answers, as a registry would.
+fn found<V: Say>(alloc: Global, core: &Core<Kept<V>>, id: Id) -> Result<Option<Found>, Fault> {
+    let Some(span) = core.find(id) else {
+        return Ok(None);
+    };
+    let found = Found::of(alloc, span)?;
+    Ok(Some(found))
+}
+
+// A call on a span.
+fn call_on<V: Say>(
+    alloc: Global,
+    core: &mut Core<Kept<V>>,
+    worker: u32,
+    act: &Act,
+    id: Id,
+) -> Result<Answer, Fault>
+    requires { worker < core.old.limits.workers }
+    ensures limits { core.new.limits ≡ core.old.limits }
+{
+    match act {
+        Act::Clone(_) => {
+            core.clone_span(worker, id)?;
+            Ok(Answer::Cloned)
+        }
+        Act::Enter(_) => Ok(Answer::Entered(core.enter(worker, id)?)),
+        Act::Exit(_) => Ok(Answer::Closed(core.exit(worker, id)?)),
+        Act::Record(_, fields) => {
+            let fields = fields_of(alloc, fields)?;
+            core.record(worker, id, fields.as_slice())?;
+            Ok(Answer::Recorded)
+        }
+        Act::Find(_) => Ok(Answer::Found(found(alloc, core, id)?)),
+        _ => Ok(Answer::Closed(core.try_close(worker, id)?)),
+    }
+}
+
+// An event.
+fn tell<V: Say>(
+    alloc: Global,
+    core: &mut Core<Kept<V>>,
+    worker: u32,
+    level: Level,
+    message: &str,
+    fields: Fields,
+) -> Result<Answer, Fault>
+    requires { worker < core.old.limits.workers }
+    ensures limits { core.new.limits ≡ core.old.limits }
+{
+    let meta = meta_of(alloc, "event", "app", level)?;
+    let fields = fields_of(alloc, fields)?;
+    core.event(worker, &meta, message, fields.as_slice())?;
+    Ok(Answer::Told)
+}
+
+// A call.
+fn call<V: Say>(
+    alloc: Global,
+    core: &mut Core<Kept<V>>,
+    worker: u32,
+    act: &Act,
+) -> Result<Answer, Fault>
+    requires { worker < core.old.limits.workers }
+    ensures limits { core.new.limits ≡ core.old.limits }
+{
+    match act {
+        Act::New {
+            name,
+            target,
+            parent,
+            fields,
+        } => {
+            let meta = meta_of(alloc, name, target, Level::Info)?;
+            let fields = fields_of(alloc, fields)?;
+            let made = core.new_span(worker, &meta, fields.as_slice(), *parent)?;
+            Ok(made.map_or(Answer::NotWanted, Answer::Made))
+        }
+        Act::Event {
+            level,
+            message,
+            fields,
+        } => tell(alloc, core, worker, *level, message, fields),
+        Act::Step => Ok(Answer::Stepped(None)),
+        Act::Clone(number)
+        | Act::Enter(number)
+        | Act::Exit(number)
+        | Act::Close(number)
+        | Act::Record(number, _)
+        | Act::Find(number) => {
+            let id = Id::from_u64(*number).ok_or(Fault::Unknown)?;
+            call_on(alloc, core, worker, act, id)
+        }
+    }
+}
+
+// All calls, each made by the worker beside it.
+fn calls<V: Say>(
+    alloc: Global,
+    core: &mut Core<Kept<V>>,
+    workers: u32,
+    acts: &[(u32, Act)],
+) -> Result<Transcript, Fail>
+    requires { workers ≡ core.old.limits.workers }
+    ensures limits { core.new.limits ≡ core.old.limits }
+{
+    let mut transcript = Transcript::new(alloc);
+    let mut ids = Vec::new(alloc);
+    for (worker, act) in acts {
+        if *worker >= workers {
+            return Err(Fail::new("there is no such worker"));
+        }
+        let answer = match call(alloc, core, *worker, act) {
+            Ok(answer) => answer,
+            Err(fault) => Answer::Refused(fault),
+        };
+        if let Answer::Made(id) = answer {
+            ids.push(id)?;
+        }
+        transcript.answer(alloc, &answer)?;
+        for id in &ids {
+            transcript.found(alloc, &found(alloc, core, *id)?)?;
+        }
+    }
+    Ok(transcript)
+}
+
+// The same for a new core.
+fn begun<V: Say>(
+    alloc: Global,
+    limits: Limits,
+    filters: Filters,
+    outlet: Kept<V>,
+    acts: &[(u32, Act)],
+) -> Result<(Transcript, String), Fail>
+    requires { outlet.sent ≡ [] }
+{
+    let mut core = Core::new(alloc, &limits.check()?, filters, outlet)?;
+    let transcript = calls(alloc, &mut core, limits.workers, acts)?;
+    let lines = lines_text(alloc, core.outlet().all())?;
+    Ok((transcript, lines))
+}
+
+/// What a new core with these layers answers to the calls, and the lines.
+pub(crate) fn on_core(
+    alloc: Global,
+    limits: Limits,
+    plans: &[Plan],
+    acts: &[(u32, Act)],
+) -> Result<(Transcript, String), Fail> {
+    let (filters, tellers) = layers(alloc, plans)?;
+    begun(alloc, limits, filters, Kept::new(alloc, tellers), acts)
+}

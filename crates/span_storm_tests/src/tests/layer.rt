@@ -1,0 +1,75 @@
+//! A storm with one layer, which is told of everything.
+ghost use Rattle.std.specs.Prelude.{◌≡◌, ◌<◌, ◌≤◌, [], ◌∷◌, IfOk, string_bytes};
+ghost use Rattle.std.specs.Result.{ForOk};
+ghost use Rattle.span_id.specs.declared.level.Level.TheVariants.{Trace};
+ghost use Rattle.span_layers.specs.Note.{plain_note};
+ghost use Rattle.span_layers.specs.Rule.{pairs_of, is_admitted};
+ghost use Rattle.span_layers.specs.Text.{text_of};
+
+use span_storm::{Gate, storm};
+use span_id::{Fault, Level, Meta, copy_text};
+use span_layers::{FmtSpan, Form, Hooks, Layer, Layers, Note, Rule, Style, admits, text};
+use span_registry::Report;
+use span_run::RunFault;
+use std::alloc::{AllocError, Global};
+use std::sync::atomic::{AtomicU64, Ordering};
+use std::sync::{Arc, Wait};
+use std::thread::Threads;
+
+/// Runs a storm whose layer admits everything, writes in the compact form, and counts what it writes.
+pub(crate) fn storm_of_all<G: Gate + Sync, R: Threads + Wait + Sync>(
+    rt: &R,
+    alloc: Global,
+    workers: u32,
+    rounds: u32,
+    said: Arc<AtomicU64>,
+    gate: &G,
+) -> Result<Report, RunFault>
+    requires { (0 < workers) × (workers ≤ 16) × (0 < rounds) × (rounds ≤ 400) }
+{
+    let mut layers = Layers::new(alloc);
+    let Ok(admit) = Box::new(
+        alloc,
+        |rule: &Rule, meta: &Meta| -> bool
+            ensures { result
+                ≡ is_admitted (pairs_of rule.now) (string_bytes meta.now.target) meta.now.level }
+        { admits(rule, meta) },
+    ) else {
+        return Err(RunFault::Memory);
+    };
+    let Ok(say) = Box::new(
+        alloc,
+        move |alloc: Global, form: Form, note: &Note| -> Result<Vec<u8>, AllocError>
+            ensures { ForOk result (λ text. text.items ≡ text_of form (plain_note note.now)) }
+        {
+            said.fetch_add(1, Ordering::SeqCst);
+            text(alloc, form, note)
+        },
+    ) else {
+        return Err(RunFault::Memory);
+    };
+    let Ok(rule) = everything(alloc) else {
+        return Err(RunFault::Memory);
+    };
+    let layer = Layer {
+        style: Style {
+            form: Form::Compact,
+            spans: FmtSpan::FULL,
+        },
+        rule,
+        hooks: Hooks::new(admit, say),
+    };
+    let Ok(_) = layers.add(layer) else {
+        return Err(RunFault::Memory);
+    };
+    storm(rt, alloc, workers, rounds, layers, gate)
+}
+
+// The rule that admits everything.
+fn everything(alloc: Global) -> Result<Rule, Fault>
+    ensures { IfOk result (λ rule. pairs_of rule ≡ ([], Trace) ∷ []) }
+{
+    let mut pairs = Vec::with_capacity(alloc, 1)?;
+    pairs.push_reserved((copy_text(alloc, "")?, Level::Trace));
+    Ok(Rule { pairs })
+}
