@@ -47,6 +47,7 @@ RunsAs meant old text new text' result =
     MatchResult result (λ _. IsTurn meant text text' new) (StopsAs meant old text new text')
 
 -- a call was made, and its notes and its answer were written
-pub record IsWrittenCall (old : CoreView) (text : List ℕ) (request : call.Request) (new : CoreView) (text' : List ℕ) : Type 0 where
+pub record IsWrittenCall
+    (old : CoreView) (text : List ℕ) (request : call.Request) (new : CoreView) (text' : List ℕ) : Type 0 where
   pub core : new ≡ (call_written old request).core
   pub text_is : text' ≡ text ++ (call_written old request).text
