@@ -1,5 +1,5 @@
 //! What takes the batches out of a ring and gives out the lines of their notes, one after another.
-ghost use Rattle.std.specs.Prelude.{◌≡◌, ◌<◌, ◌∷◌, [], ◌++◌, ◌↔◌, Some, IfSome, IfNone, IsTrue, map, length, slice_get};
+ghost use Rattle.std.specs.Prelude.{◌≡◌, ◌<◌, ◌∷◌, [], ◌++◌, ◌↔◌, false, Some, IfSome, IfNone, IsTrue, map, length, slice_get};
 ghost use Rattle.rtrb.specs.Ring.{received, known_items};
 ghost use Rattle.span_outlet.specs.Batch.{plain_batch};
 ghost use Rattle.span_outlet.specs.Lines.{plain_line};
@@ -112,6 +112,7 @@ impl<V: Say> LineReader<V> {
     /// false means that none of them had a line.
     pub fn fill(&mut self) -> bool
         ensures answer { IsTrue result ↔ (0 < length self.new.waiting) }
+        ensures none { result ≡ false → self.new.waiting ≡ [] }
         ensures waited { 0 < length self.old.waiting → self.new ≡ self.old }
         ensures taken { TakesBatches self.old self.new }
         ensures name { self.new.name ≡ self.old.name }
@@ -137,6 +138,7 @@ impl<V: Say> LineReader<V> {
     pub fn fill_beside(&mut self, ring: &mut Ring) -> bool
         requires pair { ring.old.name ≡ self.old.name }
         ensures answer { IsTrue result ↔ (0 < length self.new.waiting) }
+        ensures none { result ≡ false → self.new.waiting ≡ [] }
         ensures waited { 0 < length self.old.waiting → self.new ≡ self.old }
         ensures taken { TakesBatches self.old self.new }
         ensures sent { self.new.waiting ≡ [] → self.new.taken ≡ ring.old.sent }
