@@ -12,12 +12,12 @@ use Rattle.span_outlet.specs.declared.batch.Batch.{Batch}
 use Rattle.span_outlet.specs.declared.line.Line.{Line}
 use Rattle.span_outlet.specs.Batch.{PlainBatch, plain_batch}
 use Rattle.span_outlet.specs.Outlet.{RingName}
-use Rattle.span_outlet.specs.Lines.{PlainLine, plain_line}
-use Rattle.span_outlet.specs.Kept.{NumberedNote, numbered_in, numbered, AreKept, GainsLines}
+use Rattle.span_outlet.specs.Lines.{plain_line}
+use Rattle.span_outlet.specs.Kept.{numbered_in, numbered, AreKept, GainsLines}
 use Rattle.span_outlet.specs.Kept.AreTold.{none}
 use Rattle.span_outlet.specs.LineReader.{LineReaderView, numbered_from, TakesBatches, AreLeft}
 use Rattle.span_outlet.specs.inside.Reading.{reader_view}
-use Rattle.span_outlet.proofs.Keeping.{enumerated_more, gains_none, gains_more, kept_more}
+use Rattle.span_outlet.proofs.Keeping.{gains_none, gains_more, kept_more}
 use Rattle.span_outlet.proofs.Apart.{of_one_batch}
 
 -- ---- the notes of batches

@@ -1,6 +1,6 @@
 use Rattle.std.proofs.Common.{rules, ◌≡◌, ◌++◌, ◌∷◌, [], length, refl, ap, ◌∙◌, arith}
 use Rattle.std.proofs.lemmas.List.{nil_from_length}
-use Rattle.rtrb.specs.Ring.{received, known_items}
+use Rattle.rtrb.specs.Ring.{received}
 use Rattle.span_outlet.proofs.Draining.{one_more_taken, moved_on}
 use Rattle.span_outlet.proofs.Reading.{takes_nothing, takes_more, of_batch}
 use Rattle.span_outlet.proofs.line_reader.take_until_told.Goals as goal
