@@ -138,12 +138,7 @@ fn both_ends_in_one_thread(rt: HostRuntime) -> Result<(), Fail> {
     assert!(rt; send(&mut ring, batch(alloc, Kind::OnNew, &[0])?)?);
     assert!(rt; send(&mut ring, batch(alloc, Kind::OnExit, &[0])?)?);
     assert!(rt; reader.fill_beside(&mut ring));
-    assert_eq!(rt; reader.taken(), 2);
-    assert!(rt; reader.fill_beside(&mut ring));
-    assert_eq!(rt;
-        read(alloc, &mut reader, 9)?.as_str(),
-        "1 0 0 exit 1 w0 a\n"
-    );
+    assert_eq!(rt; reader.next().map(|line| line.batch), Some(1));
     assert!(rt; !reader.fill_beside(&mut ring));
     stands_at(&rt, &mut reader, 2, 1);
     Ok(())
