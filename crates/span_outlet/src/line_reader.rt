@@ -108,8 +108,8 @@ impl<F: Drop> LineReader<Formatters<F>> {
 impl<V: Say> LineReader<V> {
     /// Takes batches until a line waits, and tells their notes, in order. True where a line waits now.
     ///
-    /// Where one waited already, nothing changes. It takes no more batches than stand in the ring when it is called, and
-    /// false means that none of them had a line.
+    /// Where one waited already, nothing changes. It takes no more batches than stand in the ring when it is called,
+    /// and false means that none of them had a line.
     pub fn fill(&mut self) -> bool
         ensures answer { IsTrue result ↔ (0 < length self.new.waiting) }
         ensures none { result ≡ false → self.new.waiting ≡ [] }
