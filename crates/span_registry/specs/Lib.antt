@@ -6,6 +6,7 @@ pub use Rattle.span_outlet.specs.Lines
 pub use Rattle.span_outlet.specs.Kept
 pub use Rattle.span_outlet.specs.Ring
 pub use Rattle.span_outlet.specs.Drain
+pub use Rattle.span_outlet.specs.LineReader
 pub use Rattle.span_core.specs.World
 pub use Rattle.span_core.specs.Parent
 pub use Rattle.span_core.specs.Happening

@@ -1,8 +1,8 @@
 //! The registry of spans behind a lock: the crate that a program names.
 //!
-//! A [`Registry`] is shared by threads. Each thread has a [`Worker`], and who holds a span has a [`Handle`], which proves
-//! that the span is open. At the end the workers, and the handles that were not given back, become one [`Share`], and
-//! with the whole share the registry becomes a [`Report`].
+//! A [`Registry`] is shared by threads. Each thread has a [`Worker`], and who holds a span has a [`Handle`], which
+//! proves that the span is open. At the end the workers, and the handles that were not given back, become one
+//! [`Share`], and with the whole share the registry becomes a [`Report`].
 //!
 //! What each call does to the locked value is said in full by the function of its name in [`laws`]. The calls of the
 //! registry take the lock, run that one function and give the lock back.
@@ -32,7 +32,8 @@ pub use setup::Setup;
 pub use share::Share;
 pub use span_core::Core;
 pub use span_outlet::{
-    Batch, Call, Drain, Kept, LayerLines, Line, Outlet, ParentOf, Reply, Ring, Step, Tap,
+    Batch, Call, Drain, Kept, LayerLines, Line, LineReader, Outlet, ParentOf, Reply, Ring, Step,
+    Tap,
 };
 pub use span_seats::{SeatTable, TableName};
 pub use worker::Worker;
