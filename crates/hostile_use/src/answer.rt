@@ -1,6 +1,7 @@
 //! What calls answer.
 
 use span_id::{Fault, Id};
+use span_registry::Found;
 use std::fmt;
 
 /// What a call answers, as the call gave it: nothing is made of it before it is written.
@@ -15,6 +16,7 @@ pub(crate) enum Answer {
     Span(Id),
     Spans(Vec<Id>),
     Names(Vec<String>),
+    Found(Found),
     /// Handles, entries and count.
     Held(u32, u32, u32),
     /// It was refused, for another reason than memory.
@@ -48,6 +50,20 @@ impl fmt::Display for Answer {
                     write!(f, " {name}")?;
                 }
                 f.write_str(" ]")
+            }
+            Answer::Found(found) => {
+                let Found {
+                    name,
+                    parent,
+                    handles,
+                    entries,
+                    count,
+                } = found;
+                let parent = parent.map_or(0, Id::get);
+                write!(
+                    f,
+                    "{name} parent {parent} handles {handles} entries {entries} count {count}"
+                )
             }
             Answer::Held(handles, entries, count) => {
                 write!(f, "handles {handles} entries {entries} count {count}")

@@ -11,26 +11,34 @@ mod trial;
 use crate::rows::Row;
 use crate::stage::Stage;
 use crate::stop::Stop;
+use std::alloc::Global;
 use std::io;
 use std::process::ExitCode;
+use std::sync::Wait;
+use std::thread::Threads;
 
 fn main(rt: HostRuntime) -> io::Result<ExitCode> {
     let words: Vec<String> = std::env::args(&rt)?.collect(rt.alloc())?;
     match words.as_slice() {
         [_, name] => match Row::named(name.as_str()) {
-            Some(row) => run(&rt, true, &[row]),
+            Some(row) => run(&rt, rt.alloc(), true, &[row]),
             None => no_row(&rt),
         },
-        [] | [_] => run(&rt, false, &Row::ALL),
+        [] | [_] => run(&rt, rt.alloc(), false, &Row::ALL),
         _ => no_row(&rt),
     }
 }
 
 // Runs rows, one after the other.
-fn run(rt: &HostRuntime, marked: bool, rows: &[Row]) -> io::Result<ExitCode> {
+fn run<R: Print + Threads + Wait + Sync>(
+    rt: &R,
+    alloc: Global,
+    marked: bool,
+    rows: &[Row],
+) -> io::Result<ExitCode> {
     let stage = Stage { rt, marked };
     for row in rows {
-        if let Err(stop) = row.run(&stage, rt.alloc()) {
+        if let Err(stop) = row.run(&stage, alloc) {
             return tell(rt, *row, &stop);
         }
     }
@@ -38,15 +46,17 @@ fn run(rt: &HostRuntime, marked: bool, rows: &[Row]) -> io::Result<ExitCode> {
 }
 
 // Tells why a row ended early.
-fn tell(rt: &HostRuntime, row: Row, stop: &Stop) -> io::Result<ExitCode> {
-    match stop {
-        Stop::Changed(_) => println!(rt; "changed: {} {stop}", row.name())?,
-        _ => println!(rt; "stopped: {} {stop}", row.name())?,
-    }
+fn tell<R: Print>(rt: &R, row: Row, stop: &Stop) -> io::Result<ExitCode> {
+    let word = match stop {
+        Stop::Changed(_) => "changed",
+        _ => "stopped",
+    };
+    println!(rt; "{word}: {} {stop}", row.name())?;
     Ok(ExitCode::FAILURE)
 }
 
-fn no_row(rt: &HostRuntime) -> io::Result<ExitCode> {
+// Tells how the program is called.
+fn no_row<R: Eprint>(rt: &R) -> io::Result<ExitCode> {
     eprintln!(rt; "usage: hostile_use [ROW]")?;
     Ok(ExitCode::from(2))
 }

@@ -2,20 +2,29 @@
 
 use span_id::Fault;
 use std::alloc::{AllocError, AllocFailed};
-use std::fmt;
-use std::io;
+use std::{fmt, io};
 
-/// Why a row ended early. The text is the call's.
+/// The words for a call.
+#[derive(Clone, Copy, Debug)]
+pub(crate) struct Name(pub(crate) &'static str);
+
+impl fmt::Display for Name {
+    fn fmt<W: fmt::Write>(&self, f: &mut fmt::Formatter<W>) -> fmt::Result {
+        f.write_str(self.0)
+    }
+}
+
+/// Why a row ended early, with the call's name.
 #[derive(Debug, Drop)]
 pub(crate) enum Stop {
     /// A refused call changed something that can be looked at.
-    Changed(&'static str),
+    Changed(Name),
     /// A call was refused memory again and again.
-    TooOften(&'static str),
+    TooOften(Name),
     /// A call that takes no memory was refused it.
-    Lacked(&'static str),
+    Lacked(Name),
     /// A call was refused that should be accepted.
-    Refused(&'static str, Fault),
+    Refused(Name, Fault),
     /// Memory was refused where a row is set up.
     Memory,
     /// Standard output failed.

@@ -39,15 +39,6 @@ pub(crate) fn everything(alloc: Global) -> Result<Rule, AllocError> {
     Ok(Rule { pairs })
 }
 
-/// Names.
-pub(crate) fn names_of(alloc: Global, names: &[&str]) -> Result<Vec<String>, AllocError> {
-    let mut made = Vec::new(alloc);
-    for name in names {
-        made.push(String::from_str(alloc, name)?)?;
-    }
-    Ok(made)
-}
-
 /// A note of the span `a`, which is open under the id 1; where it is of an event, of none.
 pub(crate) fn note_of(
     alloc: Global,
@@ -55,22 +46,22 @@ pub(crate) fn note_of(
     kind: Kind,
     fields: &[(&str, &str)],
 ) -> Result<Note, AllocError> {
-    let is_event = kind == Kind::OnEvent;
-    let path: &[&str] = if is_event { &[] } else { &["a"] };
-    let tail = if is_event {
-        Some((Level::Warn, String::from_str(alloc, "x\ny")?))
-    } else {
-        None
-    };
-    Ok(Note {
+    let mut note = Note {
         layer,
         kind,
         worker: 0,
-        id: u64::from(!is_event),
-        path: names_of(alloc, path)?,
+        id: 0,
+        path: Vec::new(alloc),
         fields: fields_of(alloc, fields)?,
-        tail,
-    })
+        tail: None,
+    };
+    if kind == Kind::OnEvent {
+        note.tail = Some((Level::Warn, String::from_str(alloc, "x\ny")?));
+    } else {
+        note.id = 1;
+        note.path.push(String::from_str(alloc, "a")?)?;
+    }
+    Ok(note)
 }
 
 /// The meta as text.
@@ -120,4 +111,9 @@ pub(crate) fn span_text(alloc: Global, span: &Span) -> Result<String, AllocError
     let meta = meta_text(alloc, meta)?;
     let fields = fields_text(alloc, fields.as_slice())?;
     format!(in alloc; "{meta}{fields} {parent:?} {bits:?} {handles} {entries} {count}\n")
+}
+
+/// The bytes of a text.
+pub(crate) fn shown(text: &[u8]) -> &str {
+    str::from_utf8(text).unwrap_or("no text")
 }

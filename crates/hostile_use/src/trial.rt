@@ -3,7 +3,7 @@ ghost use Rattle.std.specs.Prelude.{◌≡◌};
 
 use crate::answer::Answer;
 use crate::stage::{Memory, Stage, TRIES};
-use crate::stop::Stop;
+use crate::stop::{Name, Stop};
 use span_id::Fault;
 use std::alloc::{AllocError, Global};
 
@@ -19,7 +19,7 @@ pub(crate) trait Subject<A> {
 /// A call, with the words in which its answer is told.
 #[derive(Drop)]
 pub(crate) struct Planned<A> {
-    name: &'static str,
+    name: Name,
     memory: Memory,
     act: A,
 }
@@ -27,7 +27,7 @@ pub(crate) struct Planned<A> {
 /// A call that may take memory.
 pub(crate) fn takes<A>(name: &'static str, act: A) -> Planned<A> {
     Planned {
-        name,
+        name: Name(name),
         memory: Memory::Taken,
         act,
     }
@@ -36,7 +36,7 @@ pub(crate) fn takes<A>(name: &'static str, act: A) -> Planned<A> {
 /// A call that takes no memory.
 pub(crate) fn takes_none<A>(name: &'static str, act: A) -> Planned<A> {
     Planned {
-        name,
+        name: Name(name),
         memory: Memory::Untouched,
         act,
     }
@@ -87,7 +87,7 @@ fn attempt<A, S: Subject<A>, R: Print>(
 /// Makes a value, and makes it again where memory was refused.
 pub(crate) fn made<T: Drop, F: Fn() -> Result<T, Fault>, R: Print>(
     stage: &Stage<R>,
-    name: &'static str,
+    name: Name,
     make: F,
 ) -> Result<T, Stop>
     requires { F.IsAlwaysCallable make }

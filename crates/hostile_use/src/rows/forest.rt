@@ -2,7 +2,7 @@
 
 use crate::answer::Answer;
 use crate::stage::Stage;
-use crate::stop::Stop;
+use crate::stop::{Name, Stop};
 use crate::texts::{fields_of, meta_of, span_text};
 use crate::trial::{Subject, made, perform, takes, takes_none};
 use span_forest::{Forest, Holder};
@@ -28,7 +28,7 @@ pub(crate) fn run<R: Print>(stage: &Stage<R>, alloc: Global) -> Result<(), Stop>
     let Ok(checked) = Limits::default().check() else {
         return Err(Stop::Memory);
     };
-    let mut forest = made(stage, "new", || Forest::new(alloc, &checked))?;
+    let mut forest = made(stage, Name("new"), || Forest::new(alloc, &checked))?;
     let a = meta_of(alloc, "a", Level::Info)?;
     let b = meta_of(alloc, "b", Level::Info)?;
     let fields = fields_of(alloc, &[("k", "v"), ("l", "w")])?;
@@ -39,7 +39,10 @@ pub(crate) fn run<R: Print>(stage: &Stage<R>, alloc: Global) -> Result<(), Stop>
         takes("add b under 1", Act::Add(&b, fields.as_slice(), Some(one))),
         takes("path of 2 for layer 0", Act::Path(0, two)),
         takes("path of 2 for layer 1", Act::Path(1, two)),
-        takes("write fields of 1", Act::WriteFields(one, fields.as_slice())),
+        takes(
+            "write fields of 1",
+            Act::WriteFields(one, fields.as_slice()),
+        ),
         takes_none("keep 1 by an entry", Act::Keep(one, entry)),
         takes("release 1 by its entry", Act::Release(one, entry)),
         takes("closing 1", Act::Closing(one, handle)),

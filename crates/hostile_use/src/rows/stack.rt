@@ -1,4 +1,5 @@
 //! A stack of two spans that are entered again and again.
+ghost use Rattle.std.specs.Prelude.{◌≤◌};
 
 use crate::answer::Answer;
 use crate::stage::Stage;
