@@ -36,23 +36,23 @@ fn run<R: Print + Threads + Wait + Sync>(
     marked: bool,
     rows: &[Row],
 ) -> io::Result<ExitCode> {
-    let stage = Stage { rt, marked };
     for row in rows {
-        if let Err(stop) = row.run(&stage, alloc) {
-            return tell(rt, *row, &stop);
+        let stage = Stage {
+            rt,
+            row: *row,
+            marked,
+        };
+        match row.run(&stage, alloc) {
+            Ok(()) => {}
+            Err(Stop::Output(error)) => return Err(error),
+            Err(Stop::Told) => return Ok(ExitCode::FAILURE),
+            Err(Stop::Memory) => {
+                println!(rt; "out of memory: {}", row.name())?;
+                return Ok(ExitCode::FAILURE);
+            }
         }
     }
     Ok(ExitCode::SUCCESS)
-}
-
-// Tells why a row ended early.
-fn tell<R: Print>(rt: &R, row: Row, stop: &Stop) -> io::Result<ExitCode> {
-    let word = match stop {
-        Stop::Changed(_) => "changed",
-        _ => "stopped",
-    };
-    println!(rt; "{word}: {} {stop}", row.name())?;
-    Ok(ExitCode::FAILURE)
 }
 
 // Tells how the program is called.

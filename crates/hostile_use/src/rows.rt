@@ -10,6 +10,7 @@ mod kept;
 mod layers;
 mod on_core;
 mod on_registry;
+mod outlets;
 mod plain;
 mod ring;
 mod slots;
@@ -18,7 +19,7 @@ mod storm;
 mod with_layers;
 
 use crate::stage::{Stage, TRIES};
-use crate::stop::{Name, Stop};
+use crate::stop::Stop;
 use std::alloc::Global;
 use std::sync::Wait;
 use std::thread::Threads;
@@ -33,6 +34,7 @@ pub(crate) enum Row {
     Stack,
     Forest,
     Layers,
+    Outlets,
     Core,
     Kept,
     GivenUp,
@@ -43,7 +45,7 @@ pub(crate) enum Row {
 
 impl Row {
     /// All rows.
-    pub(crate) const ALL: [Row; 13] = [
+    pub(crate) const ALL: [Row; 14] = [
         Row::Meta,
         Row::Field,
         Row::Plain,
@@ -51,6 +53,7 @@ impl Row {
         Row::Stack,
         Row::Forest,
         Row::Layers,
+        Row::Outlets,
         Row::Core,
         Row::Kept,
         Row::GivenUp,
@@ -69,6 +72,7 @@ impl Row {
             Row::Stack => "stack",
             Row::Forest => "forest",
             Row::Layers => "layers",
+            Row::Outlets => "outlets",
             Row::Core => "core",
             Row::Kept => "kept",
             Row::GivenUp => "given_up",
@@ -99,7 +103,9 @@ impl Row {
             Row::Forest => forest::run(stage, alloc),
             Row::Layers => self.with_layers(stage, alloc, 65),
             Row::FullRing => self.with_layers(stage, alloc, 0),
-            Row::Core | Row::Kept | Row::GivenUp | Row::Ring => self.with_layers(stage, alloc, 1),
+            Row::Outlets | Row::Core | Row::Kept | Row::GivenUp | Row::Ring => {
+                self.with_layers(stage, alloc, 1)
+            }
             Row::Storm => storm::run(stage, alloc),
         }
     }
@@ -117,6 +123,6 @@ impl Row {
                 ended => return ended,
             }
         }
-        Err(Stop::TooOften(Name("new")))
+        Err(stage.refused_too_often("new"))
     }
 }

@@ -3,7 +3,7 @@ ghost use Rattle.std.specs.Prelude.{◌≡◌};
 
 use crate::answer::Answer;
 use crate::stage::{Memory, Stage, TRIES};
-use crate::stop::{Name, Stop};
+use crate::stop::Stop;
 use span_id::Fault;
 use std::alloc::{AllocError, Global};
 
@@ -18,25 +18,25 @@ pub(crate) trait Subject<A> {
 
 /// A call, with the words in which its answer is told.
 #[derive(Drop)]
-pub(crate) struct Planned<A> {
-    name: Name,
+pub(crate) struct Planned<'a, A> {
+    name: &'a str,
     memory: Memory,
     act: A,
 }
 
 /// A call that may take memory.
-pub(crate) fn takes<A>(name: &'static str, act: A) -> Planned<A> {
+pub(crate) fn takes<A>(name: &str, act: A) -> Planned<'_, A> {
     Planned {
-        name: Name(name),
+        name,
         memory: Memory::Taken,
         act,
     }
 }
 
 /// A call that takes no memory.
-pub(crate) fn takes_none<A>(name: &'static str, act: A) -> Planned<A> {
+pub(crate) fn takes_none<A>(name: &str, act: A) -> Planned<'_, A> {
     Planned {
-        name: Name(name),
+        name,
         memory: Memory::Untouched,
         act,
     }
@@ -47,7 +47,7 @@ pub(crate) fn perform<A, S: Subject<A>, R: Print>(
     stage: &Stage<R>,
     alloc: Global,
     subject: &mut S,
-    plan: &[Planned<A>],
+    plan: &[Planned<'_, A>],
 ) -> Result<(), Stop> {
     for planned in plan {
         let answer = attempt(stage, alloc, subject, planned)?;
@@ -61,7 +61,7 @@ fn attempt<A, S: Subject<A>, R: Print>(
     stage: &Stage<R>,
     alloc: Global,
     subject: &mut S,
-    planned: &Planned<A>,
+    planned: &Planned<'_, A>,
 ) -> Result<Answer, Stop> {
     for _ in 0..TRIES {
         let before = subject.look(alloc)?;
@@ -73,21 +73,21 @@ fn attempt<A, S: Subject<A>, R: Print>(
             Err(fault) => fault,
         };
         if subject.look(alloc)?.as_str() != before.as_str() {
-            return Err(Stop::Changed(planned.name));
+            return Err(stage.changed(planned.name));
         }
         match (fault, planned.memory) {
             (Fault::Memory, Memory::Taken) => {}
-            (Fault::Memory, Memory::Untouched) => return Err(Stop::Lacked(planned.name)),
+            (Fault::Memory, Memory::Untouched) => return Err(stage.refused(planned.name)),
             (fault, _) => return Ok(Answer::Refused(fault)),
         }
     }
-    Err(Stop::TooOften(planned.name))
+    Err(stage.refused_too_often(planned.name))
 }
 
 /// Makes a value, and makes it again where memory was refused.
 pub(crate) fn made<T: Drop, F: Fn() -> Result<T, Fault>, R: Print>(
     stage: &Stage<R>,
-    name: Name,
+    name: &str,
     make: F,
 ) -> Result<T, Stop>
     requires { F.IsAlwaysCallable make }
@@ -99,8 +99,8 @@ pub(crate) fn made<T: Drop, F: Fn() -> Result<T, Fault>, R: Print>(
         match value {
             Ok(value) => return Ok(value),
             Err(Fault::Memory) => {}
-            Err(fault) => return Err(Stop::Refused(name, fault)),
+            Err(_) => return Err(stage.refused(name)),
         }
     }
-    Err(Stop::TooOften(name))
+    Err(stage.refused_too_often(name))
 }

@@ -2,7 +2,7 @@
 
 use crate::answer::Answer;
 use crate::stage::Stage;
-use crate::stop::{Name, Stop};
+use crate::stop::Stop;
 use crate::texts::{fields_of, meta_of, span_text};
 use crate::trial::{Subject, made, perform, takes, takes_none};
 use span_forest::{Forest, Holder};
@@ -28,7 +28,7 @@ pub(crate) fn run<R: Print>(stage: &Stage<R>, alloc: Global) -> Result<(), Stop>
     let Ok(checked) = Limits::default().check() else {
         return Err(Stop::Memory);
     };
-    let mut forest = made(stage, Name("new"), || Forest::new(alloc, &checked))?;
+    let mut forest = made(stage, "new", || Forest::new(alloc, &checked))?;
     let a = meta_of(alloc, "a", Level::Info)?;
     let b = meta_of(alloc, "b", Level::Info)?;
     let fields = fields_of(alloc, &[("k", "v"), ("l", "w")])?;

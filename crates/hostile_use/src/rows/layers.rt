@@ -2,7 +2,7 @@
 
 use crate::answer::Answer;
 use crate::stage::{Memory, Stage, TRIES};
-use crate::stop::{Name, Stop};
+use crate::stop::Stop;
 use crate::texts::{everything, meta_of, note_of, shown};
 use crate::trial::made;
 use span_id::{Fault, Level};
@@ -25,7 +25,7 @@ pub(crate) fn add<R: Print>(
             Ok(number) => return Ok(Answer::Number(number as u64)),
             Err((back, fault)) => {
                 if back.style != style || back.rule.pairs.len() != pairs {
-                    return Err(Stop::Changed(Name("add")));
+                    return Err(stage.changed("add"));
                 }
                 if fault != Fault::Memory {
                     return Ok(Answer::Refused(fault));
@@ -34,7 +34,7 @@ pub(crate) fn add<R: Print>(
             }
         }
     }
-    Err(Stop::TooOften(Name("add")))
+    Err(stage.refused_too_often("add"))
 }
 
 /// Splits the layers, and tells what both parts answer.
@@ -98,10 +98,10 @@ fn write<R: Print>(
     note: &Note,
 ) -> Result<(), Stop> {
     for form in [Form::Json, Form::Compact] {
-        let written = made(stage, Name("text"), || Ok(text(alloc, form, note)?))?;
+        let written = made(stage, "text", || Ok(text(alloc, form, note)?))?;
         println!(stage.rt; "text: {}", shown(written.as_slice()))?;
     }
-    let said = made(stage, Name("say"), || say(tellers, note))?;
+    let said = made(stage, "say", || say(tellers, note))?;
     println!(stage.rt; "say: {}", shown(said.as_slice()))?;
     Ok(())
 }

@@ -6,7 +6,7 @@ use crate::rows::acts::{Act, Names};
 use crate::stage::{Memory, Stage};
 use crate::stop::Stop;
 use crate::texts::{span_text, stack_text};
-use crate::trial::{Subject, perform, takes, takes_none};
+use crate::trial::{Planned, Subject, perform, takes, takes_none};
 use span_core::Core;
 use span_id::{Checked, Fault, Id, Limits};
 use span_layers::{Filters, Say, Tellers};
@@ -66,11 +66,16 @@ fn on_outlet<V: Say, R: Print>(
         return Err(Stop::Memory);
     }
     let names = Names::new(alloc)?;
+    perform(stage, alloc, &mut OnCore { core }, &plan(&names))
+}
+
+// A span inside another, and one that is entered nine times.
+fn plan<'a>(names: &'a Names) -> [Planned<'a, Ask<'a>>; 29] {
     let (one, two) = (Id::pack(0, 0), Id::pack(1, 0));
     let fields = names.fields.as_slice();
     // The third span gets the slot of the first.
     let enter = Ask::Call(Act::Enter(Id::pack(0, 1)));
-    let plan = [
+    [
         takes("new a", Ask::Call(Act::New(&names.a, ParentOf::Root))),
         takes("clone 1", Ask::Call(Act::Clone(one))),
         takes("enter 1", Ask::Call(Act::Enter(one))),
@@ -103,8 +108,7 @@ fn on_outlet<V: Say, R: Print>(
         takes_none("calls", Ask::Calls),
         takes_none("batches", Ask::Batches),
         takes_none("notes", Ask::Notes),
-    ];
-    perform(stage, alloc, &mut OnCore { core }, &plan)
+    ]
 }
 
 impl<'a, V: Say> Subject<Ask<'a>> for OnCore<V> {

@@ -162,7 +162,7 @@ fn named<H: Ledger, C: Ledger, S: Setup, V: Say, R: Print + Wait>(
 }
 
 // A ring of one place: a call that finds it full changes nothing, and is made again after a step.
-fn full_ring<'a>(names: &'a Names) -> [Planned<Ask<'a>>; 7] {
+fn full_ring<'a>(names: &'a Names) -> [Planned<'a, Ask<'a>>; 7] {
     let one = Id::pack(0, 0);
     [
         takes("new a", Ask::Call(Act::New(&names.a, ParentOf::Root))),
@@ -176,7 +176,7 @@ fn full_ring<'a>(names: &'a Names) -> [Planned<Ask<'a>>; 7] {
 }
 
 // A span inside another, and steps of the drain between the calls, with memory and without.
-fn every_call<'a>(names: &'a Names) -> [Planned<Ask<'a>>; 17] {
+fn every_call<'a>(names: &'a Names) -> [Planned<'a, Ask<'a>>; 17] {
     let (one, two) = (Id::pack(0, 0), Id::pack(1, 0));
     let fields = names.fields.as_slice();
     [

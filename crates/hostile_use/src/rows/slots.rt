@@ -2,7 +2,7 @@
 
 use crate::answer::Answer;
 use crate::stage::Stage;
-use crate::stop::{Name, Stop};
+use crate::stop::Stop;
 use crate::trial::{Subject, made, perform, takes, takes_none};
 use span_id::{Fault, Id, Limits};
 use span_slots::Slots;
@@ -31,7 +31,7 @@ pub(crate) fn run<R: Print>(stage: &Stage<R>, alloc: Global) -> Result<(), Stop>
     let Ok(checked) = limits.check() else {
         return Err(Stop::Memory);
     };
-    let mut slots = made(stage, Name("new"), || Slots::<u32>::new(alloc, &checked))?;
+    let mut slots = made(stage, "new", || Slots::<u32>::new(alloc, &checked))?;
     let (first, second) = (Id::pack(0, 0), Id::pack(1, 0));
     let plan = [
         takes_none("next id", Act::NextId),

@@ -7,7 +7,7 @@ ghost use Rattle.span_layers.specs.Rule.{pairs_of, is_admitted};
 ghost use Rattle.span_layers.specs.Text.{text_of};
 
 use crate::stage::{Memory, Stage, TRIES};
-use crate::stop::{Name, Stop};
+use crate::stop::Stop;
 use span_id::{Fault, Level, Meta, copy_text};
 use span_layers::{FmtSpan, Form, Hooks, Layer, Layers, Note, Rule, Style, admits, text};
 use span_registry::Report;
@@ -27,11 +27,10 @@ pub(crate) fn run<R: Print + Threads + Wait + Sync>(
         match once(stage, alloc)? {
             Ok(report) => return tell(stage, &report),
             Err(RunFault::Memory | RunFault::Refused(Fault::Memory)) => {}
-            Err(RunFault::Refused(fault)) => return Err(Stop::Refused(Name("storm"), fault)),
-            Err(_) => return Err(Stop::Changed(Name("storm"))),
+            Err(_) => return Err(stage.refused("storm")),
         }
     }
-    Err(Stop::TooOften(Name("storm")))
+    Err(stage.refused_too_often("storm"))
 }
 
 // Runs it once, with one layer that is told of everything.

@@ -5,7 +5,7 @@ ghost use Rattle.span_layers.specs.Note.{plain_note};
 ghost use Rattle.span_layers.specs.Rule.{pairs_of, is_admitted};
 ghost use Rattle.span_layers.specs.Text.{text_of};
 
-use crate::rows::{Row, kept, layers, on_core, ring};
+use crate::rows::{Row, kept, layers, on_core, outlets, ring};
 use crate::stage::Stage;
 use crate::stop::Stop;
 use crate::texts::everything;
@@ -75,6 +75,7 @@ fn go_on<R: Print + Wait>(
     }
     let (filters, tellers) = layers.split();
     match row {
+        Row::Outlets => outlets::run(stage, alloc, tellers),
         Row::Core => on_core::run(stage, alloc, filters, tellers),
         Row::FullRing | Row::Ring => ring::run(stage, alloc, row, filters, tellers),
         _ => kept::run(stage, alloc, row, filters, tellers),
