@@ -6,6 +6,7 @@ use crate::answer::Answer;
 use crate::rows::acts::Act;
 use crate::rows::held::{Hands, Held};
 use span_id::{Fault, Field, Id, Meta};
+use span_layers::Admit;
 use span_outlet::{Outlet, ParentOf};
 use span_registry::{Registry, Setup, Worker};
 use std::alloc::Global;
@@ -22,11 +23,11 @@ pub(crate) struct Caller<H: Ledger, C: Ledger, S: Setup> {
 
 impl<H: Ledger, C: Ledger, S: Setup> Caller<H, C, S> {
     /// Makes a call.
-    pub(crate) fn call<O: Outlet, R: Wait>(
+    pub(crate) fn call<O: Outlet, A: Admit, R: Wait>(
         &mut self,
         rt: &R,
         alloc: Global,
-        registry: &Registry<H, C, S, O>,
+        registry: &Registry<H, C, S, O, A>,
         act: &Act,
     ) -> Result<Answer, Fault> {
         match act {
@@ -48,10 +49,10 @@ impl<H: Ledger, C: Ledger, S: Setup> Caller<H, C, S> {
     }
 
     // A new span, whose handle is kept.
-    fn new_span<O: Outlet, R: Wait>(
+    fn new_span<O: Outlet, A: Admit, R: Wait>(
         &mut self,
         rt: &R,
-        registry: &Registry<H, C, S, O>,
+        registry: &Registry<H, C, S, O, A>,
         meta: &Meta,
         parent: ParentOf,
     ) -> Result<Answer, Fault> {
@@ -67,10 +68,10 @@ impl<H: Ledger, C: Ledger, S: Setup> Caller<H, C, S> {
     }
 
     // One more handle, which is kept.
-    fn clone_span<O: Outlet, R: Wait>(
+    fn clone_span<O: Outlet, A: Admit, R: Wait>(
         &mut self,
         rt: &R,
-        registry: &Registry<H, C, S, O>,
+        registry: &Registry<H, C, S, O, A>,
         id: Id,
     ) -> Result<Answer, Fault> {
         if !self.hands.has_place() {
@@ -84,10 +85,10 @@ impl<H: Ledger, C: Ledger, S: Setup> Caller<H, C, S> {
         Ok(Answer::Done)
     }
 
-    fn enter<O: Outlet, R: Wait>(
+    fn enter<O: Outlet, A: Admit, R: Wait>(
         &mut self,
         rt: &R,
-        registry: &Registry<H, C, S, O>,
+        registry: &Registry<H, C, S, O, A>,
         id: Id,
     ) -> Result<Answer, Fault> {
         let mut lent = self.hands.take(id).ok_or(Fault::Unknown)?;
@@ -96,10 +97,10 @@ impl<H: Ledger, C: Ledger, S: Setup> Caller<H, C, S> {
         Ok(Answer::Yes(entered?))
     }
 
-    fn record<O: Outlet, R: Wait>(
+    fn record<O: Outlet, A: Admit, R: Wait>(
         &mut self,
         rt: &R,
-        registry: &Registry<H, C, S, O>,
+        registry: &Registry<H, C, S, O, A>,
         id: Id,
         fields: &[Field],
     ) -> Result<Answer, Fault> {
@@ -111,10 +112,10 @@ impl<H: Ledger, C: Ledger, S: Setup> Caller<H, C, S> {
     }
 
     // Gives a handle back. Where that is refused, the handle that comes back is kept.
-    fn try_close<O: Outlet, R: Wait>(
+    fn try_close<O: Outlet, A: Admit, R: Wait>(
         &mut self,
         rt: &R,
-        registry: &Registry<H, C, S, O>,
+        registry: &Registry<H, C, S, O, A>,
         id: Id,
     ) -> Result<Answer, Fault> {
         let held = self.hands.take(id).ok_or(Fault::Unknown)?;

@@ -1,5 +1,5 @@
 //! A registry whose outlet keeps the lines, with one worker.
-ghost use Rattle.std.specs.Prelude.{◌≡◌, [], None};
+ghost use Rattle.std.specs.Prelude.{◌≡◌, [], None, vec_len, sum_by};
 
 use crate::rows::Row;
 use crate::rows::acts::{Act, Names};
@@ -8,11 +8,11 @@ use crate::rows::ending::{tell, whole};
 use crate::rows::on_registry::OnRegistry;
 use crate::stage::{Memory, Stage};
 use crate::stop::Stop;
-use crate::trial::{perform, takes};
+use crate::trial::{Planned, perform, takes};
 use span_id::{Checked, Id, Limits};
-use span_layers::{Filters, Say, Tellers};
+use span_layers::{Admit, Filters, Say, Tellers};
 use span_outlet::{Kept, ParentOf};
-use span_registry::{HANDLE_PARTS, Registry, SeatTable, Setup};
+use span_registry::{HANDLE_PARTS, Registry, SeatTable, Setup, Worker};
 use std::alloc::Global;
 use std::marker::Brand;
 use std::sync::Wait;
@@ -93,13 +93,34 @@ fn named<H: Ledger, C: Ledger, S: Setup, V: Say, R: Print + Wait>(
     let Ok((registry, workers)) = made else {
         return Err(Stop::Memory);
     };
+    called(stage, alloc, row, registry, workers)
+}
+
+// Generic in what applies the rules.
+fn called<H: Ledger, C: Ledger, S: Setup, V: Say, A: Admit, R: Print + Wait>(
+    stage: &Stage<R>,
+    alloc: Global,
+    row: Row,
+    registry: Registry<H, C, S, Kept<V>, A>,
+    workers: Vec<Worker<H, C>>,
+) -> Result<(), Stop>
+    requires parts { (H.parts ≡ HANDLE_PARTS) × (C.parts ≡ 1) }
+    requires one { vec_len workers ≡ 1 }
+    requires whole { sum_by (λ worker. worker.spare) workers.items ≡ H.parts }
+{
     let mut subject = OnRegistry {
         rt: stage.rt,
         alloc,
         registry: &registry,
         caller: caller_of(workers),
     };
-    plan(stage, alloc, row, &mut subject)?;
+    let names = Names::new(alloc)?;
+    if row == Row::GivenUp {
+        let new = takes("new a", Act::New(&names.a, ParentOf::Root));
+        perform(stage, alloc, &mut subject, &[new])?;
+    } else {
+        perform(stage, alloc, &mut subject, &every_call(&names))?;
+    }
     let OnRegistry {
         rt: _,
         alloc: _,
@@ -113,21 +134,11 @@ fn named<H: Ledger, C: Ledger, S: Setup, V: Say, R: Print + Wait>(
     tell(stage, &report)
 }
 
-// Makes the row's calls.
-fn plan<H: Ledger, C: Ledger, S: Setup, V: Say, R: Print + Wait>(
-    stage: &Stage<R>,
-    alloc: Global,
-    row: Row,
-    subject: &mut OnRegistry<'_, H, C, S, Kept<V>, R>,
-) -> Result<(), Stop> {
-    let names = Names::new(alloc)?;
+// Each call once or twice.
+fn every_call<'a>(names: &'a Names) -> [Planned<'a, Act<'a>>; 10] {
     let one = Id::pack(0, 0);
-    let new = takes("new a", Act::New(&names.a, ParentOf::Root));
-    if row == Row::GivenUp {
-        return perform(stage, alloc, subject, &[new]);
-    }
-    let plan = [
-        new,
+    [
+        takes("new a", Act::New(&names.a, ParentOf::Root)),
         takes("clone 1", Act::Clone(one)),
         takes("enter 1", Act::Enter(one)),
         takes("record 1", Act::Record(one, names.fields.as_slice())),
@@ -137,6 +148,5 @@ fn plan<H: Ledger, C: Ledger, S: Setup, V: Say, R: Print + Wait>(
         takes("exit 1", Act::Exit(one)),
         takes("close 1", Act::Close(one)),
         takes("find 1", Act::Find(one)),
-    ];
-    perform(stage, alloc, subject, &plan)
+    ]
 }

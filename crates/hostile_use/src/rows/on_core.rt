@@ -74,7 +74,7 @@ fn plan<'a>(names: &'a Names) -> [Planned<'a, Ask<'a>>; 29] {
     let (one, two) = (Id::pack(0, 0), Id::pack(1, 0));
     let fields = names.fields.as_slice();
     // The third span gets the slot of the first.
-    let enter = Ask::Call(Act::Enter(Id::pack(0, 1)));
+    let third = Id::pack(0, 1);
     [
         takes("new a", Ask::Call(Act::New(&names.a, ParentOf::Root))),
         takes("clone 1", Ask::Call(Act::Clone(one))),
@@ -96,15 +96,15 @@ fn plan<'a>(names: &'a Names) -> [Planned<'a, Ask<'a>>; 29] {
         takes("close 2", Ask::Call(Act::Close(two))),
         takes_none("len", Ask::Len),
         takes("new a", Ask::Call(Act::New(&names.a, ParentOf::Root))),
-        takes("enter it", enter),
-        takes("enter it, 2", enter),
-        takes("enter it, 3", enter),
-        takes("enter it, 4", enter),
-        takes("enter it, 5", enter),
-        takes("enter it, 6", enter),
-        takes("enter it, 7", enter),
-        takes("enter it, 8", enter),
-        takes("enter it, 9", enter),
+        takes("enter it", Ask::Call(Act::Enter(third))),
+        takes("enter it, 2", Ask::Call(Act::Enter(third))),
+        takes("enter it, 3", Ask::Call(Act::Enter(third))),
+        takes("enter it, 4", Ask::Call(Act::Enter(third))),
+        takes("enter it, 5", Ask::Call(Act::Enter(third))),
+        takes("enter it, 6", Ask::Call(Act::Enter(third))),
+        takes("enter it, 7", Ask::Call(Act::Enter(third))),
+        takes("enter it, 8", Ask::Call(Act::Enter(third))),
+        takes("enter it, 9", Ask::Call(Act::Enter(third))),
         takes_none("calls", Ask::Calls),
         takes_none("batches", Ask::Batches),
         takes_none("notes", Ask::Notes),

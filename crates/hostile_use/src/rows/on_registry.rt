@@ -5,6 +5,7 @@ use crate::rows::acts::Act;
 use crate::rows::caller::Caller;
 use crate::trial::Subject;
 use span_id::{Fault, Id};
+use span_layers::Admit;
 use span_outlet::Outlet;
 use span_registry::{Registry, Setup};
 use std::alloc::{AllocError, Global};
@@ -13,15 +14,15 @@ use std::sync::ledger::Ledger;
 
 /// A registry and who calls on it.
 #[derive(Drop)]
-pub(crate) struct OnRegistry<'a, H: Ledger, C: Ledger, S: Setup, O: Outlet, R: Wait> {
+pub(crate) struct OnRegistry<'a, H: Ledger, C: Ledger, S: Setup, O: Outlet, A: Admit, R: Wait> {
     pub(crate) rt: &'a R,
     pub(crate) alloc: Global,
-    pub(crate) registry: &'a Registry<H, C, S, O>,
+    pub(crate) registry: &'a Registry<H, C, S, O, A>,
     pub(crate) caller: Caller<H, C, S>,
 }
 
-impl<'a, 'b, H: Ledger, C: Ledger, S: Setup, O: Outlet, R: Wait> Subject<Act<'b>>
-    for OnRegistry<'a, H, C, S, O, R> {
+impl<'a, 'b, H: Ledger, C: Ledger, S: Setup, O: Outlet, A: Admit, R: Wait> Subject<Act<'b>>
+    for OnRegistry<'a, H, C, S, O, A, R> {
     fn call(&mut self, act: &Act<'b>) -> Result<Answer, Fault> {
         self.caller.call(self.rt, self.alloc, self.registry, act)
     }

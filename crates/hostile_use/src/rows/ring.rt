@@ -1,5 +1,5 @@
 //! A registry over a ring, with one worker, and the drain of the ring.
-ghost use Rattle.std.specs.Prelude.{◌≡◌, [], Some};
+ghost use Rattle.std.specs.Prelude.{◌≡◌, [], Some, vec_len, sum_by};
 
 use crate::answer::Answer;
 use crate::rows::Row;
@@ -11,9 +11,9 @@ use crate::stage::{Memory, Stage};
 use crate::stop::Stop;
 use crate::trial::{Planned, Subject, perform, takes, takes_none};
 use span_id::{Checked, Fault, Id, Limits};
-use span_layers::{Filters, Say, Tellers};
+use span_layers::{Admit, Filters, Say, Tellers};
 use span_outlet::{Drain, ParentOf, Ring};
-use span_registry::{HANDLE_PARTS, Registry, SeatTable, Setup};
+use span_registry::{HANDLE_PARTS, Registry, SeatTable, Setup, Worker};
 use std::alloc::{AllocError, Global};
 use std::marker::Brand;
 use std::sync::Wait;
@@ -32,14 +32,14 @@ enum Ask<'a> {
 
 /// A registry, who calls on it, and the drain of its ring.
 #[derive(Drop)]
-struct OnRing<'a, H: Ledger, C: Ledger, S: Setup, V: Say, R: Wait> {
-    registry: OnRegistry<'a, H, C, S, Ring, R>,
+struct OnRing<'a, H: Ledger, C: Ledger, S: Setup, V: Say, A: Admit, R: Wait> {
+    registry: OnRegistry<'a, H, C, S, Ring, A, R>,
     drain: Drain<V>,
     ghost pair: { Some drain.name ≡ S.ring },
 }
 
-impl<'a, 'b, H: Ledger, C: Ledger, S: Setup, V: Say, R: Wait> Subject<Ask<'b>>
-    for OnRing<'a, H, C, S, V, R> {
+impl<'a, 'b, H: Ledger, C: Ledger, S: Setup, V: Say, A: Admit, R: Wait> Subject<Ask<'b>>
+    for OnRing<'a, H, C, S, V, A, R> {
     fn call(&mut self, ask: &Ask<'b>) -> Result<Answer, Fault> {
         Ok(match ask {
             Ask::Call(act) => return self.registry.call(act),
@@ -130,6 +130,23 @@ fn named<H: Ledger, C: Ledger, S: Setup, V: Say, R: Print + Wait>(
     let Ok((registry, workers)) = made else {
         return Err(Stop::Memory);
     };
+    called(stage, alloc, row, registry, workers, drain)
+}
+
+// Generic in what applies the rules.
+fn called<H: Ledger, C: Ledger, S: Setup, V: Say, A: Admit, R: Print + Wait>(
+    stage: &Stage<R>,
+    alloc: Global,
+    row: Row,
+    registry: Registry<H, C, S, Ring, A>,
+    workers: Vec<Worker<H, C>>,
+    drain: Drain<V>,
+) -> Result<(), Stop>
+    requires pair { Some drain.name ≡ S.ring }
+    requires parts { (H.parts ≡ HANDLE_PARTS) × (C.parts ≡ 1) }
+    requires one { vec_len workers ≡ 1 }
+    requires whole { sum_by (λ worker. worker.spare) workers.items ≡ H.parts }
+{
     let mut subject = OnRing {
         registry: OnRegistry {
             rt: stage.rt,

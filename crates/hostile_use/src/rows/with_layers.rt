@@ -39,7 +39,7 @@ pub(crate) fn run<R: Print + Wait>(
             { text(alloc, form, note) },
         )?;
         let layer = Layer {
-            style: style(number),
+            style: style(row, number),
             rule: everything(alloc)?,
             hooks: Hooks::new(admit, say),
         };
@@ -51,14 +51,15 @@ pub(crate) fn run<R: Print + Wait>(
     go_on(stage, alloc, row, layers)
 }
 
-// Every second layer writes JSON, the first in plain text.
-fn style(number: usize) -> Style {
+// A layer wants everything and writes plain text; of many layers every second writes JSON, from the first on.
+fn style(row: Row, number: usize) -> Style {
+    let form = if row == Row::Layers && number % 2 == 0 {
+        Form::Json
+    } else {
+        Form::Compact
+    };
     Style {
-        form: if number % 2 == 0 {
-            Form::Compact
-        } else {
-            Form::Json
-        },
+        form,
         spans: FmtSpan::FULL,
     }
 }
