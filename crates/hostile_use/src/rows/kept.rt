@@ -111,7 +111,7 @@ fn called<H: Ledger, C: Ledger, S: Setup, V: Say, A: Admit, R: Print + Wait>(
     let mut subject = OnRegistry {
         rt: stage.rt,
         alloc,
-        registry: &registry,
+        registry,
         caller: caller_of(workers),
     };
     let names = Names::new(alloc)?;
@@ -124,7 +124,7 @@ fn called<H: Ledger, C: Ledger, S: Setup, V: Say, A: Admit, R: Print + Wait>(
     let OnRegistry {
         rt: _,
         alloc: _,
-        registry: _,
+        registry,
         caller,
     } = subject;
     let share = whole(stage, caller)?;

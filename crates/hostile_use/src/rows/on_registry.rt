@@ -14,17 +14,17 @@ use std::sync::ledger::Ledger;
 
 /// A registry and who calls on it.
 #[derive(Drop)]
-pub(crate) struct OnRegistry<'a, H: Ledger, C: Ledger, S: Setup, O: Outlet, A: Admit, R: Wait> {
-    pub(crate) rt: &'a R,
+pub(crate) struct OnRegistry<'r, H: Ledger, C: Ledger, S: Setup, O: Outlet, A: Admit, R: Wait> {
+    pub(crate) rt: &'r R,
     pub(crate) alloc: Global,
-    pub(crate) registry: &'a Registry<H, C, S, O, A>,
+    pub(crate) registry: Registry<H, C, S, O, A>,
     pub(crate) caller: Caller<H, C, S>,
 }
 
-impl<'a, 'b, H: Ledger, C: Ledger, S: Setup, O: Outlet, A: Admit, R: Wait> Subject<Act<'b>>
-    for OnRegistry<'a, H, C, S, O, A, R> {
+impl<'r, 'b, H: Ledger, C: Ledger, S: Setup, O: Outlet, A: Admit, R: Wait> Subject<Act<'b>>
+    for OnRegistry<'r, H, C, S, O, A, R> {
     fn call(&mut self, act: &Act<'b>) -> Result<Answer, Fault> {
-        self.caller.call(self.rt, self.alloc, self.registry, act)
+        self.caller.call(self.rt, self.alloc, &self.registry, act)
     }
 
     fn look(&self, alloc: Global) -> Result<String, AllocError> {

@@ -32,14 +32,14 @@ enum Ask<'a> {
 
 /// A registry, who calls on it, and the drain of its ring.
 #[derive(Drop)]
-struct OnRing<'a, H: Ledger, C: Ledger, S: Setup, V: Say, A: Admit, R: Wait> {
-    registry: OnRegistry<'a, H, C, S, Ring, A, R>,
+struct OnRing<'r, H: Ledger, C: Ledger, S: Setup, V: Say, A: Admit, R: Wait> {
+    registry: OnRegistry<'r, H, C, S, Ring, A, R>,
     drain: Drain<V>,
     ghost pair: { Some drain.name ≡ S.ring },
 }
 
-impl<'a, 'b, H: Ledger, C: Ledger, S: Setup, V: Say, A: Admit, R: Wait> Subject<Ask<'b>>
-    for OnRing<'a, H, C, S, V, A, R> {
+impl<'r, 'b, H: Ledger, C: Ledger, S: Setup, V: Say, A: Admit, R: Wait> Subject<Ask<'b>>
+    for OnRing<'r, H, C, S, V, A, R> {
     fn call(&mut self, ask: &Ask<'b>) -> Result<Answer, Fault> {
         Ok(match ask {
             Ask::Call(act) => return self.registry.call(act),
@@ -151,7 +151,7 @@ fn called<H: Ledger, C: Ledger, S: Setup, V: Say, A: Admit, R: Print + Wait>(
         registry: OnRegistry {
             rt: stage.rt,
             alloc,
-            registry: &registry,
+            registry,
             caller: caller_of(workers),
         },
         drain,
@@ -166,7 +166,7 @@ fn called<H: Ledger, C: Ledger, S: Setup, V: Say, A: Admit, R: Print + Wait>(
         registry: OnRegistry {
             rt: _,
             alloc: _,
-            registry: _,
+            registry,
             caller,
         },
         drain,
