@@ -5,7 +5,7 @@ use span_registry::Found;
 use std::fmt;
 
 /// What a call answers, as the call gave it: nothing is made of it before it is written.
-#[derive(Debug, Drop)]
+#[derive(Drop)]
 pub(crate) enum Answer {
     /// Nothing but that it is done.
     Done,

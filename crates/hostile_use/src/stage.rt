@@ -7,7 +7,7 @@ use crate::stop::Stop;
 pub(crate) const TRIES: u32 = 3;
 
 /// Whether a call may take memory.
-#[derive(Clone, Copy, Debug, PartialEq, Eq)]
+#[derive(Clone, Copy)]
 pub(crate) enum Memory {
     /// It may be refused.
     Taken,

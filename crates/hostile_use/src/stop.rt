@@ -4,7 +4,7 @@ use std::alloc::{AllocError, AllocFailed};
 use std::io;
 
 /// Why a row ended early.
-#[derive(Debug, Drop)]
+#[derive(Drop)]
 pub(crate) enum Stop {
     /// What is wrong was told.
     Told,

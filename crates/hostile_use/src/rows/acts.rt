@@ -19,7 +19,7 @@ pub(crate) enum Act<'a> {
 }
 
 /// What spans and events are called, and their fields.
-#[derive(Debug, Drop)]
+#[derive(Drop)]
 pub(crate) struct Names {
     pub(crate) a: Meta,
     pub(crate) b: Meta,

@@ -115,7 +115,7 @@ impl<'a, V: Say> Subject<Ask<'a>> for OnCore<V> {
     fn call(&mut self, ask: &Ask<'a>) -> Result<Answer, Fault> {
         let core = &self.core;
         Ok(match ask {
-            Ask::Call(act) => return self.act(act),
+            Ask::Call(act) => return make(&mut self.core, act),
             Ask::Len => Answer::Number(u64::from(core.len())),
             Ask::Total => Answer::Number(core.total()),
             Ask::Calls => Answer::Number(core.calls()),
@@ -148,30 +148,36 @@ impl<'a, V: Say> Subject<Ask<'a>> for OnCore<V> {
     }
 }
 
-impl<V: Say> OnCore<V> {
-    // A call that may change the core, or a look at a span.
-    fn act(&mut self, act: &Act) -> Result<Answer, Fault> {
-        let core = &mut self.core;
-        Ok(match act {
-            Act::New(meta, parent) => Answer::from(core.new_span(0, meta, &[], *parent)?),
-            Act::Clone(id) => {
-                core.clone_span(0, *id)?;
-                Answer::Done
-            }
-            Act::Enter(id) => Answer::Yes(core.enter(0, *id)?),
-            Act::Exit(id) => Answer::Yes(core.exit(0, *id)?),
-            Act::Close(id) => Answer::Yes(core.try_close(0, *id)?),
-            Act::Record(id, fields) => {
-                core.record(0, *id, fields)?;
-                Answer::Done
-            }
-            Act::Event(meta, message) => {
-                core.event(0, meta, message, &[])?;
-                Answer::Done
-            }
-            Act::Find(id) => core.find(*id).map_or(Answer::Nothing, |span| {
-                Answer::Held(span.handles, span.entries, span.count)
-            }),
-        })
+// A call that may change the core, or a look at a span.
+fn make<V: Say>(core: &mut Core<Kept<V>>, act: &Act) -> Result<Answer, Fault>
+    requires { 0 < core.old.limits.workers }
+    ensures { core.new.limits ≡ core.old.limits }
+{
+    Ok(match act {
+        Act::New(meta, parent) => Answer::from(core.new_span(0, meta, &[], *parent)?),
+        Act::Clone(id) => {
+            core.clone_span(0, *id)?;
+            Answer::Done
+        }
+        Act::Enter(id) => Answer::Yes(core.enter(0, *id)?),
+        Act::Exit(id) => Answer::Yes(core.exit(0, *id)?),
+        Act::Close(id) => Answer::Yes(core.try_close(0, *id)?),
+        Act::Record(id, fields) => {
+            core.record(0, *id, fields)?;
+            Answer::Done
+        }
+        Act::Event(meta, message) => {
+            core.event(0, meta, message, &[])?;
+            Answer::Done
+        }
+        Act::Find(id) => found(core, *id),
+    })
+}
+
+// What holds an open span.
+fn found<V: Say>(core: &Core<Kept<V>>, id: Id) -> Answer {
+    match core.find(id) {
+        Some(span) => Answer::Held(span.handles, span.entries, span.count),
+        None => Answer::Nothing,
     }
 }

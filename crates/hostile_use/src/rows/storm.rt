@@ -51,12 +51,15 @@ fn once<R: Print + Threads + Wait + Sync>(
             ensures { ForOk result (λ text. text.items ≡ text_of form (plain_note note.now)) }
         { text(alloc, form, note) },
     )?;
+    let Ok(rule) = everything(alloc) else {
+        return Err(Stop::Memory);
+    };
     let layer = Layer {
         style: Style {
             form: Form::Compact,
             spans: FmtSpan::FULL,
         },
-        rule: everything(alloc)?,
+        rule,
         hooks: Hooks::new(admit, say),
     };
     let mut layers = Layers::new(alloc);
