@@ -78,9 +78,10 @@ impl<H: Ledger, C: Ledger, S: Setup> Hands<H, C, S> {
         }
     }
 
-    /// The ids of both, 0 where there is none.
+    /// The ids of both, the lesser first, and 0 where there is none.
     pub(crate) fn ids(&self) -> (u64, u64) {
-        (id_of(&self.first), id_of(&self.second))
+        let (first, second) = (id_of(&self.first), id_of(&self.second));
+        (first.min(second), first.max(second))
     }
 }
 

@@ -14,6 +14,14 @@ pub(crate) fn run<R: Print>(stage: &Stage<R>, alloc: Global, tellers: Tellers) -
     let Ok(checked) = Limits::default().check() else {
         return Err(Stop::Memory);
     };
+    stage.begin(Memory::Taken)?;
+    let ends = Ring::pair(alloc, &checked);
+    stage.over()?;
+    let Ok((mut ring, _tap)) = ends else {
+        return Err(Stop::Memory);
+    };
+    put(stage, Memory::Untouched, &mut ring, batch(alloc)?)?;
+    println!(stage.rt; "ring: times full {}", ring.times_full())?;
     stage.begin(Memory::Untouched)?;
     let mut kept = Kept::new(alloc, tellers);
     stage.over()?;
@@ -23,14 +31,6 @@ pub(crate) fn run<R: Print>(stage: &Stage<R>, alloc: Global, tellers: Tellers) -
     let notes = kept.refused().saturating_add(told);
     stage.over()?;
     println!(stage.rt; "kept: batches {batches} lines and missed {notes}")?;
-    stage.begin(Memory::Taken)?;
-    let ends = Ring::pair(alloc, &checked);
-    stage.over()?;
-    let Ok((mut ring, _tap)) = ends else {
-        return Err(Stop::Memory);
-    };
-    put(stage, Memory::Untouched, &mut ring, batch(alloc)?)?;
-    println!(stage.rt; "ring: times full {}", ring.times_full())?;
     Ok(())
 }
 
