@@ -144,20 +144,19 @@ def answers(text):
 
 
 def used(program, shim, row, mode):
-    """Judges a row of `hostile_use`."""
-    status, text, errors, _ = run([program, row], shim, 0, mode, marked="1")
-    told, lines = answers(text)
-    bad = f"with memory: status {status}, standard error {errors!r}" if (status, errors) != (0, b"") else ""
+    """Judges a row of `hostile_use`, by what it writes where nobody refuses anything."""
+    told, lines = answers(subprocess.run([program, row], capture_output=True, timeout=60, check=True).stdout)
 
     def judge(number):
         status, text, errors, was_refused = run([program, row], shim, number, mode, marked="1")
         now_told, now_lines = answers(text)
         if (status, errors, now_told) == (0, b"", told) and is_part(now_lines, lines):
-            return bad, was_refused
+            return "", was_refused
         last = now_told[-1] if now_told else b""
         return f"status {status}, standard error {errors!r}, last line {last!r}", was_refused
 
-    return judge
+    wrong, _ = judge(0)
+    return (lambda number: (f"with memory for all but the calls that take none: {wrong}", False)) if wrong else judge
 
 
 def rows_of(program):
