@@ -1,10 +1,14 @@
 #!/usr/bin/env python3
-"""Runs the program with each of its allocations refused in turn.
+"""Runs the programs with each of their growths refused in turn: alone, and with all that follow it.
 
-Each run has to end with the status 3 and `out of memory` on standard error, after a front of the text that the script
-means, or as a run that nothing was refused (where it can do without the memory). The last line is 'N passed, M failed'.
+A growth is an allocation, or a thread that is made. `tracerun replay` has to end with the status 3 and `out of memory`
+on standard error, after a front of the text that the script means, or as a run that nothing was refused (where it can do
+without the memory). `hostile_use` runs its rows one by one. It makes a call that was refused again, and has to end as a
+run that nothing was refused; its lines that begin with `+` may be missing some, since notes that are refused memory are
+counted in their place. A call that takes no memory is made with each growth refused. The last line is
+'N passed, M failed'.
 
-usage: refused_memory.py [--program FILE]
+usage: refused_memory.py [--program FILE] [--hostile-use FILE]
 """
 import argparse
 import os
@@ -14,7 +18,9 @@ import sys
 import tempfile
 
 HERE = os.path.dirname(os.path.abspath(__file__))
-PROGRAM = os.path.join(os.path.dirname(HERE), "crates", "tracerun", "out", "tracerun")
+CRATES = os.path.join(os.path.dirname(HERE), "crates")
+PROGRAM = os.path.join(CRATES, "tracerun", "out", "tracerun")
+HOSTILE_USE = os.path.join(CRATES, "hostile_use", "out", "hostile_use")
 NOTICE = 9
 
 SCRIPTS = {
@@ -36,7 +42,35 @@ SCRIPTS = {
         f'{{"op":"new","name":"s{n}"}}\n{{"op":"enter","span":"s{n}"}}\n' for n in range(40)
     ),
     "a fault of the script": '{"op":"new","name":"a"}\n{"op":"new","name":"a"}\n',
+    "a child that keeps its parent open": """{"op":"layer"}
+{"op":"new","name":"a"}
+{"op":"new","name":"b","parent":"a"}
+{"op":"close","span":"a"}
+{"op":"close","span":"b"}
+""",
+    "a span that one of two layers refuses": """{"op":"layer","spans":1}
+{"op":"layer","spans":1,"rule":[["app","INFO"]]}
+{"op":"new","name":"a"}
+{"op":"enter","span":"a"}
+{"op":"new","name":"q","target":"lib"}
+{"op":"enter","span":"q"}
+{"op":"new","name":"c"}
+{"op":"event","message":"hi","fields":[["k","v"]]}
+""",
+    "notes in both forms": """{"op":"layer","form":"json"}
+{"op":"layer"}
+{"op":"new","name":"a","fields":[["k","1"]]}
+{"op":"record","span":"a","fields":[["k","2"]]}
+{"op":"event","level":"WARN","message":"x\\ny"}
+{"op":"close","span":"a"}
+""",
 }
+
+# Rows whose calls all take no memory. In each other run some growth has to be met.
+WITHOUT_GROWTH = {"row plain"}
+
+# What is refused from a growth on.
+MODES = {"alone": "0", "with all after it": "1"}
 
 
 def compiler():
@@ -49,54 +83,104 @@ def compiler():
     sys.exit("refused_memory.py: there is no C compiler: set CC")
 
 
-def run(program, shim, script, number):
-    """The status, what was written, standard error, and whether an allocation was refused."""
+def run(words, shim, number, mode, script="", marked="0"):
+    """The status, what was written, standard error, and whether a growth was refused."""
     reading, writing = os.pipe()
     try:
         os.dup2(writing, NOTICE)
         found = subprocess.run(
-            [program, "replay"], input=script.encode(), capture_output=True, timeout=60,
-            env={"LD_PRELOAD": shim, "REFUSE": str(number)}, pass_fds=[NOTICE],
+            words, input=script.encode(), capture_output=True, timeout=60, pass_fds=[NOTICE],
+            env={"LD_PRELOAD": shim, "REFUSE": str(number), "REST": MODES[mode], "MARKED": marked},
         )
     finally:
         os.close(writing)
         os.close(NOTICE)
-    refused = os.read(reading, 1) != b""
-    os.close(reading)
+    with os.fdopen(reading, "rb") as notices:
+        refused = b"x" in notices.read()
     return found.returncode, found.stdout, found.stderr, refused
 
 
-def refused_in_turn(program, shim, name, script):
-    """How many runs passed, and how many failed."""
-    *with_memory, _ = run(program, shim, script, 0)
-    whole = with_memory[1]
+def in_turn(name, mode, judge):
+    """Runs `judge` of each number until nothing was refused. How many runs passed, and how many failed."""
     passed, failed, number = 0, 0, 1
     while True:
-        *ended, was_refused = run(program, shim, script, number)
+        wrong, was_refused = judge(number)
+        passed, failed = passed + (not wrong), failed + bool(wrong)
+        if wrong:
+            print(f"{name}, growth {number} {mode}: {wrong}")
+        if not was_refused or failed > 20:
+            print(f"{name}: {number - 1} growths, each refused {mode}")
+            return passed, failed + ((number == 1) != (name in WITHOUT_GROWTH))
+        number += 1
+
+
+def replayed(program, shim, script, mode):
+    """Judges `tracerun replay` on a script."""
+    *with_memory, _ = run([program, "replay"], shim, 0, mode, script)
+    whole = with_memory[1]
+
+    def judge(number):
+        *ended, was_refused = run([program, "replay"], shim, number, mode, script)
         status, text, errors = ended
         stopped = status == 3 and errors == b"out of memory\n" and whole.startswith(text)
-        good = ended == with_memory or (was_refused and stopped)
-        passed, failed = passed + good, failed + (not good)
-        if not good:
-            print(f"{name}, allocation {number}: status {status}, standard error {errors!r}, "
-                  f"{len(text)} bytes of {len(whole)}, a front: {whole.startswith(text)}")
-        if not was_refused:
-            print(f"{name}: {number - 1} allocations, each refused once")
-            return passed, failed
-        number += 1
+        if ended == with_memory or (was_refused and stopped):
+            return "", was_refused
+        return (f"status {status}, standard error {errors!r}, {len(text)} bytes of {len(whole)}, "
+                f"a front: {whole.startswith(text)}"), was_refused
+
+    return judge
+
+
+def is_part(some, all_of_them):
+    """Whether the items of `some` stand in `all_of_them`, in the same order."""
+    rest = iter(all_of_them)
+    return all(item in rest for item in some)
+
+
+def answers(text):
+    """The lines of a run but for the marks, and of these the lines that may be missed."""
+    lines = [line for line in text.splitlines() if not line.startswith(b". ")]
+    return [line for line in lines if not line.startswith(b"+ ")], [line for line in lines if line.startswith(b"+ ")]
+
+
+def used(program, shim, row, mode):
+    """Judges a row of `hostile_use`, by what it writes where nobody refuses anything."""
+    told, lines = answers(subprocess.run([program, row], capture_output=True, timeout=60, check=True).stdout)
+
+    def judge(number):
+        status, text, errors, was_refused = run([program, row], shim, number, mode, marked="1")
+        now_told, now_lines = answers(text)
+        if (status, errors, now_told) == (0, b"", told) and is_part(now_lines, lines):
+            return "", was_refused
+        last = now_told[-1] if now_told else b""
+        return f"status {status}, standard error {errors!r}, last line {last!r}", was_refused
+
+    wrong, _ = judge(0)
+    return (lambda number: (f"with memory for all but the calls that take none: {wrong}", False)) if wrong else judge
+
+
+def rows_of(program):
+    """The names of the rows."""
+    text = subprocess.run([program], capture_output=True, timeout=60, check=True).stdout.decode()
+    return [line[3:] for line in text.splitlines() if line.startswith("== ")]
 
 
 def main():
     parser = argparse.ArgumentParser(description=__doc__, formatter_class=argparse.RawDescriptionHelpFormatter)
     parser.add_argument("--program", default=PROGRAM)
+    parser.add_argument("--hostile-use", default=HOSTILE_USE)
     words = parser.parse_args()
     passed = failed = 0
     with tempfile.TemporaryDirectory() as folder:
         shim = os.path.join(folder, "refuse_memory.so")
         source = os.path.join(HERE, "refuse_memory.c")
         subprocess.run([compiler(), "-O1", "-shared", "-fPIC", "-nostdlib", "-o", shim, source], check=True)
-        for name, script in SCRIPTS.items():
-            good, bad = refused_in_turn(words.program, shim, name, script)
+        judges = [(name, mode, replayed(words.program, shim, script, mode))
+                  for name, script in SCRIPTS.items() for mode in MODES]
+        judges += [(f"row {row}", mode, used(words.hostile_use, shim, row, mode))
+                   for row in rows_of(words.hostile_use) for mode in MODES]
+        for name, mode, judge in judges:
+            good, bad = in_turn(name, mode, judge)
             passed, failed = passed + good, failed + bad
     print(f"{passed} passed, {failed} failed")
     return 1 if failed else 0

@@ -1,0 +1,62 @@
+//! Calls on the registry's crates, made by someone who may be refused memory at each of them.
+#![tactic(auto)]
+
+mod answer;
+mod rows;
+mod stage;
+mod stop;
+mod texts;
+mod trial;
+
+use crate::rows::Row;
+use crate::stage::Stage;
+use crate::stop::Stop;
+use std::alloc::Global;
+use std::io;
+use std::process::ExitCode;
+use std::sync::Wait;
+use std::thread::Threads;
+
+fn main(rt: HostRuntime) -> io::Result<ExitCode> {
+    let words: Vec<String> = std::env::args(&rt)?.collect(rt.alloc())?;
+    match words.as_slice() {
+        [_, name] => match Row::named(name.as_str()) {
+            Some(row) => run(&rt, rt.alloc(), true, &[row]),
+            None => no_row(&rt),
+        },
+        [] | [_] => run(&rt, rt.alloc(), false, &Row::ALL),
+        _ => no_row(&rt),
+    }
+}
+
+// Runs rows, one after the other.
+fn run<R: Print + Threads + Wait + Sync>(
+    rt: &R,
+    alloc: Global,
+    marked: bool,
+    rows: &[Row],
+) -> io::Result<ExitCode> {
+    for row in rows {
+        let stage = Stage {
+            rt,
+            row: *row,
+            marked,
+        };
+        match row.run(&stage, alloc) {
+            Ok(()) => {}
+            Err(Stop::Output(error)) => return Err(error),
+            Err(Stop::Told) => return Ok(ExitCode::FAILURE),
+            Err(Stop::Memory) => {
+                println!(rt; "out of memory: {}", row.name())?;
+                return Ok(ExitCode::FAILURE);
+            }
+        }
+    }
+    Ok(ExitCode::SUCCESS)
+}
+
+// Tells how the program is called.
+fn no_row<R: Eprint>(rt: &R) -> io::Result<ExitCode> {
+    eprintln!(rt; "usage: hostile_use [ROW]")?;
+    Ok(ExitCode::from(2))
+}

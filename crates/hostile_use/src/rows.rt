@@ -1,0 +1,128 @@
+//! The rows: each a few calls on one part, by name.
+
+mod acts;
+mod caller;
+mod copies;
+mod ending;
+mod forest;
+mod held;
+mod kept;
+mod layers;
+mod on_core;
+mod on_registry;
+mod outlets;
+mod plain;
+mod ring;
+mod slots;
+mod stack;
+mod storm;
+mod with_layers;
+
+use crate::stage::{Stage, TRIES};
+use crate::stop::Stop;
+use std::alloc::Global;
+use std::sync::Wait;
+use std::thread::Threads;
+
+/// What is called.
+#[derive(Clone, Copy, PartialEq, Eq)]
+pub(crate) enum Row {
+    Meta,
+    Field,
+    Plain,
+    Slots,
+    Stack,
+    Forest,
+    Layers,
+    Outlets,
+    Core,
+    Kept,
+    GivenUp,
+    FullRing,
+    Ring,
+    Storm,
+}
+
+impl Row {
+    /// All rows.
+    pub(crate) const ALL: [Row; 14] = [
+        Row::Meta,
+        Row::Field,
+        Row::Plain,
+        Row::Slots,
+        Row::Stack,
+        Row::Forest,
+        Row::Layers,
+        Row::Outlets,
+        Row::Core,
+        Row::Kept,
+        Row::GivenUp,
+        Row::FullRing,
+        Row::Ring,
+        Row::Storm,
+    ];
+
+    /// The word for it.
+    pub(crate) fn name(self) -> &'static str {
+        match self {
+            Row::Meta => "meta",
+            Row::Field => "field",
+            Row::Plain => "plain",
+            Row::Slots => "slots",
+            Row::Stack => "stack",
+            Row::Forest => "forest",
+            Row::Layers => "layers",
+            Row::Outlets => "outlets",
+            Row::Core => "core",
+            Row::Kept => "kept",
+            Row::GivenUp => "given_up",
+            Row::FullRing => "full_ring",
+            Row::Ring => "ring",
+            Row::Storm => "storm",
+        }
+    }
+
+    /// The row of this name.
+    pub(crate) fn named(name: &str) -> Option<Row> {
+        Row::ALL.iter().copied().find(|row| row.name() == name)
+    }
+
+    /// Makes its calls, and tells what they answer.
+    pub(crate) fn run<R: Print + Threads + Wait + Sync>(
+        self,
+        stage: &Stage<R>,
+        alloc: Global,
+    ) -> Result<(), Stop> {
+        println!(stage.rt; "== {}", self.name())?;
+        match self {
+            Row::Meta => copies::run_meta(stage, alloc),
+            Row::Field => copies::run_field(stage, alloc),
+            Row::Plain => plain::run(stage, alloc),
+            Row::Slots => slots::run(stage, alloc),
+            Row::Stack => stack::run(stage, alloc),
+            Row::Forest => forest::run(stage, alloc),
+            Row::Layers => self.with_layers(stage, alloc, 65),
+            Row::FullRing => self.with_layers(stage, alloc, 0),
+            Row::Outlets | Row::Core | Row::Kept | Row::GivenUp | Row::Ring => {
+                self.with_layers(stage, alloc, 1)
+            }
+            Row::Storm => storm::run(stage, alloc),
+        }
+    }
+
+    // Goes on with so many layers. Where the registry can't be made, they are dropped with it and made anew.
+    fn with_layers<R: Print + Wait>(
+        self,
+        stage: &Stage<R>,
+        alloc: Global,
+        count: usize,
+    ) -> Result<(), Stop> {
+        for _ in 0..TRIES {
+            match with_layers::run(stage, alloc, self, count) {
+                Err(Stop::Memory) => {}
+                ended => return ended,
+            }
+        }
+        Err(stage.refused_too_often("new"))
+    }
+}

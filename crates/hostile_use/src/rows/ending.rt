@@ -1,0 +1,72 @@
+//! The end of a registry: the share of its caller, and its report.
+ghost use Rattle.std.specs.Prelude.{◌≡◌, ◌+◌, ◌-◌, ◌^◌, ◌≤◌, IfOk};
+ghost use Rattle.hostile_use.specs.Units.{units_in};
+
+use crate::rows::caller::Caller;
+use crate::rows::held::{Hands, Held};
+use crate::stage::{Memory, Stage};
+use crate::stop::Stop;
+use crate::texts::shown;
+use span_registry::{Report, Setup, Share};
+use std::sync::ledger::Ledger;
+
+/// The whole share: that of the worker and those of the handles that are left.
+pub(crate) fn whole<H: Ledger, C: Ledger, S: Setup, R: Print>(
+    stage: &Stage<R>,
+    caller: Caller<H, C, S>,
+) -> Result<Share<H, C>, Stop>
+    ensures handles { IfOk result (λ share. share.handle_parts ≡ 2 ^ 64 - 1) }
+    ensures calls { IfOk result (λ share. share.call_parts ≡ 1) }
+{
+    let Caller { worker, hands } = caller;
+    let Hands { first, second } = hands;
+    stage.begin(Memory::Untouched)?;
+    let accepted = worker.accepted();
+    let share = with(worker.leave(), first);
+    let share = with(share, second);
+    let units = share.units();
+    stage.over()?;
+    println!(stage.rt; "share: units {units} accepted {accepted}")?;
+    Ok(share)
+}
+
+// A share with that of a handle.
+fn with<H: Ledger, C: Ledger, S: Setup>(
+    share: Share<H, C>,
+    held: Option<Held<H, C, S>>,
+) -> Share<H, C>
+    requires few { share.units ≤ 1 }
+    ensures handles { result.handle_parts ≡ share.handle_parts + units_in held }
+    ensures calls { result.call_parts ≡ share.call_parts }
+    ensures units { result.units ≡ share.units + units_in held }
+{
+    let _accepted = share.accepted();
+    match held {
+        None => share,
+        Some(held) => share.join(held.into_handle().into_share()),
+    }
+}
+
+/// Tells how a registry ended. A line may be missed where memory was refused; then it is counted.
+pub(crate) fn tell<R: Print>(stage: &Stage<R>, report: &Report) -> Result<(), Stop> {
+    let Report {
+        left,
+        handles,
+        entries,
+        calls,
+        made,
+        closed,
+        lines,
+        refused,
+    } = report;
+    println!(stage.rt;
+        "left {left} handles {handles} entries {entries} calls {calls} made {made} closed {closed}"
+    )?;
+    let told = lines.len() as u64;
+    println!(stage.rt; "lines and missed: {}", refused.saturating_add(told))?;
+    for line in lines {
+        let text = shown(line.text.as_slice());
+        println!(stage.rt; "+ {} {} {} {text}", line.batch, line.place, line.layer)?;
+    }
+    Ok(())
+}

@@ -1,0 +1,91 @@
+//! The handles that a caller has.
+ghost use Rattle.std.specs.Prelude.{◌≡◌, ◌+◌, ◌<◌, ◌↔◌, IfSome, IfNone, OnSome, IsTrue};
+ghost use Rattle.hostile_use.specs.Units.{units_in};
+
+use span_id::Id;
+use span_registry::{Handle, Setup};
+use std::sync::ledger::Ledger;
+
+/// A handle that is given up where it is dropped, as where a row ends early.
+pub(crate) struct Held<H: Ledger, C: Ledger, S: Setup> {
+    pub(crate) handle: Handle<H, C, S>,
+}
+
+impl<H: Ledger, C: Ledger, S: Setup> Drop for Held<H, C, S> {
+    fn drop(self) {
+        drop(self.into_handle().into_share());
+    }
+}
+
+impl<H: Ledger, C: Ledger, S: Setup> Held<H, C, S> {
+    /// The handle, which has to be spent.
+    pub(crate) fn into_handle(self) -> Handle<H, C, S>
+        ensures { result ≡ self.handle }
+    {
+        let Held { handle } = self;
+        handle
+    }
+}
+
+/// At most two handles.
+#[derive(Drop)]
+pub(crate) struct Hands<H: Ledger, C: Ledger, S: Setup> {
+    pub(crate) first: Option<Held<H, C, S>>,
+    pub(crate) second: Option<Held<H, C, S>>,
+}
+
+impl<H: Ledger, C: Ledger, S: Setup> Hands<H, C, S> {
+    /// Whether there is place for one more.
+    pub(crate) fn has_place(&self) -> bool
+        ensures { IsTrue result ↔ (units_in self.now.first + units_in self.now.second < 2) }
+    {
+        self.first.is_none() || self.second.is_none()
+    }
+
+    /// Takes out a handle of this id.
+    pub(crate) fn take(&mut self, id: Id) -> Option<Held<H, C, S>>
+        ensures taken { OnSome result (units_in self.new.first + units_in self.new.second + 1
+            ≡ units_in self.old.first + units_in self.old.second) }
+        ensures none { IfNone result (self.new ≡ self.old) }
+    {
+        if self
+            .first
+            .as_ref()
+            .is_some_and(|held| held.handle.id() == id)
+        {
+            return self.first.take();
+        }
+        if self
+            .second
+            .as_ref()
+            .is_some_and(|held| held.handle.id() == id)
+        {
+            return self.second.take();
+        }
+        None
+    }
+
+    /// Puts a handle where there is place.
+    pub(crate) fn put(&mut self, held: Held<H, C, S>)
+        requires { units_in self.old.first + units_in self.old.second < 2 }
+        ensures { units_in self.new.first + units_in self.new.second
+            ≡ units_in self.old.first + units_in self.old.second + 1 }
+    {
+        if self.first.is_none() {
+            self.first = Some(held);
+        } else {
+            self.second = Some(held);
+        }
+    }
+
+    /// The ids of both, the lesser first, and 0 where there is none.
+    pub(crate) fn ids(&self) -> (u64, u64) {
+        let (first, second) = (id_of(&self.first), id_of(&self.second));
+        (first.min(second), first.max(second))
+    }
+}
+
+// The id of a handle, 0 where there is none.
+fn id_of<H: Ledger, C: Ledger, S: Setup>(held: &Option<Held<H, C, S>>) -> u64 {
+    held.as_ref().map_or(0, |held| held.handle.id().get())
+}

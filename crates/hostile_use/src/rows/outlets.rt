@@ -1,0 +1,75 @@
+//! The two outlets by themselves: each takes a batch with no memory at all, once it had room for it.
+ghost use Rattle.std.specs.Prelude.{◌≡◌, []};
+
+use crate::stage::{Memory, Stage, TRIES};
+use crate::stop::Stop;
+use crate::texts::note_of;
+use span_id::{Id, Limits};
+use span_layers::{Kind, Tellers};
+use span_outlet::{Batch, Call, Kept, Outlet, Reply, Ring};
+use std::alloc::{AllocError, Global};
+
+/// Puts a batch with one note into each outlet, and tells what they show.
+pub(crate) fn run<R: Print>(stage: &Stage<R>, alloc: Global, tellers: Tellers) -> Result<(), Stop> {
+    let Ok(checked) = Limits::default().check() else {
+        return Err(Stop::Memory);
+    };
+    stage.begin(Memory::Taken)?;
+    let ends = Ring::pair(alloc, &checked);
+    stage.over()?;
+    let Ok((mut ring, _tap)) = ends else {
+        return Err(Stop::Memory);
+    };
+    put(stage, Memory::Untouched, &mut ring, batch(alloc)?)?;
+    println!(stage.rt; "ring: times full {}", ring.times_full())?;
+    stage.begin(Memory::Untouched)?;
+    let mut kept = Kept::new(alloc, tellers);
+    stage.over()?;
+    put(stage, Memory::Taken, &mut kept, batch(alloc)?)?;
+    stage.begin(Memory::Untouched)?;
+    let (batches, told) = (kept.batches().len(), kept.all().len() as u64);
+    let notes = kept.refused().saturating_add(told);
+    stage.over()?;
+    println!(stage.rt; "kept: batches {batches} lines and missed {notes}")?;
+    Ok(())
+}
+
+// A batch with one note.
+fn batch(alloc: Global) -> Result<Batch, AllocError> {
+    let mut notes = Vec::new(alloc);
+    notes.push(note_of(alloc, 0, Kind::OnNew, &[("k", "1")])?)?;
+    Ok(Batch {
+        call: Call::CloneSpan {
+            worker: 0,
+            id: Id::pack(0, 0),
+        },
+        reply: Reply::Cloned,
+        notes,
+    })
+}
+
+// Asks for room, which may take memory, and puts a batch, which may not.
+fn put<O: Outlet, R: Print>(
+    stage: &Stage<R>,
+    memory: Memory,
+    outlet: &mut O,
+    batch: Batch,
+) -> Result<(), Stop>
+    requires { O.sent outlet.old ≡ [] }
+{
+    for _ in 0..TRIES {
+        stage.begin(memory)?;
+        let room = outlet.room();
+        stage.over()?;
+        match room {
+            Ok(true) => {
+                stage.begin(Memory::Untouched)?;
+                outlet.put(batch);
+                return stage.over();
+            }
+            Ok(false) => return Err(stage.refused("room")),
+            Err(_) => {}
+        }
+    }
+    Err(stage.refused_too_often("room"))
+}

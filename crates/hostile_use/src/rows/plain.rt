@@ -1,0 +1,59 @@
+//! Calls on plain values, which take no memory.
+
+use crate::stage::{Memory, Stage};
+use crate::stop::Stop;
+use crate::texts::{field_of, meta_of};
+use span_id::{Bits, Fault, Id, Level, Limits};
+use span_run::{Counted, RunFault};
+use span_storm::{Gate, Open};
+use std::alloc::Global;
+use std::io;
+
+/// Makes the calls, and tells what they answer.
+pub(crate) fn run<R: Print>(stage: &Stage<R>, alloc: Global) -> Result<(), Stop> {
+    ids(stage)?;
+    names(stage, alloc)?;
+    stage.begin(Memory::Untouched)?;
+    let most = Limits::default()
+        .check()
+        .map(|checked| checked.limits().slots);
+    let none = Limits {
+        slots: 0,
+        ..Limits::default()
+    };
+    let refused = none.check().map(|checked| checked.limits().slots);
+    stage.over()?;
+    println!(stage.rt; "check: {most:?} {refused:?}")?;
+    stage.begin(Memory::Untouched)?;
+    let counted = Counted::new(io::sink());
+    let (calls, failed) = (counted.calls(), counted.failed());
+    let goes_on = Open.before(0, 1);
+    let status = RunFault::Memory.status();
+    stage.over()?;
+    println!(stage.rt; "counted: {calls} {failed}, open: {goes_on}, status: {status}")?;
+    Ok(())
+}
+
+// Ids and sets of layers.
+fn ids<R: Print>(stage: &Stage<R>) -> Result<(), Stop> {
+    stage.begin(Memory::Untouched)?;
+    let id = Id::pack(5, 3);
+    let parts = (id.get(), id.slot(), id.generation());
+    let (none, first, old) = (Id::from_u64(0), Id::from_u64(1), Id::from_v1(65537));
+    let bits = (Bits(2).has(0), Bits(2).has(1), Bits(2).has(64));
+    stage.over()?;
+    println!(stage.rt; "pack: {parts:?}, from: {none:?} {first:?} {old:?}, has: {bits:?}")?;
+    Ok(())
+}
+
+// Whether names fit, and the words for what they are made of.
+fn names<R: Print>(stage: &Stage<R>, alloc: Global) -> Result<(), Stop> {
+    let meta = meta_of(alloc, "a b", Level::Warn)?;
+    let field = field_of(alloc, "k", "v")?;
+    stage.begin(Memory::Untouched)?;
+    let fit = (meta.fit(), field.fit());
+    let words = (meta.level.name(), Fault::BadName.text());
+    stage.over()?;
+    println!(stage.rt; "fit: {fit:?}, words: {words:?}")?;
+    Ok(())
+}

@@ -1,0 +1,71 @@
+//! What is written beside the answers: where a call begins and ends.
+
+use crate::rows::Row;
+use crate::stop::Stop;
+
+/// How often a call is made: more than once only where it was refused memory.
+pub(crate) const TRIES: u32 = 3;
+
+/// Whether a call may take memory.
+#[derive(Clone, Copy)]
+pub(crate) enum Memory {
+    /// It may be refused.
+    Taken,
+    /// It has to succeed with no memory at all.
+    Untouched,
+}
+
+/// Where the answers go. Who refuses memory reads the marks: it refuses only between the mark of a call's begin and the
+/// mark of its end.
+#[derive(Drop)]
+pub(crate) struct Stage<'a, R> {
+    pub(crate) rt: &'a R,
+    /// The row whose calls are made.
+    pub(crate) row: Row,
+    /// Whether marks are written.
+    pub(crate) marked: bool,
+}
+
+impl<'a, R: Print> Stage<'a, R> {
+    /// A call begins.
+    pub(crate) fn begin(&self, memory: Memory) -> Result<(), Stop> {
+        match memory {
+            Memory::Taken => self.mark(". call"),
+            Memory::Untouched => self.mark(". no memory"),
+        }
+    }
+
+    /// The call is over.
+    pub(crate) fn over(&self) -> Result<(), Stop> {
+        self.mark(". over")
+    }
+
+    /// A refused call changed something that can be looked at.
+    pub(crate) fn changed(&self, call: &str) -> Stop {
+        self.tell("changed", call)
+    }
+
+    /// A call was refused memory again and again.
+    pub(crate) fn refused_too_often(&self, call: &str) -> Stop {
+        self.tell("refused too often", call)
+    }
+
+    /// A call was refused that should be accepted.
+    pub(crate) fn refused(&self, call: &str) -> Stop {
+        self.tell("refused", call)
+    }
+
+    fn tell(&self, what: &str, call: &str) -> Stop {
+        match println!(self.rt; "{what}: {} {call}", self.row.name()) {
+            Ok(()) => Stop::Told,
+            Err(error) => Stop::Output(error),
+        }
+    }
+
+    fn mark(&self, text: &str) -> Result<(), Stop> {
+        if self.marked {
+            self.rt.println(text)?;
+        }
+        Ok(())
+    }
+}
