@@ -1,0 +1,10 @@
+//! The registry of spans without its lock, and the end from which its lines are read, behind a C interface.
+//!
+//! `include/span_registry.h` at the top of the repository is what a C program sees.
+#![tactic(auto)]
+
+mod parts;
+mod registry;
+mod registry_handle;
+
+pub use registry_handle::SpanRegistry;
