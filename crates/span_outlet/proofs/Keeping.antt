@@ -52,7 +52,7 @@ gains_missed forms lines after refused more note same is = record {
 }
 
 -- notes, and then others
-gains_more : (forms : List Form) (first notes : List NumberedNote) (lines between after : List PlainLine) (refused some more : ℕ)
+pub gains_more : (forms : List Form) (first notes : List NumberedNote) (lines between after : List PlainLine) (refused some more : ℕ)
     → GainsLines forms first lines refused between some → GainsLines forms notes between some after more → GainsLines forms (first ++ notes) lines refused after more
 gains_more forms first notes lines between after refused some more a b = record {
   added = a.added ++ b.added;
@@ -73,7 +73,7 @@ kept_more forms before notes lines after refused more kept gains = record {
 
 -- ---- the notes of a batch
 
-enumerated_more : {X : Type 0} (n : ℕ) (xs : List X) (x : X) → enumerate_from n (xs ++ x ∷ []) ≡ enumerate_from n xs ++ (n + length xs, x) ∷ []
+pub enumerated_more : {X : Type 0} (n : ℕ) (xs : List X) (x : X) → enumerate_from n (xs ++ x ∷ []) ≡ enumerate_from n xs ++ (n + length xs, x) ∷ []
 enumerated_more {X} n [] x = ap {B = List (ℕ × X)} (λ k. (k, x) ∷ []) (omega arith)
 enumerated_more {X} n (y ∷ ys) x =
     ap {B = List (ℕ × X)} (λ l. (n, y) ∷ l) (enumerated_more (n + 1) ys x ∙ ap {B = List (ℕ × X)} (λ k. enumerate_from (n + 1) ys ++ (k, x) ∷ []) (omega arith))
