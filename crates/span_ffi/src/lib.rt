@@ -3,8 +3,11 @@
 //! `include/span_registry.h` at the top of the repository is what a C program sees.
 #![tactic(auto)]
 
+mod exports;
 mod parts;
 mod registry;
 mod registry_handle;
+mod status;
 
 pub use registry_handle::SpanRegistry;
+pub use status::Status;

@@ -9,8 +9,7 @@ use crate::parts::Parts;
 use crate::registry::Registry;
 use std::alloc::Global;
 use std::marker::Model;
-use std::mem;
-use std::ptr;
+use std::{mem, ptr};
 
 /// A registry for C, or none: then it is null.
 #[repr(C)]
@@ -73,8 +72,9 @@ impl SpanRegistry {
         Some(parts.into_box())
     }
 
-    /// Puts a registry into a handle. One that lay there is forgotten, so the handle should be empty.
+    /// Puts a registry into an empty handle.
     pub fn put(&mut self, registry: Box<Registry>)
+        requires { self.old.held ≡ None }
         ensures { self.new.held ≡ Some registry.value }
     {
         *self = SpanRegistry::of_parts(Parts::of(registry));
