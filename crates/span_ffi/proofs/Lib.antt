@@ -1,2 +1,4 @@
 pub mod Words
 pub mod RegistryBox
+pub mod ReaderBox
+pub mod Unread

@@ -1,5 +1,10 @@
 //! What C calls. Each function takes whatever C passes, tests it, and answers the number of a status.
 
 mod callers;
+mod drain;
 mod entries;
+mod events;
+mod queries;
+mod registry;
 mod spans;
+mod texts;

@@ -3,11 +3,18 @@
 //! `include/span_registry.h` at the top of the repository is what a C program sees.
 #![tactic(auto)]
 
+mod data;
+mod drain_handle;
 mod exports;
+mod opening;
 mod parts;
+mod reader;
+mod reading;
 mod registry;
 mod registry_handle;
 mod status;
 
+pub use data::{SpanCounts, SpanField, SpanFound, SpanLayer, SpanLimits, SpanMeta, SpanRule};
+pub use drain_handle::SpanDrain;
 pub use registry_handle::SpanRegistry;
 pub use status::Status;

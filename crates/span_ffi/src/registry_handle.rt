@@ -1,5 +1,5 @@
 //! The handle of a registry: one word, which owns a registry where it isn't null.
-ghost use Rattle.std.specs.Prelude.{◌≡◌, Some, None, Option};
+ghost use Rattle.std.specs.Prelude.{◌≡◌, Some, None, Option, is_none};
 ghost use Rattle.std.specs.Option.{option_map};
 ghost use denote.RawPtr.{null_ptr};
 ghost use Rattle.span_core.specs.Core.{CoreView};
@@ -60,6 +60,18 @@ impl SpanRegistry {
         ensures { result.held ≡ None }
     {
         SpanRegistry::of_null(null(), alloc)
+    }
+
+    /// Whether there is no registry. The handle stays as it is.
+    pub fn is_empty(&mut self, alloc: Global) -> bool
+        ensures empty { result ≡ is_none self.old.held }
+        ensures same { self.new.held ≡ self.old.held }
+    {
+        let Some(held) = self.take(alloc) else {
+            return true;
+        };
+        self.put(held);
+        false
     }
 
     /// Takes the registry out, if there is one: the handle is empty then.
