@@ -1,12 +1,15 @@
 -- Why data were not read: a part of them was not.
-use Rattle.std.proofs.Common.{◌≡◌, ℕ, ◌<◌, List, length, drop, get_or, subst, sym}
+use Rattle.std.proofs.Common.{◌≡◌, ℕ, ◌<◌, ◌≤◌, List, length, drop, get_or, subst, sym}
 use Rattle.std.proofs.lemmas.List.{drop_more}
 use Rattle.std.specs.Prelude.{Result, Ok, Err, IfErr, IsErrAnd}
 use Rattle.span_id.specs.declared.fault.Fault.TheVariants.{Unknown, CountFull, Full, NotEntered, TooManyLayers, BadName, Backlog, BadLimits, Memory}
 use Rattle.span_ffi.specs.declared.data.SpanField.{SpanField}
 use Rattle.span_ffi.specs.declared.status.Status.{Status}
 use Rattle.span_ffi.specs.declared.status.Status.TheVariants.{Done, Refused, BadData, EmptyHandle, HandleInUse, NoSuchWorker, NoLine, ShortBuffer}
+use Rattle.span_ffi.specs.declared.data.SpanLayer.{SpanLayer}
+use Rattle.span_ffi.specs.declared.data.SpanRule.{SpanRule}
 use Rattle.span_ffi.specs.Data.{BeginsWithText, AreFields, WhyUnread}
+use Rattle.span_ffi.specs.Opening.{AreRules, IsLayer, AreLayers}
 
 -- what a part of the data lacks, the whole lacks
 pub part_unread : {Part Whole : Type 0} → (Whole → Part) → (status : Status) → WhyUnread Part status → WhyUnread Whole status
@@ -34,6 +37,21 @@ pub first_field : (fields : List SpanField) (i : ℕ) (other : SpanField) (bytes
 first_field fields i other bytes within are =
     let all = subst (λ (left : List SpanField). AreFields left bytes) (drop_more fields i other within) are in
     (all.0, all.1)
+
+-- the rules from a place on begin with the one there
+pub first_rule : (rules : List SpanRule) (i : ℕ) (other : SpanRule) (bytes : List ℕ) → i < length rules
+    → AreRules (drop i rules) bytes
+    → let rule = get_or rules i other in (rule.level ≤ 4) × BeginsWithText rule.prefix_len bytes
+first_rule rules i other bytes within are =
+    let all = subst (λ (left : List SpanRule). AreRules left bytes) (drop_more rules i other within) are in
+    (all.0, all.1)
+
+-- the layers from a place on begin with the one there
+pub first_layer : (layers : List SpanLayer) (i : ℕ) (other : SpanLayer) (rules : List SpanRule) (bytes : List ℕ) → i < length layers
+    → AreLayers (drop i layers) rules bytes → IsLayer (get_or layers i other) rules bytes
+first_layer layers i other rules bytes within are =
+    let all = subst (λ (left : List SpanLayer). AreLayers left rules bytes) (drop_more layers i other within) are in
+    all.0
 
 -- the reason is passed on by `?`
 pub passed_on : {A : Type 0} (Says : Type 0) (result : Result A Status) (status : Status) → IsErrAnd result (λ passed. passed ≡ status)

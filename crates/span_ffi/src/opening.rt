@@ -1,12 +1,12 @@
 //! The making of a registry and of the other end of its ring, from what C passes.
-ghost use Rattle.std.specs.Prelude.{◌≡◌, ◌≤◌, ◌↔◌, [], Some, length, IsOk, IsSome, IfSome, IfOk, OnOk, IfErr};
+ghost use Rattle.std.specs.Prelude.{◌≡◌, ◌≤◌, ◌↔◌, [], Some, take, drop, length, IsOk, IsSome, IfSome, IfOk, OnOk, IfErr};
 ghost use Rattle.span_id.specs.Limits.{AreInRange};
-ghost use Rattle.span_layers.specs.Rule.{pairs_of};
+ghost use Rattle.span_layers.specs.Rule.{pair_of, pairs_of};
 ghost use Rattle.span_layers.specs.Filter.{filter_of};
 ghost use Rattle.span_layers.specs.FmtSpan.{bits_of};
 ghost use Rattle.span_layers.specs.Layers.{filters_in, forms_in};
 ghost use Rattle.span_core.specs.World.{empty_world};
-ghost use Rattle.span_ffi.specs.Data.{WhyUnread};
+ghost use Rattle.span_ffi.specs.Data.{BeginsWithText, said_level, WhyUnread};
 ghost use Rattle.span_ffi.specs.Opening.{AreRules, said_pairs, behind_rules, said_form, AreLayers, said_filters, said_forms, said_limits, AreNew, WhyNone};
 
 use crate::data::{SpanLayer, SpanLimits, SpanRule};
@@ -16,13 +16,34 @@ use crate::registry::Registry;
 use crate::status::Status;
 use bitflags::Flags;
 use span_core::Core;
-use span_id::{Checked, Fault, Limits};
+use span_id::{Checked, Fault, Level, Limits};
 use span_layers::{ByForm, ByRule, FmtSpan, Form, Hooks, Layer, Layers, MAX_LAYERS, Rule, Style};
 use span_outlet::{LineReader, Ring};
 use std::alloc::Global;
 
 // Layers with no closures.
 type PlainLayers = Layers<ByRule, ByForm>;
+
+// A prefix with its level, and the bytes behind it.
+fn read_pair<'b>(
+    alloc: Global,
+    rule: &SpanRule,
+    bytes: &'b [u8],
+) -> Result<((String, Level), &'b [u8]), Status>
+    ensures level { OnOk result (rule.now.level ≤ 4) }
+    ensures begins { OnOk result (BeginsWithText rule.now.prefix_len bytes.now) }
+    ensures pair { IfOk result (λ read. pair_of read.0
+        ≡ (take rule.now.prefix_len bytes.now, said_level rule.now.level)) }
+    ensures behind { IfOk result (λ read. read.1.now ≡ drop rule.now.prefix_len bytes.now) }
+    ensures unread { IfErr result (λ status.
+        WhyUnread ((rule.now.level ≤ 4) × BeginsWithText rule.now.prefix_len bytes.now) status) }
+{
+    let Some(level) = read_level(rule.level) else {
+        return Err(Status::BadData);
+    };
+    let (prefix, left) = read_text(alloc, bytes, rule.prefix_len)?;
+    Ok(((prefix, level), left))
+}
 
 // The rule of these pairs, and the bytes behind their prefixes.
 fn read_rule<'b>(
@@ -38,12 +59,9 @@ fn read_rule<'b>(
     let mut left = bytes;
     let mut pairs = Vec::new(alloc);
     for rule in rules {
-        let Some(level) = read_level(rule.level) else {
-            return Err(Status::BadData);
-        };
-        let (prefix, behind) = read_text(alloc, left, rule.prefix_len)?;
+        let (pair, behind) = read_pair(alloc, rule, left)?;
         left = behind;
-        if pairs.push((prefix, level)).is_err() {
+        if pairs.push(pair).is_err() {
             return Err(Status::Refused(Fault::Memory));
         }
     }
