@@ -1,7 +1,6 @@
 -- Two machine words side by side, as the structs of a pointer and an allocator lie in memory. Assumes nothing.
-use Rattle.std.proofs.Common.{◌≡◌, refl}
 use lib.Dec.{T, lit<}
-use mathlib.Core.Bool.{Bool, true, false, ◌&&◌}
+use mathlib.Core.Bool.{Bool, true, ◌&&◌}
 use mir.Syntax.{ty_ptr}
 use mir.Val.{Val, vstruct, vcons, vnil, has_ty, WT}
 use denote.RawPtr.{Ptr, block_ptr, null_ptr, ptr_val}

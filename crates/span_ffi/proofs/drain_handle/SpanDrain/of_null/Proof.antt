@@ -1,7 +1,7 @@
 -- `of_null` puts null beside an allocator: nothing is held.
 use Rattle.std.proofs.Common.{◌≡◌, List, [], ◌∷◌, ◌++◌, refl, sym, subst}
 use mir.Syntax.{Fn}
-use mir.Val.{Val, vnull}
+use mir.Val.{Val}
 use base.Logic.{SProp, ent, emp, id⊢}
 use base.Fml.{ftrue}
 use prog.Wp.{WpFn}
@@ -11,8 +11,8 @@ use types.ByLocal.{alloc_all, pass_all, free_all, look_at, get, sets}
 use types.Part.{agg}
 use contract.Monad.{fact, fact_i}
 use contract.Running.{tables}
-use denote.RattleType.{RattleType, Valss, owns}
-use denote.RawPtr.{Ptr, RawPtr, null_ptr, ptr_val}
+use denote.RattleType.{Valss, owns}
+use denote.RawPtr.{RawPtr, null_ptr, ptr_val}
 use denote.Signature.{types_at}
 use denote.Steps.{nothing, heard}
 use denote.Struct.Struct.{within}

@@ -4,7 +4,7 @@ use mir.Syntax.{Fn}
 use mir.Val.{Val, vptr, vnull, vcons, vnil}
 use base.Logic.{SProp, ent, emp, id⊢}
 use prog.Wp.{WpFn}
-use types.Kit.{‵, raw, ◌⊛◌, given, at_ret, ◌$◌, ◌∵◌, !, qed, by, move, keep, drop, split, fsplit, fjoin, suffices, use0, use1, learn}
+use types.Kit.{‵, raw, ◌⊛◌, given, at_ret, ◌$◌, ◌∵◌, !, qed, by, move, keep, split, fsplit, fjoin, suffices, use0, use1, learn}
 use types.Run.{stop, fld, lit, of_opd, bin, no_more, and_then, first, branches, exec, returns, enter}
 use types.ByLocal.{alloc_all, pass_all, free_all, look_at, get, get_in, sets, sets_last, env}
 use types.Part.{agg, sub, whole}
@@ -18,7 +18,7 @@ use denote.RawPtr.{Ptr, block_ptr, null_ptr, ptr_val, Testable, tests_null}
 use denote.Steps.{nothing}
 use denote.Triple.Entry.{alive}
 use denote.Triple.Walked.{Stays, stay_dropped, walk_of, Goes-dropped}
-use Rattle.std.specs.Prelude.{Option, Some, None, option_map}
+use Rattle.std.specs.Prelude.{Some, None}
 use Rattle.core.proofs.alloc.Calls.{token}
 use Rattle.core.proofs.alloc.Shapes.{after}
 use Rattle.core.proofs.option.Made.{Some-of, none_of}
