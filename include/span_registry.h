@@ -36,7 +36,7 @@ enum {
     SPAN_BAD_LIMITS = 8,       /* a limit is outside its range */
     SPAN_OUT_OF_MEMORY = 10,
     SPAN_BAD_DATA = 11,        /* lengths that don't fit the texts, text that is no UTF-8, or a level, form, kinds or
-                                  parent that aren't there */
+                                  kind of parent that aren't there */
     SPAN_EMPTY_HANDLE = 12,
     SPAN_HANDLE_IN_USE = 13,   /* a handle that was to be filled isn't empty */
     SPAN_NO_SUCH_WORKER = 14,

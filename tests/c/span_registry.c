@@ -178,6 +178,9 @@ static void test_unwanted_span(void) {
     CHECK(open_usual(usual_limits) == SPAN_OK);
     CHECK(span_registry_new_span(&registry, 0, SPAN_ROOT, 0, &meta, no_fields, 0, bytes("aapp"), 4, &id) == SPAN_OK);
     CHECK(id == 0);
+    id = 99;
+    CHECK(span_registry_new_span(&registry, 0, SPAN_UNDER, 0, &meta, no_fields, 0, bytes("aapp"), 4, &id) == SPAN_OK);
+    CHECK(id == 0);
     CHECK(span_registry_counts(&registry, &counts) == SPAN_OK && counts.calls == 0);
     close_both();
 }
@@ -193,6 +196,10 @@ static void test_refusals(void) {
         == SPAN_BAD_NAME);
     CHECK(make_span(0, SPAN_UNDER, 1, &other) == SPAN_UNKNOWN);
     CHECK(make_span(0, SPAN_ROOT, 0, &id) == SPAN_OK);
+    CHECK(make_span(0, SPAN_UNDER, 0, &other) == SPAN_UNKNOWN);
+    CHECK(make_span(0, SPAN_UNDER, 72057594037927937u, &other) == SPAN_UNKNOWN);
+    CHECK(span_registry_new_span(&registry, 0, SPAN_UNDER, 0, &empty_name, no_fields, 0, bytes("t"), 1, &other)
+        == SPAN_BAD_NAME);
     CHECK(make_span(0, SPAN_ROOT, 0, &other) == SPAN_FULL);
     CHECK(span_registry_record(&registry, 0, id, &bad_key, 1, bytes(" "), 1) == SPAN_BAD_NAME);
     CHECK(span_registry_record(&registry, 0, 0, &bad_key, 1, bytes(" "), 1) == SPAN_BAD_NAME);
@@ -234,7 +241,7 @@ static void test_bad_data_of_spans(void) {
     CHECK(NEW(SPAN_ROOT, 0, &good, &field, "atkvx", 5) == SPAN_BAD_DATA);
     CHECK(NEW(SPAN_ROOT, 0, &good, &field, "atk\xff", 4) == SPAN_BAD_DATA);
     CHECK(NEW(3, 1, &good, &field, "atkv", 4) == SPAN_BAD_DATA);
-    CHECK(NEW(SPAN_UNDER, 0, &good, &field, "atkv", 4) == SPAN_BAD_DATA);
+    CHECK(NEW(4294967295u, 0, &good, &field, "atkv", 4) == SPAN_BAD_DATA);
     CHECK(NEW(SPAN_ROOT, 0, &good, &field, "atkv", 4) == SPAN_OK && id == 1);
 #undef NEW
     CHECK(span_registry_event(&registry, 0, &good, 3, no_fields, 0, bytes("etm"), 3) == SPAN_BAD_DATA);

@@ -106,10 +106,10 @@ IsMadeOrRefused request id old _ new = ⊥
 abbrev pub MakesSpan : ℕ → ℕ → ℕ → SpanMeta → List SpanField → List ℕ → ℕ → CoreView → Status → CoreView → Type 0
 MakesSpan worker kind parent meta fields bytes id old NoSuchWorker new = LacksWorker old worker new
 MakesSpan worker kind parent meta fields bytes id old BadData new =
-    HasWorker old worker × (IsSpan kind parent meta fields bytes → ⊥) × (new ≡ old)
+    HasWorker old worker × (IsSpan kind meta fields bytes → ⊥) × (new ≡ old)
 MakesSpan worker kind parent meta fields bytes id old (Refused Memory) new = HasWorker old worker × (new ≡ old)
 MakesSpan worker kind parent meta fields bytes id old status new =
-    HasWorker old worker × IsSpan kind parent meta fields bytes
+    HasWorker old worker × IsSpan kind meta fields bytes
     × IsMadeOrRefused (span_asked worker kind parent meta fields bytes old) id old status new
 
 -- ---- questions, which change nothing

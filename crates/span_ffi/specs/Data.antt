@@ -5,7 +5,6 @@ use Rattle.std.specs.Str.{IsUtf8}
 use Rattle.span_id.specs.declared.fault.Fault.TheVariants.{Memory}
 use Rattle.span_id.specs.declared.level.Level.{Level}
 use Rattle.span_id.specs.declared.level.Level.TheVariants.{Error, Warn, Info, Debug, Trace}
-use Rattle.span_id.specs.Id.{IsId}
 use Rattle.span_id.specs.Meta.{PlainMeta, KeyValue}
 use Rattle.span_outlet.specs.declared.batch.ParentOf.{ParentOf}
 use Rattle.span_outlet.specs.declared.batch.ParentOf.TheVariants.{Root, Current, Of}
@@ -60,18 +59,13 @@ said_fields [] bytes = []
 said_fields (field ∷ fields) bytes =
     (take field.key_len bytes, take field.value_len (drop field.key_len bytes)) ∷ said_fields fields (behind_field field bytes)
 
--- the kind of parent is there, and a parent that is named is an id
-pub record IsParent (kind parent : ℕ) : Type 0 where
-  pub kind_is : kind ≤ 2
-  pub id : kind ≡ 2 → IsId parent
-
 -- 0: none; 1: the worker's current span; 2: the named one
 abbrev pub said_parent : ℕ → ℕ → ParentOf
 said_parent kind parent = if kind == 0 then Root else if kind == 1 then Current else Of parent
 
--- the bytes are the name, the target, and the fields of a span
-pub record IsSpan (kind parent : ℕ) (meta : SpanMeta) (fields : List SpanField) (bytes : List ℕ) : Type 0 where
-  pub parent_is : IsParent kind parent
+-- the kind of parent is there, and the bytes are the name, the target, and the fields of a span
+pub record IsSpan (kind : ℕ) (meta : SpanMeta) (fields : List SpanField) (bytes : List ℕ) : Type 0 where
+  pub kind_is : kind ≤ 2
   pub meta_is : IsMeta meta bytes
   pub fields_are : AreFields fields (behind_meta meta bytes)
 

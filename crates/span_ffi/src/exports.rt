@@ -4,6 +4,7 @@ mod callers;
 mod drain;
 mod entries;
 mod events;
+mod handles;
 mod queries;
 mod registry;
 mod spans;

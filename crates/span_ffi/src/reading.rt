@@ -1,12 +1,11 @@
 //! The reading of texts that stand one after another.
 ghost use Rattle.std.specs.Prelude.{◌≡◌, ◌≤◌, ◌↔◌, take, drop, string_bytes, IsSome, IfSome, IfOk, OnOk, IfErr};
 ghost use Rattle.span_id.specs.Meta.{plain_meta, plain_fields, key_value};
-ghost use Rattle.span_ffi.specs.Data.{BeginsWithText, said_level, IsMeta, said_meta, behind_meta, AreFields, said_fields, behind_field, IsParent, said_parent, WhyUnread};
+ghost use Rattle.span_ffi.specs.Data.{BeginsWithText, said_level, IsMeta, said_meta, behind_meta, AreFields, said_fields, behind_field, WhyUnread};
 
 use crate::data::{SpanField, SpanMeta};
 use crate::status::Status;
-use span_id::{Fault, Field, Id, Level, Meta};
-use span_outlet::ParentOf;
+use span_id::{Fault, Field, Level, Meta};
 use std::alloc::Global;
 use std::str;
 
@@ -21,19 +20,6 @@ pub(crate) fn read_level(number: u32) -> Option<Level>
         2 => Some(Level::Info),
         3 => Some(Level::Debug),
         4 => Some(Level::Trace),
-        _ => None,
-    }
-}
-
-/// The parent that is meant, where the kind is there and a named parent is an id.
-pub(crate) fn read_parent(kind: u32, parent: u64) -> Option<ParentOf>
-    ensures exact { IsSome result ↔ IsParent kind parent }
-    ensures parent { IfSome result (λ parent_of. parent_of ≡ said_parent kind parent) }
-{
-    match kind {
-        0 => Some(ParentOf::Root),
-        1 => Some(ParentOf::Current),
-        2 => Some(ParentOf::Of(Id::from_u64(parent)?)),
         _ => None,
     }
 }
