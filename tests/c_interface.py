@@ -1,9 +1,11 @@
 """Builds the C program tests/c/span_registry.c against the static library of crates/span_ffi, and runs it with the
 sanitizers of the C compiler and under valgrind. The last line is 'N passed, M failed'.
 
-The library has to be there: `rt lib` in crates/span_ffi makes it. The C compiler is $CC, else cc.
+The library is that of `rt lib`, which is made first where it isn't there or a source is newer, or that of --library.
+The C compiler is $CC, else cc.
 """
 
+import argparse
 import os
 import re
 import subprocess
@@ -12,7 +14,7 @@ import tempfile
 from pathlib import Path
 
 TOP = Path(__file__).resolve().parent.parent
-LIBRARY = TOP / "crates/span_ffi/out/libspan_ffi.a"
+CRATE = TOP / "crates/span_ffi"
 SOURCE = TOP / "tests/c/span_registry.c"
 WARNINGS = ["-std=c11", "-Wall", "-Wextra", "-Wpedantic", "-Werror"]
 WRAPS = ["-Wl,--wrap=malloc", "-Wl,--wrap=realloc"]
@@ -24,11 +26,24 @@ def shim_folder():
     return Path(page).parent / "c"
 
 
-def built(folder, name, flags):
+def current_library():
+    """The library that `rt lib` makes, made again where a source of the repository is newer; none where that fails."""
+    library = CRATE / "out/libspan_ffi.a"
+    sources = [file for end in ("src/**/*.rt", "specs/**/*.antt") for file in TOP.glob(f"crates/*/{end}")]
+    newest = max(file.stat().st_mtime for file in sources)
+    if library.exists() and library.stat().st_mtime >= newest:
+        return library
+    done = subprocess.run(["rt", "lib"], cwd=CRATE, capture_output=True, text=True)
+    if done.returncode != 0:
+        sys.stdout.write(done.stdout + done.stderr)
+    return library if done.returncode == 0 else None
+
+
+def built(library, folder, name, flags):
     """The program, built with these flags; none where the build fails."""
     program = Path(folder) / name
     command = [os.environ.get("CC", "cc"), *WARNINGS, *flags, *WRAPS, "-I", str(TOP / "include"), str(SOURCE),
-               str(LIBRARY), str(shim_folder() / "liblibc_c.a"), "-o", str(program)]
+               str(library), str(shim_folder() / "liblibc_c.a"), "-o", str(program)]
     done = subprocess.run(command, capture_output=True, text=True)
     sys.stdout.write(done.stdout + done.stderr)
     return program if done.returncode == 0 else None
@@ -48,8 +63,10 @@ def counted(name, command):
 
 
 def main():
-    if not LIBRARY.exists():
-        print(f"{LIBRARY} is missing: run rt lib in crates/span_ffi")
+    parser = argparse.ArgumentParser(description=__doc__.split("\n\n")[0])
+    parser.add_argument("--library", type=Path, help="the static library to test")
+    library = parser.parse_args().library or current_library()
+    if library is None:
         print("0 passed, 1 failed")
         return 1
     runs = [
@@ -59,7 +76,7 @@ def main():
     passed = failed = 0
     with tempfile.TemporaryDirectory() as folder:
         for number, (name, flags, runner) in enumerate(runs):
-            program = built(folder, f"program{number}", flags)
+            program = built(library, folder, f"program{number}", flags)
             if program is None:
                 print(f"{name}: it was not built")
                 failed += 1

@@ -1,14 +1,14 @@
 -- Worked cases of the definitions, computed from them alone.
 use Rattle.std.proofs.Common.{◌≡◌, refl, List, [], ◌∷◌, Some, None, true, false}
 use Rattle.span_id.specs.declared.fault.Fault.TheVariants.{Unknown, Memory}
-use Rattle.span_id.specs.declared.level.Level.TheVariants.{Error, Info, Trace}
+use Rattle.span_id.specs.declared.level.Level.TheVariants.{Error, Trace}
 use Rattle.span_layers.specs.declared.form.Form.TheVariants.{Compact, Json}
 use Rattle.span_outlet.specs.declared.batch.ParentOf.TheVariants.{Root, Current, Of}
 use Rattle.span_ffi.specs.declared.data.SpanMeta.{SpanMeta}
 use Rattle.span_ffi.specs.declared.data.SpanField.{SpanField}
 use Rattle.span_ffi.specs.declared.data.SpanLayer.{SpanLayer}
 use Rattle.span_ffi.specs.declared.data.SpanRule.{SpanRule}
-use Rattle.span_ffi.specs.declared.status.Status.TheVariants.{Done, Refused, BadData, EmptyHandle, ShortBuffer}
+use Rattle.span_ffi.specs.declared.status.Status.TheVariants.{Done, Refused, BadData, ShortBuffer}
 use Rattle.span_ffi.specs.Status.{meaning}
 use Rattle.span_ffi.specs.Ends.{flag}
 use Rattle.span_ffi.specs.Data.{said_level, said_parent, said_meta, said_fields, behind_meta}

@@ -1,4 +1,4 @@
-use Rattle.std.proofs.Common.{rules, arith}
+use Rattle.std.proofs.Common.{rules}
 use Rattle.span_ffi.specs.Calls.{HasWorker}
 use Rattle.span_ffi.specs.Data.{IsSpan}
 use Rattle.span_ffi.proofs.Alike.{makes_as_read}
