@@ -16,7 +16,7 @@ from pathlib import Path
 TOP = Path(__file__).resolve().parent.parent
 CRATE = TOP / "crates/span_ffi"
 SOURCE = TOP / "tests/c/span_registry.c"
-WARNINGS = ["-std=c11", "-Wall", "-Wextra", "-Wpedantic", "-Werror"]
+WARNINGS = ["-std=gnu11", "-pthread", "-Wall", "-Wextra", "-Wpedantic", "-Werror"]
 WRAPS = ["-Wl,--wrap=malloc", "-Wl,--wrap=realloc"]
 
 

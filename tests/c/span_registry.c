@@ -2,6 +2,9 @@
  * 'N passed, M failed'. It is linked with --wrap=malloc and --wrap=realloc, so that memory can be refused. */
 #include "span_registry.h"
 
+#include <pthread.h>
+#include <sched.h>
+#include <stdatomic.h>
 #include <stdio.h>
 #include <stdlib.h>
 #include <string.h>
@@ -387,6 +390,78 @@ static void test_refused_memory(void) {
     CHECK(refused > 0);
 }
 
+/* ---- a thread that reads beside one that calls */
+
+enum { ROUNDS = 3000 };
+
+static atomic_int no_more_calls;
+
+/* reads lines until no more come, and counts those that tell the enter of the next span */
+static void *read_enters(void *count) {
+    char wanted[64];
+    uint8_t into[128];
+    uint32_t layer, status;
+    unsigned long enters = 0;
+    size_t len;
+    for (;;) {
+        int last = atomic_load(&no_more_calls);
+        while ((status = span_drain_line(&drain, &layer, into, sizeof into, &len)) == SPAN_OK) {
+            int length = snprintf(wanted, sizeof wanted, "enter %lu w0 a", enters * 16777216 + 1);
+            enters += len == (size_t)length && memcmp(into, wanted, len) == 0;
+        }
+        if (status != SPAN_NO_LINE || last)
+            break;
+        sched_yield();
+    }
+    *(unsigned long *)count = enters;
+    return NULL;
+}
+
+static uint32_t until_there_is_room(uint32_t (*call)(uint64_t *id), uint64_t *id) {
+    uint32_t status;
+    while ((status = call(id)) == SPAN_BACKLOG)
+        sched_yield();
+    return status;
+}
+
+static uint32_t make_one(uint64_t *id) {
+    return make_span(0, SPAN_ROOT, 0, id);
+}
+
+static uint32_t enter_one(uint64_t *id) {
+    uint32_t first;
+    return span_registry_enter(&registry, 0, *id, &first);
+}
+
+static uint32_t exit_one(uint64_t *id) {
+    uint32_t closed;
+    return span_registry_exit(&registry, 0, *id, &closed);
+}
+
+static uint32_t close_one(uint64_t *id) {
+    uint32_t closed;
+    return span_registry_try_close(&registry, 0, *id, &closed);
+}
+
+static void test_reader_in_another_thread(void) {
+    uint32_t (*const calls[])(uint64_t *) = {make_one, enter_one, exit_one, close_one};
+    const SpanLimits limits = {1, 4294967295u, 9, 1, 8};
+    unsigned long enters = 0;
+    uint64_t id = 0;
+    int good = 1;
+    pthread_t reader;
+    CHECK(open_usual(limits) == SPAN_OK);
+    CHECK(pthread_create(&reader, NULL, read_enters, &enters) == 0);
+    for (int round = 0; round < ROUNDS; round++)
+        for (int call = 0; call < 4; call++)
+            good &= until_there_is_room(calls[call], &id) == SPAN_OK;
+    CHECK(good);
+    atomic_store(&no_more_calls, 1);
+    CHECK(pthread_join(reader, NULL) == 0);
+    CHECK(enters == ROUNDS);
+    close_both();
+}
+
 int main(void) {
     test_life_of_a_span();
     test_lines();
@@ -400,6 +475,7 @@ int main(void) {
     test_workers();
     test_status_texts();
     test_refused_memory();
+    test_reader_in_another_thread();
     printf("%d passed, %d failed\n", passed, failed);
     return failed == 0 ? EXIT_SUCCESS : EXIT_FAILURE;
 }
