@@ -1,0 +1,49 @@
+-- What the calls on a drain do, by their status, and how a text goes into a buffer.
+use Rattle.std.specs.Prelude.{◌≡◌, ℕ, ◌<◌, ◌≤◌, List, [], ◌∷◌, ◌++◌, length, drop, slice_get, Option, Some, None, IsSomeAnd}
+use Rattle.span_outlet.specs.Lines.{PlainLine}
+use Rattle.span_outlet.specs.LineReader.{LineReaderView, TakesBatches}
+use Rattle.span_ffi.specs.declared.status.Status.{Status}
+use Rattle.span_ffi.specs.declared.status.Status.TheVariants.{Done, BadData, NoLine, ShortBuffer}
+
+-- A text goes into a buffer: it stands at its beginning, and its length is told. Where it is longer than the buffer,
+-- only its length is told.
+abbrev pub WritesText : List ℕ → List ℕ → Status → List ℕ → ℕ → Type 0
+WritesText text old Done new len =
+    (length text ≤ length old) × (new ≡ text ++ drop (length text) old) × (len ≡ length text)
+WritesText text old ShortBuffer new len = (length old < length text) × (new ≡ old) × (len ≡ length text)
+WritesText text old _ new len = ⊥
+
+-- the same where there is a text, and where there is none the status says that the data say nothing
+abbrev pub WritesIfSome : Option (List ℕ) → List ℕ → Option Status → List ℕ → ℕ → Type 0
+WritesIfSome text old None new len = ⊥
+WritesIfSome None old (Some status) new len = (status ≡ BadData) × (new ≡ old)
+WritesIfSome (Some text) old (Some status) new len = WritesText text old status new len
+
+-- a length is as it was, unless one was told
+abbrev pub KeepsLength : Option Status → ℕ → ℕ → Type 0
+KeepsLength (Some Done) old new = Unit {0}
+KeepsLength (Some ShortBuffer) old new = Unit {0}
+KeepsLength _ old new = new ≡ old
+
+-- batches were taken, perhaps none, and none where a line waited already
+pub record Fills (old new : LineReaderView) : Type 0 where
+  pub taken : TakesBatches old new
+  pub waited : 0 < length old.waiting → new ≡ old
+  pub name : new.name ≡ old.name
+  pub forms : new.forms ≡ old.forms
+
+-- The first line that waits is given out: it waits no longer, its layer is told, and its text goes into the buffer.
+-- Where it is longer than the buffer, it stays the first one. Where no line waits, no batch that was taken has one.
+abbrev pub GivesLine : ℕ → List ℕ → List ℕ → ℕ → LineReaderView → Status → LineReaderView → Type 0
+GivesLine layer into into' len old Done new =
+    (line : PlainLine) × Fills old (record new { waiting = line ∷ new.waiting }) × (layer ≡ line.layer)
+    × WritesText line.text into Done into' len
+GivesLine layer into into' len old ShortBuffer new =
+    Fills old new × IsSomeAnd (slice_get new.waiting 0) (λ line. WritesText line.text into ShortBuffer into' len)
+GivesLine layer into into' len old NoLine new = Fills old new × (new.waiting ≡ [])
+GivesLine layer into into' len old _ new = ⊥
+
+-- how many batches were taken, and how many notes were missed
+abbrev pub CountsLines : ℕ → ℕ → LineReaderView → Status → LineReaderView → Type 0
+CountsLines batches refused old Done new = (batches ≡ length old.taken) × (refused ≡ old.refused) × (new ≡ old)
+CountsLines batches refused old _ new = ⊥

@@ -1,0 +1,117 @@
+-- What the data of a new registry say, and what is made of them.
+use Rattle.std.specs.Prelude.{◌≡◌, ℕ, ◌<◌, ◌≤◌, ◌==◌, ◌||◌, true, if◌then◌else◌, List, [], ◌∷◌, length, take, drop, map, Option, Some, None, is_some, IsSomeAnd}
+use Rattle.span_id.specs.declared.fault.Fault.TheVariants.{TooManyLayers, BadLimits, Memory}
+use Rattle.span_id.specs.declared.limits.Limits.{Limits}
+use Rattle.span_id.specs.Limits.{AreInRange}
+use Rattle.span_layers.specs.declared.form.Form.{Form}
+use Rattle.span_layers.specs.declared.form.Form.TheVariants.{Compact, Json}
+use Rattle.span_layers.specs.Rule.{Pair}
+use Rattle.span_layers.specs.Filter.{Filter}
+use Rattle.span_outlet.specs.LineReader.{LineReaderView}
+use Rattle.span_core.specs.World.{empty_world}
+use Rattle.span_core.specs.Core.{CoreView}
+use Rattle.span_ffi.specs.declared.data.SpanLimits.{SpanLimits}
+use Rattle.span_ffi.specs.declared.data.SpanLayer.{SpanLayer}
+use Rattle.span_ffi.specs.declared.data.SpanRule.{SpanRule}
+use Rattle.span_ffi.specs.declared.status.Status.{Status}
+use Rattle.span_ffi.specs.declared.status.Status.TheVariants.{Done, Refused, BadData, HandleInUse}
+use Rattle.span_ffi.specs.Data.{BeginsWithText, said_level}
+
+abbrev pub said_limits : SpanLimits → Limits
+said_limits limits = record {
+  slots = limits.slots;
+  last_generation = limits.last_generation;
+  max_count = limits.max_count;
+  workers = limits.workers;
+  ring = limits.ring;
+}
+
+-- the level of each rule is there, and the bytes begin with the prefixes, one after another; bytes may be left
+abbrev pub AreRules : List SpanRule → List ℕ → Type 0
+AreRules [] bytes = Unit {0}
+AreRules (rule ∷ rules) bytes =
+    (rule.level ≤ 4) × BeginsWithText rule.prefix_len bytes × AreRules rules (drop rule.prefix_len bytes)
+
+abbrev pub said_pairs : List SpanRule → List ℕ → List Pair
+said_pairs [] bytes = []
+said_pairs (rule ∷ rules) bytes =
+    (take rule.prefix_len bytes, said_level rule.level) ∷ said_pairs rules (drop rule.prefix_len bytes)
+
+-- the bytes behind the prefixes
+abbrev pub behind_rules : List SpanRule → List ℕ → List ℕ
+behind_rules [] bytes = bytes
+behind_rules (rule ∷ rules) bytes = behind_rules rules (drop rule.prefix_len bytes)
+
+-- the form and the kinds are there, and the layer has its rules
+pub record IsLayer (layer : SpanLayer) (rules : List SpanRule) (bytes : List ℕ) : Type 0 where
+  pub form : layer.form ≤ 1
+  pub kinds : layer.kinds ≤ 15
+  pub enough : layer.rules ≤ length rules
+  pub rules_are : AreRules (take layer.rules rules) bytes
+
+-- each layer takes the next of the rules for its own, and their prefixes; no rule and no byte is left
+abbrev pub AreLayers : List SpanLayer → List SpanRule → List ℕ → Type 0
+AreLayers [] rules bytes = (rules ≡ []) × (bytes ≡ [])
+AreLayers (layer ∷ layers) rules bytes =
+    IsLayer layer rules bytes × AreLayers layers (drop layer.rules rules) (behind_rules (take layer.rules rules) bytes)
+
+abbrev pub said_filters : List SpanLayer → List SpanRule → List ℕ → List Filter
+said_filters [] rules bytes = []
+said_filters (layer ∷ layers) rules bytes =
+    (record { pairs = said_pairs (take layer.rules rules) bytes; spans = layer.kinds })
+    ∷ said_filters layers (drop layer.rules rules) (behind_rules (take layer.rules rules) bytes)
+
+-- 0 compact, 1 JSON
+abbrev pub said_form : ℕ → Form
+said_form number = if number == 0 then Compact else Json
+
+abbrev pub said_forms : List SpanLayer → List Form
+said_forms layers = map (λ layer. said_form layer.form) layers
+
+-- A new registry and the other end of its ring: the limits are in their ranges, the layers are few enough, and the data
+-- say them. No span is open, nothing was sent, and nothing was taken.
+pub record AreNew
+    (limits : SpanLimits) (layers : List SpanLayer) (rules : List SpanRule) (bytes : List ℕ)
+    (core : CoreView) (reader : LineReaderView)
+    : Type 0 where
+  pub in_range : AreInRange (said_limits limits)
+  pub few : length layers ≤ 64
+  pub said : AreLayers layers rules bytes
+  pub core_is : core ≡ record {
+    limits = said_limits limits;
+    rules = said_filters layers rules bytes;
+    world = empty_world limits.workers;
+    sent = [];
+    times_full = 0;
+    forms = [];
+    name = Some reader.name;
+  }
+  pub reader_is : reader ≡ record {
+    name = reader.name;
+    forms = said_forms layers;
+    taken = [];
+    waiting = [];
+    refused = 0;
+  }
+
+-- why there is no new registry
+abbrev pub WhyNone : SpanLimits → List SpanLayer → List SpanRule → List ℕ → Status → Type 0
+WhyNone limits layers rules bytes (Refused BadLimits) = AreInRange (said_limits limits) → ⊥
+WhyNone limits layers rules bytes (Refused TooManyLayers) = AreInRange (said_limits limits) × (64 < length layers)
+WhyNone limits layers rules bytes BadData =
+    AreInRange (said_limits limits) × (length layers ≤ 64) × (AreLayers layers rules bytes → ⊥)
+WhyNone limits layers rules bytes (Refused Memory) = AreInRange (said_limits limits) × (length layers ≤ 64)
+WhyNone limits layers rules bytes _ = ⊥
+
+-- Two empty handles get a new registry and the other end of its ring; else both stay as they were, and the status says
+-- why: a handle isn't empty, or there is no new registry.
+abbrev pub Opens : SpanLimits → List SpanLayer → List SpanRule → List ℕ → Option CoreView → Option LineReaderView
+    → Option Status → Option CoreView → Option LineReaderView → Type 0
+Opens limits layers rules bytes core reader None core' reader' = ⊥
+Opens limits layers rules bytes core reader (Some Done) core' reader' =
+    (core ≡ None) × (reader ≡ None)
+    × IsSomeAnd core' (λ new. IsSomeAnd reader' (λ other. AreNew limits layers rules bytes new other))
+Opens limits layers rules bytes core reader (Some HandleInUse) core' reader' =
+    ((is_some core || is_some reader) ≡ true) × (core' ≡ core) × (reader' ≡ reader)
+Opens limits layers rules bytes core reader (Some status) core' reader' =
+    (core ≡ None) × (reader ≡ None) × WhyNone limits layers rules bytes status × (core' ≡ core) × (reader' ≡ reader)

@@ -1,0 +1,71 @@
+//! What C passes and gets: structs of numbers.
+
+/// What bounds a registry: see `Limits` of `span_id`.
+#[repr(C)]
+#[derive(Clone, Copy)]
+pub struct SpanLimits {
+    pub slots: u32,
+    pub last_generation: u32,
+    pub max_count: u32,
+    pub workers: u32,
+    pub ring: u32,
+}
+
+/// A layer: its form (0 compact, 1 JSON), the kinds of notes that it wants (the bits of `FmtSpan`), and how many of the
+/// rules are its own.
+#[repr(C)]
+#[derive(Clone, Copy)]
+pub struct SpanLayer {
+    pub form: u32,
+    pub kinds: u32,
+    pub rules: u32,
+}
+
+/// A rule: the length of its prefix, and the greatest level that it lets in.
+#[repr(C)]
+#[derive(Clone, Copy)]
+pub struct SpanRule {
+    pub prefix_len: u32,
+    pub level: u32,
+}
+
+/// A span's or an event's level (0 ERROR to 4 TRACE), and the lengths of its name and its target.
+#[repr(C)]
+#[derive(Clone, Copy)]
+pub struct SpanMeta {
+    pub level: u32,
+    pub name_len: u32,
+    pub target_len: u32,
+}
+
+/// A field: the lengths of its key and its value.
+#[repr(C)]
+#[derive(Clone, Copy)]
+pub struct SpanField {
+    pub key_len: u32,
+    pub value_len: u32,
+}
+
+/// An open span. The parent is 0 for a root.
+#[repr(C)]
+#[derive(Clone, Copy)]
+pub struct SpanFound {
+    pub parent: u64,
+    pub handles: u32,
+    pub entries: u32,
+    pub count: u32,
+    pub level: u32,
+}
+
+/// How many spans were made and closed, how many calls were accepted, how many handles and entries all spans have, how
+/// many spans are open, and how many workers there are.
+#[repr(C)]
+#[derive(Clone, Copy)]
+pub struct SpanCounts {
+    pub made: u64,
+    pub closed: u64,
+    pub calls: u64,
+    pub held: u64,
+    pub open: u32,
+    pub workers: u32,
+}

@@ -1,0 +1,11 @@
+//! What C calls. Each function takes whatever C passes, tests it, and answers the number of a status.
+
+mod callers;
+mod drain;
+mod entries;
+mod events;
+mod handles;
+mod queries;
+mod registry;
+mod spans;
+mod texts;

@@ -1,0 +1,90 @@
+//! The calls that change a worker's stack.
+ghost use Rattle.std.specs.Prelude.{Some};
+ghost use Rattle.span_ffi.specs.Status.{meaning};
+ghost use Rattle.span_ffi.specs.Ends.{Ends, Keeps};
+ghost use Rattle.span_ffi.specs.Calls.{Enters, Exits};
+
+use crate::exports::callers::{has_worker, id_of};
+use crate::registry::RingCore;
+use crate::registry_handle::SpanRegistry;
+use crate::status::Status;
+use span_id::Fault;
+use std::alloc::Global;
+
+fn enter(core: &mut RingCore, worker: u32, id: u64, first: &mut u32) -> Status
+    ensures entered { Enters worker id first.new core.old result core.new }
+    ensures kept { Keeps (Some result) first.old first.new }
+{
+    if !has_worker(core, worker) {
+        return Status::NoSuchWorker;
+    }
+    let Some(id) = id_of(core, id) else {
+        return Status::Refused(Fault::Unknown);
+    };
+    match core.enter(worker, id) {
+        Ok(yes) => {
+            *first = u32::from(yes);
+            Status::Done
+        }
+        Err(fault) => Status::Refused(fault),
+    }
+}
+
+/// A worker enters a span that has a handle. It tells 1 where the entry is no duplicate, else 0.
+#[unsafe(no_mangle)]
+pub extern "C" fn span_registry_enter(
+    alloc: Global,
+    registry: &mut SpanRegistry,
+    worker: u32,
+    id: u64,
+    first: &mut u32,
+) -> u32
+    ensures entered { Ends registry.old.held (Enters worker id first.new) (meaning result) registry.new.held }
+    ensures kept { Keeps (meaning result) first.old first.new }
+{
+    let Some(mut held) = registry.take(alloc) else {
+        return Status::EmptyHandle.number();
+    };
+    let status = enter(&mut held.core, worker, id, first);
+    registry.put(held);
+    status.number()
+}
+
+fn exit(core: &mut RingCore, worker: u32, id: u64, closed: &mut u32) -> Status
+    ensures exited { Exits worker id closed.new core.old result core.new }
+    ensures kept { Keeps (Some result) closed.old closed.new }
+{
+    if !has_worker(core, worker) {
+        return Status::NoSuchWorker;
+    }
+    let Some(id) = id_of(core, id) else {
+        return Status::Refused(Fault::Unknown);
+    };
+    match core.exit(worker, id) {
+        Ok(yes) => {
+            *closed = u32::from(yes);
+            Status::Done
+        }
+        Err(fault) => Status::Refused(fault),
+    }
+}
+
+/// A worker leaves a span: its topmost entry of the span is taken out. It tells 1 where the span closed, else 0.
+#[unsafe(no_mangle)]
+pub extern "C" fn span_registry_exit(
+    alloc: Global,
+    registry: &mut SpanRegistry,
+    worker: u32,
+    id: u64,
+    closed: &mut u32,
+) -> u32
+    ensures exited { Ends registry.old.held (Exits worker id closed.new) (meaning result) registry.new.held }
+    ensures kept { Keeps (meaning result) closed.old closed.new }
+{
+    let Some(mut held) = registry.take(alloc) else {
+        return Status::EmptyHandle.number();
+    };
+    let status = exit(&mut held.core, worker, id, closed);
+    registry.put(held);
+    status.number()
+}

@@ -1,0 +1,157 @@
+//! What a worker tells: more fields of a span, and events.
+ghost use Rattle.std.specs.Prelude.{◌≡◌, if◌then◌else◌, take, drop, string_bytes, IfOk, OnOk, IfErr};
+ghost use Rattle.span_id.specs.Meta.{plain_meta, plain_fields};
+ghost use Rattle.span_core.specs.Core.{are_keys};
+ghost use Rattle.span_ffi.specs.Status.{meaning};
+ghost use Rattle.span_ffi.specs.Ends.{Ends};
+ghost use Rattle.span_ffi.specs.Data.{IsEvent, said_meta, said_fields, behind_meta, WhyUnread};
+ghost use Rattle.span_ffi.specs.Calls.{Records, Tells};
+
+use crate::data::{SpanField, SpanMeta};
+use crate::exports::callers::{has_worker, id_of};
+use crate::reading::{read_fields, read_meta, read_text};
+use crate::registry::RingCore;
+use crate::registry_handle::SpanRegistry;
+use crate::status::Status;
+use span_id::{Fault, Field, Meta};
+use std::alloc::Global;
+
+// Whether all keys are names.
+fn are_keys(fields: &[Field]) -> bool
+    ensures { result ≡ are_keys (plain_fields fields.now) }
+{
+    fields.iter().all(|field| field.fit())
+}
+
+// Why fields for a span that isn't open are refused.
+fn fault_of_absent(fields: &[Field]) -> Fault
+    ensures { result ≡ (if are_keys (plain_fields fields.now) then Fault.Unknown else Fault.BadName) }
+{
+    if are_keys(fields) {
+        Fault::Unknown
+    } else {
+        Fault::BadName
+    }
+}
+
+fn record(
+    alloc: Global,
+    core: &mut RingCore,
+    worker: u32,
+    id: u64,
+    fields: &[SpanField],
+    texts: &[u8],
+) -> Status
+    ensures { Records worker id fields.now texts.now core.old result core.new }
+{
+    if !has_worker(core, worker) {
+        return Status::NoSuchWorker;
+    }
+    let fields = match read_fields(alloc, fields, texts) {
+        Ok(fields) => fields,
+        Err(status) => return status,
+    };
+    let Some(id) = id_of(core, id) else {
+        return Status::Refused(fault_of_absent(fields.as_slice()));
+    };
+    match core.record(worker, id, fields.as_slice()) {
+        Ok(()) => Status::Done,
+        Err(fault) => Status::Refused(fault),
+    }
+}
+
+/// Appends fields to those of a span that has a handle. The texts are the keys and values, one after another.
+#[unsafe(no_mangle)]
+pub extern "C" fn span_registry_record(
+    alloc: Global,
+    registry: &mut SpanRegistry,
+    worker: u32,
+    id: u64,
+    fields: &[SpanField],
+    texts: &[u8],
+) -> u32
+    ensures { Ends registry.old.held (Records worker id fields.now texts.now) (meaning result) registry.new.held }
+{
+    let Some(mut held) = registry.take(alloc) else {
+        return Status::EmptyHandle.number();
+    };
+    let status = record(alloc, &mut held.core, worker, id, fields, texts);
+    registry.put(held);
+    status.number()
+}
+
+fn event(
+    alloc: Global,
+    core: &mut RingCore,
+    worker: u32,
+    meta: &SpanMeta,
+    message_len: u32,
+    fields: &[SpanField],
+    texts: &[u8],
+) -> Status
+    ensures { Tells worker meta.now message_len fields.now texts.now core.old result core.new }
+{
+    if !has_worker(core, worker) {
+        return Status::NoSuchWorker;
+    }
+    let (meta, message, fields) = match read_event(alloc, meta, message_len, fields, texts) {
+        Ok(event) => event,
+        Err(status) => return status,
+    };
+    match core.event(worker, &meta, message.as_str(), fields.as_slice()) {
+        Ok(()) => Status::Done,
+        Err(fault) => Status::Refused(fault),
+    }
+}
+
+// The meta, the message and the fields of an event.
+fn read_event(
+    alloc: Global,
+    meta: &SpanMeta,
+    message_len: u32,
+    fields: &[SpanField],
+    texts: &[u8],
+) -> Result<(Meta, String, Vec<Field>), Status>
+    ensures is { OnOk result (IsEvent meta.now message_len fields.now texts.now) }
+    ensures meta { IfOk result (λ event. plain_meta event.0 ≡ said_meta meta.now texts.now) }
+    ensures message { IfOk result (λ event. string_bytes event.1 ≡ take message_len (behind_meta meta.now texts.now)) }
+    ensures fields { IfOk result (λ event. plain_fields event.2.items
+        ≡ said_fields fields.now (drop message_len (behind_meta meta.now texts.now))) }
+    ensures unread { IfErr result (λ status.
+        WhyUnread (IsEvent meta.now message_len fields.now texts.now) status) }
+{
+    let (meta, rest) = read_meta(alloc, meta, texts)?;
+    let (message, rest) = read_text(alloc, rest, message_len)?;
+    let fields = read_fields(alloc, fields, rest)?;
+    Ok((meta, message, fields))
+}
+
+/// Tells an event. The texts are its name, its target, the message, and the keys and values, one after another.
+#[unsafe(no_mangle)]
+pub extern "C" fn span_registry_event(
+    alloc: Global,
+    registry: &mut SpanRegistry,
+    worker: u32,
+    meta: &SpanMeta,
+    message_len: u32,
+    fields: &[SpanField],
+    texts: &[u8],
+) -> u32
+    ensures { Ends registry.old.held (Tells worker meta.now message_len fields.now texts.now) (meaning result)
+        registry.new.held }
+{
+    let Some(mut held) = registry.take(alloc) else {
+        return Status::EmptyHandle.number();
+    };
+    let status = event(
+        alloc,
+        &mut held.core,
+        worker,
+        meta,
+        message_len,
+        fields,
+        texts,
+    );
+    registry.put(held);
+    status.number()
+}

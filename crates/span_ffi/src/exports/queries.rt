@@ -1,0 +1,123 @@
+//! Questions, which change nothing.
+ghost use Rattle.std.specs.Prelude.{◌≡◌, Some, Option};
+ghost use Rattle.span_ffi.specs.Status.{meaning};
+ghost use Rattle.span_ffi.specs.Ends.{Ends, Keeps};
+ghost use Rattle.span_ffi.specs.Calls.{Finds, SeesCurrent, Counts, id_number};
+
+use crate::data::{SpanCounts, SpanFound};
+use crate::exports::callers::{has_worker, id_of};
+use crate::registry::RingCore;
+use crate::registry_handle::SpanRegistry;
+use crate::status::Status;
+use span_id::{Fault, Id};
+use std::alloc::Global;
+
+// An id as a number, 0 where there is none.
+fn id_number(id: Option<Id>) -> u64
+    ensures { result ≡ id_number id }
+{
+    match id {
+        Some(id) => id.get(),
+        None => 0,
+    }
+}
+
+fn find(core: &RingCore, id: u64, found: &mut SpanFound) -> Status
+    ensures found { Finds id found.new core.now result core.now }
+    ensures kept { Keeps (Some result) found.old found.new }
+{
+    let Some(id) = id_of(core, id) else {
+        return Status::Refused(Fault::Unknown);
+    };
+    let Some(span) = core.find(id) else {
+        return Status::Refused(Fault::Unknown);
+    };
+    *found = SpanFound {
+        parent: id_number(span.parent),
+        handles: span.handles,
+        entries: span.entries,
+        count: span.count,
+        level: u32::from(span.meta.level.verbosity()),
+    };
+    Status::Done
+}
+
+/// What is known of a span, where it is open.
+#[unsafe(no_mangle)]
+pub extern "C" fn span_registry_find(
+    alloc: Global,
+    registry: &mut SpanRegistry,
+    id: u64,
+    found: &mut SpanFound,
+) -> u32
+    ensures found { Ends registry.old.held (Finds id found.new) (meaning result) registry.new.held }
+    ensures kept { Keeps (meaning result) found.old found.new }
+{
+    let Some(held) = registry.take(alloc) else {
+        return Status::EmptyHandle.number();
+    };
+    let status = find(&held.core, id, found);
+    registry.put(held);
+    status.number()
+}
+
+fn current_span(core: &RingCore, worker: u32, id: &mut u64) -> Status
+    ensures current { SeesCurrent worker id.new core.now result core.now }
+    ensures kept { Keeps (Some result) id.old id.new }
+{
+    if !has_worker(core, worker) {
+        return Status::NoSuchWorker;
+    }
+    *id = id_number(core.stack(worker).current());
+    Status::Done
+}
+
+/// The span at the top of a worker's stack, 0 where the stack is empty.
+#[unsafe(no_mangle)]
+pub extern "C" fn span_registry_current_span(
+    alloc: Global,
+    registry: &mut SpanRegistry,
+    worker: u32,
+    id: &mut u64,
+) -> u32
+    ensures current { Ends registry.old.held (SeesCurrent worker id.new) (meaning result) registry.new.held }
+    ensures kept { Keeps (meaning result) id.old id.new }
+{
+    let Some(held) = registry.take(alloc) else {
+        return Status::EmptyHandle.number();
+    };
+    let status = current_span(&held.core, worker, id);
+    registry.put(held);
+    status.number()
+}
+
+fn counts_of(core: &RingCore) -> SpanCounts
+    ensures { Counts result core.now Status.Done core.now }
+{
+    SpanCounts {
+        made: core.made(),
+        closed: core.closed(),
+        calls: core.calls(),
+        held: core.total(),
+        open: core.len(),
+        workers: core.limits().workers,
+    }
+}
+
+/// The numbers of a registry.
+#[unsafe(no_mangle)]
+pub extern "C" fn span_registry_counts(
+    alloc: Global,
+    registry: &mut SpanRegistry,
+    counts: &mut SpanCounts,
+) -> u32
+    ensures counts { Ends registry.old.held (Counts counts.new) (meaning result) registry.new.held }
+    ensures kept { Keeps (meaning result) counts.old counts.new }
+{
+    let Some(held) = registry.take(alloc) else {
+        return Status::EmptyHandle.number();
+    };
+    *counts = counts_of(&held.core);
+    registry.put(held);
+    Status::Done.number()
+}

@@ -1,0 +1,53 @@
+//! The beginning and the end of a registry.
+ghost use Rattle.std.specs.Prelude.{◌≡◌, Some, None, is_some, if◌then◌else◌};
+ghost use Rattle.span_ffi.specs.Status.{meaning};
+ghost use Rattle.span_ffi.specs.Opening.{Opens};
+
+use crate::data::{SpanLayer, SpanLimits, SpanRule};
+use crate::drain_handle::SpanDrain;
+use crate::opening::open;
+use crate::registry_handle::SpanRegistry;
+use crate::status::Status;
+use std::alloc::Global;
+
+/// Fills two empty handles with a new registry and the other end of its ring. Each layer takes the next of the rules for
+/// its own; the texts are the prefixes of all rules, one after another.
+#[unsafe(no_mangle)]
+pub extern "C" fn span_registry_new(
+    alloc: Global,
+    registry: &mut SpanRegistry,
+    drain: &mut SpanDrain,
+    limits: &SpanLimits,
+    layers: &[SpanLayer],
+    rules: &[SpanRule],
+    texts: &[u8],
+) -> u32
+    ensures { Opens limits.now layers.now rules.now texts.now registry.old.held drain.old.held (meaning result)
+        registry.new.held drain.new.held }
+{
+    if !(registry.is_empty(alloc) && drain.is_empty(alloc)) {
+        return Status::HandleInUse.number();
+    }
+    match open(alloc, limits, layers, rules, texts) {
+        Ok((new, other)) => {
+            registry.put(new);
+            drain.put(other);
+            Status::Done.number()
+        }
+        Err(status) => status.number(),
+    }
+}
+
+/// Gives a registry and its memory up: the handle is empty then. Its drain may still be read.
+#[unsafe(no_mangle)]
+pub extern "C" fn span_registry_free(alloc: Global, registry: &mut SpanRegistry) -> u32
+    ensures status { meaning result
+        ≡ Some (if is_some registry.old.held then Status.Done else Status.EmptyHandle) }
+    ensures empty { registry.new.held ≡ None }
+{
+    let Some(held) = registry.take(alloc) else {
+        return Status::EmptyHandle.number();
+    };
+    drop(held);
+    Status::Done.number()
+}

@@ -1,0 +1,159 @@
+//! New spans.
+ghost use Rattle.std.specs.Prelude.{◌≡◌, ◌≤◌, ◌<◌, ◌↔◌, false, Some, IsSome, IfSome, IfOk, OnOk, IfErr};
+ghost use Rattle.span_id.specs.Meta.{plain_meta, plain_fields};
+ghost use Rattle.span_outlet.specs.Request.{new_span};
+ghost use Rattle.span_core.specs.Step.{is_open};
+ghost use Rattle.span_core.specs.Parent.{parent_found};
+ghost use Rattle.span_ffi.specs.Status.{meaning};
+ghost use Rattle.span_ffi.specs.Ends.{Ends, Keeps};
+ghost use Rattle.span_ffi.specs.Data.{IsMeta, AreFields, said_meta, said_fields, said_parent, behind_meta, WhyUnread};
+ghost use Rattle.span_ffi.specs.Calls.{MakesSpan, IsMadeOrRefused};
+ghost use Rattle.span_ffi.specs.inside.Parents.{AreAlike};
+
+use crate::data::{SpanField, SpanMeta};
+use crate::exports::callers::{has_worker, id_of};
+use crate::reading::{read_fields, read_meta};
+use crate::registry::RingCore;
+use crate::registry_handle::SpanRegistry;
+use crate::status::Status;
+use span_core::laws::each_slot_has_one_open_span;
+use span_id::{Fault, Field, Id, Meta};
+use span_outlet::ParentOf;
+use std::alloc::Global;
+
+// An id whose span isn't open: two ids of one slot are never open together.
+fn closed_id(core: &RingCore) -> Id
+    ensures { is_open core.now.world.spans result ≡ false }
+{
+    each_slot_has_one_open_span(core);
+    let first = Id::pack(0, 0);
+    if core.find(first).is_none() {
+        return first;
+    }
+    Id::pack(0, 1)
+}
+
+// The parent that is meant. In the place of a number that is no id comes an id that isn't open: it is refused alike.
+fn read_parent(core: &RingCore, kind: u32, parent: u64) -> Option<ParentOf>
+    ensures exact { IsSome result ↔ (kind ≤ 2) }
+    ensures parent { IfSome result (λ meant. AreAlike core.now.world.spans meant (said_parent kind parent)) }
+{
+    match kind {
+        0 => Some(ParentOf::Root),
+        1 => Some(ParentOf::Current),
+        2 => match id_of(core, parent) {
+            Some(id) => Some(ParentOf::Of(id)),
+            None => Some(ParentOf::Of(closed_id(core))),
+        },
+        _ => None,
+    }
+}
+
+// The meta and the fields of a span.
+fn read_span(
+    alloc: Global,
+    meta: &SpanMeta,
+    fields: &[SpanField],
+    texts: &[u8],
+) -> Result<(Meta, Vec<Field>), Status>
+    ensures is { OnOk result (IsMeta meta.now texts.now) }
+    ensures are { OnOk result (AreFields fields.now (behind_meta meta.now texts.now)) }
+    ensures meta { IfOk result (λ span. plain_meta span.0 ≡ said_meta meta.now texts.now) }
+    ensures fields { IfOk result (λ span. plain_fields span.1.items
+        ≡ said_fields fields.now (behind_meta meta.now texts.now)) }
+    ensures unread { IfErr result (λ status.
+        WhyUnread (IsMeta meta.now texts.now × AreFields fields.now (behind_meta meta.now texts.now)) status) }
+{
+    let (meta, rest) = read_meta(alloc, meta, texts)?;
+    let fields = read_fields(alloc, fields, rest)?;
+    Ok((meta, fields))
+}
+
+fn new_span(
+    core: &mut RingCore,
+    worker: u32,
+    parent: ParentOf,
+    meta: &Meta,
+    fields: &[Field],
+    id: &mut u64,
+) -> Status
+    requires { worker < core.old.limits.workers }
+    ensures made { IsMadeOrRefused (new_span worker (plain_meta meta.now) (plain_fields fields.now)
+        (parent_found core.old.world worker parent)) id.new core.old result core.new }
+    ensures kept { Keeps (Some result) id.old id.new }
+{
+    match core.new_span(worker, meta, fields, parent) {
+        Ok(Some(made)) => {
+            *id = made.get();
+            Status::Done
+        }
+        Ok(None) => {
+            *id = 0;
+            Status::Done
+        }
+        Err(fault) => Status::Refused(fault),
+    }
+}
+
+fn make_span(
+    alloc: Global,
+    core: &mut RingCore,
+    worker: u32,
+    parent_kind: u32,
+    parent: u64,
+    meta: &SpanMeta,
+    fields: &[SpanField],
+    texts: &[u8],
+    id: &mut u64,
+) -> Status
+    ensures made { MakesSpan worker parent_kind parent meta.now fields.now texts.now id.new core.old result core.new }
+    ensures kept { Keeps (Some result) id.old id.new }
+{
+    if !has_worker(core, worker) {
+        return Status::NoSuchWorker;
+    }
+    let Some(parent) = read_parent(core, parent_kind, parent) else {
+        return Status::BadData;
+    };
+    match read_span(alloc, meta, fields, texts) {
+        Ok((meta, fields)) => new_span(core, worker, parent, &meta, fields.as_slice(), id),
+        Err(status) => status,
+    }
+}
+
+/// Makes a span. The texts are its name, its target, and the keys and values, one after another. It tells the id, and 0
+/// where no layer wants the span.
+#[unsafe(no_mangle)]
+pub extern "C" fn span_registry_new_span(
+    alloc: Global,
+    registry: &mut SpanRegistry,
+    worker: u32,
+    parent_kind: u32,
+    parent: u64,
+    meta: &SpanMeta,
+    fields: &[SpanField],
+    texts: &[u8],
+    id: &mut u64,
+) -> u32
+    ensures made { Ends registry.old.held (MakesSpan worker parent_kind parent meta.now fields.now texts.now id.new)
+        (meaning result) registry.new.held }
+    ensures kept { Keeps (meaning result) id.old id.new }
+{
+    let Some(mut held) = registry.take(alloc) else {
+        return Status::EmptyHandle.number();
+    };
+    let core = &mut held.core;
+    let status = make_span(
+        alloc,
+        core,
+        worker,
+        parent_kind,
+        parent,
+        meta,
+        fields,
+        texts,
+        id,
+    );
+    registry.put(held);
+    status.number()
+}

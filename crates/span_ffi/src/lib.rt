@@ -1,0 +1,20 @@
+//! The registry of spans without its lock, and the end from which its lines are read, behind a C interface.
+//!
+//! `include/span_registry.h` at the top of the repository is what a C program sees.
+#![tactic(auto)]
+
+mod data;
+mod drain_handle;
+mod exports;
+mod opening;
+mod parts;
+mod reader;
+mod reading;
+mod registry;
+mod registry_handle;
+mod status;
+
+pub use data::{SpanCounts, SpanField, SpanFound, SpanLayer, SpanLimits, SpanMeta, SpanRule};
+pub use drain_handle::SpanDrain;
+pub use registry_handle::SpanRegistry;
+pub use status::Status;

@@ -1,0 +1,220 @@
+//! The making of a registry and of the other end of its ring, from what C passes.
+ghost use Rattle.std.specs.Prelude.{◌≡◌, ◌≤◌, ◌↔◌, [], Some, take, drop, length, IsOk, IsSome, IfSome, IfOk, OnOk, IfErr};
+ghost use Rattle.span_id.specs.Limits.{AreInRange};
+ghost use Rattle.span_layers.specs.Rule.{pair_of, pairs_of};
+ghost use Rattle.span_layers.specs.Filter.{filter_of};
+ghost use Rattle.span_layers.specs.FmtSpan.{bits_of};
+ghost use Rattle.span_layers.specs.Layers.{filters_in, forms_in};
+ghost use Rattle.span_core.specs.World.{empty_world};
+ghost use Rattle.span_ffi.specs.Data.{BeginsWithText, said_level, WhyUnread};
+ghost use Rattle.span_ffi.specs.Opening.{AreRules, said_pairs, behind_rules, said_form, AreLayers, said_filters, said_forms, said_limits, AreNew, WhyNone};
+
+use crate::data::{SpanLayer, SpanLimits, SpanRule};
+use crate::reader::Reader;
+use crate::reading::{read_level, read_text};
+use crate::registry::Registry;
+use crate::status::Status;
+use bitflags::Flags;
+use span_core::Core;
+use span_id::{Checked, Fault, Level, Limits};
+use span_layers::{ByForm, ByRule, FmtSpan, Form, Hooks, Layer, Layers, MAX_LAYERS, Rule, Style};
+use span_outlet::{LineReader, Ring};
+use std::alloc::Global;
+
+// Layers with no closures.
+type PlainLayers = Layers<ByRule, ByForm>;
+
+// A prefix with its level, and the bytes behind it.
+fn read_pair<'b>(
+    alloc: Global,
+    rule: &SpanRule,
+    bytes: &'b [u8],
+) -> Result<((String, Level), &'b [u8]), Status>
+    ensures level { OnOk result (rule.now.level ≤ 4) }
+    ensures begins { OnOk result (BeginsWithText rule.now.prefix_len bytes.now) }
+    ensures pair { IfOk result (λ read. pair_of read.0
+        ≡ (take rule.now.prefix_len bytes.now, said_level rule.now.level)) }
+    ensures behind { IfOk result (λ read. read.1.now ≡ drop rule.now.prefix_len bytes.now) }
+    ensures unread { IfErr result (λ status.
+        WhyUnread ((rule.now.level ≤ 4) × BeginsWithText rule.now.prefix_len bytes.now) status) }
+{
+    let Some(level) = read_level(rule.level) else {
+        return Err(Status::BadData);
+    };
+    let (prefix, left) = read_text(alloc, bytes, rule.prefix_len)?;
+    Ok(((prefix, level), left))
+}
+
+// The rule of these pairs, and the bytes behind their prefixes.
+fn read_rule<'b>(
+    alloc: Global,
+    rules: &[SpanRule],
+    bytes: &'b [u8],
+) -> Result<(Rule, &'b [u8]), Status>
+    ensures are { OnOk result (AreRules rules.now bytes.now) }
+    ensures pairs { IfOk result (λ read. pairs_of read.0 ≡ said_pairs rules.now bytes.now) }
+    ensures behind { IfOk result (λ read. read.1.now ≡ behind_rules rules.now bytes.now) }
+    ensures unread { IfErr result (λ status. WhyUnread (AreRules rules.now bytes.now) status) }
+{
+    let mut left = bytes;
+    let mut pairs = Vec::new(alloc);
+    for rule in rules {
+        let (pair, behind) = read_pair(alloc, rule, left)?;
+        left = behind;
+        if pairs.push(pair).is_err() {
+            return Err(Status::Refused(Fault::Memory));
+        }
+    }
+    Ok((Rule { pairs }, left))
+}
+
+// How and of what a layer writes.
+fn read_style(layer: &SpanLayer) -> Option<Style>
+    ensures exact { IsSome result ↔ ((layer.now.form ≤ 1) × (layer.now.kinds ≤ 15)) }
+    ensures form { IfSome result (λ style. style.form ≡ said_form layer.now.form) }
+    ensures kinds { IfSome result (λ style. bits_of style.spans ≡ layer.now.kinds) }
+{
+    let form = match layer.form {
+        0 => Form::Compact,
+        1 => Form::Json,
+        _ => return None,
+    };
+    if layer.kinds > 15 {
+        return None;
+    }
+    let spans = FmtSpan::from_bits_retain(layer.kinds as u8);
+    Some(Style { form, spans })
+}
+
+// A layer with the first of the rules for its own, and the bytes behind their prefixes.
+fn read_layer<'b>(
+    alloc: Global,
+    layer: &SpanLayer,
+    own: &[SpanRule],
+    bytes: &'b [u8],
+) -> Result<(Layer<ByRule, ByForm>, &'b [u8]), Status>
+    ensures form { OnOk result (layer.now.form ≤ 1) }
+    ensures kinds { OnOk result (layer.now.kinds ≤ 15) }
+    ensures rules { OnOk result (AreRules own.now bytes.now) }
+    ensures filter { IfOk result (λ read. filter_of read.0.rule read.0.style.spans
+        ≡ record { pairs = said_pairs own.now bytes.now; spans = layer.now.kinds }) }
+    ensures style { IfOk result (λ read. read.0.style.form ≡ said_form layer.now.form) }
+    ensures behind { IfOk result (λ read. read.1.now ≡ behind_rules own.now bytes.now) }
+    ensures unread { IfErr result (λ status.
+        WhyUnread ((layer.now.form ≤ 1) × (layer.now.kinds ≤ 15) × AreRules own.now bytes.now) status) }
+{
+    let Some(style) = read_style(layer) else {
+        return Err(Status::BadData);
+    };
+    let (rule, left) = read_rule(alloc, own, bytes)?;
+    let hooks = Hooks::by_rule_and_form();
+    Ok((Layer { style, rule, hooks }, left))
+}
+
+// The layers, with all rules and all bytes.
+fn read_layers(
+    alloc: Global,
+    layers: &[SpanLayer],
+    rules: &[SpanRule],
+    bytes: &[u8],
+) -> Result<PlainLayers, Status>
+    requires { length layers.now ≤ 64 }
+    ensures are { OnOk result (AreLayers layers.now rules.now bytes.now) }
+    ensures filters { IfOk result (λ read. filters_in read ≡ said_filters layers.now rules.now bytes.now) }
+    ensures forms { IfOk result (λ read. forms_in read ≡ said_forms layers.now) }
+    ensures unread { IfErr result (λ status. WhyUnread (AreLayers layers.now rules.now bytes.now) status) }
+{
+    let mut read = Layers::new(alloc);
+    let mut rules_left = rules;
+    let mut left = bytes;
+    for item in layers {
+        let Some((own, others)) = rules_left.split_at_checked(item.rules as usize) else {
+            return Err(Status::BadData);
+        };
+        let (layer, behind) = read_layer(alloc, item, own, left)?;
+        rules_left = others;
+        left = behind;
+        if read.add(layer).is_err() {
+            return Err(Status::Refused(Fault::Memory));
+        }
+    }
+    if !(rules_left.is_empty() && left.is_empty()) {
+        return Err(Status::BadData);
+    }
+    Ok(read)
+}
+
+// The limits, where each is in its range.
+fn read_limits(limits: &SpanLimits) -> Result<Checked, Fault>
+    ensures exact { IsOk result ↔ AreInRange (said_limits limits.now) }
+    ensures value { IfOk result (λ checked. checked ≡ said_limits limits.now) }
+    ensures fault { IfErr result (λ fault. fault ≡ Fault.BadLimits) }
+{
+    let limits = Limits {
+        slots: limits.slots,
+        last_generation: limits.last_generation,
+        max_count: limits.max_count,
+        workers: limits.workers,
+        ring: limits.ring,
+    };
+    limits.check()
+}
+
+// A registry with these layers, and the other end of its ring. The only error is `Memory`.
+fn make(alloc: Global, checked: &Checked, layers: PlainLayers) -> Result<(Registry, Reader), Fault>
+    ensures core { IfOk result (λ made. made.0 ≡ record {
+      limits = checked.now;
+      rules = filters_in layers;
+      world = empty_world checked.now.workers;
+      sent = [];
+      times_full = 0;
+      forms = [];
+      name = Some made.1.name;
+    }) }
+    ensures reader { IfOk result (λ made. made.1 ≡ record {
+      name = made.1.name;
+      forms = forms_in layers;
+      taken = [];
+      waiting = [];
+      refused = 0;
+    }) }
+    ensures memory { IfErr result (λ fault. fault ≡ Fault.Memory) }
+{
+    let (filters, tellers) = layers.split();
+    let (ring, tap) = Ring::pair(alloc, checked)?;
+    let core = Core::new(alloc, checked, filters, ring)?;
+    let lines = LineReader::new(alloc, tap, tellers);
+    Ok((Registry { core }, Reader { lines }))
+}
+
+/// A new registry and the other end of its ring, each in a box.
+pub(crate) fn open(
+    alloc: Global,
+    limits: &SpanLimits,
+    layers: &[SpanLayer],
+    rules: &[SpanRule],
+    bytes: &[u8],
+) -> Result<(Box<Registry>, Box<Reader>), Status>
+    ensures new { IfOk result (λ made.
+        AreNew limits.now layers.now rules.now bytes.now made.0.value made.1.value) }
+    ensures none { IfErr result (λ status. WhyNone limits.now layers.now rules.now bytes.now status) }
+{
+    let checked = match read_limits(limits) {
+        Ok(checked) => checked,
+        Err(fault) => return Err(Status::Refused(fault)),
+    };
+    if layers.len() > MAX_LAYERS {
+        return Err(Status::Refused(Fault::TooManyLayers));
+    }
+    let layers = read_layers(alloc, layers, rules, bytes)?;
+    let Ok((registry, reader)) = make(alloc, &checked, layers) else {
+        return Err(Status::Refused(Fault::Memory));
+    };
+    let Ok(registry) = Box::new(alloc, registry) else {
+        return Err(Status::Refused(Fault::Memory));
+    };
+    let Ok(reader) = Box::new(alloc, reader) else {
+        return Err(Status::Refused(Fault::Memory));
+    };
+    Ok((registry, reader))
+}

@@ -1,0 +1,149 @@
+/* A registry of spans, as Rust's `tracing` has one, proved: the C interface of the library span_ffi.
+ *
+ * Every call answers a status, and SPAN_OK alone means that it was done. Any other status left the registry, the drain
+ * and every output as they were, but for what is said of it here. What a pointer points to has to be there, also where
+ * a length is 0: no pointer may be NULL. The library takes its memory by malloc, realloc and free. */
+#ifndef SPAN_REGISTRY_H
+#define SPAN_REGISTRY_H
+
+#include <stddef.h>
+#include <stdint.h>
+
+#ifdef __cplusplus
+extern "C" {
+#endif
+
+/* A registry without a lock: one call at a time. It may move between threads. {NULL} is empty. Not to be copied. */
+typedef struct SpanRegistry {
+    void *at;
+} SpanRegistry;
+
+/* The end from which lines are read. It needs no lock and may be used in another thread beside the registry, one call at
+ * a time. {NULL} is empty. Not to be copied. */
+typedef struct SpanDrain {
+    void *at;
+} SpanDrain;
+
+enum {
+    SPAN_OK = 0,
+    SPAN_UNKNOWN = 1,          /* no open span has the id, or no handle of it is out */
+    SPAN_COUNT_FULL = 2,       /* a count that would rise stands at its greatest value */
+    SPAN_FULL = 3,             /* no slot is free */
+    SPAN_NOT_ENTERED = 4,      /* the span doesn't stand in the worker's stack */
+    SPAN_TOO_MANY_LAYERS = 5,  /* there are more than 64 */
+    SPAN_BAD_NAME = 6,         /* a name or key isn't 1 to 64 ASCII letters, digits, '_', '.' or '-' */
+    SPAN_BACKLOG = 7,          /* the ring has no free place: lines have to be read first */
+    SPAN_BAD_LIMITS = 8,       /* a limit is outside its range */
+    SPAN_OUT_OF_MEMORY = 10,
+    SPAN_BAD_DATA = 11,        /* lengths that don't fit the texts, text that is no UTF-8, or a level, form, kinds or
+                                  kind of parent that aren't there */
+    SPAN_EMPTY_HANDLE = 12,
+    SPAN_HANDLE_IN_USE = 13,   /* a handle that was to be filled isn't empty */
+    SPAN_NO_SUCH_WORKER = 14,
+    SPAN_NO_LINE = 15,         /* the drain has no line now */
+    SPAN_SHORT_BUFFER = 16     /* the text is longer than the buffer: its length was told */
+};
+
+/* slots 1 to 2^24; last_generation any; max_count from 1; workers 1 to 256; ring 1 to 65536 */
+typedef struct SpanLimits {
+    uint32_t slots, last_generation, max_count, workers, ring;
+} SpanLimits;
+
+/* form 0 compact, 1 JSON; kinds a sum of 1 new, 2 enter, 4 exit, 8 close; rules: how many of the rules are its own */
+typedef struct SpanLayer {
+    uint32_t form, kinds, rules;
+} SpanLayer;
+
+/* lets in targets that begin with the prefix, up to the level; the longest prefix decides, of equal ones the later.
+ * Levels: 0 ERROR, 1 WARN, 2 INFO, 3 DEBUG, 4 TRACE */
+typedef struct SpanRule {
+    uint32_t prefix_len, level;
+} SpanRule;
+
+typedef struct SpanMeta {
+    uint32_t level, name_len, target_len;
+} SpanMeta;
+
+typedef struct SpanField {
+    uint32_t key_len, value_len;
+} SpanField;
+
+/* parent 0: a root; count: handles, workers inside, and open children */
+typedef struct SpanFound {
+    uint64_t parent;
+    uint32_t handles, entries, count, level;
+} SpanFound;
+
+/* held: the handles and entries of all spans */
+typedef struct SpanCounts {
+    uint64_t made, closed, calls, held;
+    uint32_t open, workers;
+} SpanCounts;
+
+/* Texts stand one after another in `texts`, each of the length that its struct tells, and all bytes have to be used up.
+ * Of several things that stand against a call the status tells the first: SPAN_EMPTY_HANDLE, SPAN_NO_SUCH_WORKER,
+ * SPAN_BAD_DATA, SPAN_BAD_NAME, SPAN_UNKNOWN, SPAN_COUNT_FULL, SPAN_FULL, SPAN_NOT_ENTERED; SPAN_BACKLOG comes where
+ * none of these does, and SPAN_OUT_OF_MEMORY may come before SPAN_BAD_DATA and what follows it. */
+
+/* Fills two empty handles. Each layer takes the next of the rules for its own; texts: the prefixes of all rules. */
+uint32_t span_registry_new(SpanRegistry *registry, SpanDrain *drain, const SpanLimits *limits,
+    const SpanLayer *layers, size_t layers_len, const SpanRule *rules, size_t rules_len,
+    const uint8_t *texts, size_t texts_len);
+
+/* Gives the memory back, and the handle is empty. The drain may still be read. */
+uint32_t span_registry_free(SpanRegistry *registry);
+
+/* What a new span has for a parent: none, the worker's current span, or the span that is named. */
+enum { SPAN_ROOT = 0, SPAN_CURRENT = 1, SPAN_UNDER = 2 };
+
+/* A span with one handle. texts: name, target, then each key and its value. id: 0 where no layer wants the span. */
+uint32_t span_registry_new_span(SpanRegistry *registry, uint32_t worker, uint32_t parent_kind, uint64_t parent,
+    const SpanMeta *meta, const SpanField *fields, size_t fields_len, const uint8_t *texts, size_t texts_len,
+    uint64_t *id);
+
+/* One more handle. */
+uint32_t span_registry_clone_span(SpanRegistry *registry, uint32_t worker, uint64_t id);
+
+/* first: 1 where the worker wasn't inside the span, else 0. */
+uint32_t span_registry_enter(SpanRegistry *registry, uint32_t worker, uint64_t id, uint32_t *first);
+
+/* closed: 1 where the span closed, else 0. */
+uint32_t span_registry_exit(SpanRegistry *registry, uint32_t worker, uint64_t id, uint32_t *closed);
+
+/* Gives a handle back. closed: 1 where the span closed, else 0. */
+uint32_t span_registry_try_close(SpanRegistry *registry, uint32_t worker, uint64_t id, uint32_t *closed);
+
+/* Appends fields. texts: each key and its value. */
+uint32_t span_registry_record(SpanRegistry *registry, uint32_t worker, uint64_t id,
+    const SpanField *fields, size_t fields_len, const uint8_t *texts, size_t texts_len);
+
+/* texts: name, target, message, then each key and its value. */
+uint32_t span_registry_event(SpanRegistry *registry, uint32_t worker, const SpanMeta *meta, uint32_t message_len,
+    const SpanField *fields, size_t fields_len, const uint8_t *texts, size_t texts_len);
+
+/* SPAN_UNKNOWN where the span isn't open. */
+uint32_t span_registry_find(SpanRegistry *registry, uint64_t id, SpanFound *found);
+
+/* id: 0 where the worker's stack is empty. */
+uint32_t span_registry_current_span(SpanRegistry *registry, uint32_t worker, uint64_t *id);
+
+uint32_t span_registry_counts(SpanRegistry *registry, SpanCounts *counts);
+
+/* The next line, without a newline. Where none is at hand, batches are taken out of the ring until one is, also where
+ * the status is SPAN_NO_LINE then. A line that doesn't fit stays the next one. */
+uint32_t span_drain_line(SpanDrain *drain, uint32_t *layer, uint8_t *into, size_t into_len, size_t *len);
+
+/* How many batches were taken, and how many notes were missed for want of memory. */
+uint32_t span_drain_counts(SpanDrain *drain, uint64_t *batches, uint64_t *refused);
+
+/* Gives the memory back, and the handle is empty. The registry may still be used until the ring is full. */
+uint32_t span_drain_free(SpanDrain *drain);
+
+/* What a status says, in English, without a newline. SPAN_BAD_DATA where the number is no status. */
+uint32_t span_status_text(uint32_t status, uint8_t *into, size_t into_len, size_t *len);
+
+#ifdef __cplusplus
+}
+#endif
+
+#endif
