@@ -34,8 +34,7 @@ pub fn calls_on_core(alloc: Global, shape: &Shape, layers: Layers) -> Result<Mad
     Ok(Made {
         calls: core.calls(),
         lines: drain.all().len(),
-        left: core.len(),
-        backlogs: 0,
+        ..Made::default()
     })
 }
 

@@ -17,8 +17,8 @@ use std::alloc::{AllocError, Global};
 use std::sync::Wait;
 use std::thread::Threads;
 
-/// How a run ended: the calls that were accepted, the lines that were kept, the spans left open, and how often the ring
-/// was full.
+/// How a run ended: the calls that were accepted, the lines that were written, and, beside a slow drain, the spans left
+/// open and how often the ring was full.
 #[derive(Clone, Copy, Debug, Default, PartialEq, Eq)]
 pub struct Made {
     pub calls: u64,
@@ -28,7 +28,7 @@ pub struct Made {
 }
 
 /// Makes a run. Its layers write compact lines of everything. The closures' contracts are what `Hooks::new` asks for.
-pub fn made<R: Threads + Wait + Sync>(rt: &R, alloc: Global, order: &Order) -> Result<Made, Fault>
+pub fn run<R: Threads + Wait + Sync>(rt: &R, alloc: Global, order: &Order) -> Result<Made, Fault>
     requires { IsInRange order.now }
 {
     let mut layers = Layers::new(alloc);
@@ -59,7 +59,7 @@ pub fn made<R: Threads + Wait + Sync>(rt: &R, alloc: Global, order: &Order) -> R
             return Err(fault);
         }
     }
-    run(rt, alloc, order, layers)
+    run_with(rt, alloc, order, layers)
 }
 
 // The text of a note, which is made so many times more, so that it takes longer.
@@ -80,7 +80,7 @@ fn everything(alloc: Global) -> Result<Rule, Fault> {
 }
 
 // The run with these layers. A storm has none.
-fn run<R: Threads + Wait + Sync>(
+fn run_with<R: Threads + Wait + Sync>(
     rt: &R,
     alloc: Global,
     order: &Order,
@@ -96,7 +96,6 @@ fn run<R: Threads + Wait + Sync>(
             match storm(rt, alloc, *workers, *rounds, none, &Open) {
                 Ok(report) => Ok(Made {
                     calls: report.calls,
-                    left: report.left,
                     ..Made::default()
                 }),
                 Err(_) => Err(Fault::Memory),

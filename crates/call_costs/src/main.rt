@@ -12,7 +12,7 @@ mod registry_loop;
 mod slow_drain;
 mod texts;
 
-use crate::made::{Made, made};
+use crate::made::{Made, run};
 use crate::order::{SHORT_RUNS, read_order};
 use span_id::Fault;
 use std::io;
@@ -25,7 +25,7 @@ fn main(rt: HostRuntime) -> io::Result<ExitCode> {
     let words: Vec<String> = std::env::args(&rt)?.collect(rt.alloc())?;
     if words.len() < 2 {
         for order in SHORT_RUNS {
-            let ended = made(&rt, rt.alloc(), &order);
+            let ended = run(&rt, rt.alloc(), &order);
             tell(&rt, ended)?;
         }
         return Ok(ExitCode::SUCCESS);
@@ -34,9 +34,9 @@ fn main(rt: HostRuntime) -> io::Result<ExitCode> {
         eprintln!(rt; "{USAGE}")?;
         return Ok(ExitCode::from(2));
     };
-    let ended = made(&rt, rt.alloc(), &order);
+    let ended = run(&rt, rt.alloc(), &order);
     if let Ok(made) = &ended {
-        eprintln!(rt; "{} times no place", made.backlogs)?;
+        eprintln!(rt; "{} left, {} times no place", made.left, made.backlogs)?;
     }
     tell(&rt, ended)
 }

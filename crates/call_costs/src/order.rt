@@ -73,8 +73,8 @@ pub fn read_order(words: &[String]) -> Option<Order>
     let kind = words.first()?;
     let numbers = &words[1..];
     match kind.as_str() {
-        "core" => Some(Order::Core(shape(numbers)?)),
-        "registry" => Some(Order::Registry(shape(numbers)?)),
+        "core" => Some(Order::Core(read_shape(numbers)?)),
+        "registry" => Some(Order::Registry(read_shape(numbers)?)),
         "storm" => Some(Order::Storm {
             workers: number(numbers, 0, 1, 16)?,
             rounds: number(numbers, 1, 1, 400)?,
@@ -88,7 +88,7 @@ pub fn read_order(words: &[String]) -> Option<Order>
 }
 
 // The shape that four numbers give.
-fn shape(numbers: &[String]) -> Option<Shape> {
+fn read_shape(numbers: &[String]) -> Option<Shape> {
     Some(Shape {
         layers: number(numbers, 0, 0, 64)?,
         fields: number(numbers, 1, 0, 64)?,

@@ -83,12 +83,10 @@ fn run<H: Ledger, C: Ledger, S: Setup, V: Say + Drop, R: Wait>(
         round(rt, &registry, &mut worker, &texts)?;
         take_all(&mut drain);
     }
-    let report = registry.finish(worker.leave(), drain);
     Ok(Made {
-        calls: report.calls,
-        lines: report.lines.len(),
-        left: report.left,
-        backlogs: 0,
+        calls: worker.accepted(),
+        lines: drain.all().len(),
+        ..Made::default()
     })
 }
 
