@@ -97,3 +97,10 @@ apart_from number (batch ∷ history) =
 
 pub elsewhere : (forms : List Form) (history : List PlainBatch) (lines : List PlainLine) (xs : List NumberedNote) → AreTold forms (numbered history) lines xs → All (HasNoLine lines) xs
 elsewhere forms history lines xs each = no_line forms each (apart_from 0 history)
+
+-- the lines of a batch have its number
+pub of_one_batch : (forms : List Form) (number : ℕ) (batch : PlainBatch) {lines : List PlainLine} {xs : List NumberedNote} → AreTold forms (numbered_in (number, batch)) lines xs → All (λ line. line.batch ≡ number) lines
+unfolding numbered_as
+of_one_batch forms number batch each =
+    (at_each forms (λ b p. b ≡ number) each
+    (All-weaker (λ note. (note.batch ≡ number) × (0 ≤ note.place)) (λ note. note.batch ≡ number) (λ note at. at.0) (numbered_in (number, batch)) (from_place number 0 0 batch.notes (omega arith)))).0

@@ -52,7 +52,7 @@ gains_missed forms lines after refused more note same is = record {
 }
 
 -- notes, and then others
-gains_more : (forms : List Form) (first notes : List NumberedNote) (lines between after : List PlainLine) (refused some more : ℕ)
+pub gains_more : (forms : List Form) (first notes : List NumberedNote) (lines between after : List PlainLine) (refused some more : ℕ)
     → GainsLines forms first lines refused between some → GainsLines forms notes between some after more → GainsLines forms (first ++ notes) lines refused after more
 gains_more forms first notes lines between after refused some more a b = record {
   added = a.added ++ b.added;

@@ -1,5 +1,6 @@
 pub mod Keeping
 pub mod Apart
 pub mod Draining
+pub mod Reading
 pub mod OfLayer
 mod KeptCases

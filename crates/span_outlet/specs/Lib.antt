@@ -5,4 +5,5 @@ pub mod Lines
 pub mod Kept
 pub mod Ring
 pub mod Drain
+pub mod LineReader
 pub mod inside

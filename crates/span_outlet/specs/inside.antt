@@ -1,3 +1,4 @@
 -- What only the proofs of this crate need: no public clause cites it.
 pub mod Ends
 pub mod OfLayer
+pub mod Reading

@@ -7,6 +7,7 @@ mod drain;
 mod kept;
 mod layer_lines;
 mod line;
+mod line_reader;
 mod outlet;
 mod ring;
 #[cfg(test)]
@@ -18,5 +19,6 @@ pub use drain::{Drain, Step};
 pub use kept::Kept;
 pub use layer_lines::LayerLines;
 pub use line::Line;
+pub use line_reader::LineReader;
 pub use outlet::Outlet;
 pub use ring::{Ring, Tap};

@@ -2,4 +2,5 @@
 
 mod batches;
 mod drain;
+mod line_reader;
 mod ring;

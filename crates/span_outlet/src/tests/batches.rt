@@ -5,7 +5,7 @@ ghost use Rattle.span_layers.specs.Note.{plain_note};
 ghost use Rattle.span_layers.specs.Rule.{pairs_of, is_admitted};
 ghost use Rattle.span_layers.specs.Text.{text_of};
 
-use crate::{Batch, Call, Drain, Line, Outlet, Reply, Ring};
+use crate::{Batch, Call, Drain, Line, Outlet, Reply, Ring, Tap};
 use span_id::{Id, Limits, Meta};
 use span_layers::{
     FmtSpan, Form, Hooks, Kind, Layer, Layers, Note, Rule, Style, Tellers, admits, text,
@@ -59,17 +59,25 @@ pub(crate) fn tellers(alloc: Global, forms: &[Form]) -> Result<Tellers, Fail> {
     Ok(tellers)
 }
 
-/// A ring of so many places, and a drain of it that writes in these forms.
-pub(crate) fn opened(alloc: Global, places: u32, forms: &[Form]) -> Result<(Ring, Drain), Fail>
+/// Both ends of a ring of so many places.
+pub(crate) fn pair(alloc: Global, places: u32) -> Result<(Ring, Tap), Fail>
     ensures new { IfOk result (λ ends. ends.0.sent ≡ []) }
-    ensures pair { IfOk result (λ ends. ends.0.name ≡ ends.1.name) }
+    ensures pair { IfOk result (λ ends. ends.0.name ≡ ends.1) }
 {
     let limits = Limits {
         ring: places,
         ..Limits::default()
     };
+    Ok(Ring::pair(alloc, &limits.check()?)?)
+}
+
+/// A ring of so many places, and a drain of it that writes in these forms.
+pub(crate) fn opened(alloc: Global, places: u32, forms: &[Form]) -> Result<(Ring, Drain), Fail>
+    ensures new { IfOk result (λ ends. ends.0.sent ≡ []) }
+    ensures pair { IfOk result (λ ends. ends.0.name ≡ ends.1.name) }
+{
     let tellers = tellers(alloc, forms)?;
-    let (ring, tap) = Ring::pair(alloc, &limits.check()?)?;
+    let (ring, tap) = pair(alloc, places)?;
     Ok((ring, Drain::new(alloc, tap, tellers)))
 }
 
@@ -130,7 +138,8 @@ pub(crate) fn shown_of<V>(alloc: Global, drain: &Drain<V>, layer: u32) -> Result
     Ok(String::from_utf8(all)?)
 }
 
-fn push_line(alloc: Global, all: &mut Vec<u8>, line: &Line) -> Result<(), AllocError> {
+/// Writes the numbers and the text of a line, and a newline.
+pub(crate) fn push_line(alloc: Global, all: &mut Vec<u8>, line: &Line) -> Result<(), AllocError> {
     let numbers = format!(in alloc; "{} {} {} ", line.batch, line.place, line.layer)?;
     all.extend_from_slice(numbers.as_bytes())?;
     all.extend_from_slice(line.text.as_slice())?;

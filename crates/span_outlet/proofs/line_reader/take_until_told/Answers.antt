@@ -1,0 +1,46 @@
+use Rattle.std.proofs.Common.{rules, ◌≡◌, ◌++◌, ◌∷◌, [], length, refl, ap, ◌∙◌, arith}
+use Rattle.std.proofs.lemmas.List.{nil_from_length}
+use Rattle.rtrb.specs.Ring.{received}
+use Rattle.span_outlet.proofs.Draining.{one_more_taken, moved_on}
+use Rattle.span_outlet.proofs.Reading.{takes_nothing, takes_more, of_batch}
+use Rattle.span_outlet.proofs.line_reader.take_until_told.Goals as goal
+
+pub loop-init : goal.loop-init
+loop-init g c = record {
+  name = search rules;
+  forms = search rules;
+  number = search rules;
+  standing = search rules;
+  fifo = refl;
+  nothing = c.requires.nothing;
+  batches = takes_nothing _ _ _ _ _ _ _ (search rules) c.requires.nothing c.args.told.now.in_range;
+}
+
+pub returns-then-not-is_empty-clause-batches : goal.returns-then-not-is_empty-clause-batches
+returns-then-not-is_empty-clause-batches g c =
+    let before = c.loop.invariant in
+    takes_more _ _ _ _ _ _ _ _ _ c.pop_known-batch.result _ _ _ _ _ _ before.forms before.number c.pop_known-batch.ensures.received.0 before.batches c.tell_all.ensures.told
+
+pub returns-then-not-is_empty-clause-fifo : goal.returns-then-not-is_empty-clause-fifo
+returns-then-not-is_empty-clause-fifo g c = moved_on _ _ _ _ c.pop_known-batch.result _ c.pop_known-batch.ensures.received.0 c.pop_known-batch.ensures.received.1 c.loop.invariant.fifo
+
+pub returns-then-not-is_empty-clause-last : goal.returns-then-not-is_empty-clause-last
+returns-then-not-is_empty-clause-last g c =
+    let before = c.loop.invariant in
+    of_batch _ _ _ c.pop_known-batch.result _ _ _ _ _ before.nothing before.number c.pop_known-batch.ensures.received.0 c.tell_all.ensures.told
+
+pub loop-preserved : goal.loop-preserved
+loop-preserved g c =
+    let before = c.loop.invariant in
+    let batch = c.pop_known-batch.result in
+    let popped : received c.pop_known-batch.new.self ≡ received c.loop.consumer ++ batch ∷ [] = c.pop_known-batch.ensures.received.0 in
+    let fewer = ap length c.pop_known-batch.ensures.received.1 in
+    record {
+      name = search rules;
+      forms = c.tell_all.ensures.forms ∙ before.forms;
+      number = one_more_taken _ _ batch _ popped before.number;
+      standing = omega (arith, fewer, before.standing);
+      fifo = moved_on _ _ _ _ batch _ popped c.pop_known-batch.ensures.received.1 before.fifo;
+      nothing = nil_from_length _ (search rules);
+      batches = takes_more _ _ _ _ _ _ _ _ _ batch _ _ _ _ _ _ before.forms before.number popped before.batches c.tell_all.ensures.told;
+    }

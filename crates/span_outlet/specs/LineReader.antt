@@ -1,0 +1,39 @@
+-- What a contract sees of a line reader, and what it does when it takes batches.
+use Rattle.std.specs.Prelude.{◌≡◌, ℕ, ◌+◌, List, ◌++◌, flat_map, length, All}
+use Rattle.std.specs.List.{enumerate_from}
+use Rattle.span_layers.specs.declared.form.Form.{Form}
+use Rattle.span_outlet.specs.Batch.{PlainBatch}
+use Rattle.span_outlet.specs.Outlet.{RingName}
+use Rattle.span_outlet.specs.Lines.{PlainLine}
+use Rattle.span_outlet.specs.Kept.{AreKept, GainsLines, NumberedNote, numbered, numbered_in}
+
+-- the name of its ring, the forms in which it writes, the batches that it took, the lines of their notes that were not
+-- given out yet, in order, and how many notes were missed
+pub record LineReaderView : Type 0 where
+  pub name : RingName
+  pub forms : List Form
+  pub taken : List PlainBatch
+  pub waiting : List PlainLine
+  pub refused : ℕ
+
+-- the notes of batches, the first of which has this number
+abbrev pub numbered_from : ℕ → List PlainBatch → List NumberedNote
+numbered_from first batches = flat_map numbered_in (enumerate_from first batches)
+
+-- More batches were taken, perhaps none, and all their notes were told or missed: after the lines that waited wait
+-- those of the notes that were told, in order, and the ones that were missed are counted.
+pub record TakesBatches (old new : LineReaderView) : Type 0 where
+  pub batches : List PlainBatch
+  pub taken : new.taken ≡ old.taken ++ batches
+  pub gains : GainsLines old.forms (numbered_from (length old.taken) batches)
+      old.waiting old.refused new.waiting new.refused
+
+-- The lines that wait are the last ones of all that was taken: with those given out before them they are its lines, but
+-- for the notes that were missed.
+pub record AreLeft (view : LineReaderView) : Type 0 where
+  pub given : List PlainLine
+  pub kept : AreKept view.forms (numbered view.taken) (given ++ view.waiting) view.refused
+
+-- No more waits than one batch brought: each line that waits is of the last batch taken.
+abbrev pub AreOfLast : LineReaderView → Type 0
+AreOfLast view = All (λ line. line.batch + 1 ≡ length view.taken) view.waiting

@@ -1,0 +1,199 @@
+//! What takes the batches out of a ring and gives out the lines of their notes, one after another.
+ghost use Rattle.std.specs.Prelude.{◌≡◌, ◌<◌, ◌∷◌, [], ◌++◌, ◌↔◌, false, Some, IfSome, IfNone, IsTrue, map, length, slice_get};
+ghost use Rattle.rtrb.specs.Ring.{received, known_items};
+ghost use Rattle.span_outlet.specs.Batch.{plain_batch};
+ghost use Rattle.span_outlet.specs.Lines.{plain_line};
+ghost use Rattle.span_outlet.specs.LineReader.{AreLeft, AreOfLast, TakesBatches};
+ghost use Rattle.span_outlet.specs.inside.Ends.{name_of_consumer};
+ghost use Rattle.span_outlet.specs.inside.Reading.{reader_view};
+
+use crate::line::Line;
+use crate::ring::{Consuming, Ring, Tap};
+use crate::told::Told;
+use span_layers::{Formatters, Say, Tellers};
+use std::alloc::Global;
+use std::marker::Model;
+
+/// Takes the batches out of a ring, and gives out the lines of their notes, each once and in order.
+///
+/// It keeps no line that it gave out, and takes a batch only where no line waits. So it keeps at most the lines of one
+/// batch. It takes no lock, so it may run beside the core, in a thread of its own. Notes are missed as by a `Drain`.
+/// `V` makes the texts.
+#[derive(Drop)]
+pub struct LineReader<V = Formatters> {
+    consumer: Consuming,
+    taken: u64,
+    // The lines that wait, the last one first: so the first one can be popped.
+    told: Told,
+    formatters: V,
+}
+
+impl<V> Model for LineReader<V> {
+    ghost use Rattle.std.specs.Prelude.{◌≡◌, length};
+    ghost use mathlib.Core.List.{reverse};
+    ghost use Rattle.rtrb.specs.Ring.{received};
+    ghost use Rattle.span_outlet.specs.LineReader.{AreLeft, AreOfLast, LineReaderView};
+    ghost use Rattle.span_outlet.specs.inside.Ends.{name_of_consumer};
+    ghost use Rattle.span_outlet.specs.inside.Reading.{reader_view};
+
+    ghost Value = { LineReaderView };
+
+    ghost view = { λ reader.
+        reader_view (name_of_consumer reader.consumer) reader.told.forms (received reader.consumer)
+        (reverse reader.told.lines.items) reader.told.refused };
+
+    ghost invariant = { λ reader.
+        AreLeft (reader_view (name_of_consumer reader.consumer) reader.told.forms (received reader.consumer)
+        (reverse reader.told.lines.items) reader.told.refused)
+        × AreOfLast (reader_view (name_of_consumer reader.consumer) reader.told.forms (received reader.consumer)
+        (reverse reader.told.lines.items) reader.told.refused)
+        × (reader.taken ≡ length (received reader.consumer)) };
+}
+
+// Takes the batches that are known to stand in the ring, one by one, and tells their notes, until there is a line.
+fn take_until_told<V: Say>(
+    consumer: &mut Consuming,
+    taken: &mut u64,
+    told: &mut Told,
+    formatters: &V,
+    standing: usize,
+)
+    requires standing { standing ≡ length (known_items consumer.old) }
+    requires number { taken.old ≡ length (received consumer.old) }
+    requires nothing { told.old.lines.items ≡ [] }
+    ensures number { taken.new ≡ length (received consumer.new) }
+    ensures name { name_of_consumer consumer.new ≡ name_of_consumer consumer.old }
+    ensures forms { told.new.forms ≡ told.old.forms }
+    ensures batches { TakesBatches
+        (reader_view (name_of_consumer consumer.old) told.old.forms (received consumer.old) [] told.old.refused)
+        (reader_view (name_of_consumer consumer.new) told.new.forms (received consumer.new) told.new.lines.items
+        told.new.refused) }
+    ensures last { AreOfLast
+        (reader_view (name_of_consumer consumer.new) told.new.forms (received consumer.new) told.new.lines.items
+        told.new.refused) }
+    ensures fifo { map plain_batch (received consumer.new ++ known_items consumer.new)
+        ≡ map plain_batch (received consumer.old ++ known_items consumer.old) }
+    ensures none_left { told.new.lines.items ≡ [] → known_items consumer.new ≡ [] }
+{
+    for _ in 0..standing {
+        let batch = consumer.pop_known();
+        told.tell_all(formatters, *taken, &batch);
+        *taken += 1;
+        if !told.lines.is_empty() {
+            return;
+        }
+    }
+}
+
+impl<F: Drop> LineReader<Formatters<F>> {
+    /// A reader that took nothing, and which writes as the tellers do. It takes no memory.
+    pub fn new(alloc: Global, tap: Tap, tellers: Tellers<F>) -> LineReader<Formatters<F>>
+        ensures { result ≡ record { name = tap; forms = tellers.forms; taken = []; waiting = []; refused = 0 } }
+    {
+        let Tap { consumer } = tap;
+        let Tellers { forms, formatters } = tellers;
+        LineReader {
+            consumer,
+            taken: 0,
+            told: Told {
+                forms,
+                lines: Vec::new(alloc),
+                refused: 0,
+            },
+            formatters,
+        }
+    }
+}
+
+impl<V: Say> LineReader<V> {
+    /// Takes batches until a line waits, and tells their notes, in order. True where a line waits now.
+    ///
+    /// Where one waited already, nothing changes. It takes no more batches than stand in the ring when it is called,
+    /// and false means that none of them had a line.
+    pub fn fill(&mut self) -> bool
+        ensures answer { IsTrue result ↔ (0 < length self.new.waiting) }
+        ensures none { result ≡ false → self.new.waiting ≡ [] }
+        ensures waited { 0 < length self.old.waiting → self.new ≡ self.old }
+        ensures taken { TakesBatches self.old self.new }
+        ensures name { self.new.name ≡ self.old.name }
+        ensures forms { self.new.forms ≡ self.old.forms }
+    {
+        let LineReader {
+            consumer,
+            taken,
+            told,
+            formatters,
+        } = self;
+        if !told.lines.is_empty() {
+            return true;
+        }
+        let standing = consumer.slots();
+        take_until_told(consumer, taken, told, &*formatters, standing);
+        told.lines.reverse();
+        !told.lines.is_empty()
+    }
+
+    /// The same where both ends of the ring are in one thread, so that the look at the ring is up to date: false means
+    /// that everything that was sent is taken, and that no line waits.
+    pub fn fill_beside(&mut self, ring: &mut Ring) -> bool
+        requires pair { ring.old.name ≡ self.old.name }
+        ensures answer { IsTrue result ↔ (0 < length self.new.waiting) }
+        ensures none { result ≡ false → self.new.waiting ≡ [] }
+        ensures waited { 0 < length self.old.waiting → self.new ≡ self.old }
+        ensures taken { TakesBatches self.old self.new }
+        ensures sent { self.new.waiting ≡ [] → self.new.taken ≡ ring.old.sent }
+        ensures name { self.new.name ≡ self.old.name }
+        ensures forms { self.new.forms ≡ self.old.forms }
+        ensures ring { ring.new ≡ record ring.old { free = ring.new.free } }
+    {
+        let LineReader {
+            consumer,
+            taken,
+            told,
+            formatters,
+        } = self;
+        if !told.lines.is_empty() {
+            return true;
+        }
+        let standing = ring.look_beside(consumer);
+        take_until_told(consumer, taken, told, &*formatters, standing);
+        told.lines.reverse();
+        !told.lines.is_empty()
+    }
+}
+
+impl<V> LineReader<V> {
+    /// The first line that waits. None where no line waits.
+    pub fn peek(&self) -> Option<&Line>
+        ensures some { IfSome result (λ line. slice_get self.now.waiting 0 ≡ Some (plain_line line.now)) }
+        ensures none { IfNone result (self.now.waiting ≡ []) }
+        ensures left { AreLeft self.now }
+        ensures level { AreOfLast self.now }
+    {
+        self.told.lines.last()
+    }
+
+    /// Gives the first line that waits out. None where no line waits.
+    pub fn next(&mut self) -> Option<Line>
+        ensures some { IfSome result (λ line. self.old.waiting ≡ plain_line line ∷ self.new.waiting) }
+        ensures none { IfNone result (self.old.waiting ≡ []) }
+        ensures same { IfNone result (self.new ≡ self.old) }
+        ensures rest { self.new ≡ record self.old { waiting = self.new.waiting } }
+    {
+        self.told.lines.pop()
+    }
+
+    /// How many batches were taken.
+    pub fn taken(&self) -> u64
+        ensures { result ≡ length self.now.taken }
+    {
+        self.taken
+    }
+
+    /// How many notes were missed. It stays at its greatest value.
+    pub fn refused(&self) -> u64
+        ensures { result ≡ self.now.refused }
+    {
+        self.told.refused
+    }
+}
