@@ -4,7 +4,7 @@
 Each loop is run by the program `call_costs` (crates/call_costs) and by the peer in turn, on a registry without its lock
 (`core`) and on one whose lock each call takes (`registry`), from which the time under the lock is seen. The lines are
 written by a reader of the ring in the same thread and dropped. Told are nanoseconds of CPU (user and system, the least
-of the runs) and allocations for each call. Storms without layers are told by the clock, the middle one of the runs.
+of the runs) and allocations for each call. Storms without layers are told by the clock, the middle one of the runs. Chains of three lengths show whether time and memory grow as the length does.
 
 usage: calls.py [--calls N] [--runs N] [--storm-runs N] [--program FILE] [--peer FILE] [--json FILE]
 """
@@ -31,6 +31,7 @@ SHAPES = [(layers, 0, 1) for layers in (0, 1, 8, 64)] + [
 ]
 WORKERS = (1, 2, 4, 8, 16)
 STORM_ROUNDS = 400
+CHAINS = (10_000, 100_000, 1_000_000)
 
 
 def middle_and_least(commands, runs, told):
@@ -91,6 +92,23 @@ def storm_row(programs, workers, runs):
     return {"workers": workers, "calls": 9 * workers * STORM_ROUNDS, **{name: found[name][0] for name in programs}}
 
 
+def chain_row(programs, length, runs):
+    words = {name: [file, "chain", str(length)] for name, file in programs.items()}
+    found = middle_and_least(words, runs, lambda run: (run.cpu, run.peak))
+    return {"length": length, **{name: found[name][1] for name in programs}}
+
+
+def print_chains(rows):
+    print("\n| spans | CPU s | ns a span | peak MB | peer's CPU s | ns a span | peak MB |")
+    print("|---:|---:|---:|---:|---:|---:|---:|")
+    for row in rows:
+        parts = (
+            f"{cpu:.3f} | {cpu / row['length'] * 1e9:,.0f} | {peak / 1e6:.1f}"
+            for cpu, peak in (row["program"], row["peer"])
+        )
+        print(f"| {row['length']:,} | {' | '.join(parts)} |")
+
+
 def print_loops(rows):
     print("| on | layers | fields | depth | ns a call | peer's | ratio | allocations a call | peer's |")
     print("|---|---:|---:|---:|---:|---:|---:|---:|---:|")
@@ -136,9 +154,11 @@ def main():
     print_loops(loops)
     storms = [storm_row(programs, workers, words.storm_runs) for workers in WORKERS]
     print_storms(storms)
+    chains = [chain_row(programs, length, words.runs) for length in CHAINS]
+    print_chains(chains)
     if words.json:
         with open(words.json, "w", encoding="utf-8") as file:
-            json.dump({"loops": loops, "storms": storms}, file, indent=1)
+            json.dump({"loops": loops, "storms": storms, "chains": chains}, file, indent=1)
 
 
 if __name__ == "__main__":

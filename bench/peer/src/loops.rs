@@ -39,7 +39,6 @@ impl Shape {
 pub struct Made {
     pub calls: u64,
     pub lines: usize,
-    pub left: usize,
 }
 
 fn opened(shape: &Shape) -> (Registry<Sending>, Receiver<Batch>, Lines) {
@@ -103,7 +102,6 @@ fn made(registry: &Registry<Sending>, lines: usize) -> Made {
     Made {
         calls: registry.outlet.calls,
         lines,
-        left: registry.open_spans(),
     }
 }
 
@@ -123,4 +121,37 @@ pub fn on_registry(shape: &Shape) -> Result<Made, Refusal> {
     })?;
     let registry = registry.into_inner().unwrap_or_else(PoisonError::into_inner);
     Ok(made(&registry, lines))
+}
+
+/// A chain of so many spans, each under the one before, whose handle is given back at once; an event inside the last one,
+/// which closes then with all others. The one layer is told of the event alone.
+pub fn chain(length: u32) -> Result<Made, Refusal> {
+    let (sender, mut receiver) = ring(PLACES);
+    let limits = Limits {
+        workers: 1,
+        slots: 1 << 20,
+        ..Limits::default()
+    };
+    let mut registry = Registry::new(limits, Sending { sender, calls: 0 });
+    registry.layers.push(0, Rule::from([(Box::default(), Level::Trace)]));
+    let mut lines = Lines::default();
+    lines.forms.push(Form::Compact);
+    let (mut last, mut written) = (None, 0);
+    for _ in 0..length {
+        let parent = last.map_or(ParentOf::Root, ParentOf::Of);
+        let made = registry.new_span(0, META, Fields::default(), parent)?;
+        if let Some(id) = last {
+            registry.close(0, id)?;
+        }
+        last = made;
+        written += take_all(&mut receiver, &mut lines);
+    }
+    if let Some(id) = last {
+        registry.enter(0, id)?;
+        registry.event(0, "app", Level::Info, "a message", Fields::default())?;
+        registry.exit(0, id)?;
+        registry.close(0, id)?;
+    }
+    written += take_all(&mut receiver, &mut lines);
+    Ok(made(&registry, written))
 }

@@ -25,12 +25,14 @@ use std::process::ExitCode;
 const USAGE: &str = "usage: peer replay
        peer storm --workers 1..16 --rounds 1..400
        peer core|registry LAYERS FIELDS DEPTH ROUNDS
-       peer bare-storm WORKERS ROUNDS";
+       peer bare-storm WORKERS ROUNDS
+       peer chain LENGTH";
 
 enum Order {
     Replay,
     Storm { workers: u32, rounds: u32, layers: u32 },
     Loop(fn(&Shape) -> Result<Made, Refusal>, Shape),
+    Chain { length: u32 },
 }
 
 fn order_of(words: &[String]) -> Option<Order> {
@@ -40,6 +42,7 @@ fn order_of(words: &[String]) -> Option<Order> {
         "storm" => storm_of(rest),
         "core" => Some(Order::Loop(loops::on_core, shape_of(rest)?)),
         "registry" => Some(Order::Loop(loops::on_registry, shape_of(rest)?)),
+        "chain" => numbers_of(rest).map(|[length]| Order::Chain { length }),
         "bare-storm" => bare_storm_of(rest),
         _ => None,
     }
@@ -106,10 +109,10 @@ fn run_replay() -> ExitCode {
     }
 }
 
-fn run_loop(run: fn(&Shape) -> Result<Made, Refusal>, shape: &Shape) -> ExitCode {
-    match run(shape) {
-        Ok(Made { calls, lines, left }) => {
-            println!("{calls} calls, {lines} lines, {left} left");
+fn tell_loop(ended: Result<Made, Refusal>) -> ExitCode {
+    match ended {
+        Ok(Made { calls, lines }) => {
+            println!("{calls} calls, {lines} lines");
             ExitCode::SUCCESS
         }
         Err(refusal) => fail(3, format_args!("refused: {}", refusal.text())),
@@ -140,7 +143,8 @@ fn main() -> ExitCode {
             rounds,
             layers,
         }) => run_storm(workers, rounds, layers),
-        Some(Order::Loop(run, shape)) => run_loop(run, &shape),
+        Some(Order::Loop(run, shape)) => tell_loop(run(&shape)),
+        Some(Order::Chain { length }) => tell_loop(loops::chain(length)),
         None => fail(2, USAGE),
     }
 }

@@ -8,5 +8,5 @@ of_one {X} P n xs a more is one each =
     e 0 a (omega (arith, one))
 
 -- three calls a round after none are three for each round
-pub from_none : {a b c n : ℕ} → a ≡ b → b ≡ c + 3 * n → c ≡ 0 → a ≡ 3 * n
-from_none p q r = omega (arith, p, q, r)
+pub from_none : (a b c n : ℕ) → a ≡ b → b ≡ c + 3 * n → c ≡ 0 → a ≡ 3 * n
+from_none a b c n p q r = omega (arith, p, q, r)

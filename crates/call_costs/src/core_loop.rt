@@ -7,33 +7,37 @@ use crate::texts::Texts;
 use span_core::Core;
 use span_id::{Fault, Limits};
 use span_layers::{Layers, Say};
-use span_outlet::{Drain, ParentOf, Ring};
+use span_outlet::{LineReader, ParentOf, Ring};
 use std::alloc::Global;
+
+/// How many places the ring has.
+pub const PLACES: u32 = 8;
 
 /// Makes the rounds, each with its five calls at this depth, and answers what came of them.
 pub fn calls_on_core(alloc: Global, shape: &Shape, layers: Layers) -> Result<Made, Fault> {
     let limits = Limits {
         workers: 1,
-        ring: 8,
+        ring: PLACES,
         ..Limits::default()
     };
     let checked = limits.check()?;
     let (ring, tap) = Ring::pair(alloc, &checked)?;
     let (filters, tellers) = layers.split();
     let mut core = Core::new(alloc, &checked, filters, ring)?;
-    let mut drain = Drain::new(alloc, tap, tellers);
+    let mut reader = LineReader::new(alloc, tap, tellers);
     let texts = Texts::new(alloc, shape.fields)?;
+    let mut lines = 0u64;
     for _ in 1..shape.depth {
         stand(&mut core, &texts)?;
-        take_all(&mut drain);
+        lines = read_all(&mut reader).saturating_add(lines);
     }
     for _ in 0..shape.rounds {
         round(&mut core, &texts)?;
-        take_all(&mut drain);
+        lines = read_all(&mut reader).saturating_add(lines);
     }
     Ok(Made {
         calls: core.calls(),
-        lines: drain.all().len(),
+        lines,
         ..Made::default()
     })
 }
@@ -64,11 +68,23 @@ fn round(core: &mut Core<Ring>, texts: &Texts) -> Result<(), Fault>
     Ok(())
 }
 
-// Takes what stands in the ring.
-pub fn take_all<V: Say>(drain: &mut Drain<V>) {
-    for _ in 0..8 {
-        if drain.step().is_none() {
+/// Reads the lines of what stands in the ring, keeps none of them, and answers how many they were.
+pub fn read_all<V: Say>(reader: &mut LineReader<V>) -> u64 {
+    let mut lines = 0u64;
+    for _ in 0..PLACES {
+        if !reader.fill() {
             break;
         }
+        lines = lines.saturating_add(read_waiting(reader));
     }
+    lines
+}
+
+// Reads the lines that wait.
+fn read_waiting<V>(reader: &mut LineReader<V>) -> u64 {
+    let mut lines = 0u64;
+    while reader.next().is_some() {
+        lines = lines.saturating_add(1);
+    }
+    lines
 }

@@ -6,23 +6,24 @@ ghost use Rattle.span_layers.specs.Rule.{pairs_of, is_admitted};
 ghost use Rattle.span_layers.specs.Text.{text_of};
 ghost use Rattle.call_costs.specs.Order.{IsInRange};
 
+use crate::chain::chain;
 use crate::core_loop::calls_on_core;
 use crate::order::Order;
 use crate::registry_loop::calls_on_registry;
 use crate::slow_drain::beside_a_slow_drain;
 use span_id::{Fault, Level, Meta, copy_text};
-use span_layers::{FmtSpan, Form, Hooks, Layer, Layers, Note, Rule, Style, admits, text};
+use span_layers::{Form, Hooks, Layer, Layers, Note, Rule, Style, admits, text};
 use span_storm::{Open, storm};
 use std::alloc::{AllocError, Global};
 use std::sync::Wait;
 use std::thread::Threads;
 
-/// How a run ended: the calls that were accepted, the lines that were written, and, beside a slow drain, the spans left
-/// open and how often the ring was full.
+/// How a run ended: the calls that were accepted, the lines that were written, the spans that a chain
+/// or a slow drain left open, and how often a slow drain's ring was full.
 #[derive(Clone, Copy, Debug, Default, PartialEq, Eq)]
 pub struct Made {
     pub calls: u64,
-    pub lines: usize,
+    pub lines: u64,
     pub left: u32,
     pub backlogs: u64,
 }
@@ -50,7 +51,7 @@ pub fn run<R: Threads + Wait + Sync>(rt: &R, alloc: Global, order: &Order) -> Re
         let layer = Layer {
             style: Style {
                 form: Form::Compact,
-                spans: FmtSpan::FULL,
+                spans: order.spans(),
             },
             rule: everything(alloc)?,
             hooks: Hooks::new(admit, say),
@@ -101,11 +102,12 @@ fn run_with<R: Threads + Wait + Sync>(
                 Err(_) => Err(Fault::Memory),
             }
         }
+        Order::Chain { length } => chain(alloc, *length, layers),
         Order::Slow { places, rounds } => {
             let slowed = beside_a_slow_drain(rt, alloc, *places, *rounds, layers)?;
             Ok(Made {
                 calls: slowed.report.calls,
-                lines: slowed.report.lines.len(),
+                lines: slowed.report.lines.len() as u64,
                 left: slowed.report.left,
                 backlogs: slowed.backlogs,
             })

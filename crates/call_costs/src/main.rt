@@ -1,9 +1,10 @@
 //! Loops of calls, to be timed from outside: on a core, on a registry, in a storm, and beside a slow drain.
 //!
-//! `call_costs core LAYERS FIELDS DEPTH ROUNDS`, the same with `registry`, `call_costs storm WORKERS ROUNDS`, and
-//! `call_costs slow PLACES ROUNDS`. With no words each is run once, shortly.
+//! `call_costs core LAYERS FIELDS DEPTH ROUNDS`, the same with `registry`, `call_costs storm WORKERS ROUNDS`,
+//! `call_costs chain LENGTH`, and `call_costs slow PLACES ROUNDS`. With no words each is run once, shortly.
 #![tactic(auto)]
 
+mod chain;
 mod core_loop;
 mod held;
 mod made;
@@ -19,7 +20,7 @@ use std::io;
 use std::process::ExitCode;
 
 const USAGE: &str =
-    "call_costs: core|registry LAYERS FIELDS DEPTH ROUNDS, storm WORKERS ROUNDS, or slow PLACES ROUNDS";
+    "call_costs: core|registry LAYERS FIELDS DEPTH ROUNDS, storm WORKERS ROUNDS, chain LENGTH, or slow PLACES ROUNDS";
 
 fn main(rt: HostRuntime) -> io::Result<ExitCode> {
     let words: Vec<String> = std::env::args(&rt)?.collect(rt.alloc())?;
@@ -44,15 +45,8 @@ fn main(rt: HostRuntime) -> io::Result<ExitCode> {
 // Tells how a run ended.
 fn tell(rt: &HostRuntime, ended: Result<Made, Fault>) -> io::Result<ExitCode> {
     match ended {
-        Ok(
-            Made {
-                calls,
-                lines,
-                left,
-                ..
-            },
-        ) => {
-            println!(rt; "{calls} calls, {lines} lines, {left} left")?;
+        Ok(made) => {
+            println!(rt; "{} calls, {} lines", made.calls, made.lines)?;
             Ok(ExitCode::SUCCESS)
         }
         Err(fault) => {

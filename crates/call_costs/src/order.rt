@@ -2,6 +2,8 @@
 ghost use Rattle.std.specs.Prelude.{◌≤◌, IfSome};
 ghost use Rattle.call_costs.specs.Order.{IsInRange};
 
+use span_layers::FmtSpan;
+
 /// How many layers there are, how many fields each span and event has, how deep the spans of the rounds stand (1 for
 /// roots), and how many rounds are made.
 #[derive(Clone, Copy, Debug, PartialEq, Eq)]
@@ -21,6 +23,8 @@ pub enum Order {
     Registry(Shape),
     /// A storm without layers: 1 to 16 workers, 1 to 400 rounds.
     Storm { workers: u32, rounds: u32 },
+    /// A chain of so many spans, and its end.
+    Chain { length: u32 },
     /// Rounds beside a slow drain, through a ring of so many places.
     Slow { places: u32, rounds: u32 },
 }
@@ -31,7 +35,16 @@ impl Order {
         match self {
             Order::Core(shape) | Order::Registry(shape) => shape.layers,
             Order::Storm { .. } => 0,
-            Order::Slow { .. } => 1,
+            Order::Chain { .. } | Order::Slow { .. } => 1,
+        }
+    }
+
+    /// Which of a span's notes the layers want. A chain's would each have the
+    /// path to its root, so it has none.
+    pub fn spans(&self) -> FmtSpan {
+        match self {
+            Order::Chain { .. } => FmtSpan::NONE,
+            _ => FmtSpan::FULL,
         }
     }
 
@@ -53,13 +66,14 @@ const SHORT: Shape = Shape {
 };
 
 /// The runs that are made where the command line asks for none.
-pub const SHORT_RUNS: [Order; 4] = [
+pub const SHORT_RUNS: [Order; 5] = [
     Order::Core(SHORT),
     Order::Registry(SHORT),
     Order::Storm {
         workers: 2,
         rounds: 3,
     },
+    Order::Chain { length: 1000 },
     Order::Slow {
         places: 1,
         rounds: 10,
@@ -78,6 +92,9 @@ pub fn read_order(words: &[String]) -> Option<Order>
         "storm" => Some(Order::Storm {
             workers: number(numbers, 0, 1, 16)?,
             rounds: number(numbers, 1, 1, 400)?,
+        }),
+        "chain" => Some(Order::Chain {
+            length: number(numbers, 0, 1, 1_000_000)?,
         }),
         "slow" => Some(Order::Slow {
             places: number(numbers, 0, 1, 65536)?,

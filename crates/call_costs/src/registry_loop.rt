@@ -1,16 +1,15 @@
 //! The same rounds on a registry with its lock, whose drain is in the same thread.
 ghost use Rattle.std.specs.Prelude.{◌≡◌, [], Some};
 
-use crate::core_loop::take_all;
+use crate::core_loop::{PLACES, read_all};
 use crate::held::Held;
 use crate::made::Made;
 use crate::order::Shape;
 use crate::texts::Texts;
 use span_id::{Checked, Fault, Limits};
 use span_layers::{Filters, Layers, Say};
-use span_registry::{
-    Drain, HANDLE_PARTS, Handle, ParentOf, Registry, Ring, SeatTable, Setup, Worker,
-};
+use span_outlet::LineReader;
+use span_registry::{HANDLE_PARTS, ParentOf, Registry, Ring, SeatTable, Setup, Worker};
 use std::alloc::Global;
 use std::marker::Brand;
 use std::sync::Wait;
@@ -25,14 +24,14 @@ pub fn calls_on_registry<R: Wait>(
 ) -> Result<Made, Fault> {
     let limits = Limits {
         workers: 1,
-        ring: 8,
+        ring: PLACES,
         ..Limits::default()
     };
     let checked = limits.check()?;
     let table = SeatTable::new(alloc, checked.limits().slots)?;
     let (ring, tap) = Ring::pair(alloc, &checked)?;
     let (filters, tellers) = layers.split();
-    let drain = Drain::new(alloc, tap, tellers);
+    let reader = LineReader::new(alloc, tap, tellers);
     run::<Brand, Brand, Brand, _, _>(
         rt,
         alloc,
@@ -40,7 +39,7 @@ pub fn calls_on_registry<R: Wait>(
         &checked,
         filters,
         ring,
-        drain,
+        reader,
         Blank::new(HANDLE_PARTS),
         Blank::new(1),
         table,
@@ -55,7 +54,7 @@ fn run<H: Ledger, C: Ledger, S: Setup, V: Say + Drop, R: Wait>(
     checked: &Checked,
     filters: Filters,
     ring: Ring,
-    drain: Drain<V>,
+    reader: LineReader<V>,
     handles: Blank,
     calls: Blank,
     table: SeatTable,
@@ -71,21 +70,22 @@ fn run<H: Ledger, C: Ledger, S: Setup, V: Say + Drop, R: Wait>(
     let (registry, workers) = Registry::<H, C, S, Ring>::new(
         alloc, checked, filters, ring, handles, calls, table,
     )?;
-    let mut drain = drain;
+    let mut reader = reader;
+    let mut lines = 0u64;
     let Some(mut worker) = workers.into_iter().next() else {
         unreachable!()
     };
     for _ in 1..shape.depth {
         stand(rt, &registry, &mut worker, &texts)?;
-        take_all(&mut drain);
+        lines = read_all(&mut reader).saturating_add(lines);
     }
     for _ in 0..shape.rounds {
         round(rt, &registry, &mut worker, &texts)?;
-        take_all(&mut drain);
+        lines = read_all(&mut reader).saturating_add(lines);
     }
     Ok(Made {
         calls: worker.accepted(),
-        lines: drain.all().len(),
+        lines,
         ..Made::default()
     })
 }

@@ -8,4 +8,4 @@ returns-clause-calls g c =
     let arm = c.in-Some-None in
     let items = sym c.into_iter-workers.ensures.rest ∙ arm.ensures.items in
     let new = of_one IsNew _ _ _ _ items c.requires.workers c.in_ok-registry.ensures.each in
-    from_none c.finish.ensures.accepted c.in_ok-share.ensures.share.accepted new.accepted_is
+    from_none _ _ _ _ c.finish.ensures.accepted c.in_ok-share.ensures.share.accepted new.accepted_is
