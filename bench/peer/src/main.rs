@@ -3,6 +3,7 @@ mod field;
 mod id;
 mod json;
 mod layer;
+mod loops;
 mod note;
 mod operation;
 mod outlet;
@@ -14,17 +15,24 @@ mod stack;
 mod storm;
 mod text;
 
+use loops::{Made, Shape};
+use registry::Refusal;
 use replay::Fault;
 use std::io::{self, Write};
 use std::ops::RangeInclusive;
 use std::process::ExitCode;
 
 const USAGE: &str = "usage: peer replay
-       peer storm --workers 1..16 --rounds 1..400";
+       peer storm --workers 1..16 --rounds 1..400
+       peer core|registry LAYERS FIELDS DEPTH ROUNDS
+       peer bare-storm WORKERS ROUNDS
+       peer chain LENGTH";
 
 enum Order {
     Replay,
-    Storm { workers: u32, rounds: u32 },
+    Storm { workers: u32, rounds: u32, layers: u32 },
+    Loop(fn(&Shape) -> Result<Made, Refusal>, Shape),
+    Chain { length: u32 },
 }
 
 fn order_of(words: &[String]) -> Option<Order> {
@@ -32,6 +40,10 @@ fn order_of(words: &[String]) -> Option<Order> {
     match first.as_str() {
         "replay" if rest.is_empty() => Some(Order::Replay),
         "storm" => storm_of(rest),
+        "core" => Some(Order::Loop(loops::on_core, shape_of(rest)?)),
+        "registry" => Some(Order::Loop(loops::on_registry, shape_of(rest)?)),
+        "chain" => numbers_of(rest).map(|[length]| Order::Chain { length }),
+        "bare-storm" => bare_storm_of(rest),
         _ => None,
     }
 }
@@ -54,6 +66,33 @@ fn storm_of(words: &[String]) -> Option<Order> {
     Some(Order::Storm {
         workers: workers?,
         rounds: rounds?,
+        layers: 1,
+    })
+}
+
+/// The numbers that the words are, if all are.
+fn numbers_of<const N: usize>(words: &[String]) -> Option<[u32; N]> {
+    let numbers: Option<Vec<u32>> = words.iter().map(|word| word.parse().ok()).collect();
+    numbers?.try_into().ok()
+}
+
+fn shape_of(words: &[String]) -> Option<Shape> {
+    let [layers, fields, depth, rounds] = numbers_of(words)?;
+    Some(Shape {
+        layers,
+        fields,
+        depth,
+        rounds,
+    })
+}
+
+/// A storm without layers.
+fn bare_storm_of(words: &[String]) -> Option<Order> {
+    let [workers, rounds] = numbers_of(words)?;
+    Some(Order::Storm {
+        workers,
+        rounds,
+        layers: 0,
     })
 }
 
@@ -70,8 +109,18 @@ fn run_replay() -> ExitCode {
     }
 }
 
-fn run_storm(workers: u32, rounds: u32) -> ExitCode {
-    let report = match storm::storm(workers, rounds) {
+fn tell_loop(ended: Result<Made, Refusal>) -> ExitCode {
+    match ended {
+        Ok(Made { calls, lines }) => {
+            println!("{calls} calls, {lines} lines");
+            ExitCode::SUCCESS
+        }
+        Err(refusal) => fail(3, format_args!("refused: {}", refusal.text())),
+    }
+}
+
+fn run_storm(workers: u32, rounds: u32, layers: u32) -> ExitCode {
+    let report = match storm::storm(workers, rounds, layers) {
         Ok(report) => report,
         Err(refusal) => return fail(3, format_args!("refused: {}", refusal.text())),
     };
@@ -89,7 +138,13 @@ fn main() -> ExitCode {
         .collect();
     match words.as_deref().and_then(order_of) {
         Some(Order::Replay) => run_replay(),
-        Some(Order::Storm { workers, rounds }) => run_storm(workers, rounds),
+        Some(Order::Storm {
+            workers,
+            rounds,
+            layers,
+        }) => run_storm(workers, rounds, layers),
+        Some(Order::Loop(run, shape)) => tell_loop(run(&shape)),
+        Some(Order::Chain { length }) => tell_loop(loops::chain(length)),
         None => fail(2, USAGE),
     }
 }

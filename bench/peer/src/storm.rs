@@ -34,9 +34,9 @@ impl fmt::Display for Report {
 }
 
 /// Sends the batches into a ring, and counts what they tell.
-struct Sending {
-    sender: Sender<Batch>,
-    calls: u64,
+pub struct Sending {
+    pub sender: Sender<Batch>,
+    pub calls: u64,
 }
 
 impl Outlet for Sending {
@@ -94,9 +94,11 @@ fn work(registry: &Shared, worker: u32, rounds: u32) -> Result<Done, Refusal> {
 }
 
 /// Writes the lines of what the ring gives, until all are done and the ring is empty.
-fn drain(mut receiver: Receiver<Batch>, all_done: &AtomicBool) -> Lines {
+fn drain(mut receiver: Receiver<Batch>, layers: u32, all_done: &AtomicBool) -> Lines {
     let mut lines = Lines::default();
-    lines.forms.push(Form::Compact);
+    for _ in 0..layers {
+        lines.forms.push(Form::Compact);
+    }
     let mut looks = 0;
     loop {
         // What was sent before the end is seen by a look that comes after it.
@@ -117,19 +119,21 @@ fn drain(mut receiver: Receiver<Batch>, all_done: &AtomicBool) -> Lines {
     }
 }
 
-/// Runs so many workers so many rounds.
-pub fn storm(workers: u32, rounds: u32) -> Result<Report, Refusal> {
+/// Runs so many workers so many rounds, with so many layers that are told of everything.
+pub fn storm(workers: u32, rounds: u32, layers: u32) -> Result<Report, Refusal> {
     let (sender, receiver) = ring(PLACES);
     let limits = Limits {
         workers,
         ..Limits::default()
     };
     let mut registry = Registry::new(limits, Sending { sender, calls: 0 });
-    registry.layers.push(15, Rule::from([(Box::default(), Level::Trace)]));
+    for _ in 0..layers {
+        registry.layers.push(15, Rule::from([(Box::default(), Level::Trace)]));
+    }
     let registry = Mutex::new(registry);
     let all_done = AtomicBool::new(false);
     let (ended, lines) = thread::scope(|scope| {
-        let drain = scope.spawn(|| drain(receiver, &all_done));
+        let drain = scope.spawn(|| drain(receiver, layers, &all_done));
         let registry = &registry;
         let workers: Vec<_> = (0..workers)
             .map(|worker| scope.spawn(move || work(registry, worker, rounds)))

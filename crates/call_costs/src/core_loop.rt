@@ -1,0 +1,90 @@
+//! Rounds of calls on a core over a ring, whose drain is in the same thread.
+ghost use Rattle.std.specs.Prelude.{◌≡◌, ◌<◌};
+
+use crate::made::Made;
+use crate::order::Shape;
+use crate::texts::Texts;
+use span_core::Core;
+use span_id::{Fault, Limits};
+use span_layers::{Layers, Say};
+use span_outlet::{LineReader, ParentOf, Ring};
+use std::alloc::Global;
+
+/// How many places the ring has.
+pub const PLACES: u32 = 8;
+
+/// Makes the rounds, each with its five calls at this depth, and answers what came of them.
+pub fn calls_on_core(alloc: Global, shape: &Shape, layers: Layers) -> Result<Made, Fault> {
+    let limits = Limits {
+        workers: 1,
+        ring: PLACES,
+        ..Limits::default()
+    };
+    let checked = limits.check()?;
+    let (ring, tap) = Ring::pair(alloc, &checked)?;
+    let (filters, tellers) = layers.split();
+    let mut core = Core::new(alloc, &checked, filters, ring)?;
+    let mut reader = LineReader::new(alloc, tap, tellers);
+    let texts = Texts::new(alloc, shape.fields)?;
+    let mut lines = 0u64;
+    for _ in 1..shape.depth {
+        stand(&mut core, &texts)?;
+        lines = read_all(&mut reader).saturating_add(lines);
+    }
+    for _ in 0..shape.rounds {
+        round(&mut core, &texts)?;
+        lines = read_all(&mut reader).saturating_add(lines);
+    }
+    Ok(Made {
+        calls: core.calls(),
+        lines,
+        ..Made::default()
+    })
+}
+
+// A span more under the current one, which is entered and stays.
+fn stand(core: &mut Core<Ring>, texts: &Texts) -> Result<(), Fault>
+    requires { 0 < core.old.limits.workers }
+    ensures { core.new.limits ≡ core.old.limits }
+{
+    if let Some(id) = core.new_span(0, &texts.meta, texts.fields.as_slice(), ParentOf::Current)? {
+        core.enter(0, id)?;
+    }
+    Ok(())
+}
+
+// A span under the current one is made, entered, told an event, left and closed.
+fn round(core: &mut Core<Ring>, texts: &Texts) -> Result<(), Fault>
+    requires { 0 < core.old.limits.workers }
+    ensures { core.new.limits ≡ core.old.limits }
+{
+    let fields = texts.fields.as_slice();
+    if let Some(id) = core.new_span(0, &texts.meta, fields, ParentOf::Current)? {
+        core.enter(0, id)?;
+        core.event(0, &texts.meta, "a message", fields)?;
+        core.exit(0, id)?;
+        core.try_close(0, id)?;
+    }
+    Ok(())
+}
+
+/// Reads the lines of what stands in the ring, keeps none of them, and answers how many they were.
+pub fn read_all<V: Say>(reader: &mut LineReader<V>) -> u64 {
+    let mut lines = 0u64;
+    for _ in 0..PLACES {
+        if !reader.fill() {
+            break;
+        }
+        lines = lines.saturating_add(read_waiting(reader));
+    }
+    lines
+}
+
+// Reads the lines that wait.
+fn read_waiting<V>(reader: &mut LineReader<V>) -> u64 {
+    let mut lines = 0u64;
+    while reader.next().is_some() {
+        lines = lines.saturating_add(1);
+    }
+    lines
+}

@@ -1,0 +1,131 @@
+//! The same rounds on a registry with its lock, whose drain is in the same thread.
+ghost use Rattle.std.specs.Prelude.{◌≡◌, [], Some};
+
+use crate::core_loop::{PLACES, read_all};
+use crate::held::Held;
+use crate::made::Made;
+use crate::order::Shape;
+use crate::texts::Texts;
+use span_id::{Checked, Fault, Limits};
+use span_layers::{Filters, Layers, Say};
+use span_outlet::LineReader;
+use span_registry::{HANDLE_PARTS, ParentOf, Registry, Ring, SeatTable, Setup, Worker};
+use std::alloc::Global;
+use std::marker::Brand;
+use std::sync::Wait;
+use std::sync::ledger::{Blank, Ledger};
+
+/// Makes the rounds, each with its five calls at this depth, and answers what came of them.
+pub fn calls_on_registry<R: Wait>(
+    rt: &R,
+    alloc: Global,
+    shape: &Shape,
+    layers: Layers,
+) -> Result<Made, Fault> {
+    let limits = Limits {
+        workers: 1,
+        ring: PLACES,
+        ..Limits::default()
+    };
+    let checked = limits.check()?;
+    let table = SeatTable::new(alloc, checked.limits().slots)?;
+    let (ring, tap) = Ring::pair(alloc, &checked)?;
+    let (filters, tellers) = layers.split();
+    let reader = LineReader::new(alloc, tap, tellers);
+    run::<Brand, Brand, Brand, _, _>(
+        rt,
+        alloc,
+        shape,
+        &checked,
+        filters,
+        ring,
+        reader,
+        Blank::new(HANDLE_PARTS),
+        Blank::new(1),
+        table,
+    )
+}
+
+// It is generic in the registry's names, so that its caller picks them.
+fn run<H: Ledger, C: Ledger, S: Setup, V: Say + Drop, R: Wait>(
+    rt: &R,
+    alloc: Global,
+    shape: &Shape,
+    checked: &Checked,
+    filters: Filters,
+    ring: Ring,
+    reader: LineReader<V>,
+    handles: Blank,
+    calls: Blank,
+    table: SeatTable,
+) -> Result<Made, Fault>
+    requires workers { checked.now.workers ≡ 1 }
+    requires setup { (checked.now ≡ S.limits) × (filters.rules ≡ S.rules) × (Some ring.name ≡ S.ring) }
+    requires ring { ring.sent ≡ [] }
+    requires handles { (handles.name ≡ H.name) × (handles.parts ≡ H.parts) × (H.parts ≡ HANDLE_PARTS) }
+    requires calls { (calls.name ≡ C.name) × (calls.parts ≡ C.parts) × (C.parts ≡ checked.now.workers) }
+    requires table { (table ≡ S.table) × (table.words ≡ checked.now.slots) }
+{
+    let texts = Texts::new(alloc, shape.fields)?;
+    let (registry, workers) = Registry::<H, C, S, Ring>::new(
+        alloc, checked, filters, ring, handles, calls, table,
+    )?;
+    let mut reader = reader;
+    let mut lines = 0u64;
+    let Some(mut worker) = workers.into_iter().next() else {
+        unreachable!()
+    };
+    for _ in 1..shape.depth {
+        stand(rt, &registry, &mut worker, &texts)?;
+        lines = read_all(&mut reader).saturating_add(lines);
+    }
+    for _ in 0..shape.rounds {
+        round(rt, &registry, &mut worker, &texts)?;
+        lines = read_all(&mut reader).saturating_add(lines);
+    }
+    Ok(Made {
+        calls: worker.accepted(),
+        lines,
+        ..Made::default()
+    })
+}
+
+// A span more under the current one, which is entered and stays. Its handle is given up.
+fn stand<H: Ledger, C: Ledger, S: Setup, R: Wait>(
+    rt: &R,
+    registry: &Registry<H, C, S, Ring>,
+    worker: &mut Worker<H, C>,
+    texts: &Texts,
+) -> Result<(), Fault> {
+    let fields = texts.fields.as_slice();
+    if let Some(handle) = registry.new_span(rt, worker, &texts.meta, fields, ParentOf::Current)? {
+        let mut held = Held { handle };
+        registry.enter(rt, worker, &mut held.handle)?;
+    }
+    Ok(())
+}
+
+// A span under the current one is made, entered, told an event, left and closed.
+fn round<H: Ledger, C: Ledger, S: Setup, R: Wait>(
+    rt: &R,
+    registry: &Registry<H, C, S, Ring>,
+    worker: &mut Worker<H, C>,
+    texts: &Texts,
+) -> Result<(), Fault> {
+    let fields = texts.fields.as_slice();
+    let made = registry.new_span(rt, worker, &texts.meta, fields, ParentOf::Current)?;
+    let Some(handle) = made else {
+        return Ok(());
+    };
+    let mut held = Held { handle };
+    registry.enter(rt, worker, &mut held.handle)?;
+    registry.event(rt, worker, &texts.meta, "a message", fields)?;
+    registry.exit(rt, worker, held.handle.id())?;
+    match registry.try_close(rt, worker, held.into_handle()) {
+        Ok(_closed) => Ok(()),
+        Err((handle, fault)) => {
+            drop(handle.into_share());
+            Err(fault)
+        }
+    }
+}

@@ -1,0 +1,287 @@
+//! A worker that makes calls beside a slow drain, through a ring of few places: what it sees, and that nothing is lost.
+ghost use Rattle.std.specs.Prelude.{◌≡◌, ◌+◌, ◌*◌, ◌-◌, ◌<◌, ◌≤◌, [], Some, IfOk, OnOk};
+ghost use Rattle.span_registry.specs.Worker.{after_call};
+ghost use Rattle.call_costs.specs.Slow.{ComesBack};
+
+use crate::held::Held;
+use crate::texts::Texts;
+use span_id::{Checked, Fault, Limits};
+use span_layers::{Filters, Layers, Say};
+use span_registry::{
+    Drain, HANDLE_PARTS, ParentOf, Registry, Report, Ring, SeatTable, Setup, Share, Worker,
+};
+use std::alloc::Global;
+use std::marker::Brand;
+use std::snapshot::Snapshot;
+use std::sync::Wait;
+use std::sync::atomic::{AtomicBool, Ordering};
+use std::sync::ledger::{Blank, Ledger};
+use std::thread;
+use std::thread::{Promise, PromisedHandle, Scope, Threads};
+
+/// How the registry ended, and how often a call was refused since the ring was full.
+#[derive(Drop)]
+pub struct Slowed {
+    pub report: Report,
+    pub backlogs: u64,
+}
+
+/// Makes rounds of three calls through a ring of so many places, beside a drain in a thread of its own. A call that is
+/// refused for want of a place is made again until it is accepted.
+pub fn beside_a_slow_drain<R: Threads + Wait + Sync>(
+    rt: &R,
+    alloc: Global,
+    places: u32,
+    rounds: u32,
+    layers: Layers,
+) -> Result<Slowed, Fault>
+    ensures calls { IfOk result (λ slowed. slowed.report.calls ≡ 3 * rounds) }
+    ensures handles { IfOk result (λ slowed. slowed.report.handles ≡ 0) }
+{
+    let limits = Limits {
+        workers: 1,
+        ring: places,
+        ..Limits::default()
+    };
+    let checked = limits.check()?;
+    let table = SeatTable::new(alloc, checked.limits().slots)?;
+    let (ring, tap) = Ring::pair(alloc, &checked)?;
+    let (filters, tellers) = layers.split();
+    let drain = Drain::new(alloc, tap, tellers);
+    run::<Brand, Brand, Brand, _, _>(
+        rt,
+        alloc,
+        rounds,
+        &checked,
+        filters,
+        ring,
+        drain,
+        Blank::new(HANDLE_PARTS),
+        Blank::new(1),
+        table,
+    )
+}
+
+// It is generic in the registry's names, so that its caller picks them.
+fn run<
+    H: Ledger + Send + Sync,
+    C: Ledger + Send + Sync,
+    S: Setup + Send + Sync,
+    V: Say + Drop + Send,
+    R: Threads + Wait + Sync,
+>(
+    rt: &R,
+    alloc: Global,
+    rounds: u32,
+    checked: &Checked,
+    filters: Filters,
+    ring: Ring,
+    drain: Drain<V>,
+    handles: Blank,
+    calls: Blank,
+    table: SeatTable,
+) -> Result<Slowed, Fault>
+    requires workers { checked.now.workers ≡ 1 }
+    requires setup { (checked.now ≡ S.limits) × (filters.rules ≡ S.rules) × (Some ring.name ≡ S.ring) }
+    requires ring { (ring.sent ≡ []) × (Some drain.name ≡ S.ring) }
+    requires handles { (handles.name ≡ H.name) × (handles.parts ≡ H.parts) × (H.parts ≡ HANDLE_PARTS) }
+    requires calls { (calls.name ≡ C.name) × (calls.parts ≡ C.parts) × (C.parts ≡ checked.now.workers) }
+    requires table { (table ≡ S.table) × (table.words ≡ checked.now.slots) }
+    ensures calls { IfOk result (λ slowed. slowed.report.calls ≡ 3 * rounds) }
+    ensures handles { IfOk result (λ slowed. slowed.report.handles ≡ 0) }
+{
+    let texts = Texts::new(alloc, 0)?;
+    let (registry, workers) = Registry::<H, C, S, Ring>::new(
+        alloc, checked, filters, ring, handles, calls, table,
+    )?;
+    let mut workers = workers.into_iter();
+    let (Some(worker), None) = (workers.next(), workers.next()) else {
+        unreachable!()
+    };
+    let (share, drain, backlogs) = in_threads(rt, &registry, &texts, worker, rounds, drain)?;
+    Ok(Slowed {
+        report: registry.finish(share, drain),
+        backlogs,
+    })
+}
+
+/// The drain that comes back is that of the same ring.
+#[derive(Drop)]
+struct BackAgain<V> {
+    drain: Snapshot<Drain<V>>,
+}
+
+impl<V> Promise<Drain<V>> for BackAgain<V> {
+    ghost use Rattle.std.specs.Prelude.{◌≡◌};
+
+    ghost kept_by = { λ back drain. drain.name ≡ back.drain.value.name };
+}
+
+// The worker makes its rounds in this thread, and the drain steps in another until it has come back.
+fn in_threads<
+    H: Ledger + Send + Sync,
+    C: Ledger + Send + Sync,
+    S: Setup + Send + Sync,
+    V: Say + Drop + Send,
+    R: Threads + Wait + Sync,
+>(
+    rt: &R,
+    registry: &Registry<H, C, S, Ring>,
+    texts: &Texts,
+    worker: Worker<H, C>,
+    rounds: u32,
+    drain: Drain<V>,
+) -> Result<(Share<H, C>, Drain<V>, u64), Fault>
+    ensures share { IfOk result (λ back. ComesBack worker rounds back.0) }
+    ensures drain { IfOk result (λ back. back.1.name ≡ drain.name) }
+{
+    let is_back = AtomicBool::new(false);
+    let flag = &is_back;
+    thread::scope(
+        thread::scope_env(),
+        rt,
+        move |scope| -> Result<(Share<H, C>, Drain<V>, u64), Fault>
+            ensures share { IfOk result (λ back. ComesBack worker rounds back.0) }
+            ensures drain { IfOk result (λ back. back.1.name ≡ drain.name) }
+        {
+            let draining = start(rt, scope, drain, flag)?;
+            let mut backlogs = 0;
+            let worked = work(rt, registry, texts, worker, rounds, &mut backlogs);
+            flag.store(true, Ordering::SeqCst);
+            let drain = draining.join(rt);
+            Ok((worked?, drain, backlogs))
+        },
+    )
+}
+
+// Starts the drain's thread.
+fn start<'s, E: 's, V: Say + Drop + Send + 's, R: Wait + Sync>(
+    rt: &'s R,
+    scope: &Scope<'s, E>,
+    drain: Drain<V>,
+    is_back: &'s AtomicBool,
+) -> Result<PromisedHandle<Drain<V>, BackAgain<V>>, Fault>
+    ensures { IfOk result (λ running. running.promise.drain.value ≡ drain) }
+{
+    let promise = BackAgain {
+        drain: Snapshot::of(&drain),
+    };
+    match scope.spawn_with(
+        promise,
+        move || -> Drain<V>
+            ensures { result.name ≡ drain.name }
+        { step_beside(rt, drain, is_back) },
+    ) {
+        Ok(running) => Ok(running),
+        Err(_) => Err(Fault::Memory),
+    }
+}
+
+// Steps until the worker has come back.
+fn step_beside<V: Say, R: Wait>(rt: &R, drain: Drain<V>, is_back: &AtomicBool) -> Drain<V>
+    ensures { result.name ≡ drain.name }
+{
+    let mut drain = drain;
+    for _ in rt.forever() {
+        if drain.step().is_none() {
+            if is_back.load(Ordering::SeqCst) {
+                return drain;
+            }
+            thread::yield_now();
+        }
+    }
+    unreachable!()
+}
+
+// Makes the rounds, and leaves. In a round a root is made, an event is told, and the root's handle is given back.
+fn work<H: Ledger, C: Ledger, S: Setup, R: Wait>(
+    rt: &R,
+    registry: &Registry<H, C, S, Ring>,
+    texts: &Texts,
+    worker: Worker<H, C>,
+    rounds: u32,
+    backlogs: &mut u64,
+) -> Result<Share<H, C>, Fault>
+    ensures { IfOk result (λ share. ComesBack worker rounds share) }
+{
+    let mut worker = worker;
+    for _ in 0..rounds {
+        let held = open(rt, registry, texts, &mut worker, backlogs)?;
+        tell(rt, registry, texts, &mut worker, backlogs)?;
+        close(rt, registry, &mut worker, held, backlogs)?;
+    }
+    Ok(worker.leave())
+}
+
+// Waits a little, where the call was refused for want of a place; else its refusal is the answer.
+fn again(fault: Fault, backlogs: &mut u64) -> Result<(), Fault> {
+    if fault != Fault::Backlog {
+        return Err(fault);
+    }
+    *backlogs = backlogs.saturating_add(1);
+    thread::yield_now();
+    Ok(())
+}
+
+// Makes a root.
+fn open<H: Ledger, C: Ledger, S: Setup, R: Wait>(
+    rt: &R,
+    registry: &Registry<H, C, S, Ring>,
+    texts: &Texts,
+    worker: &mut Worker<H, C>,
+    backlogs: &mut u64,
+) -> Result<Held<H, C, S>, Fault>
+    ensures worker { OnOk result (worker.new ≡ after_call worker.old (worker.old.spare - 1)) }
+    ensures part { OnOk result (0 < worker.old.spare) }
+{
+    for _ in rt.forever() {
+        match registry.new_span(rt, worker, &texts.meta, &[], ParentOf::Root) {
+            Ok(Some(handle)) => return Ok(Held { handle }),
+            Ok(None) => return Err(Fault::Unknown),
+            Err(fault) => again(fault, backlogs)?,
+        }
+    }
+    unreachable!()
+}
+
+// Tells an event.
+fn tell<H: Ledger, C: Ledger, S: Setup, R: Wait>(
+    rt: &R,
+    registry: &Registry<H, C, S, Ring>,
+    texts: &Texts,
+    worker: &mut Worker<H, C>,
+    backlogs: &mut u64,
+) -> Result<(), Fault>
+    ensures { OnOk result (worker.new ≡ after_call worker.old worker.old.spare) }
+{
+    for _ in rt.forever() {
+        match registry.event(rt, worker, &texts.meta, "a message", &[]) {
+            Ok(()) => return Ok(()),
+            Err(fault) => again(fault, backlogs)?,
+        }
+    }
+    unreachable!()
+}
+
+// Gives the handle back. A refused call gives it back to be tried again.
+fn close<H: Ledger, C: Ledger, S: Setup, R: Wait>(
+    rt: &R,
+    registry: &Registry<H, C, S, Ring>,
+    worker: &mut Worker<H, C>,
+    held: Held<H, C, S>,
+    backlogs: &mut u64,
+) -> Result<(), Fault>
+    ensures { OnOk result (worker.new ≡ after_call worker.old (worker.old.spare + 1)) }
+{
+    let mut held = held;
+    for _ in rt.forever() {
+        match registry.try_close(rt, worker, held.into_handle()) {
+            Ok(_closed) => return Ok(()),
+            Err((handle, fault)) => {
+                held = Held { handle };
+                again(fault, backlogs)?;
+            }
+        }
+    }
+    unreachable!()
+}
