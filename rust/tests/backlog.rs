@@ -10,10 +10,10 @@ use std::time::Duration;
 fn each_call_is_refused_while_the_ring_is_full() -> Result<(), Error> {
     let (registry, mut drain) = Registry::builder().workers(1).ring(1).build()?;
     let ids = Ids(registry);
-    assert_eq!(ids.new("a"), Ok(1));
+    assert_eq!(ids.make("a"), Ok(1));
     assert_eq!(drain.line(), None);
     assert_eq!(ids.enter(1), Ok(true));
-    assert_eq!(ids.new("b"), Err(Error::Backlog));
+    assert_eq!(ids.make("b"), Err(Error::Backlog));
     assert_eq!(ids.clone_span(1), Err(Error::Backlog));
     assert_eq!(ids.enter(1), Err(Error::Backlog));
     assert_eq!(ids.exit(1), Err(Error::Backlog));
@@ -21,7 +21,7 @@ fn each_call_is_refused_while_the_ring_is_full() -> Result<(), Error> {
     assert_eq!(ids.event("m"), Err(Error::Backlog));
     assert_eq!(ids.close(1), Err(Error::Backlog));
     assert_eq!(ids.exit(2), Err(Error::Unknown));
-    assert_eq!(ids.new("a b"), Err(Error::BadName));
+    assert_eq!(ids.make("a b"), Err(Error::BadName));
     assert_eq!(ids.find(1), Some((0, 1, 1, 2)));
     assert_eq!(drain.line(), None);
     assert_eq!(ids.exit(1), Ok(false));
@@ -77,7 +77,7 @@ fn what_drops_could_not_do_is_owed_and_done_in_order() -> Result<(), Error> {
     assert_eq!(registry.current_span(), Err(Error::Backlog));
     assert_eq!(Ids(registry.clone()).event("m"), Err(Error::Backlog));
     // A span's name is looked at after what is owed.
-    assert_eq!(Ids(registry.clone()).new("a b"), Err(Error::Backlog));
+    assert_eq!(Ids(registry.clone()).make("a b"), Err(Error::Backlog));
     let wanted = [
         "enter 1 w0 a",
         "enter 2 w0 b",
@@ -129,7 +129,7 @@ fn the_drain_does_what_is_owed_where_no_call_comes() -> Result<(), Error> {
 fn an_adapter_may_owe_by_ids() -> Result<(), Error> {
     let (registry, mut drain) = compact().ring(1).build()?;
     let ids = Ids(registry);
-    ids.new("a")?;
+    ids.make("a")?;
     assert_eq!(texts(&mut drain).len(), 1);
     ids.enter(1)?;
     ids.0.exit_or_owe(id(1));
@@ -194,7 +194,7 @@ fn a_dropped_drain_leaves_the_calls_refused() -> Result<(), Error> {
     let (registry, drain) = compact().ring(2).build()?;
     drop(drain);
     let ids = Ids(registry);
-    (ids.event("m")?, ids.event("m")?);
-    assert_eq!(ids.event("m"), Err(Error::Backlog));
+    let answers: Vec<_> = (0..4).map(|_| ids.event("m")).collect();
+    assert_eq!(answers[2..], [Err(Error::Backlog); 2]);
     Ok(())
 }

@@ -94,7 +94,8 @@ impl Write for Failing {
 #[test]
 fn a_line_that_could_not_be_written_stays_the_next_one() -> Result<(), Error> {
     let (registry, mut drain) = compact().build()?;
-    (drop(span(&registry, "a")), drop(span(&registry, "b")));
+    drop(span(&registry, "a"));
+    drop(span(&registry, "b"));
     let mut out = Failing {
         writes: 2,
         taken: Vec::new(),

@@ -17,7 +17,7 @@ const LIFE: [&str; 6] = [
 fn a_spans_life_by_ids() -> Result<(), Error> {
     let (registry, mut drain) = compact().build()?;
     let ids = Ids(registry);
-    assert_eq!(ids.new("a"), Ok(1));
+    assert_eq!(ids.make("a"), Ok(1));
     ids.clone_span(1)?;
     assert_eq!(ids.enter(1), Ok(true));
     ids.record(1, &[("k", "v")])?;
@@ -110,9 +110,9 @@ fn a_parent_closes_after_its_children() -> Result<(), Error> {
         .layer(Layer::compact().with_span_events(FmtSpan::CLOSE))
         .build()?;
     let ids = Ids(registry);
-    assert_eq!(ids.new("a"), Ok(1));
-    assert_eq!(ids.new_under("b", Parent::Of(id(1))), Ok(2));
-    assert_eq!(ids.new_under("c", Parent::Of(id(2))), Ok(3));
+    assert_eq!(ids.make("a"), Ok(1));
+    assert_eq!(ids.make_under("b", Parent::Of(id(1))), Ok(2));
+    assert_eq!(ids.make_under("c", Parent::Of(id(2))), Ok(3));
     assert_eq!((ids.close(1), ids.close(2)), (Ok(false), Ok(false)));
     assert_eq!(ids.find(2), Some((1, 0, 0, 1)));
     assert_eq!(ids.close(3), Ok(true));
@@ -128,7 +128,7 @@ fn a_parent_closes_after_its_children() -> Result<(), Error> {
 fn an_entry_that_repeats_holds_nothing() -> Result<(), Error> {
     let (registry, mut drain) = compact().build()?;
     let ids = Ids(registry);
-    ids.new("a")?;
+    ids.make("a")?;
     assert_eq!((ids.enter(1), ids.enter(1)), (Ok(true), Ok(false)));
     assert_eq!(ids.find(1), Some((0, 1, 1, 2)));
     assert_eq!(
@@ -152,15 +152,15 @@ fn the_current_span_is_the_innermost_that_does_not_repeat() -> Result<(), Error>
     let (registry, _drain) = Registry::builder().build()?;
     assert_eq!(registry.current_span(), Ok(None));
     let ids = Ids(registry);
-    (ids.new("a")?, ids.new("b")?);
+    assert_eq!((ids.make("a"), ids.make("b")), (Ok(1), Ok(2)));
     assert_eq!(
         (ids.enter(1), ids.enter(2), ids.enter(1)),
         (Ok(true), Ok(true), Ok(false))
     );
     assert_eq!(ids.0.current_span(), Ok(Some(id(2))));
-    assert_eq!(ids.new("c"), Ok(3));
+    assert_eq!(ids.make("c"), Ok(3));
     assert_eq!(ids.find(3), Some((2, 1, 0, 1)));
-    assert_eq!(ids.new_under("d", Parent::Root), Ok(4));
+    assert_eq!(ids.make_under("d", Parent::Root), Ok(4));
     assert_eq!(ids.find(4), Some((0, 1, 0, 1)));
     Ok(())
 }
@@ -171,14 +171,14 @@ fn each_layer_sees_the_spans_that_it_admits() -> Result<(), Error> {
     let of_app = only_new.clone().with_targets("app=info".parse().expect("a directive"));
     let (registry, mut drain) = Registry::builder().layer(only_new).layer(of_app).build()?;
     let ids = Ids(registry);
-    ids.new("a")?;
+    ids.make("a")?;
     ids.enter(1)?;
     let other = ids
         .0
         .new_span(&Meta::new(Level::Info, "lib", "q"), Parent::Current, &[])?;
     assert_eq!(other, Some(id(2)));
     ids.enter(2)?;
-    ids.new("c")?;
+    ids.make("c")?;
     ids.0.event(&Meta::event(Level::Info, "app"), "hi", &[("k", "v")])?;
     let wanted = [
         "L0 new 1 w0 a",
@@ -244,12 +244,12 @@ fn a_span_that_no_layer_wants_is_disabled() -> Result<(), Error> {
 fn of_several_refusals_the_first_in_order_is_answered() -> Result<(), Error> {
     let (registry, _drain) = Registry::builder().max_count(1).slots(1).build()?;
     let ids = Ids(registry);
-    assert_eq!(ids.new("a"), Ok(1));
+    assert_eq!(ids.make("a"), Ok(1));
     let before = ids.0.counts();
-    assert_eq!(ids.new_under("a b", Parent::Of(id(1))), Err(Error::BadName));
-    assert_eq!(ids.new_under("b", Parent::Of(id(2))), Err(Error::Unknown));
-    assert_eq!(ids.new_under("b", Parent::Of(id(1))), Err(Error::CountFull));
-    assert_eq!(ids.new_under("b", Parent::Root), Err(Error::Full));
+    assert_eq!(ids.make_under("a b", Parent::Of(id(1))), Err(Error::BadName));
+    assert_eq!(ids.make_under("b", Parent::Of(id(2))), Err(Error::Unknown));
+    assert_eq!(ids.make_under("b", Parent::Of(id(1))), Err(Error::CountFull));
+    assert_eq!(ids.make_under("b", Parent::Root), Err(Error::Full));
     assert_eq!(ids.clone_span(1), Err(Error::CountFull));
     assert_eq!(ids.enter(1), Err(Error::CountFull));
     assert_eq!(ids.exit(2), Err(Error::Unknown));
@@ -264,12 +264,12 @@ fn of_several_refusals_the_first_in_order_is_answered() -> Result<(), Error> {
 fn a_stale_id_finds_nothing() -> Result<(), Error> {
     let (registry, _drain) = Registry::builder().slots(1).build()?;
     let ids = Ids(registry);
-    assert_eq!(ids.new("a"), Ok(1));
+    assert_eq!(ids.make("a"), Ok(1));
     assert_eq!(ids.close(1), Ok(true));
-    assert_eq!(ids.new("b"), Ok(16_777_217));
+    assert_eq!(ids.make("b"), Ok(16_777_217));
     assert_eq!(ids.exit(1), Err(Error::Unknown));
     assert_eq!(ids.exit(16_777_217), Err(Error::NotEntered));
-    assert_eq!(ids.new_under("c", Parent::Of(id(1))), Err(Error::Unknown));
+    assert_eq!(ids.make_under("c", Parent::Of(id(1))), Err(Error::Unknown));
     assert_eq!(
         (ids.close(1), ids.clone_span(1)),
         (Err(Error::Unknown), Err(Error::Unknown))
@@ -301,10 +301,10 @@ fn a_slot_is_retired_at_its_last_generation() -> Result<(), Error> {
     let (registry, _drain) = Registry::builder().slots(1).last_generation(1).build()?;
     let ids = Ids(registry);
     for number in [1, 16_777_217] {
-        assert_eq!(ids.new("a"), Ok(number));
+        assert_eq!(ids.make("a"), Ok(number));
         assert_eq!(ids.close(number), Ok(true));
     }
-    assert_eq!(ids.new("a"), Err(Error::Full));
+    assert_eq!(ids.make("a"), Err(Error::Full));
     Ok(())
 }
 
@@ -312,9 +312,9 @@ fn a_slot_is_retired_at_its_last_generation() -> Result<(), Error> {
 fn names_have_64_plain_bytes_at_most() -> Result<(), Error> {
     let (registry, _drain) = Registry::builder().build()?;
     let ids = Ids(registry);
-    assert_eq!(ids.new(&"x".repeat(64)), Ok(1));
+    assert_eq!(ids.make(&"x".repeat(64)), Ok(1));
     for name in [&*"x".repeat(65), "", "a b", "ä", "a\0"] {
-        assert_eq!(ids.new(name), Err(Error::BadName), "{name:?}");
+        assert_eq!(ids.make(name), Err(Error::BadName), "{name:?}");
     }
     Ok(())
 }

@@ -68,13 +68,15 @@ fn a_thread_that_ends_leaves_what_it_is_inside_of() -> Result<(), Error> {
     let there = registry.clone();
     let ended = thread::spawn(move || {
         let ids = Ids(there);
-        (ids.new("a").expect("new"), ids.new("b").expect("new"));
-        (
-            ids.enter(1).expect("enter"),
-            ids.enter(2).expect("enter"),
-            ids.enter(1).expect("enter"),
-        );
-        (ids.close(1).expect("close"), ids.close(2).expect("close"));
+        for name in ["a", "b"] {
+            ids.make(name).expect("new");
+        }
+        for id in [1, 2, 1] {
+            ids.enter(id).expect("enter");
+        }
+        for id in [1, 2] {
+            assert_eq!(ids.close(id), Ok(false));
+        }
     });
     ended.join().expect("no panic");
     assert_empty(&registry);
@@ -113,7 +115,8 @@ fn a_number_that_is_owed_is_not_given_again_before() -> Result<(), Error> {
     let there = registry.clone();
     let ended = thread::spawn(move || {
         let (a, b) = (span(&there, "a"), span(&there, "b"));
-        (forget(a.enter()), forget(b.enter()));
+        forget(a.enter());
+        forget(b.enter());
         Ids(there).event("m").expect("the last place");
     });
     ended.join().expect("no panic");
@@ -147,7 +150,7 @@ fn the_end_of_a_thread_may_need_several_turns() -> Result<(), Error> {
     thread::spawn(move || {
         let ids = Ids(there);
         for (id, name) in [(1, "a"), (2, "b"), (3, "c")] {
-            span_registry::retry(|| ids.new(name)).expect("new");
+            span_registry::retry(|| ids.make(name)).expect("new");
             span_registry::retry(|| ids.enter(id)).expect("enter");
             ids.0.close_or_owe(common::id(id));
         }

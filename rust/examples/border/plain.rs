@@ -106,7 +106,9 @@ impl Layer {
     // The longest prefix decides, and of equal ones the later.
     fn admits(&self, meta: &Meta<'_>) -> bool {
         let fitting = self.rules.iter().filter(|(prefix, _)| meta.target.starts_with(prefix));
-        fitting.max_by_key(|(prefix, _)| prefix.len()).is_some_and(|&(_, level)| meta.level <= level)
+        fitting
+            .max_by_key(|(prefix, _)| prefix.len())
+            .is_some_and(|&(_, level)| meta.level <= level)
     }
 
     fn wants(&self, kind: usize) -> bool {
@@ -135,11 +137,27 @@ impl Plain {
             return Err(TOO_MANY_LAYERS);
         }
         let (sender, receiver) = sync_channel(limits.ring as usize);
-        let drain =
-            PlainDrain { receiver, are_json: layers.iter().map(|layer| layer.is_json).collect(), batches: 0 };
+        let drain = PlainDrain {
+            receiver,
+            are_json: layers.iter().map(|layer| layer.is_json).collect(),
+            batches: 0,
+        };
         let stacks = (0..limits.workers).map(|_| Vec::new()).collect();
         let slots = Vec::with_capacity(limits.slots as usize);
-        Ok((Plain { limits, layers, slots, freed: Vec::new(), stacks, sender, made: 0, closed: 0, calls: 0 }, drain))
+        Ok((
+            Plain {
+                limits,
+                layers,
+                slots,
+                freed: Vec::new(),
+                stacks,
+                sender,
+                made: 0,
+                closed: 0,
+                calls: 0,
+            },
+            drain,
+        ))
     }
 
     pub fn find(&self, id: u64) -> Option<&Span> {
@@ -212,7 +230,15 @@ impl Plain {
         let Some(span) = self.find(id) else { return };
         notes.extend(self.told(span.bits, kind).map(|layer| {
             let path = self.path(layer, Some(id), None);
-            Note { layer, kind, worker, id, path, fields: fields.clone(), tail: None }
+            Note {
+                layer,
+                kind,
+                worker,
+                id,
+                path,
+                fields: fields.clone(),
+                tail: None,
+            }
         }));
     }
 
@@ -246,7 +272,15 @@ impl Plain {
         let id = (u64::from(generation) << 24) + slot as u64 + 1;
         let note = |layer| {
             let path = self.path(layer, parent, Some(meta.name));
-            Note { layer, kind: NEW, worker, id, path, fields: fields.clone(), tail: None }
+            Note {
+                layer,
+                kind: NEW,
+                worker,
+                id,
+                path,
+                fields: fields.clone(),
+                tail: None,
+            }
         };
         let notes = self.told(bits, NEW).map(note).collect();
         self.send(notes)?;
@@ -262,7 +296,17 @@ impl Plain {
             self.span(parent).count += 1;
         }
         let (name, target) = (meta.name.to_owned(), meta.target.to_owned());
-        let span = Span { name, target, level: meta.level, fields, parent, handles: 1, entries: 0, count: 1, bits };
+        let span = Span {
+            name,
+            target,
+            level: meta.level,
+            fields,
+            parent,
+            handles: 1,
+            entries: 0,
+            count: 1,
+            bits,
+        };
         self.slots[slot].span = Some(span);
         self.made += 1;
     }
@@ -380,7 +424,15 @@ impl Plain {
             let id = self.entries(worker).find(is_seen);
             let path = self.path(layer, id, None);
             let tail = Some((meta.level, message.to_owned()));
-            Note { layer, kind: EVENT, worker, id: id.unwrap_or(0), path, fields: fields.clone(), tail }
+            Note {
+                layer,
+                kind: EVENT,
+                worker,
+                id: id.unwrap_or(0),
+                path,
+                fields: fields.clone(),
+                tail,
+            }
         };
         let notes = self.told(self.bits(meta), EVENT).map(note).collect();
         self.send(notes)
@@ -400,7 +452,11 @@ impl PlainDrain {
         };
         self.batches += 1;
         for note in notes {
-            let text = if self.are_json[note.layer] { json(&note) } else { compact(&note) };
+            let text = if self.are_json[note.layer] {
+                json(&note)
+            } else {
+                compact(&note)
+            };
             tell(note.layer, text);
         }
         true
@@ -429,11 +485,26 @@ fn compact(note: &Note) -> String {
 fn json(note: &Note) -> String {
     let pair = |(key, value): &(String, String)| format!("[{},{}]", quoted(key), quoted(value));
     let fields: Vec<String> = note.fields.iter().map(pair).collect();
-    let mut text = format!(r#"{{"fields":[{}],"id":{},"kind":"{}""#, fields.join(","), note.id, KINDS[note.kind]);
+    let mut text = format!(
+        r#"{{"fields":[{}],"id":{},"kind":"{}""#,
+        fields.join(","),
+        note.id,
+        KINDS[note.kind]
+    );
     if let Some((level, message)) = &note.tail {
-        let _ = write!(text, r#","level":"{}","message":{}"#, LEVELS[*level as usize], quoted(message));
+        let _ = write!(
+            text,
+            r#","level":"{}","message":{}"#,
+            LEVELS[*level as usize],
+            quoted(message)
+        );
     }
-    let _ = write!(text, r#","path":{},"worker":{}}}"#, quoted(&path_text(note)), note.worker);
+    let _ = write!(
+        text,
+        r#","path":{},"worker":{}}}"#,
+        quoted(&path_text(note)),
+        note.worker
+    );
     text
 }
 

@@ -33,11 +33,11 @@ pub fn layered(drain: &mut Drain) -> Vec<String> {
 pub struct Ids(pub Registry);
 
 impl Ids {
-    pub fn new(&self, name: &str) -> Result<u64, Error> {
-        self.new_under(name, Parent::Current)
+    pub fn make(&self, name: &str) -> Result<u64, Error> {
+        self.make_under(name, Parent::Current)
     }
 
-    pub fn new_under(&self, name: &str, parent: Parent) -> Result<u64, Error> {
+    pub fn make_under(&self, name: &str, parent: Parent) -> Result<u64, Error> {
         Ok(self
             .0
             .new_span(&info(name), parent, &[])?
