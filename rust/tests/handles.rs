@@ -178,7 +178,7 @@ fn what_was_given_back_by_its_id_is_not_given_back_again() -> Result<(), Error> 
     let ids = Ids(registry.clone());
     let a = span(&registry, "a");
     let inside = a.enter()?;
-    (ids.exit(1)?, ids.close(1)?);
+    assert_eq!((ids.exit(1), ids.close(1)), (Ok(false), Ok(true)));
     drop(inside);
     let (a, error) = a.try_close().expect_err("its handle is gone");
     assert_eq!((a.is_disabled(), error), (true, Error::Unknown));

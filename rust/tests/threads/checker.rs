@@ -3,6 +3,9 @@ use std::collections::HashMap;
 use std::sync::mpsc::Receiver;
 use std::time::Duration;
 
+/// A thread that takes longer to say what it did is lost.
+const LONG: Duration = Duration::from_secs(60);
+
 /// What the lines so far say of an open span.
 struct Open {
     path: String,
@@ -15,8 +18,12 @@ struct Open {
     children: u32,
 }
 
+/// What a worker says that its lines have to be.
+type Told = Receiver<String>;
+
 pub struct Checker {
-    told: HashMap<u32, Receiver<String>>,
+    introduced: Receiver<(u32, Told)>,
+    told: HashMap<u32, Told>,
     open: HashMap<u64, Open>,
     // The span that may close now by what the worker did last.
     may_close: HashMap<u32, u64>,
@@ -28,9 +35,10 @@ pub struct Checker {
 }
 
 impl Checker {
-    pub fn new(told: HashMap<u32, Receiver<String>>) -> Checker {
+    pub fn new(introduced: Receiver<(u32, Told)>) -> Checker {
         Checker {
-            told,
+            introduced,
+            told: HashMap::new(),
             open: HashMap::new(),
             may_close: HashMap::new(),
             generations: HashMap::new(),
@@ -47,7 +55,7 @@ impl Checker {
         let (kind, id, worker) = (word(), word().parse().expect("an id"), &word()[1..]);
         let worker = worker.parse().expect("a worker's number");
         if kind != "close" {
-            let told = self.told[&worker].recv_timeout(Duration::from_secs(60));
+            let told = self.told_by(worker).recv_timeout(LONG);
             assert_eq!(told.as_deref(), Ok(line));
         }
         let closing = self.may_close.remove(&worker);
@@ -67,6 +75,15 @@ impl Checker {
             }
             _ => panic!("no such kind: {line}"),
         }
+    }
+
+    // A worker introduces itself before its first call that has a line.
+    fn told_by(&mut self, worker: u32) -> &Told {
+        while !self.told.contains_key(&worker) {
+            let (worker, told) = self.introduced.recv_timeout(LONG).expect("each worker does");
+            self.told.insert(worker, told);
+        }
+        &self.told[&worker]
     }
 
     fn span(&mut self, id: u64) -> &mut Open {

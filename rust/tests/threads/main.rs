@@ -7,7 +7,7 @@ mod checker;
 
 use caller::Caller;
 use checker::Checker;
-use span_registry::{Layer, Registry};
+use span_registry::{retry, Layer, Registry};
 use std::env;
 use std::sync::mpsc::{channel, sync_channel};
 use std::sync::{Arc, Barrier};
@@ -37,7 +37,7 @@ fn each_line_is_what_the_threads_did() {
             let introduce = introduce.clone();
             thread::spawn(move || {
                 let (tell, told) = channel();
-                let worker = registry.worker().expect("there are enough");
+                let worker = retry(|| registry.worker()).expect("there are enough");
                 introduce.send((worker, told)).expect("the checker waits");
                 Caller::new(registry, worker, tell, inbox, others, seed).run(until, &all_stopped)
             })
@@ -45,7 +45,7 @@ fn each_line_is_what_the_threads_did() {
         .collect();
     drop((introduce, inboxes));
     let checking = thread::spawn(move || {
-        let mut checker = Checker::new(introduced.iter().take(THREADS).collect());
+        let mut checker = Checker::new(introduced);
         loop {
             let was_over = drain.is_over();
             let before = checker.lines;
