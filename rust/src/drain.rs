@@ -126,7 +126,7 @@ impl Drain {
 
     /// What it has done so far.
     #[must_use]
-    pub fn counts(&self) -> DrainCounts {
+    pub fn counts(&mut self) -> DrainCounts {
         let (batches, missed) = self.lines.counts();
         DrainCounts { batches, missed }
     }
@@ -237,6 +237,9 @@ impl<W: Write> Outs for Each<'_, W> {
 
 impl std::fmt::Debug for Drain {
     fn fmt(&self, f: &mut std::fmt::Formatter<'_>) -> std::fmt::Result {
-        f.debug_struct("Drain").field("counts", &self.counts()).finish()
+        f.debug_struct("Drain")
+            .field("layers", &self.layers)
+            .field("is_over", &self.is_over())
+            .finish()
     }
 }

@@ -4,9 +4,9 @@ use std::fmt;
 
 /// Why a call was refused. A refused call changed nothing.
 ///
-/// Of several reasons the first in the order `BadName`, `Unknown`, `CountFull`, `Full`, `NotEntered`, `Backlog`,
-/// `OutOfMemory` is answered. While something is owed (see [`Span`](crate::Span)), what stands in the way of that comes
-/// before all of them.
+/// Of several reasons the first in the order `BadName`, `Unknown`, `CountFull`, `Full`, `NotEntered`, `Backlog` is
+/// answered; want of memory may come before any of them. While something is owed (see [`Span`](crate::Span)), what
+/// stands in the way of that comes before all others.
 #[derive(Clone, Copy, Debug, PartialEq, Eq, Hash)]
 #[non_exhaustive]
 pub enum Error {

@@ -4,16 +4,19 @@ use crate::span::Span;
 use std::fmt;
 use std::num::NonZeroU64;
 
+/// A slot below 2^24 and a generation below 2^32 make an id.
+const MAX_ID: u64 = 1 << 56;
+
 /// The id of a span. No two spans of a registry ever have the same one: a closed span's id finds nothing for ever.
 #[derive(Clone, Copy, Debug, PartialEq, Eq, PartialOrd, Ord, Hash)]
 pub struct Id(NonZeroU64);
 
 impl Id {
-    /// The id of this number; none for 0. A number that is no open span's is refused as
-    /// [`Unknown`](crate::Error::Unknown) where it is used.
+    /// The id of this number; none for 0 and above 2^56, since no span ever has such an id. One that is no open span's is
+    /// refused as [`Unknown`](crate::Error::Unknown) where it is used.
     #[must_use]
     pub fn from_u64(number: u64) -> Option<Id> {
-        NonZeroU64::new(number).map(Id)
+        NonZeroU64::new(number).filter(|number| number.get() <= MAX_ID).map(Id)
     }
 
     /// Its number, which lines show.

@@ -153,12 +153,12 @@ unsafe extern "C" {
         texts: *const u8,
         texts_len: usize,
     ) -> u32;
-    fn span_registry_find(registry: *const SpanRegistry, id: u64, found: *mut SpanFound) -> u32;
-    fn span_registry_current_span(registry: *const SpanRegistry, worker: u32, id: *mut u64) -> u32;
-    fn span_registry_counts(registry: *const SpanRegistry, counts: *mut SpanCounts) -> u32;
+    fn span_registry_find(registry: *mut SpanRegistry, id: u64, found: *mut SpanFound) -> u32;
+    fn span_registry_current_span(registry: *mut SpanRegistry, worker: u32, id: *mut u64) -> u32;
+    fn span_registry_counts(registry: *mut SpanRegistry, counts: *mut SpanCounts) -> u32;
 
     fn span_drain_line(drain: *mut SpanDrain, layer: *mut u32, into: *mut u8, into_len: usize, len: *mut usize) -> u32;
-    fn span_drain_counts(drain: *const SpanDrain, batches: *mut u64, refused: *mut u64) -> u32;
+    fn span_drain_counts(drain: *mut SpanDrain, batches: *mut u64, refused: *mut u64) -> u32;
     fn span_drain_free(drain: *mut SpanDrain) -> u32;
 
     fn span_status_text(status: u32, into: *mut u8, into_len: usize, len: *mut usize) -> u32;

@@ -28,7 +28,7 @@ pub(crate) struct State {
 }
 
 impl State {
-    pub(crate) fn new(core: Core) -> Result<State, Error> {
+    pub(crate) fn new(mut core: Core) -> Result<State, Error> {
         let workers = core.counts().workers as usize;
         let mut taken = Vec::new();
         taken.try_reserve_exact(workers).map_err(|_| Error::OutOfMemory)?;
@@ -154,15 +154,15 @@ impl State {
         self.core.event(worker, meta, message, &self.packed)
     }
 
-    pub(crate) fn current_span(&self, worker: u32) -> Result<Option<Id>, Error> {
+    pub(crate) fn current_span(&mut self, worker: u32) -> Result<Option<Id>, Error> {
         self.core.current_span(worker)
     }
 
-    pub(crate) fn find(&self, id: Id) -> Option<Found> {
+    pub(crate) fn find(&mut self, id: Id) -> Option<Found> {
         self.core.find(id)
     }
 
-    pub(crate) fn counts(&self) -> Counts {
+    pub(crate) fn counts(&mut self) -> Counts {
         let counts = self.core.counts();
         Counts {
             open: counts.open,

@@ -193,7 +193,10 @@ fn what_was_given_back_by_its_id_is_not_given_back_again() -> Result<(), Error> 
 
 #[test]
 fn ids_show_their_number() {
-    assert_eq!(Id::from_u64(0), None);
+    for none in [0, (1 << 56) + 1, u64::MAX] {
+        assert_eq!(Id::from_u64(none), None);
+    }
+    assert_eq!(id(1 << 56).into_u64(), 1 << 56);
     assert_eq!(id(16_777_217).to_string(), "16777217");
     assert_eq!(id(7).into_u64(), 7);
 }

@@ -287,9 +287,9 @@ fn a_stale_id_finds_nothing() -> Result<(), Error> {
 }
 
 #[test]
-fn numbers_that_are_no_ids_are_unknown() -> Result<(), Error> {
+fn ids_that_were_never_given_are_unknown() -> Result<(), Error> {
     let (registry, _drain) = Registry::builder().build()?;
-    for number in [1, 1 << 24, 1 << 56, (1 << 56) + 1, u64::MAX] {
+    for number in [1, 1 << 24, (1 << 24) + 1, 1 << 56] {
         assert_eq!(registry.try_close(id(number)), Err(Error::Unknown), "{number}");
         assert_eq!(registry.find(id(number)), None, "{number}");
     }

@@ -23,7 +23,8 @@ pub(crate) struct Core {
     handle: SpanRegistry,
 }
 
-// SAFETY: the header says that a registry may move between threads. It has one call at a time, since it isn't `Sync`.
+// SAFETY: the header says that a registry may move between threads. It has one call at a time, since each takes it as
+// `&mut`.
 unsafe impl Send for Core {}
 
 impl Core {
@@ -147,10 +148,10 @@ impl Core {
         })
     }
 
-    pub(crate) fn find(&self, id: Id) -> Option<Found> {
+    pub(crate) fn find(&mut self, id: Id) -> Option<Found> {
         let mut found = SpanFound::default();
-        // SAFETY: the handle is full, no other call runs since this type isn't `Sync`, and `found` is this call's.
-        let status = unsafe { span_registry_find(&self.handle, id.into_u64(), &mut found) };
+        // SAFETY: the handle is full and lent to this call alone, and `found` is this call's.
+        let status = unsafe { span_registry_find(&mut self.handle, id.into_u64(), &mut found) };
         Error::of_status(status).ok()?;
         Some(Found {
             parent: Id::from_u64(found.parent),
@@ -161,17 +162,17 @@ impl Core {
         })
     }
 
-    pub(crate) fn current_span(&self, worker: u32) -> Result<Option<Id>, Error> {
+    pub(crate) fn current_span(&mut self, worker: u32) -> Result<Option<Id>, Error> {
         let mut id = 0;
-        // SAFETY: the handle is full, no other call runs since this type isn't `Sync`, and `id` is this call's.
-        Error::of_status(unsafe { span_registry_current_span(&self.handle, worker, &mut id) })?;
+        // SAFETY: the handle is full and lent to this call alone, and `id` is this call's.
+        Error::of_status(unsafe { span_registry_current_span(&mut self.handle, worker, &mut id) })?;
         Ok(Id::from_u64(id))
     }
 
-    pub(crate) fn counts(&self) -> SpanCounts {
+    pub(crate) fn counts(&mut self) -> SpanCounts {
         let mut counts = SpanCounts::default();
-        // SAFETY: the handle is full, no other call runs since this type isn't `Sync`, and `counts` is this call's.
-        let status = unsafe { span_registry_counts(&self.handle, &mut counts) };
+        // SAFETY: the handle is full and lent to this call alone, and `counts` is this call's.
+        let status = unsafe { span_registry_counts(&mut self.handle, &mut counts) };
         debug_assert_eq!(status, super::OK);
         counts
     }

@@ -17,7 +17,7 @@ pub(crate) struct Lines {
 }
 
 // SAFETY: the header says that a drain may be used in another thread than its registry. It has one call at a time, since
-// it isn't `Sync`.
+// each takes it as `&mut`.
 unsafe impl Send for Lines {}
 
 impl Lines {
@@ -39,10 +39,10 @@ impl Lines {
     }
 
     /// How many batches were taken, and how many notes were missed for want of memory.
-    pub(crate) fn counts(&self) -> (u64, u64) {
+    pub(crate) fn counts(&mut self) -> (u64, u64) {
         let (mut batches, mut refused) = (0, 0);
-        // SAFETY: the handle is full, no other call runs since this type isn't `Sync`, and both numbers are this call's.
-        let status = unsafe { span_drain_counts(&self.handle, &mut batches, &mut refused) };
+        // SAFETY: the handle is full and lent to this call alone, and both numbers are this call's.
+        let status = unsafe { span_drain_counts(&mut self.handle, &mut batches, &mut refused) };
         debug_assert_eq!(status, OK);
         (batches, refused)
     }
