@@ -33,3 +33,8 @@ pub use level::{FmtSpan, Form, Level};
 pub use meta::{Counts, Fields, Found, Id, Meta, Parent};
 pub use registry::{retry, Registry};
 pub use span::{Entered, Span};
+
+/// So that the page's program is run as a test.
+#[cfg(doctest)]
+#[doc = include_str!("../README.md")]
+struct Readme;
