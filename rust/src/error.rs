@@ -33,7 +33,8 @@ pub enum Error {
     BadData,
     /// More threads call than the registry has workers, or the thread calls while its thread locals are being dropped.
     TooManyThreads,
-    /// A status that no right use of the C interface gets: a fault of this crate or of the library that it was built with.
+    /// A status that no right use of the C interface gets: a fault of this crate, or of the library that it was built
+    /// with.
     Other(u32),
 }
 

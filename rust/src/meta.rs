@@ -12,8 +12,8 @@ const MAX_ID: u64 = 1 << 56;
 pub struct Id(NonZeroU64);
 
 impl Id {
-    /// The id of this number; none for 0 and above 2^56, since no span ever has such an id. One that is no open span's is
-    /// refused as [`Unknown`](crate::Error::Unknown) where it is used.
+    /// The id of this number; none for 0 and above 2^56, since no span ever has such an id. One that is no open span's
+    /// is refused as [`Unknown`](crate::Error::Unknown) where it is used.
     #[must_use]
     pub fn from_u64(number: u64) -> Option<Id> {
         NonZeroU64::new(number).filter(|number| number.get() <= MAX_ID).map(Id)

@@ -179,9 +179,9 @@ impl Registry {
         })
     }
 
-    /// Does what dropped guards, dropped spans and ended threads left to be done, in order. Refused as
-    /// [`Backlog`](Error::Backlog) or [`OutOfMemory`](Error::OutOfMemory) where some of it can't be done now; that stays
-    /// owed. Each other call does this first.
+    /// Does what dropped guards, dropped spans and ended threads left to be done, in order. Each other call does this
+    /// first. Refused as [`Backlog`](Error::Backlog) or [`OutOfMemory`](Error::OutOfMemory) where some of it can't be
+    /// done now; that stays owed.
     pub fn settle(&self) -> Result<(), Error> {
         self.shared().with(State::settle)
     }

@@ -1,6 +1,6 @@
 //! The same random calls on the proved registry and on one in plain Rust, which was written from the rules alone: each
 //! answer, each line and what is found of each span have to be the same.
-#[path = "../examples/border/plain.rs"]
+#[path = "../examples/border/plain/mod.rs"]
 #[allow(dead_code)]
 mod plain;
 

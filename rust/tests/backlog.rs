@@ -166,23 +166,21 @@ fn a_slow_drain_of_a_ring_of_one_loses_nothing() -> Result<(), Error> {
     }
     let texts = reading.join().expect("no panic");
     for (round, lines) in texts.chunks(8).enumerate() {
-        let outer = id_of(&lines[0]);
-        let (a, ab) = (format!("{outer} w0 a{round}"), |id: &str| format!("{id} w0 a{round}:b"));
-        let inner = ab(&id_of(&lines[2]));
-        let wanted = [
-            format!("new {a}"),
-            format!("enter {a}"),
-            format!("new {inner}"),
-            format!("enter {inner}"),
-            format!("exit {inner}"),
-            format!("close {inner}"),
-            format!("exit {a}"),
-            format!("close {a}"),
-        ];
-        assert_eq!(lines, wanted);
+        assert_eq!(lines, lines_of_a_round(round, &id_of(&lines[0]), &id_of(&lines[2])));
     }
     assert_empty(&registry);
     Ok(())
+}
+
+fn lines_of_a_round(round: usize, outer: &str, inner: &str) -> [String; 8] {
+    let outer = |kind: &str| format!("{kind} {outer} w0 a{round}");
+    let inner = |kind: &str| format!("{kind} {inner} w0 a{round}:b");
+    let (into, out) = (["new", "enter"], ["exit", "close"]);
+    let [new, enter] = into.map(outer);
+    let [new_inner, enter_inner] = into.map(inner);
+    let [exit_inner, close_inner] = out.map(inner);
+    let [exit, close] = out.map(outer);
+    [new, enter, new_inner, enter_inner, exit_inner, close_inner, exit, close]
 }
 
 fn id_of(line: &str) -> String {

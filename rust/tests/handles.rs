@@ -44,7 +44,7 @@ fn a_clone_of_its_own_is_counted_and_may_be_refused() -> Result<(), Error> {
     Ok(())
 }
 
-/// What is dropped: the handle of a span, a handle of its own, a shared one that is the last, and the handle of a child.
+/// What is dropped: a span's handle, a second one of its own, a child's handle, and a clone that shares it.
 fn hold(registry: &Registry) -> [Option<Span>; 4] {
     let a = span(registry, "a");
     let own = a.try_clone().expect("not refused");

@@ -1,4 +1,5 @@
-//! That a registry whose memory is refused, at each place in turn, refuses the call and is as it was, and that drops owe.
+//! That a registry whose memory is refused, at each place in turn, refuses the call and is as it was; and that drops
+//! then owe.
 //!
 //! The library takes its memory by three functions of the toolchain's shim. This program has its own in their place,
 //! which refuse one allocation.

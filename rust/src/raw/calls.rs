@@ -31,7 +31,8 @@ impl Core {
     pub(crate) fn new(start: &Start<'_>) -> Result<(Core, Lines), Error> {
         let mut core = SpanRegistry::EMPTY;
         let mut drain = SpanDrain::EMPTY;
-        // SAFETY: both handles are empty, each pointer is of a value or of a slice with its length, and they don't overlap.
+        // SAFETY: both handles are empty, and each pointer is of a value or of a slice with its length. Nothing that is
+        // written overlaps anything else.
         let status = unsafe {
             span_registry_new(
                 &mut core,
@@ -65,7 +66,8 @@ impl Core {
         };
         let (fields, texts) = (packed.fields(), packed.texts());
         let mut id = 0;
-        // SAFETY: the handle is full and lent to this call alone, and each pointer is of a value or of a slice with its length.
+        // SAFETY: the handle is full and lent to this call alone, and each pointer is of a value or of a slice with its
+        // length.
         let status = unsafe {
             span_registry_new_span(
                 &mut self.handle,
@@ -133,7 +135,8 @@ impl Core {
         let meta = raw_meta(meta)?;
         let message_len = length(message)?;
         let (fields, texts) = (packed.fields(), packed.texts());
-        // SAFETY: the handle is full and lent to this call alone, and each pointer is of a value or of a slice with its length.
+        // SAFETY: the handle is full and lent to this call alone, and each pointer is of a value or of a slice with its
+        // length.
         Error::of_status(unsafe {
             span_registry_event(
                 &mut self.handle,

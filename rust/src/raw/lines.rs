@@ -16,8 +16,8 @@ pub(crate) struct Lines {
     handle: SpanDrain,
 }
 
-// SAFETY: the header says that a drain may be used in another thread than its registry. It has one call at a time, since
-// each takes it as `&mut`.
+// SAFETY: the header says that a drain may be used in another thread than its registry. It has one call at a time,
+// since each takes it as `&mut`.
 unsafe impl Send for Lines {}
 
 impl Lines {

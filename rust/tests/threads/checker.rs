@@ -19,7 +19,7 @@ struct Open {
 }
 
 /// What a worker says that its lines have to be.
-type Told = Receiver<String>;
+pub type Told = Receiver<String>;
 
 pub struct Checker {
     introduced: Receiver<(u32, Told)>,
