@@ -110,6 +110,20 @@ fn the_next_call_does_what_is_owed_first() -> Result<(), Error> {
 }
 
 #[test]
+fn a_drop_overtakes_nothing_that_is_owed() -> Result<(), Error> {
+    let (registry, mut drain) = compact().ring(2).build()?;
+    let (a, b) = (span(&registry, "a"), span(&registry, "b"));
+    drop(a);
+    // One place, for the close of `a`.
+    assert_eq!(drain.line().map(|line| line.text), Some("new 1 w0 a".to_owned()));
+    drop(b);
+    assert_eq!(registry.counts().owed, 1);
+    assert_eq!(texts(&mut drain), ["new 2 w0 b", "close 1 w0 a", "close 2 w0 b"]);
+    assert_empty(&registry);
+    Ok(())
+}
+
+#[test]
 fn the_drain_does_what_is_owed_where_no_call_comes() -> Result<(), Error> {
     let (registry, mut drain) = compact().ring(1).build()?;
     let a = span(&registry, "a");

@@ -120,6 +120,7 @@ const LINES: [&str; 11] = [
 
 /// All kinds of calls and drops.
 fn run(registry: Registry, drain: &mut Drain) -> Calls {
+    assert_eq!(registry.worker(), Ok(0));
     let mut calls = Calls {
         registry,
         refused: 0,

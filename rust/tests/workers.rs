@@ -144,6 +144,28 @@ fn a_number_that_is_owed_is_not_given_again_before() -> Result<(), Error> {
 }
 
 #[test]
+fn a_number_is_free_once_its_last_span_is_left() -> Result<(), Error> {
+    let (registry, mut drain) = compact().ring(5).build()?;
+    let there = registry.clone();
+    let ended = thread::spawn(move || {
+        let ids = Ids(there);
+        for (id, name) in [(1, "a"), (2, "b")] {
+            ids.make(name).expect("new");
+            ids.enter(id).expect("enter");
+        }
+    });
+    ended.join().expect("no panic");
+    // The fifth place is taken by one of the two exits.
+    let counts = registry.counts();
+    assert_eq!((counts.calls, counts.owed, counts.threads, counts.held), (5, 1, 1, 3));
+    assert_eq!(registry.worker(), Err(Error::Backlog));
+    assert_eq!(texts(&mut drain)[4..], ["exit 2 w0 a:b", "exit 1 w0 a"]);
+    assert_eq!(registry.counts().threads, 0);
+    assert_eq!(registry.worker(), Ok(0));
+    Ok(())
+}
+
+#[test]
 fn the_end_of_a_thread_may_need_several_turns() -> Result<(), Error> {
     let (registry, mut drain) = Registry::builder().workers(2).ring(1).build()?;
     let there = registry.clone();
