@@ -5,6 +5,7 @@ use common::{compact, info, span, Ids};
 use span_registry::{Error, Layer, Level, Meta, Parent, Registry};
 use std::io::{self, Write};
 use std::thread;
+use std::time::Duration;
 
 #[test]
 fn lines_of_any_length_are_read_whole() -> Result<(), Error> {
@@ -26,7 +27,11 @@ fn a_thread_writes_all_lines_until_the_registry_is_gone() -> Result<(), Error> {
         let mut out = Vec::new();
         drain.run(&mut out).map(|lines| (lines, out))
     });
+    // Long enough for the thread to find no line, and to sleep.
+    let pause = || thread::sleep(Duration::from_millis(30));
+    pause();
     let a = span(&registry, "a");
+    pause();
     a.in_scope(|| Ids(registry.clone()).event("m"))??;
     drop((a, registry));
     let (lines, out) = writing.join().expect("no panic").expect("no error");

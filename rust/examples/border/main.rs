@@ -11,9 +11,9 @@ use span_registry::{Drain, Error, Layer, Level, Meta, Parent, Registry};
 use std::sync::Mutex;
 use std::time::{Duration, Instant};
 
-/// The lines of so many rounds fit into the ring.
-const ROUNDS: u32 = 10_000;
-const TURNS: u32 = 30;
+/// Few enough that most turns are done in one go, though others share the processor.
+const ROUNDS: u32 = 500;
+const TURNS: u32 = 400;
 const RING: u32 = 65_536;
 const META: Meta<'static> = Meta {
     level: Level::Info,
