@@ -9,7 +9,7 @@ const LIBRARY_FOLDER: &str = "SPAN_REGISTRY_LIB";
 const SHIM_FOLDER: &str = "SPAN_REGISTRY_SHIM";
 
 fn main() {
-    for name in [LIBRARY_FOLDER, SHIM_FOLDER, "PATH"] {
+    for name in [LIBRARY_FOLDER, SHIM_FOLDER] {
         println!("cargo:rerun-if-env-changed={name}");
     }
     link(&library_folder(), "span_ffi", LIBRARY_FOLDER);
