@@ -1,10 +1,8 @@
 //! The end from which lines are read.
 use crate::raw::{Lines, Next};
-use crate::shared::Shared;
+use crate::shared::{wait, Shared};
 use std::io::{self, Write};
 use std::sync::Arc;
-use std::thread;
-use std::time::Duration;
 
 /// A line that a layer was told.
 #[derive(Clone, Debug, PartialEq, Eq, Hash)]
@@ -161,7 +159,7 @@ impl Drain {
     }
 
     fn run_out(&mut self, outs: &mut impl Outs) -> io::Result<u64> {
-        let (mut lines, mut idle) = (0, 0);
+        let (mut lines, mut idle) = (0, 0u32);
         loop {
             let was_over = self.is_over();
             let more = self.write_out(outs)?;
@@ -177,17 +175,8 @@ impl Drain {
                 return Ok(lines);
             }
             wait(idle);
-            idle += 1;
+            idle = idle.saturating_add(1);
         }
-    }
-}
-
-/// A short while at first, since a line may be on its way.
-fn wait(idle: u32) {
-    if idle < 64 {
-        thread::yield_now();
-    } else {
-        thread::sleep(Duration::from_micros(500));
     }
 }
 

@@ -2,7 +2,7 @@
 use crate::builder::RegistryBuilder;
 use crate::error::Error;
 use crate::meta::{Counts, Fields, Found, Id, Meta, Parent};
-use crate::shared::Shared;
+use crate::shared::{wait, Shared};
 use crate::span::Span;
 use crate::state::{Owed, State};
 use crate::workers;
@@ -11,8 +11,8 @@ use std::sync::Arc;
 
 /// A registry of spans. Clones are the same registry; it may be used by several threads at once.
 ///
-/// Each thread that calls is a worker of the registry: it takes a free number at its first call, also a refused one, and
-/// gives it back when it ends, after it has left all spans that it is still inside of. A call of one thread more than
+/// Each thread that calls is a worker of the registry: it takes a free number at its first call, also a refused one,
+/// and gives it back when it ends, after it has left all spans that it is still inside of. A call of one thread more than
 /// [`workers`](RegistryBuilder::workers) is refused as [`TooManyThreads`](Error::TooManyThreads).
 ///
 /// The methods that take an [`Id`] are for adapters; [`Registry::span`] answers a [`Span`] that gives itself back.
@@ -194,7 +194,7 @@ impl fmt::Debug for Registry {
 }
 
 /// Makes a call again, as long as it is refused as [`Backlog`](Error::Backlog), and lets other threads run in between.
-/// It doesn't come back while nobody reads the [`Drain`](crate::Drain).
+/// It doesn't come back while nobody reads the [`Drain`](crate::Drain), so the thread that reads must not wait by this.
 ///
 /// ```
 /// # fn main() -> Result<(), span_registry::Error> {
@@ -205,10 +205,12 @@ impl fmt::Debug for Registry {
 /// # }
 /// ```
 pub fn retry<T>(mut call: impl FnMut() -> Result<T, Error>) -> Result<T, Error> {
+    let mut turn: u32 = 0;
     loop {
         match call() {
-            Err(Error::Backlog) => std::thread::yield_now(),
+            Err(Error::Backlog) => wait(turn),
             result => return result,
         }
+        turn = turn.saturating_add(1);
     }
 }

@@ -2,6 +2,8 @@
 use crate::state::{Owed, State};
 use std::sync::atomic::{AtomicBool, Ordering};
 use std::sync::{Mutex, MutexGuard, PoisonError};
+use std::thread;
+use std::time::Duration;
 
 /// What registries, spans and the drain share.
 pub(crate) struct Shared {
@@ -45,5 +47,15 @@ impl Shared {
 
     pub(crate) fn is_over(&self) -> bool {
         self.is_over.load(Ordering::Acquire)
+    }
+}
+
+/// Lets other threads run: at the first turns only that, since a line or a place may be on its way, and then for half a
+/// millisecond each.
+pub(crate) fn wait(turn: u32) {
+    if turn < 64 {
+        thread::yield_now();
+    } else {
+        thread::sleep(Duration::from_micros(500));
     }
 }
