@@ -12,8 +12,8 @@ use std::sync::Arc;
 /// A registry of spans. Clones are the same registry; it may be used by several threads at once.
 ///
 /// Each thread that calls is a worker of the registry: it takes a free number at its first call, also a refused one,
-/// and gives it back when it ends, after it has left all spans that it is still inside of. A call of one thread more than
-/// [`workers`](RegistryBuilder::workers) is refused as [`TooManyThreads`](Error::TooManyThreads).
+/// and gives it back when it ends, after it has left all spans that it is still inside of. A call of one thread more
+/// than [`workers`](RegistryBuilder::workers) is refused as [`TooManyThreads`](Error::TooManyThreads).
 ///
 /// The methods that take an [`Id`] are for adapters; [`Registry::span`] answers a [`Span`] that gives itself back.
 ///
