@@ -1,0 +1,135 @@
+//! What a span costs over the border to the proved library, and the same in plain Rust.
+//!
+//! A round is a new span, an enter, an exit and a close, in one thread, behind a lock. Reading the lines is measured
+//! apart. `cargo run --release --offline --example border`
+// It is whole, though a round needs only a part.
+#[allow(dead_code)]
+mod plain;
+
+use plain::{Plain, PlainDrain};
+use span_registry::{Drain, Error, Layer, Level, Meta, Parent, Registry};
+use std::sync::Mutex;
+use std::time::{Duration, Instant};
+
+/// Few enough that most turns are done in one go, though others share the processor.
+const ROUNDS: u32 = 500;
+const TURNS: u32 = 400;
+const RING: u32 = 65_536;
+const META: Meta<'static> = Meta {
+    level: Level::Info,
+    target: "app::module",
+    name: "request",
+};
+
+/// Nanoseconds of a round, and of reading its lines.
+struct Cost {
+    round: f64,
+    reading: f64,
+}
+
+/// Turns of rounds with the reading between them; the best turn counts, since others share the processor.
+fn measure(mut rounds: impl FnMut(), mut read: impl FnMut()) -> Cost {
+    let mut best = [Duration::MAX; 2];
+    for _ in 0..TURNS {
+        for (best, part) in best.iter_mut().zip([&mut rounds as &mut dyn FnMut(), &mut read]) {
+            let start = Instant::now();
+            part();
+            *best = start.elapsed().min(*best);
+        }
+    }
+    let [round, reading] = best.map(|best| best.as_nanos() as f64 / f64::from(ROUNDS));
+    Cost { round, reading }
+}
+
+fn registry(layers: usize) -> Result<(Registry, Drain), Error> {
+    let layer = |builder: span_registry::RegistryBuilder, _| builder.layer(Layer::compact());
+    (0..layers)
+        .fold(Registry::builder().workers(1).ring(RING), layer)
+        .build()
+}
+
+fn by_ids(layers: usize) -> Result<Cost, Error> {
+    let (registry, mut drain) = registry(layers)?;
+    let round = || -> Result<(), Error> {
+        let id = registry
+            .new_span(&META, Parent::Current, &[("k", "value")])?
+            .expect("it is wanted");
+        registry.enter(id)?;
+        registry.exit(id)?;
+        registry.try_close(id).map(drop)
+    };
+    let rounds = || (0..ROUNDS).for_each(|_| round().expect("the ring has place"));
+    Ok(measure(rounds, || drain.lines().for_each(drop)))
+}
+
+fn by_spans(layers: usize) -> Result<Cost, Error> {
+    let (registry, mut drain) = registry(layers)?;
+    let round = || {
+        registry
+            .span(&META, Parent::Current, &[("k", "value")])?
+            .in_scope(|| ())
+    };
+    let rounds = || (0..ROUNDS).for_each(|_| round().expect("the ring has place"));
+    Ok(measure(rounds, || drain.lines().for_each(drop)))
+}
+
+fn plain(layers: usize) -> (Mutex<Plain>, PlainDrain) {
+    let limits = plain::Limits {
+        slots: 1024,
+        last_generation: u32::MAX,
+        max_count: u32::MAX,
+        workers: 1,
+        ring: RING,
+    };
+    let layer = |_| plain::Layer {
+        is_json: false,
+        kinds: 15,
+        rules: vec![(String::new(), 4)],
+    };
+    let (plain, drain) = Plain::new(limits, (0..layers).map(layer).collect()).expect("few layers");
+    (Mutex::new(plain), drain)
+}
+
+fn in_plain_rust(layers: usize) -> Cost {
+    let (registry, mut drain) = plain(layers);
+    let lock = || registry.lock().expect("no panic");
+    let meta = plain::Meta {
+        level: META.level as u32,
+        name: META.name,
+        target: META.target,
+    };
+    let round = || -> Result<(), plain::Refusal> {
+        let fields = vec![("k".to_owned(), "value".to_owned())];
+        let id = lock()
+            .new_span(0, plain::Parent::Current, &meta, fields)?
+            .expect("it is wanted");
+        lock().enter(0, id)?;
+        lock().exit(0, id)?;
+        lock().try_close(0, id).map(drop)
+    };
+    let rounds = || (0..ROUNDS).for_each(|_| round().expect("the channel has place"));
+    measure(rounds, || drain.tell_all(|_, text| drop(text)))
+}
+
+/// A call that looks at the core and changes nothing: the lock, and the way over the border and back.
+fn a_look() -> Result<f64, Error> {
+    let (registry, _drain) = registry(0)?;
+    registry.worker()?;
+    let rounds = || (0..ROUNDS).for_each(|_| assert_eq!(registry.current_span(), Ok(None)));
+    Ok(measure(rounds, || ()).round)
+}
+
+fn main() -> Result<(), Error> {
+    println!("ns of a round of new, enter, exit, close + ns of reading its lines, the best of {TURNS} x {ROUNDS}");
+    for layers in [0, 1, 8] {
+        let costs = [by_ids(layers)?, by_spans(layers)?, in_plain_rust(layers)];
+        for (name, cost) in ["proved, by ids", "proved, by spans", "plain Rust"].iter().zip(costs) {
+            println!(
+                "{layers} layers, {name:<17} {:>7.0} + {:>6.0}",
+                cost.round, cost.reading
+            );
+        }
+    }
+    println!("a call that changes nothing   {:>7.0}", a_look()?);
+    Ok(())
+}

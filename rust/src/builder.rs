@@ -1,0 +1,182 @@
+//! Limits and layers of a registry, before it is built.
+use crate::directives::Targets;
+use crate::drain::Drain;
+use crate::error::Error;
+use crate::level::{FmtSpan, Form, Level};
+use crate::packed::{length, reserve};
+use crate::raw::{Core, SpanLayer, SpanLimits, SpanRule, Start};
+use crate::registry::Registry;
+use crate::shared::Shared;
+use crate::state::State;
+use std::sync::Arc;
+
+/// Who is told of spans and events: in which form, of which parts of a span's life, and of which targets and levels.
+///
+/// It is told of everything, as long as nothing else is said.
+#[derive(Clone, Debug, PartialEq, Eq)]
+pub struct Layer {
+    form: Form,
+    kinds: FmtSpan,
+    targets: Targets,
+}
+
+impl Layer {
+    /// In this form.
+    #[must_use]
+    pub fn new(form: Form) -> Layer {
+        Layer {
+            form,
+            kinds: FmtSpan::FULL,
+            targets: Targets::new().with_default(Level::Trace),
+        }
+    }
+
+    /// In the compact form.
+    #[must_use]
+    pub fn compact() -> Layer {
+        Layer::new(Form::Compact)
+    }
+
+    /// In JSON.
+    #[must_use]
+    pub fn json() -> Layer {
+        Layer::new(Form::Json)
+    }
+
+    /// Told of these parts of a span's life.
+    #[must_use]
+    pub fn with_span_events(self, kinds: FmtSpan) -> Layer {
+        Layer { kinds, ..self }
+    }
+
+    /// Told of these targets.
+    #[must_use]
+    pub fn with_targets(self, targets: Targets) -> Layer {
+        Layer { targets, ..self }
+    }
+
+    /// Told of all targets up to this level.
+    #[must_use]
+    pub fn with_max_level(self, level: Level) -> Layer {
+        self.with_targets(Targets::new().with_default(level))
+    }
+}
+
+/// A registry that is to be built. The range of a limit is looked at by [`build`](RegistryBuilder::build).
+#[derive(Clone, Debug)]
+#[must_use = "it has to be built"]
+pub struct RegistryBuilder {
+    limits: SpanLimits,
+    layers: Vec<Layer>,
+}
+
+impl Default for RegistryBuilder {
+    fn default() -> RegistryBuilder {
+        let limits = SpanLimits {
+            slots: 1024,
+            last_generation: u32::MAX,
+            max_count: u32::MAX,
+            workers: 4,
+            ring: 1024,
+        };
+        RegistryBuilder {
+            limits,
+            layers: Vec::new(),
+        }
+    }
+}
+
+impl RegistryBuilder {
+    /// How many spans may be open at once: 1 to 16777216, by default 1024. Their memory is taken at once.
+    pub fn slots(mut self, slots: u32) -> RegistryBuilder {
+        self.limits.slots = slots;
+        self
+    }
+
+    /// A slot is given `last_generation + 1` times, and then never again. By default, and at most, 4294967295.
+    pub fn last_generation(mut self, last_generation: u32) -> RegistryBuilder {
+        self.limits.last_generation = last_generation;
+        self
+    }
+
+    /// The greatest reference count of a span: 1 to 4294967295, which is the default.
+    pub fn max_count(mut self, max_count: u32) -> RegistryBuilder {
+        self.limits.max_count = max_count;
+        self
+    }
+
+    /// How many threads may call at once: 1 to 256, by default 4. Threads that have ended don't count.
+    pub fn workers(mut self, workers: u32) -> RegistryBuilder {
+        self.limits.workers = workers;
+        self
+    }
+
+    /// How many calls may wait for the drain: 1 to 65536, by default 1024.
+    pub fn ring(mut self, ring: u32) -> RegistryBuilder {
+        self.limits.ring = ring;
+        self
+    }
+
+    /// One more layer, told after those that were added before; at most 64. They are numbered from 0.
+    ///
+    /// With no layer, all spans are made and no line is written.
+    pub fn layer(mut self, layer: Layer) -> RegistryBuilder {
+        self.layers.push(layer);
+        self
+    }
+
+    /// The registry, and the end from which its lines are read.
+    ///
+    /// The drain has to be read also where there is no layer: each accepted call takes a place of the ring.
+    pub fn build(self) -> Result<(Registry, Drain), Error> {
+        let packed = PackedLayers::of(&self.layers)?;
+        let (core, lines) = Core::new(&Start {
+            limits: self.limits,
+            layers: &packed.layers,
+            rules: &packed.rules,
+            texts: &packed.texts,
+        })?;
+        let shared = Arc::new(Shared::new(State::new(core)?));
+        let drain = Drain::of(lines, Arc::clone(&shared), self.layers.len());
+        Ok((Registry::of(shared), drain))
+    }
+}
+
+/// Layers as the C interface takes them.
+#[derive(Default)]
+struct PackedLayers {
+    layers: Vec<SpanLayer>,
+    rules: Vec<SpanRule>,
+    texts: Vec<u8>,
+}
+
+impl PackedLayers {
+    fn of(layers: &[Layer]) -> Result<PackedLayers, Error> {
+        let mut packed = PackedLayers::default();
+        for layer in layers {
+            packed.push(layer)?;
+        }
+        Ok(packed)
+    }
+
+    fn push(&mut self, layer: &Layer) -> Result<(), Error> {
+        let before = self.rules.len();
+        for (prefix, level) in layer.targets.pairs() {
+            reserve(&mut self.texts, prefix.len())?;
+            reserve(&mut self.rules, 1)?;
+            self.texts.extend_from_slice(prefix.as_bytes());
+            self.rules.push(SpanRule {
+                prefix_len: length(prefix)?,
+                level: level.verbosity(),
+            });
+        }
+        let rules = u32::try_from(self.rules.len() - before).map_err(|_| Error::BadData)?;
+        reserve(&mut self.layers, 1)?;
+        self.layers.push(SpanLayer {
+            form: layer.form.number(),
+            kinds: layer.kinds.bits(),
+            rules,
+        });
+        Ok(())
+    }
+}

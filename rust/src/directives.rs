@@ -1,0 +1,184 @@
+//! Which targets a layer admits, and up to which level.
+use crate::level::Level;
+use std::fmt;
+use std::str::FromStr;
+
+/// Which spans and events a layer admits: pairs of a prefix of the target and the greatest level.
+///
+/// Of the pairs whose prefix begins the target, byte by byte, the longest prefix decides; of equal prefixes the later
+/// pair. Where no prefix begins it, nothing is admitted.
+///
+/// The text of [`FromStr`] is that of `tracing_subscriber`'s `Targets`, and of `EnvFilter` without spans and fields:
+/// directives with commas between them, each `target=level`, `level` alone for all targets, or `target` alone for all
+/// its levels. Levels are `error`, `warn`, `info`, `debug`, `trace` in any case of letters, or 1 to 5, and `off` or 0.
+/// Blanks around a directive and its parts don't count. Otherwise than there, a target can't be switched off where a
+/// shorter prefix admits something: the least that a pair admits is errors.
+///
+/// ```
+/// # fn main() -> Result<(), span_registry::ParseError> {
+/// use span_registry::{Level, Targets};
+/// let targets: Targets = "app=info,app::db=trace,warn".parse()?;
+/// assert_eq!(targets, Targets::new()
+///     .with_target("app", Level::Info)
+///     .with_target("app::db", Level::Trace)
+///     .with_default(Level::Warn));
+/// # Ok(())
+/// # }
+/// ```
+#[derive(Clone, Debug, Default, PartialEq, Eq)]
+pub struct Targets {
+    pairs: Vec<(String, Level)>,
+}
+
+impl Targets {
+    /// Admits nothing.
+    #[must_use]
+    pub fn new() -> Targets {
+        Targets::default()
+    }
+
+    /// Targets that begin with this prefix are admitted up to this level.
+    #[must_use]
+    pub fn with_target(mut self, prefix: impl Into<String>, level: Level) -> Targets {
+        self.pairs.push((prefix.into(), level));
+        self
+    }
+
+    /// Targets for which nothing else is said are admitted up to this level.
+    #[must_use]
+    pub fn with_default(self, level: Level) -> Targets {
+        self.with_target("", level)
+    }
+
+    /// The pairs, in the order in which they were given.
+    pub fn pairs(&self) -> impl Iterator<Item = (&str, Level)> {
+        self.pairs.iter().map(|(prefix, level)| (prefix.as_str(), *level))
+    }
+}
+
+impl FromStr for Targets {
+    type Err = ParseError;
+
+    fn from_str(text: &str) -> Result<Targets, ParseError> {
+        let directives = text.split(',').map(str::trim).filter(|directive| !directive.is_empty());
+        let read = directives.map(Directive::read).collect::<Result<Vec<_>, _>>()?;
+        if read.is_empty() {
+            return Err(ParseError::of(text, Reason::Empty));
+        }
+        let mut targets = Targets::new();
+        for (place, directive) in read.iter().enumerate() {
+            match directive.level {
+                Some(level) => targets.pairs.push((directive.prefix.to_owned(), level)),
+                None if directive.is_below_another(place, &read) => {
+                    return Err(ParseError::of(directive.text, Reason::OffBelow));
+                }
+                None => targets.pairs.retain(|(prefix, _)| prefix != directive.prefix),
+            }
+        }
+        Ok(targets)
+    }
+}
+
+/// One directive, with its text.
+struct Directive<'a> {
+    text: &'a str,
+    prefix: &'a str,
+    // None: off.
+    level: Option<Level>,
+}
+
+impl<'a> Directive<'a> {
+    fn read(text: &'a str) -> Result<Directive<'a>, ParseError> {
+        let failed = |reason| ParseError::of(text, reason);
+        if text.contains(['[', ']', '{', '}']) {
+            return Err(failed(Reason::SpanOrField));
+        }
+        let Some((prefix, level)) = text.split_once('=') else {
+            return Ok(match level_of(text) {
+                Some(level) => Directive {
+                    text,
+                    prefix: "",
+                    level,
+                },
+                None => Directive {
+                    text,
+                    prefix: text,
+                    level: Some(Level::Trace),
+                },
+            });
+        };
+        let (prefix, level) = (prefix.trim(), level.trim());
+        if level.contains('=') {
+            return Err(failed(Reason::TwoLevels));
+        }
+        if prefix.is_empty() {
+            return Err(failed(Reason::NoTarget));
+        }
+        let level = level_of(level).ok_or_else(|| failed(Reason::NoSuchLevel))?;
+        Ok(Directive { text, prefix, level })
+    }
+
+    // Whether a shorter prefix admits something of this one's targets, so that no pair can say that they are off. Where
+    // a later directive of the same prefix decides, this one says nothing.
+    fn is_below_another(&self, place: usize, all: &[Directive<'_>]) -> bool {
+        let is_last = |place: usize| all[place + 1..].iter().all(|later| later.prefix != all[place].prefix);
+        let admits_more = |(place, other): (usize, &Directive<'_>)| {
+            let is_shorter = other.prefix.len() < self.prefix.len() && self.prefix.starts_with(other.prefix);
+            is_shorter && other.level.is_some() && is_last(place)
+        };
+        is_last(place) && all.iter().enumerate().any(admits_more)
+    }
+}
+
+/// The level of a text; `Some(None)` is off.
+fn level_of(text: &str) -> Option<Option<Level>> {
+    if text.eq_ignore_ascii_case("off") || text == "0" {
+        return Some(None);
+    }
+    let is_named =
+        |(place, level): &(usize, Level)| text.eq_ignore_ascii_case(level.name()) || text == (place + 1).to_string();
+    let found = Level::ALL.into_iter().enumerate().find(is_named);
+    found.map(|(_, level)| Some(level))
+}
+
+/// Why a text is no list of directives.
+#[derive(Clone, Debug, PartialEq, Eq)]
+pub struct ParseError {
+    directive: String,
+    reason: Reason,
+}
+
+#[derive(Clone, Copy, Debug, PartialEq, Eq)]
+enum Reason {
+    Empty,
+    SpanOrField,
+    TwoLevels,
+    NoTarget,
+    NoSuchLevel,
+    OffBelow,
+}
+
+impl ParseError {
+    fn of(directive: &str, reason: Reason) -> ParseError {
+        ParseError {
+            directive: directive.to_owned(),
+            reason,
+        }
+    }
+}
+
+impl fmt::Display for ParseError {
+    fn fmt(&self, f: &mut fmt::Formatter<'_>) -> fmt::Result {
+        let reason = match self.reason {
+            Reason::Empty => return f.write_str("no directive"),
+            Reason::SpanOrField => "directives of spans and fields are not supported",
+            Reason::TwoLevels => "two equals signs",
+            Reason::NoTarget => "no target before the equals sign",
+            Reason::NoSuchLevel => "no such level",
+            Reason::OffBelow => "a target can't be off where a shorter prefix admits something; the least is error",
+        };
+        write!(f, "directive `{}`: {reason}", self.directive)
+    }
+}
+
+impl std::error::Error for ParseError {}

@@ -1,0 +1,234 @@
+//! The end from which lines are read.
+use crate::raw::{Lines, Next};
+use crate::shared::{wait, Shared};
+use std::io::{self, Write};
+use std::sync::Arc;
+
+/// A line that a layer was told.
+#[derive(Clone, Debug, PartialEq, Eq, Hash)]
+pub struct Line {
+    /// The number of the layer, in the order of adding, from 0.
+    pub layer: usize,
+    /// Its text, without a newline.
+    pub text: String,
+}
+
+/// What a drain has done so far.
+#[derive(Clone, Copy, Debug, PartialEq, Eq)]
+#[non_exhaustive]
+pub struct DrainCounts {
+    /// Batches taken out of the ring: one for each accepted call.
+    pub batches: u64,
+    /// Lines that are missing, because memory was refused for them.
+    pub missed: u64,
+}
+
+/// The end from which lines are read, in the order of the calls. It may be used in a thread of its own.
+///
+/// It has to be read: once the ring is full, calls are refused as [`Backlog`](crate::Error::Backlog), and after it was
+/// dropped that is so for ever. Reading takes the registry's lock only where something is owed
+/// (see [`Span`](crate::Span)).
+///
+/// ```
+/// # fn main() -> Result<(), Box<dyn std::error::Error>> {
+/// use span_registry::{Layer, Level, Meta, Parent, Registry};
+/// let (registry, mut drain) = Registry::builder().layer(Layer::json()).build()?;
+/// let writing = std::thread::spawn(move || {
+///     let mut out = Vec::new();
+///     drain.run(&mut out).map(|_lines| out)
+/// });
+/// drop(registry.span(&Meta::new(Level::Info, "app", "a"), Parent::Current, &[])?);
+/// drop(registry);
+/// let out = String::from_utf8(writing.join().unwrap()?)?;
+/// assert_eq!(out, concat!(
+///     r#"{"fields":[],"id":1,"kind":"new","path":"a","worker":0}"#, "\n",
+///     r#"{"fields":[],"id":1,"kind":"close","path":"a","worker":0}"#, "\n",
+/// ));
+/// # Ok(())
+/// # }
+/// ```
+#[must_use = "calls are refused once nobody reads the lines"]
+pub struct Drain {
+    lines: Lines,
+    shared: Arc<Shared>,
+    layers: usize,
+    // A line's bytes stand at its beginning, and it has room for a newline.
+    buffer: Vec<u8>,
+    // The layer and length of a line that is in the buffer and wasn't handed out.
+    ready: Option<(usize, usize)>,
+}
+
+impl Drain {
+    pub(crate) fn of(lines: Lines, shared: Arc<Shared>, layers: usize) -> Drain {
+        Drain {
+            lines,
+            shared,
+            layers,
+            buffer: vec![0; 256],
+            ready: None,
+        }
+    }
+
+    /// How many layers the registry has.
+    #[must_use]
+    pub fn layers(&self) -> usize {
+        self.layers
+    }
+
+    /// The next line; none where none is at hand now. It doesn't wait for one.
+    pub fn line(&mut self) -> Option<Line> {
+        let (layer, length) = self.next_ready()?;
+        self.ready = None;
+        let text = String::from_utf8_lossy(&self.buffer[..length]).into_owned();
+        Some(Line { layer, text })
+    }
+
+    /// The lines at hand, until there is none.
+    pub fn lines(&mut self) -> impl Iterator<Item = Line> + '_ {
+        std::iter::from_fn(|| self.line())
+    }
+
+    /// Writes the lines at hand, each with a newline behind it, until there is none; answers how many.
+    ///
+    /// Where a write fails, its line stays the next one, though a part of it may have gone out.
+    pub fn write_to<W: Write + ?Sized>(&mut self, out: &mut W) -> io::Result<u64> {
+        self.write_out(&mut All(out))
+    }
+
+    /// As [`write_to`](Drain::write_to), the lines of each layer to the writer of its number. There have to be as many
+    /// writers as layers, or more.
+    pub fn write_layers<W: Write>(&mut self, outs: &mut [W]) -> io::Result<u64> {
+        self.write_out(&mut Each(outs))
+    }
+
+    /// Writes lines as they come, until the registry, its clones and its spans are gone and all lines are written;
+    /// answers how many. Whenever none is at hand it flushes the writer, and looks again after half a millisecond.
+    ///
+    /// For a thread of its own. A clone of the registry that is kept, in a static or in this thread, makes it run for
+    /// ever. Where a write fails, it answers that; it may be called again.
+    pub fn run<W: Write + ?Sized>(&mut self, out: &mut W) -> io::Result<u64> {
+        self.run_out(&mut All(out))
+    }
+
+    /// As [`run`](Drain::run), the lines of each layer to the writer of its number. There have to be as many writers as
+    /// layers, or more.
+    pub fn run_layers<W: Write>(&mut self, outs: &mut [W]) -> io::Result<u64> {
+        self.run_out(&mut Each(outs))
+    }
+
+    /// Whether the registry, its clones and its spans are gone. Lines may be left.
+    #[must_use]
+    pub fn is_over(&self) -> bool {
+        self.shared.is_over()
+    }
+
+    /// What it has done so far.
+    #[must_use]
+    pub fn counts(&mut self) -> DrainCounts {
+        let (batches, missed) = self.lines.counts();
+        DrainCounts { batches, missed }
+    }
+
+    // Where the ring is empty, what is owed can be done, and may give lines.
+    fn next_ready(&mut self) -> Option<(usize, usize)> {
+        while self.ready.is_none() {
+            let room = self.buffer.len() - 1;
+            match self.lines.next(&mut self.buffer[..room]) {
+                Next::Line { layer, length } => self.ready = Some((layer as usize, length)),
+                Next::Long { length } => self.buffer.resize(length + 1, 0),
+                Next::None if !self.shared.owes() => return None,
+                Next::None => match self.shared.with(|state| state.settle()) {
+                    Err(error) if error != crate::Error::Backlog => return None,
+                    _ => {}
+                },
+            }
+        }
+        self.ready
+    }
+
+    fn write_out(&mut self, outs: &mut impl Outs) -> io::Result<u64> {
+        outs.check(self.layers)?;
+        let mut lines = 0;
+        while let Some((layer, length)) = self.next_ready() {
+            self.buffer[length] = b'\n';
+            outs.write(layer, &self.buffer[..=length])?;
+            self.ready = None;
+            lines += 1;
+        }
+        Ok(lines)
+    }
+
+    fn run_out(&mut self, outs: &mut impl Outs) -> io::Result<u64> {
+        let (mut lines, mut idle) = (0, 0u32);
+        loop {
+            let was_over = self.is_over();
+            let more = self.write_out(outs)?;
+            if more > 0 {
+                lines += more;
+                idle = 0;
+                continue;
+            }
+            if idle == 0 {
+                outs.flush()?;
+            }
+            if was_over && !self.shared.owes() {
+                return Ok(lines);
+            }
+            wait(idle);
+            idle = idle.saturating_add(1);
+        }
+    }
+}
+
+/// Where lines are written.
+trait Outs {
+    fn check(&self, layers: usize) -> io::Result<()>;
+    fn write(&mut self, layer: usize, line: &[u8]) -> io::Result<()>;
+    fn flush(&mut self) -> io::Result<()>;
+}
+
+/// All layers to one writer.
+struct All<'a, W: ?Sized>(&'a mut W);
+
+/// Each layer to its own.
+struct Each<'a, W>(&'a mut [W]);
+
+impl<W: Write + ?Sized> Outs for All<'_, W> {
+    fn check(&self, _layers: usize) -> io::Result<()> {
+        Ok(())
+    }
+
+    fn write(&mut self, _layer: usize, line: &[u8]) -> io::Result<()> {
+        self.0.write_all(line)
+    }
+
+    fn flush(&mut self) -> io::Result<()> {
+        self.0.flush()
+    }
+}
+
+impl<W: Write> Outs for Each<'_, W> {
+    fn check(&self, layers: usize) -> io::Result<()> {
+        if self.0.len() < layers {
+            return Err(io::Error::new(io::ErrorKind::InvalidInput, "fewer writers than layers"));
+        }
+        Ok(())
+    }
+
+    fn write(&mut self, layer: usize, line: &[u8]) -> io::Result<()> {
+        self.0[layer].write_all(line)
+    }
+
+    fn flush(&mut self) -> io::Result<()> {
+        self.0.iter_mut().try_for_each(Write::flush)
+    }
+}
+
+impl std::fmt::Debug for Drain {
+    fn fmt(&self, f: &mut std::fmt::Formatter<'_>) -> std::fmt::Result {
+        f.debug_struct("Drain")
+            .field("layers", &self.layers)
+            .field("is_over", &self.is_over())
+            .finish()
+    }
+}

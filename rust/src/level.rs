@@ -1,0 +1,115 @@
+//! Levels, what a layer is told of a span's life, and the form of its lines.
+use std::fmt;
+use std::ops::{BitOr, BitOrAssign};
+
+/// How verbose a span or an event is: the later, the more verbose.
+#[derive(Clone, Copy, Debug, PartialEq, Eq, PartialOrd, Ord, Hash)]
+#[allow(missing_docs)]
+pub enum Level {
+    Error,
+    Warn,
+    Info,
+    Debug,
+    Trace,
+}
+
+impl Level {
+    /// All levels, by verbosity.
+    pub const ALL: [Level; 5] = [Level::Error, Level::Warn, Level::Info, Level::Debug, Level::Trace];
+
+    /// The level's name in lines: `ERROR`, `WARN`, `INFO`, `DEBUG` or `TRACE`.
+    #[must_use]
+    pub fn name(self) -> &'static str {
+        match self {
+            Level::Error => "ERROR",
+            Level::Warn => "WARN",
+            Level::Info => "INFO",
+            Level::Debug => "DEBUG",
+            Level::Trace => "TRACE",
+        }
+    }
+
+    pub(crate) fn verbosity(self) -> u32 {
+        self as u32
+    }
+
+    pub(crate) fn of_verbosity(verbosity: u32) -> Option<Level> {
+        Level::ALL.into_iter().find(|level| level.verbosity() == verbosity)
+    }
+}
+
+impl fmt::Display for Level {
+    fn fmt(&self, f: &mut fmt::Formatter<'_>) -> fmt::Result {
+        f.pad(self.name())
+    }
+}
+
+/// Of which parts of a span's life a layer is told. Records and events are told whatever it is.
+///
+/// ```
+/// use span_registry::FmtSpan;
+/// assert_eq!(FmtSpan::ENTER | FmtSpan::EXIT, FmtSpan::ACTIVE);
+/// assert!(FmtSpan::FULL.contains(FmtSpan::CLOSE));
+/// ```
+#[derive(Clone, Copy, Debug, PartialEq, Eq, Hash)]
+pub struct FmtSpan(u32);
+
+impl FmtSpan {
+    /// Of nothing.
+    pub const NONE: FmtSpan = FmtSpan(0);
+    /// Of new spans.
+    pub const NEW: FmtSpan = FmtSpan(1);
+    /// Of each enter.
+    pub const ENTER: FmtSpan = FmtSpan(2);
+    /// Of each exit.
+    pub const EXIT: FmtSpan = FmtSpan(4);
+    /// Of closes.
+    pub const CLOSE: FmtSpan = FmtSpan(8);
+    /// Of enters and exits.
+    pub const ACTIVE: FmtSpan = FmtSpan(6);
+    /// Of everything.
+    pub const FULL: FmtSpan = FmtSpan(15);
+
+    /// Whether all of `parts` are among these.
+    #[must_use]
+    pub fn contains(self, parts: FmtSpan) -> bool {
+        self.0 & parts.0 == parts.0
+    }
+
+    pub(crate) fn bits(self) -> u32 {
+        self.0
+    }
+}
+
+impl BitOr for FmtSpan {
+    type Output = FmtSpan;
+
+    fn bitor(self, other: FmtSpan) -> FmtSpan {
+        FmtSpan(self.0 | other.0)
+    }
+}
+
+impl BitOrAssign for FmtSpan {
+    fn bitor_assign(&mut self, other: FmtSpan) {
+        self.0 |= other.0;
+    }
+}
+
+/// The form of a layer's lines.
+#[derive(Clone, Copy, Debug, PartialEq, Eq, Hash)]
+pub enum Form {
+    /// `<kind> <id> w<worker> <path>`, for an event then ` <level> <message>`, then ` <key>=<value>` for each field. In
+    /// messages and values a backslash, a newline and a carriage return are written `\\`, `\n` and `\r`.
+    Compact,
+    /// One JSON object: `fields`, `id`, `kind`, `path` and `worker`, for an event also `level` and `message`.
+    Json,
+}
+
+impl Form {
+    pub(crate) fn number(self) -> u32 {
+        match self {
+            Form::Compact => 0,
+            Form::Json => 1,
+        }
+    }
+}

@@ -1,0 +1,40 @@
+//! A registry of spans for Rust programs, whose core is proved.
+//!
+//! Behind this crate is the static library `span_ffi`: the spans, their reference counts, the threads' stacks, the
+//! layers' filters and texts, and the ring through which lines leave, all written in Rattle and proved. This crate puts
+//! a lock round it, gives each thread its worker's number, and gives handles back when they are dropped. It has no
+//! dependencies; `README.md` says what is proved and what is only tested.
+//!
+//! [`Registry`] makes spans and takes events, [`Span`] is a handle that gives itself back, and [`Drain`] is read for
+//! the lines.
+#![deny(missing_docs, unsafe_code)]
+
+mod builder;
+mod directives;
+mod drain;
+mod error;
+mod level;
+mod macros;
+mod meta;
+mod packed;
+#[allow(unsafe_code)]
+mod raw;
+mod registry;
+mod shared;
+mod span;
+mod state;
+mod workers;
+
+pub use builder::{Layer, RegistryBuilder};
+pub use directives::{ParseError, Targets};
+pub use drain::{Drain, DrainCounts, Line};
+pub use error::Error;
+pub use level::{FmtSpan, Form, Level};
+pub use meta::{Counts, Fields, Found, Id, Meta, Parent};
+pub use registry::{retry, Registry};
+pub use span::{Entered, Span};
+
+/// So that the page's program is run as a test.
+#[cfg(doctest)]
+#[doc = include_str!("../README.md")]
+struct Readme;

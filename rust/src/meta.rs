@@ -1,0 +1,123 @@
+//! What calls are given, and what they tell of a span.
+use crate::level::Level;
+use crate::span::Span;
+use std::fmt;
+use std::num::NonZeroU64;
+
+/// A slot below 2^24 and a generation below 2^32 make an id.
+const MAX_ID: u64 = 1 << 56;
+
+/// The id of a span. No two spans of a registry ever have the same one: a closed span's id finds nothing for ever.
+#[derive(Clone, Copy, Debug, PartialEq, Eq, PartialOrd, Ord, Hash)]
+pub struct Id(NonZeroU64);
+
+impl Id {
+    /// The id of this number; none for 0 and above 2^56, since no span ever has such an id. One that is no open span's
+    /// is refused as [`Unknown`](crate::Error::Unknown) where it is used.
+    #[must_use]
+    pub fn from_u64(number: u64) -> Option<Id> {
+        NonZeroU64::new(number).filter(|number| number.get() <= MAX_ID).map(Id)
+    }
+
+    /// Its number, which lines show.
+    #[must_use]
+    pub fn into_u64(self) -> u64 {
+        self.0.get()
+    }
+}
+
+impl fmt::Display for Id {
+    fn fmt(&self, f: &mut fmt::Formatter<'_>) -> fmt::Result {
+        self.0.fmt(f)
+    }
+}
+
+/// What a span or an event is: layers are chosen by its level and its target.
+#[derive(Clone, Copy, Debug, PartialEq, Eq)]
+pub struct Meta<'a> {
+    /// How verbose it is.
+    pub level: Level,
+    /// Where it comes from, as a module's path: any text.
+    pub target: &'a str,
+    /// Its name: 1 to 64 ASCII letters, digits, `_`, `.` and `-`.
+    pub name: &'a str,
+}
+
+impl<'a> Meta<'a> {
+    /// Of a level, a target and a name.
+    #[must_use]
+    pub fn new(level: Level, target: &'a str, name: &'a str) -> Meta<'a> {
+        Meta { level, target, name }
+    }
+
+    /// Of an event, whose name no line shows: it is `event`.
+    #[must_use]
+    pub fn event(level: Level, target: &'a str) -> Meta<'a> {
+        Meta::new(level, target, "event")
+    }
+}
+
+/// Fields in order, each a key (which has a name's bytes) and a value, which is any text.
+pub type Fields<'a> = &'a [(&'a str, &'a str)];
+
+/// The parent of a new span.
+#[derive(Clone, Copy, Debug, PartialEq, Eq)]
+pub enum Parent {
+    /// None.
+    Root,
+    /// The thread's current span; none where it isn't inside any.
+    Current,
+    /// This one.
+    Of(Id),
+}
+
+impl From<Id> for Parent {
+    fn from(id: Id) -> Parent {
+        Parent::Of(id)
+    }
+}
+
+/// A disabled span is no parent: the new one is a root.
+impl From<&Span> for Parent {
+    fn from(span: &Span) -> Parent {
+        span.id().map_or(Parent::Root, Parent::Of)
+    }
+}
+
+/// An open span, as [`Registry::find`](crate::Registry::find) tells of it.
+#[derive(Clone, Copy, Debug, PartialEq, Eq)]
+#[non_exhaustive]
+pub struct Found {
+    /// None for a root.
+    pub parent: Option<Id>,
+    /// How many handles are out.
+    pub handles: u32,
+    /// How many threads are inside.
+    pub entries: u32,
+    /// Handles, threads inside, and open children: it closes when this falls to 0.
+    pub count: u32,
+    /// Its level.
+    pub level: Level,
+}
+
+/// What happened so far, and what is held now.
+#[derive(Clone, Copy, Debug, PartialEq, Eq)]
+#[non_exhaustive]
+pub struct Counts {
+    /// Open spans: as many as were made and haven't closed.
+    pub open: u32,
+    /// Spans made.
+    pub made: u64,
+    /// Spans closed.
+    pub closed: u64,
+    /// Accepted calls.
+    pub calls: u64,
+    /// Handles and entries of all open spans; entries of the same thread in the same span count once.
+    pub held: u64,
+    /// Exits and closes of dropped guards and spans, and ends of threads, that are still to be done.
+    pub owed: usize,
+    /// How many threads may call.
+    pub workers: u32,
+    /// How many threads have called and not ended.
+    pub threads: u32,
+}

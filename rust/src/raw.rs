@@ -1,0 +1,208 @@
+//! The C interface of `include/span_registry.h`, declaration by declaration, and owners of its two handles.
+//!
+//! All unsafe code of this crate is in this module.
+mod calls;
+mod lines;
+
+pub(crate) use calls::{Core, Start};
+pub(crate) use lines::{Lines, Next};
+
+use std::ffi::c_void;
+use std::ptr;
+
+#[repr(C)]
+struct SpanRegistry {
+    at: *mut c_void,
+}
+
+#[repr(C)]
+struct SpanDrain {
+    at: *mut c_void,
+}
+
+impl SpanRegistry {
+    const EMPTY: SpanRegistry = SpanRegistry { at: ptr::null_mut() };
+}
+
+impl SpanDrain {
+    const EMPTY: SpanDrain = SpanDrain { at: ptr::null_mut() };
+}
+
+#[repr(C)]
+#[derive(Clone, Copy, Debug)]
+pub(crate) struct SpanLimits {
+    pub(crate) slots: u32,
+    pub(crate) last_generation: u32,
+    pub(crate) max_count: u32,
+    pub(crate) workers: u32,
+    pub(crate) ring: u32,
+}
+
+#[repr(C)]
+#[derive(Clone, Copy, Debug)]
+pub(crate) struct SpanLayer {
+    pub(crate) form: u32,
+    pub(crate) kinds: u32,
+    pub(crate) rules: u32,
+}
+
+#[repr(C)]
+#[derive(Clone, Copy, Debug)]
+pub(crate) struct SpanRule {
+    pub(crate) prefix_len: u32,
+    pub(crate) level: u32,
+}
+
+#[repr(C)]
+struct SpanMeta {
+    level: u32,
+    name_len: u32,
+    target_len: u32,
+}
+
+#[repr(C)]
+#[derive(Clone, Copy, Debug)]
+pub(crate) struct SpanField {
+    pub(crate) key_len: u32,
+    pub(crate) value_len: u32,
+}
+
+#[repr(C)]
+#[derive(Default)]
+struct SpanFound {
+    parent: u64,
+    handles: u32,
+    entries: u32,
+    count: u32,
+    level: u32,
+}
+
+#[repr(C)]
+#[derive(Clone, Copy, Debug, Default)]
+pub(crate) struct SpanCounts {
+    pub(crate) made: u64,
+    pub(crate) closed: u64,
+    pub(crate) calls: u64,
+    pub(crate) held: u64,
+    pub(crate) open: u32,
+    pub(crate) workers: u32,
+}
+
+pub(crate) const OK: u32 = 0;
+pub(crate) const UNKNOWN: u32 = 1;
+pub(crate) const COUNT_FULL: u32 = 2;
+pub(crate) const FULL: u32 = 3;
+pub(crate) const NOT_ENTERED: u32 = 4;
+pub(crate) const TOO_MANY_LAYERS: u32 = 5;
+pub(crate) const BAD_NAME: u32 = 6;
+pub(crate) const BACKLOG: u32 = 7;
+pub(crate) const BAD_LIMITS: u32 = 8;
+pub(crate) const OUT_OF_MEMORY: u32 = 10;
+pub(crate) const BAD_DATA: u32 = 11;
+const SHORT_BUFFER: u32 = 16;
+
+const ROOT: u32 = 0;
+const CURRENT: u32 = 1;
+const UNDER: u32 = 2;
+
+unsafe extern "C" {
+    fn span_registry_new(
+        registry: *mut SpanRegistry,
+        drain: *mut SpanDrain,
+        limits: *const SpanLimits,
+        layers: *const SpanLayer,
+        layers_len: usize,
+        rules: *const SpanRule,
+        rules_len: usize,
+        texts: *const u8,
+        texts_len: usize,
+    ) -> u32;
+    fn span_registry_free(registry: *mut SpanRegistry) -> u32;
+    fn span_registry_new_span(
+        registry: *mut SpanRegistry,
+        worker: u32,
+        parent_kind: u32,
+        parent: u64,
+        meta: *const SpanMeta,
+        fields: *const SpanField,
+        fields_len: usize,
+        texts: *const u8,
+        texts_len: usize,
+        id: *mut u64,
+    ) -> u32;
+    fn span_registry_clone_span(registry: *mut SpanRegistry, worker: u32, id: u64) -> u32;
+    fn span_registry_enter(registry: *mut SpanRegistry, worker: u32, id: u64, first: *mut u32) -> u32;
+    fn span_registry_exit(registry: *mut SpanRegistry, worker: u32, id: u64, closed: *mut u32) -> u32;
+    fn span_registry_try_close(registry: *mut SpanRegistry, worker: u32, id: u64, closed: *mut u32) -> u32;
+    fn span_registry_record(
+        registry: *mut SpanRegistry,
+        worker: u32,
+        id: u64,
+        fields: *const SpanField,
+        fields_len: usize,
+        texts: *const u8,
+        texts_len: usize,
+    ) -> u32;
+    fn span_registry_event(
+        registry: *mut SpanRegistry,
+        worker: u32,
+        meta: *const SpanMeta,
+        message_len: u32,
+        fields: *const SpanField,
+        fields_len: usize,
+        texts: *const u8,
+        texts_len: usize,
+    ) -> u32;
+    fn span_registry_find(registry: *mut SpanRegistry, id: u64, found: *mut SpanFound) -> u32;
+    fn span_registry_current_span(registry: *mut SpanRegistry, worker: u32, id: *mut u64) -> u32;
+    fn span_registry_counts(registry: *mut SpanRegistry, counts: *mut SpanCounts) -> u32;
+
+    fn span_drain_line(drain: *mut SpanDrain, layer: *mut u32, into: *mut u8, into_len: usize, len: *mut usize) -> u32;
+    fn span_drain_counts(drain: *mut SpanDrain, batches: *mut u64, refused: *mut u64) -> u32;
+    fn span_drain_free(drain: *mut SpanDrain) -> u32;
+
+    fn span_status_text(status: u32, into: *mut u8, into_len: usize, len: *mut usize) -> u32;
+}
+
+/// What the library says of a status.
+pub(crate) fn status_text(status: u32) -> String {
+    let mut text = vec![0; 64];
+    loop {
+        let mut length = 0;
+        // SAFETY: `text` is initialized and as long as is said, and nothing else refers to it or to `length`.
+        let answer = unsafe { span_status_text(status, text.as_mut_ptr(), text.len(), &mut length) };
+        if answer != SHORT_BUFFER || length <= text.len() {
+            text.truncate(if answer == OK { length } else { 0 });
+            return String::from_utf8_lossy(&text).into_owned();
+        }
+        text.resize(length, 0);
+    }
+}
+
+#[cfg(test)]
+mod tests {
+    use super::*;
+    use std::mem::{offset_of, size_of};
+
+    #[test]
+    fn structs_have_the_sizes_that_c_gives_them() {
+        assert_eq!(size_of::<SpanRegistry>(), size_of::<*mut c_void>());
+        assert_eq!(size_of::<SpanDrain>(), size_of::<*mut c_void>());
+        assert_eq!(size_of::<SpanLimits>(), 20);
+        assert_eq!(size_of::<SpanLayer>(), 12);
+        assert_eq!(size_of::<SpanRule>(), 8);
+        assert_eq!(size_of::<SpanMeta>(), 12);
+        assert_eq!(size_of::<SpanField>(), 8);
+        assert_eq!((size_of::<SpanFound>(), offset_of!(SpanFound, level)), (24, 20));
+        assert_eq!((size_of::<SpanCounts>(), offset_of!(SpanCounts, open)), (40, 32));
+    }
+
+    #[test]
+    fn each_status_has_a_text_of_one_line() {
+        for status in 0..=16 {
+            let text = status_text(status);
+            assert!(!text.contains('\n'), "{text:?}");
+            assert!(status == 9 || !text.is_empty(), "status {status}");
+        }
+    }
+}

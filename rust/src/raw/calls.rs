@@ -1,0 +1,198 @@
+//! The owner of a registry's handle.
+use super::{
+    span_registry_clone_span, span_registry_counts, span_registry_current_span, span_registry_enter,
+    span_registry_event, span_registry_exit, span_registry_find, span_registry_free, span_registry_new,
+    span_registry_new_span, span_registry_record, span_registry_try_close, Lines, SpanCounts, SpanDrain, SpanFound,
+    SpanLayer, SpanLimits, SpanMeta, SpanRegistry, SpanRule, CURRENT, ROOT, UNDER,
+};
+use crate::error::Error;
+use crate::level::Level;
+use crate::meta::{Found, Id, Meta, Parent};
+use crate::packed::{length, Packed};
+
+/// What a registry is made of.
+pub(crate) struct Start<'a> {
+    pub(crate) limits: SpanLimits,
+    pub(crate) layers: &'a [SpanLayer],
+    pub(crate) rules: &'a [SpanRule],
+    pub(crate) texts: &'a [u8],
+}
+
+/// The proved registry, with no lock. It is full from `new` on until it is dropped.
+pub(crate) struct Core {
+    handle: SpanRegistry,
+}
+
+// SAFETY: the header says that a registry may move between threads. It has one call at a time, since each takes it as
+// `&mut`.
+unsafe impl Send for Core {}
+
+impl Core {
+    pub(crate) fn new(start: &Start<'_>) -> Result<(Core, Lines), Error> {
+        let mut core = SpanRegistry::EMPTY;
+        let mut drain = SpanDrain::EMPTY;
+        // SAFETY: both handles are empty, and each pointer is of a value or of a slice with its length. Nothing that is
+        // written overlaps anything else.
+        let status = unsafe {
+            span_registry_new(
+                &mut core,
+                &mut drain,
+                &start.limits,
+                start.layers.as_ptr(),
+                start.layers.len(),
+                start.rules.as_ptr(),
+                start.rules.len(),
+                start.texts.as_ptr(),
+                start.texts.len(),
+            )
+        };
+        Error::of_status(status)?;
+        Ok((Core { handle: core }, Lines::of(drain)))
+    }
+
+    /// None: no layer wants it.
+    pub(crate) fn new_span(
+        &mut self,
+        worker: u32,
+        parent: Parent,
+        meta: &Meta<'_>,
+        packed: &Packed,
+    ) -> Result<Option<Id>, Error> {
+        let meta = raw_meta(meta)?;
+        let (kind, parent) = match parent {
+            Parent::Root => (ROOT, 0),
+            Parent::Current => (CURRENT, 0),
+            Parent::Of(id) => (UNDER, id.into_u64()),
+        };
+        let (fields, texts) = (packed.fields(), packed.texts());
+        let mut id = 0;
+        // SAFETY: the handle is full and lent to this call alone, and each pointer is of a value or of a slice with its
+        // length.
+        let status = unsafe {
+            span_registry_new_span(
+                &mut self.handle,
+                worker,
+                kind,
+                parent,
+                &meta,
+                fields.as_ptr(),
+                fields.len(),
+                texts.as_ptr(),
+                texts.len(),
+                &mut id,
+            )
+        };
+        Error::of_status(status)?;
+        Ok(Id::from_u64(id))
+    }
+
+    pub(crate) fn clone_span(&mut self, worker: u32, id: Id) -> Result<(), Error> {
+        // SAFETY: the handle is full and lent to this call alone.
+        Error::of_status(unsafe { span_registry_clone_span(&mut self.handle, worker, id.into_u64()) })
+    }
+
+    /// Whether the entry is no duplicate.
+    pub(crate) fn enter(&mut self, worker: u32, id: Id) -> Result<bool, Error> {
+        let mut first = 0;
+        // SAFETY: the handle is full and lent to this call alone, and `first` is this call's.
+        Error::of_status(unsafe { span_registry_enter(&mut self.handle, worker, id.into_u64(), &mut first) })?;
+        Ok(first != 0)
+    }
+
+    /// Whether the span closed.
+    pub(crate) fn exit(&mut self, worker: u32, id: Id) -> Result<bool, Error> {
+        let mut closed = 0;
+        // SAFETY: the handle is full and lent to this call alone, and `closed` is this call's.
+        Error::of_status(unsafe { span_registry_exit(&mut self.handle, worker, id.into_u64(), &mut closed) })?;
+        Ok(closed != 0)
+    }
+
+    /// Whether the span closed.
+    pub(crate) fn try_close(&mut self, worker: u32, id: Id) -> Result<bool, Error> {
+        let mut closed = 0;
+        // SAFETY: the handle is full and lent to this call alone, and `closed` is this call's.
+        Error::of_status(unsafe { span_registry_try_close(&mut self.handle, worker, id.into_u64(), &mut closed) })?;
+        Ok(closed != 0)
+    }
+
+    pub(crate) fn record(&mut self, worker: u32, id: Id, packed: &Packed) -> Result<(), Error> {
+        let (fields, texts) = (packed.fields(), packed.texts());
+        // SAFETY: the handle is full and lent to this call alone, and each pointer is of a slice with its length.
+        Error::of_status(unsafe {
+            span_registry_record(
+                &mut self.handle,
+                worker,
+                id.into_u64(),
+                fields.as_ptr(),
+                fields.len(),
+                texts.as_ptr(),
+                texts.len(),
+            )
+        })
+    }
+
+    pub(crate) fn event(&mut self, worker: u32, meta: &Meta<'_>, message: &str, packed: &Packed) -> Result<(), Error> {
+        let meta = raw_meta(meta)?;
+        let message_len = length(message)?;
+        let (fields, texts) = (packed.fields(), packed.texts());
+        // SAFETY: the handle is full and lent to this call alone, and each pointer is of a value or of a slice with its
+        // length.
+        Error::of_status(unsafe {
+            span_registry_event(
+                &mut self.handle,
+                worker,
+                &meta,
+                message_len,
+                fields.as_ptr(),
+                fields.len(),
+                texts.as_ptr(),
+                texts.len(),
+            )
+        })
+    }
+
+    pub(crate) fn find(&mut self, id: Id) -> Option<Found> {
+        let mut found = SpanFound::default();
+        // SAFETY: the handle is full and lent to this call alone, and `found` is this call's.
+        let status = unsafe { span_registry_find(&mut self.handle, id.into_u64(), &mut found) };
+        Error::of_status(status).ok()?;
+        Some(Found {
+            parent: Id::from_u64(found.parent),
+            handles: found.handles,
+            entries: found.entries,
+            count: found.count,
+            level: Level::of_verbosity(found.level)?,
+        })
+    }
+
+    pub(crate) fn current_span(&mut self, worker: u32) -> Result<Option<Id>, Error> {
+        let mut id = 0;
+        // SAFETY: the handle is full and lent to this call alone, and `id` is this call's.
+        Error::of_status(unsafe { span_registry_current_span(&mut self.handle, worker, &mut id) })?;
+        Ok(Id::from_u64(id))
+    }
+
+    pub(crate) fn counts(&mut self) -> SpanCounts {
+        let mut counts = SpanCounts::default();
+        // SAFETY: the handle is full and lent to this call alone, and `counts` is this call's.
+        let status = unsafe { span_registry_counts(&mut self.handle, &mut counts) };
+        debug_assert_eq!(status, super::OK);
+        counts
+    }
+}
+
+impl Drop for Core {
+    fn drop(&mut self) {
+        // SAFETY: the handle is full, lent to this call alone, and not used again.
+        let status = unsafe { span_registry_free(&mut self.handle) };
+        debug_assert_eq!(status, super::OK);
+    }
+}
+
+fn raw_meta(meta: &Meta<'_>) -> Result<SpanMeta, Error> {
+    Ok(SpanMeta {
+        level: meta.level.verbosity(),
+        name_len: length(meta.name)?,
+        target_len: length(meta.target)?,
+    })
+}

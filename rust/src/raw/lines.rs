@@ -1,0 +1,57 @@
+//! The owner of a drain's handle.
+use super::{span_drain_counts, span_drain_free, span_drain_line, SpanDrain, OK, SHORT_BUFFER};
+
+/// What stands next in a drain.
+pub(crate) enum Next {
+    /// A line of this layer, of so many bytes.
+    Line { layer: u32, length: usize },
+    /// A line of so many bytes, more than there was room for. It stays the next one.
+    Long { length: usize },
+    /// None now.
+    None,
+}
+
+/// The end from which lines are read. It is full until it is dropped.
+pub(crate) struct Lines {
+    handle: SpanDrain,
+}
+
+// SAFETY: the header says that a drain may be used in another thread than its registry. It has one call at a time,
+// since each takes it as `&mut`.
+unsafe impl Send for Lines {}
+
+impl Lines {
+    pub(super) fn of(handle: SpanDrain) -> Lines {
+        Lines { handle }
+    }
+
+    /// Reads the next line into the beginning of `into`.
+    pub(crate) fn next(&mut self, into: &mut [u8]) -> Next {
+        let (mut layer, mut length) = (0, 0);
+        // SAFETY: the handle is full and lent to this call alone, as are `layer`, `length` and the bytes of `into`.
+        let status =
+            unsafe { span_drain_line(&mut self.handle, &mut layer, into.as_mut_ptr(), into.len(), &mut length) };
+        match status {
+            OK => Next::Line { layer, length },
+            SHORT_BUFFER => Next::Long { length },
+            _ => Next::None,
+        }
+    }
+
+    /// How many batches were taken, and how many notes were missed for want of memory.
+    pub(crate) fn counts(&mut self) -> (u64, u64) {
+        let (mut batches, mut refused) = (0, 0);
+        // SAFETY: the handle is full and lent to this call alone, and both numbers are this call's.
+        let status = unsafe { span_drain_counts(&mut self.handle, &mut batches, &mut refused) };
+        debug_assert_eq!(status, OK);
+        (batches, refused)
+    }
+}
+
+impl Drop for Lines {
+    fn drop(&mut self) {
+        // SAFETY: the handle is full, lent to this call alone, and not used again.
+        let status = unsafe { span_drain_free(&mut self.handle) };
+        debug_assert_eq!(status, OK);
+    }
+}

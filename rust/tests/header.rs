@@ -1,0 +1,145 @@
+//! That `src/raw.rs` declares what the C header declares: the same functions, structs and constants.
+use std::collections::BTreeMap;
+use std::fs;
+use std::path::Path;
+
+/// By name: the types of a function's parameters, or the names and types of a struct's fields.
+type Declared = BTreeMap<String, Vec<String>>;
+
+fn read(path: &str) -> String {
+    let path = Path::new(env!("CARGO_MANIFEST_DIR")).join(path);
+    fs::read_to_string(&path).unwrap_or_else(|error| panic!("{}: {error}", path.display()))
+}
+
+fn without(mut text: String, open: &str, close: &str) -> String {
+    while let Some(start) = text.find(open) {
+        let length = text[start..].find(close).expect("a comment ends") + close.len();
+        text.replace_range(start..start + length, " ");
+    }
+    text
+}
+
+fn header() -> String {
+    without(without(read("../include/span_registry.h"), "/*", "*/"), "//", "\n")
+}
+
+fn raw() -> String {
+    without(read("src/raw.rs"), "//", "\n")
+}
+
+/// Each text that stands between `open` and the next `close`.
+fn between<'a>(text: &'a str, open: &'a str, close: &'a str) -> impl Iterator<Item = &'a str> {
+    text.split(open)
+        .skip(1)
+        .map(move |rest| rest.split(close).next().expect("one part at least"))
+}
+
+fn list(text: &str, separator: char) -> impl Iterator<Item = &str> {
+    text.split(separator).map(str::trim).filter(|part| !part.is_empty())
+}
+
+/// A C declaration of one name, as the name and Rust's type.
+fn of_c(declaration: &str) -> (String, String) {
+    let at = declaration.rfind([' ', '*']).expect("a type and a name") + 1;
+    let (kind, name) = (declaration[..at].trim(), declaration[at..].to_owned());
+    let (pointer, base) = match (kind.strip_suffix('*'), kind.starts_with("const ")) {
+        (None, _) => ("", kind),
+        (Some(base), true) => ("*const ", &base["const ".len()..]),
+        (Some(base), false) => ("*mut ", base),
+    };
+    let base = match base.trim() {
+        "uint8_t" => "u8",
+        "uint32_t" => "u32",
+        "uint64_t" => "u64",
+        "size_t" => "usize",
+        "void" => "c_void",
+        other => other,
+    };
+    (name, format!("{pointer}{base}"))
+}
+
+fn functions_of_c(header: &str) -> Declared {
+    let prototypes = between(header, "uint32_t span_", ";").filter_map(|text| text.split_once('('));
+    prototypes
+        .map(|(name, parameters)| {
+            let parameters = list(parameters.trim().trim_end_matches(')'), ',');
+            (
+                format!("span_{}", name.trim()),
+                parameters.map(|parameter| of_c(parameter).1).collect(),
+            )
+        })
+        .collect()
+}
+
+fn functions_of_rust(raw: &str) -> Declared {
+    let block = between(raw, "unsafe extern \"C\" {", "\n}")
+        .next()
+        .expect("the block is there");
+    let prototypes = between(block, "fn ", ";").filter_map(|text| text.split_once('('));
+    prototypes
+        .map(|(name, rest)| {
+            let (parameters, result) = rest.rsplit_once(')').expect("parameters end");
+            assert_eq!(result.trim(), "-> u32", "{name}");
+            let kind = |parameter: &str| parameter.split_once(':').expect("a type").1.trim().to_owned();
+            (name.to_owned(), list(parameters, ',').map(kind).collect())
+        })
+        .collect()
+}
+
+fn structs_of_c(header: &str) -> Declared {
+    let structs = between(header, "typedef struct ", "}").filter_map(|text| text.split_once('{'));
+    structs
+        .map(|(name, fields)| {
+            let fields = list(fields, ';').flat_map(|fields| {
+                let (first, kind) = of_c(fields.split(',').next().expect("a field"));
+                let others = list(fields, ',').skip(1).map(str::to_owned);
+                std::iter::once(first)
+                    .chain(others)
+                    .map(move |name| format!("{name}: {kind}"))
+            });
+            (name.trim().to_owned(), fields.collect())
+        })
+        .collect()
+}
+
+fn structs_of_rust(raw: &str) -> Declared {
+    let structs = between(raw, "struct ", "}").filter_map(|text| text.split_once('{'));
+    structs
+        .map(|(name, fields)| {
+            let fields = list(fields, ',').map(|field| field.trim_start_matches("pub(crate) ").to_owned());
+            (name.trim().to_owned(), fields.collect())
+        })
+        .collect()
+}
+
+#[test]
+fn the_functions_are_those_of_the_header() {
+    let wanted = functions_of_c(&header());
+    assert_eq!(wanted.len(), 16, "{:?}", wanted.keys());
+    assert_eq!(functions_of_rust(&raw()), wanted);
+}
+
+#[test]
+fn the_structs_are_those_of_the_header() {
+    let wanted = structs_of_c(&header());
+    assert_eq!(wanted.len(), 9, "{:?}", wanted.keys());
+    assert_eq!(structs_of_rust(&raw()), wanted);
+    assert_eq!(raw().matches("#[repr(C)]").count(), wanted.len());
+}
+
+#[test]
+fn the_constants_are_those_of_the_header() {
+    let header = header();
+    let wanted: BTreeMap<&str, &str> = between(&header, "enum {", "}")
+        .flat_map(|constants| list(constants, ','))
+        .filter_map(|constant| constant.strip_prefix("SPAN_")?.split_once(" = "))
+        .collect();
+    let raw = raw();
+    let ours: Vec<_> = between(&raw, "const ", ";")
+        .filter_map(|text| text.split_once(": u32 = "))
+        .collect();
+    assert!(ours.len() > 10, "{ours:?}");
+    for (name, value) in ours {
+        assert_eq!(wanted.get(name), Some(&value), "{name}");
+    }
+}

@@ -1,0 +1,180 @@
+//! That a registry whose memory is refused, at each place in turn, refuses the call and is as it was; and that drops
+//! then owe.
+//!
+//! The library takes its memory by three functions of the toolchain's shim. This program has its own in their place,
+//! which refuse one allocation.
+mod common;
+
+use common::{assert_empty, compact, id, info, texts, Ids};
+use span_registry::{Drain, Error, Parent, Registry};
+use std::ffi::c_void;
+use std::sync::atomic::{AtomicU64, Ordering};
+
+/// How many allocations come before the one that is refused.
+static BEFORE: AtomicU64 = AtomicU64::new(u64::MAX);
+
+#[repr(C)]
+pub struct Block {
+    is_there: bool,
+    at: *mut c_void,
+}
+
+extern "C" {
+    fn malloc(size: usize) -> *mut c_void;
+    fn realloc(at: *mut c_void, size: usize) -> *mut c_void;
+    fn free(at: *mut c_void);
+}
+
+fn is_refused() -> bool {
+    BEFORE.fetch_update(Ordering::SeqCst, Ordering::SeqCst, |before| {
+        Some(before.wrapping_sub(1))
+    }) == Ok(0)
+}
+
+fn block(at: *mut c_void) -> Block {
+    Block {
+        is_there: !at.is_null(),
+        at,
+    }
+}
+
+const REFUSED: Block = Block {
+    is_there: false,
+    at: std::ptr::null_mut(),
+};
+
+/// A block of `size` bytes, aligned as `align` says, which is below 17.
+#[no_mangle]
+pub extern "C" fn rattle_alloc(size: usize, align: usize) -> Block {
+    if is_refused() {
+        return REFUSED;
+    }
+    // SAFETY: any size may be asked for.
+    block(unsafe { malloc(if size == 0 { align } else { size }) })
+}
+
+/// # Safety
+/// The block came from these functions and wasn't given back.
+#[no_mangle]
+pub unsafe extern "C" fn rattle_realloc(at: *mut c_void, _old: usize, size: usize, align: usize) -> Block {
+    if is_refused() {
+        return REFUSED;
+    }
+    // SAFETY: the caller's.
+    block(unsafe { realloc(at, if size == 0 { align } else { size }) })
+}
+
+/// # Safety
+/// The block came from these functions and wasn't given back.
+#[no_mangle]
+pub unsafe extern "C" fn rattle_dealloc(at: *mut c_void) {
+    // SAFETY: the caller's.
+    unsafe { free(at) }
+}
+
+/// Whether the refusal came.
+fn is_spent() -> bool {
+    BEFORE.load(Ordering::SeqCst) > u64::MAX / 2
+}
+
+/// Calls that are made again where memory was refused, once nothing has changed.
+struct Calls {
+    registry: Registry,
+    refused: u32,
+    owed: u32,
+}
+
+impl Calls {
+    fn make<T>(&mut self, call: impl Fn(&Registry) -> Result<T, Error>) -> T {
+        let before = self.registry.counts();
+        match call(&self.registry) {
+            Err(Error::OutOfMemory) => {
+                self.refused += 1;
+                assert_eq!(self.registry.counts(), before);
+                call(&self.registry).expect("memory is there again")
+            }
+            result => result.expect("not refused"),
+        }
+    }
+
+    fn drop<T>(&mut self, dropped: T) {
+        let was_spent = is_spent();
+        drop(dropped);
+        self.owed += u32::from(is_spent() && !was_spent);
+    }
+}
+
+const LINES: [&str; 11] = [
+    "new 1 w0 a k=v",
+    "enter 1 w0 a",
+    "new 2 w0 a:b",
+    "enter 2 w0 a:b",
+    "record 2 w0 a:b key=value",
+    "event 2 w0 a:b INFO m",
+    "exit 2 w0 a:b",
+    "exit 1 w0 a",
+    "close 2 w0 a:b key=value",
+    "close 1 w0 a k=v",
+    "event 0 w0 - INFO end",
+];
+
+/// All kinds of calls and drops.
+fn run(registry: Registry, drain: &mut Drain) -> Calls {
+    assert_eq!(registry.worker(), Ok(0));
+    let mut calls = Calls {
+        registry,
+        refused: 0,
+        owed: 0,
+    };
+    let a = calls.make(|registry| registry.span(&info("a"), Parent::Root, &[("k", "v")]));
+    let in_a = calls.make(|_| a.enter());
+    let b = calls.make(|registry| registry.span(&info("b"), Parent::Current, &[]));
+    let own = calls.make(|_| b.try_clone());
+    let in_b = calls.make(|_| b.enter());
+    calls.make(|_| b.record(&[("key", "value")]));
+    calls.make(|registry| Ids(registry.clone()).event("m"));
+    calls.drop(in_b);
+    calls.drop(own);
+    calls.drop(in_a);
+    assert_eq!(calls.registry.find(id(2)).expect("open").handles, 1);
+    calls.drop(a.clone());
+    calls.drop(b);
+    calls.drop(a);
+    calls.make(|registry| Ids(registry.clone()).event("end"));
+    assert_empty(&calls.registry);
+    assert_eq!(calls.registry.counts().calls, 13);
+    let lines = texts(drain);
+    let missed = usize::try_from(drain.counts().missed).expect("few");
+    assert_eq!(lines.len() + missed, LINES.len());
+    let mut wanted = LINES.iter();
+    assert!(
+        lines.iter().all(|line| wanted.any(|wanted| wanted == line)),
+        "{lines:?}"
+    );
+    calls
+}
+
+#[test]
+fn each_refused_allocation_is_answered_and_changes_nothing() {
+    let (mut of_build, mut of_calls, mut of_drops, mut of_lines) = (0, 0, 0, 0);
+    for before in 0.. {
+        BEFORE.store(before, Ordering::SeqCst);
+        match compact().build() {
+            Err(error) => {
+                assert_eq!(error, Error::OutOfMemory);
+                of_build += 1;
+            }
+            Ok((registry, mut drain)) => {
+                let calls = run(registry, &mut drain);
+                of_calls += calls.refused;
+                of_drops += calls.owed;
+                of_lines += drain.counts().missed;
+                if !is_spent() {
+                    break;
+                }
+            }
+        }
+    }
+    println!("refused: {of_build} starts, {of_calls} calls, {of_drops} drops, {of_lines} lines");
+    assert!(of_build > 0 && of_calls > 0 && of_drops > 0 && of_lines > 0);
+}
