@@ -72,6 +72,13 @@ impl<H: Ledger, C: Ledger> Worker<H, C> {
         self.accepted
     }
 
+    /// How many more handles the worker may make.
+    pub fn spare(&self) -> u64
+        ensures { result ≡ self.now.spare }
+    {
+        self.spare
+    }
+
     /// Ends the worker: its share has its parts of both ledgers and no unit.
     pub fn leave(self) -> Share<H, C>
         ensures { result

@@ -1,7 +1,7 @@
 //! Calls as data, and what is answered to them as text.
-use span_registry::{Found, ParentOf, Step};
 use span_id::{Fault, Id, Level};
 use span_outlet::Line;
+use span_registry::{Found, ParentOf, Step};
 use std::alloc::{AllocError, Global};
 use std::test::Fail;
 

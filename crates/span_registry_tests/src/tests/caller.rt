@@ -1,9 +1,9 @@
 //! The shortest caller, as the page on calling shows it.
 ghost use Rattle.std.specs.Prelude.{◌≡◌, [], None};
 
-use span_registry::{HANDLE_PARTS, Kept, ParentOf, Registry, Report, SeatTable, Setup};
 use span_id::{Checked, Fault, Level, Limits, Meta, copy_text};
 use span_layers::{Filters, Layers, Say, Tellers};
+use span_registry::{HANDLE_PARTS, Kept, ParentOf, Registry, Report, SeatTable, Setup};
 use std::alloc::Global;
 use std::marker::Brand;
 use std::sync::Wait;

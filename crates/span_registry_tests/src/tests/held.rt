@@ -1,10 +1,10 @@
 //! Handles that may be dropped, and shares that know how many parts they have.
 ghost use Rattle.std.specs.Prelude.{◌≡◌, Some};
 
-use span_registry::{HANDLE_PARTS, Handle, Registry, Report, Setup, Share, Worker};
 use span_id::Fault;
 use span_layers::{Admit, Say};
 use span_outlet::{Drain, Kept, Outlet, Ring};
+use span_registry::{HANDLE_PARTS, Handle, Registry, Report, Setup, Share, Worker};
 use std::alloc::Global;
 use std::sync::Wait;
 use std::sync::ledger::Ledger;
@@ -55,7 +55,7 @@ pub(crate) struct Part<H: Ledger, C: Ledger> {
 impl<H: Ledger, C: Ledger> Part<H, C> {
     /// What a worker leaves.
     pub(crate) fn of_worker(worker: Worker<H, C>) -> Part<H, C> {
-        let handle_parts = worker.spare;
+        let handle_parts = worker.spare();
         Part {
             share: worker.leave(),
             handle_parts,

@@ -2,10 +2,10 @@ ghost use Rattle.std.specs.Prelude.{◌≡◌, ◌<◌, [], OnOk, IfErr};
 ghost use Rattle.span_registry.specs.Request.{clone_span, cloned};
 ghost use Rattle.span_registry.specs.Core.{IsAccepted, IsRefused};
 
-use span_registry::laws::open_spans_are_a_live_forest;
-use span_registry::{Core, Kept, Line, Outlet, ParentOf};
 use span_id::{Fault, Id, Level, Limits, Meta};
 use span_layers::{Filters, Layers, Say};
+use span_registry::laws::open_spans_are_a_live_forest;
+use span_registry::{Core, Kept, Line, Outlet, ParentOf};
 use std::alloc::Global;
 use std::process::Abort;
 use std::test::Fail;
@@ -55,6 +55,7 @@ fn one_crate_is_named(rt: HostRuntime) -> Result<(), Fail> {
         target: String::from_str(alloc, "app")?,
         level: Level::Info,
     };
-    let (filters, tellers) = Layers::new(alloc).split();
+    let layers: Layers = Layers::new(alloc);
+    let (filters, tellers) = layers.split();
     run(&rt, alloc, filters, Kept::new(alloc, tellers), &meta)
 }

@@ -1,13 +1,12 @@
 //! Calls on a core, which has no lock.
 ghost use Rattle.std.specs.Prelude.{◌≡◌, ◌<◌, []};
 
-use span_registry::Core;
-use span_registry::found::Found;
 use crate::tests::acts::{Act, Answer, Fields, Transcript, lines_text};
 use crate::tests::layers::{Plan, fields_of, layers, meta_of};
-use span_id::{Fault, Id, Level, Limits};
+use span_id::{Fault, Id, Level, Limits, copy_text};
 use span_layers::{Filters, Say};
 use span_outlet::Kept;
+use span_registry::{Core, Found};
 use std::alloc::Global;
 use std::test::Fail;
 
@@ -16,8 +15,13 @@ fn found<V: Say>(alloc: Global, core: &Core<Kept<V>>, id: Id) -> Result<Option<F
     let Some(span) = core.find(id) else {
         return Ok(None);
     };
-    let found = Found::of(alloc, span)?;
-    Ok(Some(found))
+    Ok(Some(Found {
+        name: copy_text(alloc, span.meta.name.as_str())?,
+        parent: span.parent,
+        handles: span.handles,
+        entries: span.entries,
+        count: span.count,
+    }))
 }
 
 // A call on a span.

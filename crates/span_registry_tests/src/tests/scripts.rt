@@ -1,11 +1,11 @@
 //! The same calls on a registry, through its handles, and on a core, through ids.
-use span_registry::ParentOf;
 use crate::tests::acts::{Act, child, lines_text, new};
 use crate::tests::ended::{Deed, run_to_end};
 use crate::tests::layers::{EVERYTHING, Plan};
 use crate::tests::on_core::on_core;
 use span_id::{Level, Limits};
 use span_layers::{FmtSpan, Form};
+use span_registry::ParentOf;
 use std::alloc::Global;
 use std::process::Abort;
 use std::sync::Wait;

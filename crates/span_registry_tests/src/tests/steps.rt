@@ -1,7 +1,7 @@
 //! The drain beside a registry, where there is one.
 
-use span_registry::{Drain, Step};
 use span_layers::Say;
+use span_registry::{Drain, Step};
 
 /// What may step beside the calls.
 pub(crate) trait Steps {

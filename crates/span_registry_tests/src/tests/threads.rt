@@ -2,8 +2,8 @@
 use crate::tests::ended::{Deed, numbers, run_to_end};
 use crate::tests::held::{Gathered, Held, Part, close};
 use crate::tests::layers::meta_of;
-use span_registry::{Outlet, ParentOf, Registry, Setup, Worker};
 use span_id::{Fault, Level, Limits};
+use span_registry::{Outlet, ParentOf, Registry, Setup, Worker};
 use std::alloc::Global;
 use std::sync::Wait;
 use std::sync::ledger::Ledger;
