@@ -18,8 +18,8 @@ typedef struct SpanRegistry {
     void *at;
 } SpanRegistry;
 
-/* The end from which lines are read. It needs no lock and may be used in another thread beside the registry, one call at
- * a time. {NULL} is empty. Not to be copied. */
+/* The end from which lines are read. It needs no lock, and may be used in another thread beside the registry, one call
+ * at a time. {NULL} is empty. Not to be copied. */
 typedef struct SpanDrain {
     void *at;
 } SpanDrain;

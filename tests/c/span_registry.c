@@ -152,7 +152,8 @@ static void test_lines(void) {
     CHECK_LINE(0, "event 1 w0 a WARN m\\n x=1 2");
     CHECK_LINE(0, "close 2 w1 a:a k=v k=a=b");
     CHECK(span_registry_free(&registry) == SPAN_OK);
-    CHECK_LINE(1, "{\"fields\":[[\"k\",\"v\"],[\"k\",\"a=b\"]],\"id\":2,\"kind\":\"close\",\"path\":\"a:a\",\"worker\":1}");
+    CHECK_LINE(1, "{\"fields\":[[\"k\",\"v\"],[\"k\",\"a=b\"]],\"id\":2,\"kind\":\"close\",\"path\":\"a:a\","
+        "\"worker\":1}");
     check_no_line(__LINE__);
     CHECK(span_drain_counts(&drain, &batches, &refused) == SPAN_OK && batches == 6 && refused == 0);
     CHECK(span_drain_free(&drain) == SPAN_OK);
