@@ -111,14 +111,19 @@ fn the_next_call_does_what_is_owed_first() -> Result<(), Error> {
 
 #[test]
 fn a_drop_overtakes_nothing_that_is_owed() -> Result<(), Error> {
-    let (registry, mut drain) = compact().ring(2).build()?;
+    let (registry, mut drain) = compact().ring(3).build()?;
     let (a, b) = (span(&registry, "a"), span(&registry, "b"));
+    let in_b = b.enter()?;
     drop(a);
-    // One place, for the close of `a`.
+    // One place, which is for the close of `a`, and then one for the exit.
     assert_eq!(drain.line().map(|line| line.text), Some("new 1 w0 a".to_owned()));
+    drop(in_b);
+    assert_eq!(registry.counts().owed, 1);
+    assert_eq!(drain.line().map(|line| line.text), Some("new 2 w0 b".to_owned()));
     drop(b);
     assert_eq!(registry.counts().owed, 1);
-    assert_eq!(texts(&mut drain), ["new 2 w0 b", "close 1 w0 a", "close 2 w0 b"]);
+    let wanted = ["enter 2 w0 b", "close 1 w0 a", "exit 2 w0 b", "close 2 w0 b"];
+    assert_eq!(texts(&mut drain), wanted);
     assert_empty(&registry);
     Ok(())
 }

@@ -2,10 +2,12 @@
 mod common;
 
 use common::{assert_empty, compact, span, texts, Ids};
-use span_registry::{Error, Registry, Span};
+use span_registry::{Entered, Error, Registry, Span};
 use std::cell::RefCell;
 use std::mem::forget;
+use std::sync::atomic::{AtomicU32, Ordering};
 use std::sync::mpsc::channel;
+use std::sync::Arc;
 use std::thread;
 
 #[test]
@@ -255,6 +257,65 @@ fn a_span_in_a_thread_local_is_given_back_at_the_end() -> Result<(), Error> {
         assert_eq!(texts(&mut drain), ["new 1 w0 a", "close 1 w0 a"]);
         assert_empty(&registry);
         assert_eq!(registry.counts().threads, 0);
+    }
+    Ok(())
+}
+
+/// A guard in a thread local, which is dropped once another thread is inside of the same span.
+struct Late {
+    guard: Option<Entered<'static>>,
+    turn: Arc<AtomicU32>,
+}
+
+impl Drop for Late {
+    fn drop(&mut self) {
+        wait_for(&self.turn, 0, 1);
+        self.guard = None;
+        self.turn.store(2, Ordering::SeqCst);
+    }
+}
+
+/// Hands the turn on, and waits until it is the next one's.
+fn wait_for(turn: &AtomicU32, mine: u32, next: u32) {
+    turn.store(mine, Ordering::SeqCst);
+    while turn.load(Ordering::SeqCst) != next {
+        thread::yield_now();
+    }
+}
+
+thread_local! {
+    static LATE: RefCell<Option<Late>> = const { RefCell::new(None) };
+}
+
+#[test]
+fn a_guard_that_outlives_its_threads_number_leaves_no_other_thread() -> Result<(), Error> {
+    for kept_first in [true, false] {
+        let (registry, _drain) = compact().workers(2).build()?;
+        let a: &'static Span = Box::leak(Box::new(span(&registry, "a")));
+        let turn = Arc::new(AtomicU32::new(9));
+        let late = Arc::clone(&turn);
+        let ending = thread::spawn(move || {
+            if kept_first {
+                LATE.with_borrow(|late| assert!(late.is_none()));
+            }
+            let guard = Some(a.enter().expect("enter"));
+            LATE.set(Some(Late { guard, turn: late }));
+        });
+        while turn.load(Ordering::SeqCst) != 0 {
+            thread::yield_now();
+        }
+        // Where the thread's number is free already, this thread gets it.
+        let inside = thread::spawn(move || {
+            let inside = a.enter();
+            let (is_inside, found) = (inside.is_ok(), registry.find(a.id().expect("wanted")));
+            wait_for(&turn, 1, 2);
+            let entries = registry.find(a.id().expect("wanted")).expect("open").entries;
+            (is_inside, found.expect("open").entries, entries)
+        });
+        let seen = inside.join().expect("no panic");
+        ending.join().expect("no panic");
+        // Where its number isn't free yet, there is none for the other one.
+        assert!(seen == (true, 1, 1) || seen == (false, 1, 0), "{seen:?}");
     }
     Ok(())
 }
