@@ -73,7 +73,7 @@ kept_more forms before notes lines after refused more kept gains = record {
 
 -- ---- the notes of a batch
 
-pub enumerated_more : {X : Type 0} (n : ℕ) (xs : List X) (x : X) → enumerate_from n (xs ++ x ∷ []) ≡ enumerate_from n xs ++ (n + length xs, x) ∷ []
+enumerated_more : {X : Type 0} (n : ℕ) (xs : List X) (x : X) → enumerate_from n (xs ++ x ∷ []) ≡ enumerate_from n xs ++ (n + length xs, x) ∷ []
 enumerated_more {X} n [] x = ap {B = List (ℕ × X)} (λ k. (k, x) ∷ []) (omega arith)
 enumerated_more {X} n (y ∷ ys) x =
     ap {B = List (ℕ × X)} (λ l. (n, y) ∷ l) (enumerated_more (n + 1) ys x ∙ ap {B = List (ℕ × X)} (λ k. enumerate_from (n + 1) ys ++ (k, x) ∷ []) (omega arith))

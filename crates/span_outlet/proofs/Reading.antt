@@ -4,7 +4,7 @@ use mathlib.Core.List.{reverse}
 use Rattle.std.specs.Prelude.{All, flat_map}
 use Rattle.std.specs.List.{enumerate_from}
 use Rattle.std.specs.Option.{option_to_list}
-use Rattle.std.proofs.lemmas.List.{append-nil, length-append, length-map, map-append, reverse-append, reverse-reverse}
+use Rattle.std.proofs.lemmas.List.{append-nil, length-append, length-map, map-append, reverse-append, reverse-reverse, nil_from_length}
 use Rattle.std.proofs.lemmas.List.Concat.{flat_map-append}
 use Rattle.std.proofs.lemmas.List.Elements.{All-nil, All-tail, All-weaker}
 use Rattle.span_layers.specs.declared.form.Form.{Form}
@@ -12,12 +12,12 @@ use Rattle.span_outlet.specs.declared.batch.Batch.{Batch}
 use Rattle.span_outlet.specs.declared.line.Line.{Line}
 use Rattle.span_outlet.specs.Batch.{PlainBatch, plain_batch}
 use Rattle.span_outlet.specs.Outlet.{RingName}
-use Rattle.span_outlet.specs.Lines.{PlainLine, plain_line}
-use Rattle.span_outlet.specs.Kept.{NumberedNote, numbered_in, numbered, AreKept, GainsLines}
+use Rattle.span_outlet.specs.Lines.{plain_line}
+use Rattle.span_outlet.specs.Kept.{numbered_in, numbered, AreKept, GainsLines}
 use Rattle.span_outlet.specs.Kept.AreTold.{none}
 use Rattle.span_outlet.specs.LineReader.{LineReaderView, numbered_from, TakesBatches, AreLeft}
 use Rattle.span_outlet.specs.inside.Reading.{reader_view}
-use Rattle.span_outlet.proofs.Keeping.{enumerated_more, gains_none, gains_more, kept_more}
+use Rattle.span_outlet.proofs.Keeping.{gains_none, gains_more, kept_more}
 use Rattle.span_outlet.proofs.Apart.{of_one_batch}
 
 -- ---- the notes of batches
@@ -118,21 +118,31 @@ more_left old new nothing same left takes =
 pub as_told : (lines kept : List Line) → kept ≡ reverse lines → reverse kept ≡ lines
 as_told lines kept is = ap reverse is ∙ reverse-reverse lines
 
-pub filled_left : (name same : RingName) (forms kept : List Form) (old new : List Batch) (before lines waiting : List Line) (refused more : ℕ)
-    → before ≡ [] → kept ≡ forms → waiting ≡ lines
-    → AreLeft (reader_view name forms old before refused) → TakesBatches (reader_view name forms old [] refused) (reader_view same kept new lines more)
-    → AreLeft (reader_view same kept new waiting more)
-filled_left name same forms kept old new before lines waiting refused more nothing kept_is is left takes =
-    subst (λ ls. AreLeft (reader_view same kept new ls more)) (sym is)
-    (more_left (reader_view name forms old [] refused) (reader_view same kept new lines more) refl kept_is
-    (subst (λ ls. AreLeft (reader_view name forms old ls refused)) nothing left) takes)
-
-pub filled_takes : (name same : RingName) (forms kept : List Form) (old new : List Batch) (before lines waiting : List Line) (refused more : ℕ)
-    → before ≡ [] → waiting ≡ lines → TakesBatches (reader_view name forms old [] refused) (reader_view same kept new lines more)
+pub filled_takes : (name seen same : RingName) (forms kept : List Form) (old looked new : List Batch) (before lines waiting : List Line) (refused more : ℕ)
+    → before ≡ [] → looked ≡ old → waiting ≡ lines → TakesBatches (reader_view seen forms looked [] refused) (reader_view same kept new lines more)
     → TakesBatches (reader_view name forms old before refused) (reader_view same kept new waiting more)
-filled_takes name same forms kept old new before lines waiting refused more nothing is takes =
-    subst (λ ls. TakesBatches (reader_view name forms old before refused) (reader_view same kept new ls more)) (sym is)
-    (subst (λ ls. TakesBatches (reader_view name forms old ls refused) (reader_view same kept new lines more)) (sym nothing) takes)
+filled_takes name seen same forms kept old looked new before lines waiting refused more nothing looks is takes =
+    let from_old : TakesBatches (reader_view seen forms old before refused) (reader_view same kept new lines more) =
+    subst (λ bs. TakesBatches (reader_view seen forms bs before refused) (reader_view same kept new lines more)) looks
+    (subst (λ ls. TakesBatches (reader_view seen forms looked ls refused) (reader_view same kept new lines more)) (sym nothing) takes) in
+    let to_new : TakesBatches (reader_view seen forms old before refused) (reader_view same kept new waiting more) =
+    subst (λ ls. TakesBatches (reader_view seen forms old before refused) (reader_view same kept new ls more)) (sym is) from_old in
+    record { batches = to_new.batches; taken = to_new.taken; gains = to_new.gains }
+
+pub filled_left : (name seen same : RingName) (forms kept : List Form) (old looked new : List Batch) (before lines waiting : List Line) (refused more : ℕ)
+    → before ≡ [] → kept ≡ forms → looked ≡ old → waiting ≡ lines
+    → AreLeft (reader_view name forms old before refused) → TakesBatches (reader_view seen forms looked [] refused) (reader_view same kept new lines more)
+    → AreLeft (reader_view same kept new waiting more)
+filled_left name seen same forms kept old looked new before lines waiting refused more nothing kept_is looks is left takes =
+    more_left (reader_view name forms old before refused) (reader_view same kept new waiting more) (ap (map plain_line) nothing) kept_is left
+    (filled_takes name seen same forms kept old looked new before lines waiting refused more nothing looks is takes)
+
+-- where nothing is left in the ring
+pub all_taken : (taken standing : List Batch) (lines waiting : List Line) (sent : List PlainBatch) → waiting ≡ lines → (lines ≡ [] → standing ≡ []) → map plain_batch (taken ++ standing) ≡ sent
+    → map plain_line waiting ≡ [] → map plain_batch taken ≡ sent
+all_taken taken standing lines waiting sent is rest fifo nothing =
+    let no_lines : lines ≡ [] = nil_from_length lines (sym (length-map lines plain_line) ∙ ap length (ap (map plain_line) (sym is) ∙ nothing)) in
+    ap (map plain_batch) (sym (ap (λ l. taken ++ l) (rest no_lines) ∙ append-nil taken)) ∙ fifo
 
 -- ---- a line is given out
 

@@ -20,8 +20,8 @@ pub record LineReaderView : Type 0 where
 abbrev pub numbered_from : ℕ → List PlainBatch → List NumberedNote
 numbered_from first batches = flat_map numbered_in (enumerate_from first batches)
 
--- More batches were taken, perhaps none, and all their notes were told or missed: after the lines that waited wait those
--- of the notes that were told, in order, and the ones that were missed are counted.
+-- More batches were taken, perhaps none, and all their notes were told or missed: after the lines that waited wait
+-- those of the notes that were told, in order, and the ones that were missed are counted.
 pub record TakesBatches (old new : LineReaderView) : Type 0 where
   pub batches : List PlainBatch
   pub taken : new.taken ≡ old.taken ++ batches

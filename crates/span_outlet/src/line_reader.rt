@@ -1,13 +1,14 @@
 //! What takes the batches out of a ring and gives out the lines of their notes, one after another.
-ghost use Rattle.std.specs.Prelude.{◌≡◌, ◌<◌, ◌∷◌, [], ◌↔◌, Some, IfSome, IfNone, IsTrue, length, slice_get};
-ghost use Rattle.rtrb.specs.Ring.{received};
+ghost use Rattle.std.specs.Prelude.{◌≡◌, ◌<◌, ◌∷◌, [], ◌++◌, ◌↔◌, false, Some, IfSome, IfNone, IsTrue, map, length, slice_get};
+ghost use Rattle.rtrb.specs.Ring.{received, known_items};
+ghost use Rattle.span_outlet.specs.Batch.{plain_batch};
 ghost use Rattle.span_outlet.specs.Lines.{plain_line};
 ghost use Rattle.span_outlet.specs.LineReader.{AreLeft, AreOfLast, TakesBatches};
 ghost use Rattle.span_outlet.specs.inside.Ends.{name_of_consumer};
 ghost use Rattle.span_outlet.specs.inside.Reading.{reader_view};
 
 use crate::line::Line;
-use crate::ring::{Consuming, Tap};
+use crate::ring::{Consuming, Ring, Tap};
 use crate::told::Told;
 use span_layers::{Formatters, Say, Tellers};
 use std::alloc::Global;
@@ -49,13 +50,15 @@ impl<V> Model for LineReader<V> {
         × (reader.taken ≡ length (received reader.consumer)) };
 }
 
-// Takes the batches that stand in the ring, one by one, and tells their notes, until there is a line.
+// Takes the batches that are known to stand in the ring, one by one, and tells their notes, until there is a line.
 fn take_until_told<V: Say>(
     consumer: &mut Consuming,
     taken: &mut u64,
     told: &mut Told,
     formatters: &V,
+    standing: usize,
 )
+    requires standing { standing ≡ length (known_items consumer.old) }
     requires number { taken.old ≡ length (received consumer.old) }
     requires nothing { told.old.lines.items ≡ [] }
     ensures number { taken.new ≡ length (received consumer.new) }
@@ -68,8 +71,10 @@ fn take_until_told<V: Say>(
     ensures last { AreOfLast
         (reader_view (name_of_consumer consumer.new) told.new.forms (received consumer.new) told.new.lines.items
         told.new.refused) }
+    ensures fifo { map plain_batch (received consumer.new ++ known_items consumer.new)
+        ≡ map plain_batch (received consumer.old ++ known_items consumer.old) }
+    ensures none_left { told.new.lines.items ≡ [] → known_items consumer.new ≡ [] }
 {
-    let standing = consumer.slots();
     for _ in 0..standing {
         let batch = consumer.pop_known();
         told.tell_all(formatters, *taken, &batch);
@@ -103,10 +108,11 @@ impl<F: Drop> LineReader<Formatters<F>> {
 impl<V: Say> LineReader<V> {
     /// Takes batches until a line waits, and tells their notes, in order. True where a line waits now.
     ///
-    /// Where one waited already, nothing changes. It takes no more batches than stand in the ring when it is called, and
-    /// false means that none of them had a line.
+    /// Where one waited already, nothing changes. It takes no more batches than stand in the ring when it is called,
+    /// and false means that none of them had a line.
     pub fn fill(&mut self) -> bool
         ensures answer { IsTrue result ↔ (0 < length self.new.waiting) }
+        ensures none { result ≡ false → self.new.waiting ≡ [] }
         ensures waited { 0 < length self.old.waiting → self.new ≡ self.old }
         ensures taken { TakesBatches self.old self.new }
         ensures name { self.new.name ≡ self.old.name }
@@ -121,7 +127,36 @@ impl<V: Say> LineReader<V> {
         if !told.lines.is_empty() {
             return true;
         }
-        take_until_told(consumer, taken, told, &*formatters);
+        let standing = consumer.slots();
+        take_until_told(consumer, taken, told, &*formatters, standing);
+        told.lines.reverse();
+        !told.lines.is_empty()
+    }
+
+    /// The same where both ends of the ring are in one thread, so that the look at the ring is up to date: false means
+    /// that everything that was sent is taken, and that no line waits.
+    pub fn fill_beside(&mut self, ring: &mut Ring) -> bool
+        requires pair { ring.old.name ≡ self.old.name }
+        ensures answer { IsTrue result ↔ (0 < length self.new.waiting) }
+        ensures none { result ≡ false → self.new.waiting ≡ [] }
+        ensures waited { 0 < length self.old.waiting → self.new ≡ self.old }
+        ensures taken { TakesBatches self.old self.new }
+        ensures sent { self.new.waiting ≡ [] → self.new.taken ≡ ring.old.sent }
+        ensures name { self.new.name ≡ self.old.name }
+        ensures forms { self.new.forms ≡ self.old.forms }
+        ensures ring { ring.new ≡ record ring.old { free = ring.new.free } }
+    {
+        let LineReader {
+            consumer,
+            taken,
+            told,
+            formatters,
+        } = self;
+        if !told.lines.is_empty() {
+            return true;
+        }
+        let standing = ring.look_beside(consumer);
+        take_until_told(consumer, taken, told, &*formatters, standing);
         told.lines.reverse();
         !told.lines.is_empty()
     }
@@ -142,7 +177,7 @@ impl<V> LineReader<V> {
     pub fn next(&mut self) -> Option<Line>
         ensures some { IfSome result (λ line. self.old.waiting ≡ plain_line line ∷ self.new.waiting) }
         ensures none { IfNone result (self.old.waiting ≡ []) }
-        ensures last { IfNone result (self.new ≡ self.old) }
+        ensures same { IfNone result (self.new ≡ self.old) }
         ensures rest { self.new ≡ record self.old { waiting = self.new.waiting } }
     {
         self.told.lines.pop()

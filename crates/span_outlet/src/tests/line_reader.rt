@@ -16,6 +16,7 @@ const FORMS: [Form; 2] = [Form::Json, Form::Compact];
 // A ring of so many places, and a reader of it that writes in these forms.
 fn opened(alloc: Global, places: u32, forms: &[Form]) -> Result<(Ring, LineReader), Fail>
     ensures new { IfOk result (λ ends. ends.0.sent ≡ []) }
+    ensures pair { IfOk result (λ ends. ends.0.name ≡ ends.1.name) }
 {
     let tellers = tellers(alloc, forms)?;
     let (ring, tap) = pair(alloc, places)?;
@@ -126,6 +127,20 @@ fn a_place_that_is_used_again(rt: HostRuntime) -> Result<(), Fail> {
         "1 0 0 exit 1 w0 a\n"
     );
     stands_at(&rt, &mut reader, 2, 0);
+    Ok(())
+}
+
+#[test]
+fn both_ends_in_one_thread(rt: HostRuntime) -> Result<(), Fail> {
+    let alloc = rt.alloc();
+    let (mut ring, mut reader) = opened(alloc, 2, &[Form::Compact])?;
+    assert!(rt; !reader.fill_beside(&mut ring));
+    assert!(rt; send(&mut ring, batch(alloc, Kind::OnNew, &[0])?)?);
+    assert!(rt; send(&mut ring, batch(alloc, Kind::OnExit, &[0])?)?);
+    assert!(rt; reader.fill_beside(&mut ring));
+    assert_eq!(rt; reader.next().map(|line| line.batch), Some(1));
+    assert!(rt; !reader.fill_beside(&mut ring));
+    stands_at(&rt, &mut reader, 2, 1);
     Ok(())
 }
 

@@ -1,7 +1,7 @@
-use Rattle.std.proofs.Common.{rules, ◌≡◌, ◌++◌, ◌∷◌, [], length, ap, ◌∙◌, arith}
+use Rattle.std.proofs.Common.{rules, ◌≡◌, ◌++◌, ◌∷◌, [], length, refl, ap, ◌∙◌, arith}
 use Rattle.std.proofs.lemmas.List.{nil_from_length}
-use Rattle.rtrb.specs.Ring.{received, known_items}
-use Rattle.span_outlet.proofs.Draining.{one_more_taken}
+use Rattle.rtrb.specs.Ring.{received}
+use Rattle.span_outlet.proofs.Draining.{one_more_taken, moved_on}
 use Rattle.span_outlet.proofs.Reading.{takes_nothing, takes_more, of_batch}
 use Rattle.span_outlet.proofs.line_reader.take_until_told.Goals as goal
 
@@ -11,6 +11,7 @@ loop-init g c = record {
   forms = search rules;
   number = search rules;
   standing = search rules;
+  fifo = refl;
   nothing = c.requires.nothing;
   batches = takes_nothing _ _ _ _ _ _ _ (search rules) c.requires.nothing c.args.told.now.in_range;
 }
@@ -19,6 +20,9 @@ pub returns-then-not-is_empty-clause-batches : goal.returns-then-not-is_empty-cl
 returns-then-not-is_empty-clause-batches g c =
     let before = c.loop.invariant in
     takes_more _ _ _ _ _ _ _ _ _ c.pop_known-batch.result _ _ _ _ _ _ before.forms before.number c.pop_known-batch.ensures.received.0 before.batches c.tell_all.ensures.told
+
+pub returns-then-not-is_empty-clause-fifo : goal.returns-then-not-is_empty-clause-fifo
+returns-then-not-is_empty-clause-fifo g c = moved_on _ _ _ _ c.pop_known-batch.result _ c.pop_known-batch.ensures.received.0 c.pop_known-batch.ensures.received.1 c.loop.invariant.fifo
 
 pub returns-then-not-is_empty-clause-last : goal.returns-then-not-is_empty-clause-last
 returns-then-not-is_empty-clause-last g c =
@@ -36,6 +40,7 @@ loop-preserved g c =
       forms = c.tell_all.ensures.forms ∙ before.forms;
       number = one_more_taken _ _ batch _ popped before.number;
       standing = omega (arith, fewer, before.standing);
+      fifo = moved_on _ _ _ _ batch _ popped c.pop_known-batch.ensures.received.1 before.fifo;
       nothing = nil_from_length _ (search rules);
       batches = takes_more _ _ _ _ _ _ _ _ _ batch _ _ _ _ _ _ before.forms before.number popped before.batches c.tell_all.ensures.told;
     }

@@ -1,5 +1,6 @@
-use Rattle.std.proofs.Common.{◌≡◌, ◌+◌, [], length}
+use Rattle.std.proofs.Common.{◌≡◌, ◌+◌, ◌++◌, [], length, map}
 use Rattle.rtrb.specs.Ring.{received, known_items}
+use Rattle.span_outlet.specs.Batch.{plain_batch}
 use Rattle.span_outlet.specs.LineReader.{TakesBatches}
 use Rattle.span_outlet.specs.inside.Ends.{name_of_consumer}
 use Rattle.span_outlet.specs.inside.Reading.{reader_view}
@@ -12,6 +13,7 @@ invariant-loop g l = record {
   forms : l.told.forms ≡ l.fn.told.forms;
   number : l.taken ≡ length (received l.consumer);
   standing : length (known_items l.consumer) + l.counter ≡ l.standing;
+  fifo : map plain_batch (received l.consumer ++ known_items l.consumer) ≡ map plain_batch (received l.fn.consumer ++ known_items l.fn.consumer);
   nothing : l.told.lines.items ≡ [];
   batches : TakesBatches (reader_view (name_of_consumer l.fn.consumer) l.fn.told.forms (received l.fn.consumer) [] l.fn.told.refused)
       (reader_view (name_of_consumer l.consumer) l.told.forms (received l.consumer) l.told.lines.items l.told.refused);

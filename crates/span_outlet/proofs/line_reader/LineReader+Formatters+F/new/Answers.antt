@@ -1,4 +1,4 @@
-use Rattle.std.proofs.Common.{rules, ◌≡◌, [], ap, ◌∙◌}
+use Rattle.std.proofs.Common.{rules, ◌≡◌, [], ap}
 use mathlib.Core.List.{reverse}
 use Rattle.rtrb.specs.Ring.{received}
 use Rattle.span_outlet.proofs.Reading.{nothing_left, none_of_last}

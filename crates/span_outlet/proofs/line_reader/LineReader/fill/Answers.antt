@@ -1,5 +1,6 @@
 use Rattle.std.proofs.Common.{rules, ◌≡◌, [], sym, ap, subst}
 use mathlib.Core.List.{reverse}
+use Rattle.rtrb.specs.Ring.{received}
 use Rattle.std.proofs.lemmas.List.{nil_from_length}
 use Rattle.span_outlet.proofs.Reading.{takes_none, as_told, filled_left, filled_takes, OfLast}
 use Rattle.span_outlet.proofs.line_reader.LineReader.fill.Goals as goal
@@ -10,8 +11,9 @@ returns-then-not-is_empty-clause-taken g c = rw (← c.self.view_is) (takes_none
 pub invariant_of-self-2 : goal.invariant_of-self-2
 invariant_of-self-2 g c =
     let nothing : c.self.inside.told.lines.items ≡ [] = nil_from_length _ (search rules) in
+    let looks : received c.slots-standing.new.self ≡ received c.self.inside.consumer = search rules in
     let told : reverse c.reverse.new.self.items ≡ c.take_until_told.new.told.lines.items = as_told _ _ c.reverse.ensures.items in (
-      filled_left _ _ _ _ _ _ _ _ _ _ _ (ap reverse nothing) c.take_until_told.ensures.forms told c.self.invariant.0 c.take_until_told.ensures.batches,
+      filled_left _ _ _ _ _ _ _ _ _ _ _ _ _ (ap reverse nothing) c.take_until_told.ensures.forms looks told c.self.invariant.0 c.take_until_told.ensures.batches,
       subst (OfLast _) (sym told) c.take_until_told.ensures.last,
       c.take_until_told.ensures.number,
     )
@@ -19,5 +21,6 @@ invariant_of-self-2 g c =
 pub returns-clause-taken : goal.returns-clause-taken
 returns-clause-taken g c =
     let nothing : c.self.inside.told.lines.items ≡ [] = nil_from_length _ (search rules) in
+    let looks : received c.slots-standing.new.self ≡ received c.self.inside.consumer = search rules in
     let told : reverse c.reverse.new.self.items ≡ c.take_until_told.new.told.lines.items = as_told _ _ c.reverse.ensures.items in
-    rw (← c.self.view_is) (filled_takes _ _ _ _ _ _ _ _ _ _ _ (ap reverse nothing) told c.take_until_told.ensures.batches)
+    rw (← c.self.view_is) (filled_takes _ _ _ _ _ _ _ _ _ _ _ _ _ (ap reverse nothing) looks told c.take_until_told.ensures.batches)

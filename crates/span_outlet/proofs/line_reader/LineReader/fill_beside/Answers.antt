@@ -1,0 +1,31 @@
+use Rattle.std.proofs.Common.{rules, ◌≡◌, [], sym, ap, ◌∙◌, subst}
+use mathlib.Core.List.{reverse}
+use Rattle.rtrb.specs.Ring.{received}
+use Rattle.std.proofs.lemmas.List.{nil_from_length}
+use Rattle.span_outlet.proofs.Reading.{takes_none, as_told, filled_left, filled_takes, all_taken, OfLast}
+use Rattle.span_outlet.proofs.line_reader.LineReader.fill_beside.Goals as goal
+
+pub returns-then-not-is_empty-clause-taken : goal.returns-then-not-is_empty-clause-taken
+returns-then-not-is_empty-clause-taken g c = rw (← c.self.view_is) (takes_none _ c.self.inside.told.in_range)
+
+pub invariant_of-self-2 : goal.invariant_of-self-2
+invariant_of-self-2 g c =
+    let nothing : c.self.inside.told.lines.items ≡ [] = nil_from_length _ (search rules) in
+    let looks : received c.look_beside-standing.new.consumer ≡ received c.self.inside.consumer = search rules in
+    let told : reverse c.reverse.new.self.items ≡ c.take_until_told.new.told.lines.items = as_told _ _ c.reverse.ensures.items in (
+      filled_left _ _ _ _ _ _ _ _ _ _ _ _ _ (ap reverse nothing) c.take_until_told.ensures.forms looks told c.self.invariant.0 c.take_until_told.ensures.batches,
+      subst (OfLast _) (sym told) c.take_until_told.ensures.last,
+      c.take_until_told.ensures.number,
+    )
+
+pub returns-clause-taken : goal.returns-clause-taken
+returns-clause-taken g c =
+    let nothing : c.self.inside.told.lines.items ≡ [] = nil_from_length _ (search rules) in
+    let looks : received c.look_beside-standing.new.consumer ≡ received c.self.inside.consumer = search rules in
+    let told : reverse c.reverse.new.self.items ≡ c.take_until_told.new.told.lines.items = as_told _ _ c.reverse.ensures.items in
+    rw (← c.self.view_is) (filled_takes _ _ _ _ _ _ _ _ _ _ _ _ _ (ap reverse nothing) looks told c.take_until_told.ensures.batches)
+
+pub returns-clause-sent : goal.returns-clause-sent
+returns-clause-sent g c =
+    let told : reverse c.reverse.new.self.items ≡ c.take_until_told.new.told.lines.items = as_told _ _ c.reverse.ensures.items in
+    all_taken _ _ _ _ _ told c.take_until_told.ensures.none_left (c.take_until_told.ensures.fifo ∙ c.look_beside-standing.ensures.fifo)
