@@ -4,12 +4,16 @@ use std::ops::{BitOr, BitOrAssign};
 
 /// How verbose a span or an event is: the later, the more verbose.
 #[derive(Clone, Copy, Debug, PartialEq, Eq, PartialOrd, Ord, Hash)]
-#[allow(missing_docs)]
 pub enum Level {
+    /// What went wrong.
     Error,
+    /// What may go wrong.
     Warn,
+    /// What a user may want to know.
     Info,
+    /// What helps to find a fault.
     Debug,
+    /// Everything else.
     Trace,
 }
 
