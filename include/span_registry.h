@@ -2,7 +2,9 @@
  *
  * Every call answers a status, and SPAN_OK alone means that it was done. Any other status left the registry, the drain
  * and every output as they were, but for what is said of it here. What a pointer points to has to be there, also where
- * a length is 0: no pointer may be NULL. The library takes its memory by malloc, realloc and free. */
+ * a length is 0: no pointer may be NULL, and no output may overlap another output, an input or a handle. Between calls
+ * on one handle in two threads stands a lock, a start or join, or the like. No call may come from a signal handler. The
+ * library takes its memory by malloc, realloc and free. */
 #ifndef SPAN_REGISTRY_H
 #define SPAN_REGISTRY_H
 
@@ -26,7 +28,7 @@ typedef struct SpanDrain {
 
 enum {
     SPAN_OK = 0,
-    SPAN_UNKNOWN = 1,          /* no open span has the id, or no handle of it is out */
+    SPAN_UNKNOWN = 1,          /* no open span has the id; where the call needs a handle of it: or none is out */
     SPAN_COUNT_FULL = 2,       /* a count that would rise stands at its greatest value */
     SPAN_FULL = 3,             /* no slot is free */
     SPAN_NOT_ENTERED = 4,      /* the span doesn't stand in the worker's stack */
@@ -35,8 +37,8 @@ enum {
     SPAN_BACKLOG = 7,          /* the ring has no free place: lines have to be read first */
     SPAN_BAD_LIMITS = 8,       /* a limit is outside its range */
     SPAN_OUT_OF_MEMORY = 10,
-    SPAN_BAD_DATA = 11,        /* lengths that don't fit the texts, text that is no UTF-8, or a level, form, kinds or
-                                  kind of parent that aren't there */
+    SPAN_BAD_DATA = 11,        /* lengths that don't fit the texts, or rules the layers; text that is no UTF-8; a level,
+                                  form, kinds or kind of parent that aren't there */
     SPAN_EMPTY_HANDLE = 12,
     SPAN_HANDLE_IN_USE = 13,   /* a handle that was to be filled isn't empty */
     SPAN_NO_SUCH_WORKER = 14,
@@ -49,7 +51,8 @@ typedef struct SpanLimits {
     uint32_t slots, last_generation, max_count, workers, ring;
 } SpanLimits;
 
-/* form 0 compact, 1 JSON; kinds a sum of 1 new, 2 enter, 4 exit, 8 close; rules: how many of the rules are its own */
+/* form 0 compact, 1 JSON; kinds a sum of 1 new, 2 enter, 4 exit, 8 close, of which it writes lines, beside those of
+ * records and events; rules: how many of the rules are its own, and where none of them fits it admits nothing */
 typedef struct SpanLayer {
     uint32_t form, kinds, rules;
 } SpanLayer;
@@ -83,9 +86,12 @@ typedef struct SpanCounts {
 /* Texts stand one after another in `texts`, each of the length that its struct tells, and all bytes have to be used up.
  * Of several things that stand against a call the status tells the first: SPAN_EMPTY_HANDLE, SPAN_NO_SUCH_WORKER,
  * SPAN_BAD_DATA, SPAN_BAD_NAME, SPAN_UNKNOWN, SPAN_COUNT_FULL, SPAN_FULL, SPAN_NOT_ENTERED; SPAN_BACKLOG comes where
- * none of these does, and SPAN_OUT_OF_MEMORY may come before SPAN_BAD_DATA and what follows it. */
+ * none of these does, and SPAN_OUT_OF_MEMORY may come before SPAN_BAD_DATA and what follows it. That no layer wants a
+ * span is found after SPAN_BAD_NAME and before SPAN_UNKNOWN. Workers and layers are numbered from 0. */
 
-/* Fills two empty handles. Each layer takes the next of the rules for its own; texts: the prefixes of all rules. */
+/* Fills two empty handles. Each layer takes the next of the rules for its own; texts: the prefixes of all rules.
+ * Refused in this order: SPAN_HANDLE_IN_USE, SPAN_BAD_LIMITS, SPAN_TOO_MANY_LAYERS, and then SPAN_BAD_DATA or
+ * SPAN_OUT_OF_MEMORY. */
 uint32_t span_registry_new(SpanRegistry *registry, SpanDrain *drain, const SpanLimits *limits,
     const SpanLayer *layers, size_t layers_len, const SpanRule *rules, size_t rules_len,
     const uint8_t *texts, size_t texts_len);
@@ -93,10 +99,12 @@ uint32_t span_registry_new(SpanRegistry *registry, SpanDrain *drain, const SpanL
 /* Gives the memory back, and the handle is empty. The drain may still be read. */
 uint32_t span_registry_free(SpanRegistry *registry);
 
-/* What a new span has for a parent: none, the worker's current span, or the span that is named. */
+/* What a new span has for a parent: none, the worker's current span (none where it has none), or the span that is
+ * named. Only then is `parent` looked at. */
 enum { SPAN_ROOT = 0, SPAN_CURRENT = 1, SPAN_UNDER = 2 };
 
-/* A span with one handle. texts: name, target, then each key and its value. id: 0 where no layer wants the span. */
+/* A span with one handle. texts: name, target, then each key and its value. id: 0
+ * where there are layers and none admits the span: then none is made. */
 uint32_t span_registry_new_span(SpanRegistry *registry, uint32_t worker, uint32_t parent_kind, uint64_t parent,
     const SpanMeta *meta, const SpanField *fields, size_t fields_len, const uint8_t *texts, size_t texts_len,
     uint64_t *id);
@@ -124,13 +132,14 @@ uint32_t span_registry_event(SpanRegistry *registry, uint32_t worker, const Span
 /* SPAN_UNKNOWN where the span isn't open. */
 uint32_t span_registry_find(SpanRegistry *registry, uint64_t id, SpanFound *found);
 
-/* id: 0 where the worker's stack is empty. */
+/* The topmost span of the worker's stack that it entered first there, and not again. id: 0 where there is none. */
 uint32_t span_registry_current_span(SpanRegistry *registry, uint32_t worker, uint64_t *id);
 
 uint32_t span_registry_counts(SpanRegistry *registry, SpanCounts *counts);
 
-/* The next line, without a newline. Where none is at hand, batches are taken out of the ring until one is, also where
- * the status is SPAN_NO_LINE then. A line that doesn't fit stays the next one. */
+/* The next line, which is UTF-8, without a newline; the rest of the buffer stays as it was. Where none is at hand,
+ * batches are taken out of the ring until one is, also where the status is SPAN_NO_LINE or SPAN_SHORT_BUFFER then. A
+ * line that doesn't fit stays the next one. */
 uint32_t span_drain_line(SpanDrain *drain, uint32_t *layer, uint8_t *into, size_t into_len, size_t *len);
 
 /* How many batches were taken, and how many notes were missed for want of memory. */

@@ -89,7 +89,8 @@ span_asked worker kind parent meta fields bytes core =
     new_span worker (said_meta meta bytes) (said_fields fields (behind_meta meta bytes))
     (parent_found core.world worker (said_parent kind parent))
 
--- the span was made, and the id is the one that the history so far gives; or no layer wants it, and the id is 0
+-- the span was made, and the id is the one that the history so far gives; or there are layers and none admits it, and
+-- the id is 0
 abbrev pub IsMade : Request → ℕ → CoreView → CoreView → Type 0
 IsMade request id old new =
     (id ≡ 0 → IsNotWanted old request new)
@@ -101,7 +102,7 @@ IsMadeOrRefused request id old Done new = IsMade request id old new
 IsMadeOrRefused request id old (Refused fault) new = IsRefused old request fault new
 IsMadeOrRefused request id old _ new = ⊥
 
--- A worker makes a span. Its id is told, and 0 where no layer wants it. Where the data say nothing, and where memory is
+-- A worker makes a span. Its id is told, and 0 where there are layers and none admits it. Where the data say nothing, and where memory is
 -- refused, nothing changes.
 abbrev pub MakesSpan : ℕ → ℕ → ℕ → SpanMeta → List SpanField → List ℕ → ℕ → CoreView → Status → CoreView → Type 0
 MakesSpan worker kind parent meta fields bytes id old NoSuchWorker new = LacksWorker old worker new
@@ -136,7 +137,7 @@ Finds id found old Done new =
 Finds id found old (Refused Unknown) new = (find old.world.spans id ≡ None) × (new ≡ old)
 Finds id found old _ new = ⊥
 
--- the span at the top of a worker's stack, 0 where the stack is empty
+-- a worker's current span, 0 where it has none
 abbrev pub SeesCurrent : ℕ → ℕ → CoreView → Status → CoreView → Type 0
 SeesCurrent worker id old Done new =
     HasWorker old worker × (id ≡ id_number (current (stack_of old.world worker))) × (new ≡ old)

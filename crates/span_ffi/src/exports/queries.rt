@@ -72,7 +72,7 @@ fn current_span(core: &RingCore, worker: u32, id: &mut u64) -> Status
     Status::Done
 }
 
-/// The span at the top of a worker's stack, 0 where the stack is empty.
+/// A worker's current span: the topmost one of its stack that it entered first there; 0 where it has none.
 #[unsafe(no_mangle)]
 pub extern "C" fn span_registry_current_span(
     alloc: Global,

@@ -122,7 +122,7 @@ fn make_span(
 }
 
 /// Makes a span. The texts are its name, its target, and the keys and values, one after another. It tells the id, and 0
-/// where no layer wants the span.
+/// where there are layers and none admits the span.
 #[unsafe(no_mangle)]
 pub extern "C" fn span_registry_new_span(
     alloc: Global,
