@@ -2,9 +2,8 @@
 ghost use Rattle.std.specs.Prelude.{◌≡◌};
 ghost use Rattle.span_run.specs.Counted.{failed_of};
 
-use span_replay::replay_with_layers;
-use span_replay::replay;
 use crate::tests::hooks::hooks;
+use span_replay::{replay, replay_with_layers};
 use span_run::{Counted, RunFault};
 use std::alloc::{AllocError, Global};
 use std::io;

@@ -5,9 +5,9 @@ ghost use Rattle.span_layers.specs.Note.{plain_note};
 ghost use Rattle.span_layers.specs.Rule.{pairs_of, is_admitted};
 ghost use Rattle.span_layers.specs.Text.{text_of};
 
-use span_replay::replay;
 use span_id::Meta;
 use span_layers::{Form, Hooks, Note, Rule, admits, text};
+use span_replay::replay;
 use span_run::Counted;
 use std::alloc::{AllocError, Global};
 use std::io;

@@ -6,11 +6,11 @@ ghost use Rattle.span_layers.specs.Note.{plain_note};
 ghost use Rattle.span_layers.specs.Rule.{pairs_of, is_admitted};
 ghost use Rattle.span_layers.specs.Text.{text_of};
 
-use span_storm::{Gate, storm};
 use span_id::{Fault, Level, Meta, copy_text};
 use span_layers::{FmtSpan, Form, Hooks, Layer, Layers, Note, Rule, Style, admits, text};
 use span_registry::Report;
 use span_run::RunFault;
+use span_storm::{Gate, storm};
 use std::alloc::{AllocError, Global};
 use std::sync::atomic::{AtomicU64, Ordering};
 use std::sync::{Arc, Wait};

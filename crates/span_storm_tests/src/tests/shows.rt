@@ -1,7 +1,7 @@
 //! What `show` writes.
-use span_storm::show;
 use span_registry::Report;
 use span_run::Counted;
+use span_storm::show;
 use std::alloc::Global;
 use std::io;
 use std::io::{ErrorKind, Write};

@@ -3,10 +3,10 @@ ghost use Rattle.std.specs.Prelude.{◌<◌, ◌≤◌};
 
 use crate::tests::layer::storm_of_all;
 use crate::tests::meeting::{HoldsAt, HoldsWorkers, InOrder, Meeting};
-use span_storm::{Gate, Open, show, storm};
 use span_layers::Layers;
 use span_registry::Report;
 use span_run::{Counted, RunFault};
+use span_storm::{Gate, Open, show, storm};
 use std::alloc::Global;
 use std::sync::atomic::{AtomicU64, Ordering};
 use std::sync::{Arc, Wait};
