@@ -16,6 +16,9 @@ use std::sync::atomic::{AtomicU64, Ordering};
 use std::sync::{Arc, Wait};
 use std::thread::Threads;
 
+/// From which number of texts on the layer is refused memory: only a count that begins here gets there.
+pub(crate) const REFUSED_FROM: u64 = 1 << 32;
+
 /// Runs a storm whose layer admits everything, writes in the compact form, and counts what it writes.
 pub(crate) fn storm_of_all<G: Gate + Sync, R: Threads + Wait + Sync>(
     rt: &R,
@@ -42,7 +45,9 @@ pub(crate) fn storm_of_all<G: Gate + Sync, R: Threads + Wait + Sync>(
         move |alloc: Global, form: Form, note: &Note| -> Result<Vec<u8>, AllocError>
             ensures { ForOk result (λ text. text.items ≡ text_of form (plain_note note.now)) }
         {
-            said.fetch_add(1, Ordering::SeqCst);
+            if said.fetch_add(1, Ordering::SeqCst) >= REFUSED_FROM {
+                return Err(AllocError);
+            }
             text(alloc, form, note)
         },
     ) else {

@@ -1,7 +1,7 @@
 //! Whole storms.
 ghost use Rattle.std.specs.Prelude.{◌<◌, ◌≤◌};
 
-use crate::tests::layer::storm_of_all;
+use crate::tests::layer::{REFUSED_FROM, storm_of_all};
 use crate::tests::meeting::{HoldsAt, HoldsWorkers, InOrder, Meeting};
 use span_layers::Layers;
 use span_registry::Report;
@@ -73,6 +73,17 @@ fn a_storm_needs_no_layer(rt: HostRuntime) -> Result<(), Fail> {
     let expected =
         "workers 3\nrounds 2\nmade 12\nclosed 12\ncalls 54\nlines 0\nrefused 0\nleft 0\n";
     assert_eq!(&rt; told(alloc, 3, 2, ended)?.as_str(), expected);
+    Ok(())
+}
+
+#[test]
+fn texts_that_are_refused_memory_are_counted(rt: HostRuntime) -> Result<(), Fail> {
+    let alloc = rt.alloc();
+    let said = Arc::new(alloc, AtomicU64::new(REFUSED_FROM))?;
+    let ended = storm_of_all(&rt, alloc, 2, 3, said, &Open);
+    let expected =
+        "workers 2\nrounds 3\nmade 12\nclosed 12\ncalls 54\nlines 0\nrefused 42\nleft 0\n";
+    assert_eq!(&rt; told(alloc, 2, 3, ended)?.as_str(), expected);
     Ok(())
 }
 
