@@ -24,6 +24,7 @@ PROGRAM = os.path.join(os.path.dirname(HERE), "crates", "call_costs", "out", "ca
 PEER = os.path.join(HERE, "peer", "target", "release", "peer")
 COUNTS = 9  # the descriptor to which count_memory.c writes
 CALLS_A_ROUND = 5
+QUIETLY = ["sh", "-c", 'exec "$0" "$@" 2> /dev/null']  # run_once takes standard error for the shell's
 MOST_LINES = 4_000_000  # a loop of many layers makes fewer rounds
 # layers, fields, depth
 SHAPES = [(layers, 0, 1) for layers in (0, 1, 8, 64)] + [
@@ -39,7 +40,7 @@ def middle_and_least(commands, runs, told):
     found = {name: [] for name in commands}
     for _ in range(runs):
         for name, words in commands.items():
-            run = run_once(words)
+            run = run_once([*QUIETLY, *words])
             if run.status != 0:
                 sys.exit(f"calls.py: {' '.join(words)} ended with status {run.status}: {run.error}")
             found[name].append(told(run))
@@ -59,7 +60,7 @@ def allocations(counter, words):
         os.close(writing)
         os.close(COUNTS)
     with os.fdopen(reading) as pipe:
-        return int(pipe.read())
+        return int(pipe.readline())
 
 
 def allocations_a_call(counter, words):
@@ -75,10 +76,11 @@ def loop_row(programs, counter, kind, shape, calls, runs):
     times = middle_and_least(
         {name: [*of, str(rounds)] for name, of in words.items()}, runs, lambda run: run.cpu
     )
-    start = middle_and_least({name: [*of, "1"] for name, of in words.items()}, runs, lambda run: run.cpu)
+    fewer = middle_and_least({name: [*of, str(rounds // 10)] for name, of in words.items()}, runs, lambda run: run.cpu)
     row = {"kind": kind, "layers": layers, "fields": fields, "depth": depth, "rounds": rounds}
     for name in programs:
-        row[name] = (times[name][1] - start[name][1]) / (rounds * CALLS_A_ROUND) * 1e9
+        # The start of the program and the standing spans are in both.
+        row[name] = (times[name][1] - fewer[name][1]) / ((rounds - rounds // 10) * CALLS_A_ROUND) * 1e9
         row[name + " allocations"] = allocations_a_call(counter, words[name])
     return row
 

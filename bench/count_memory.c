@@ -5,6 +5,8 @@
 #include <stdatomic.h>
 #include <stddef.h>
 #include <stdio.h>
+#include <sys/syscall.h>
+#include <unistd.h>
 
 static atomic_ullong count;
 
@@ -56,4 +58,12 @@ void *calloc(size_t items, size_t size)
 __attribute__((destructor)) static void tell(void)
 {
     dprintf(9, "%llu\n", count);
+}
+
+// A program that ends so runs no destructors.
+void _exit(int status)
+{
+    tell();
+    syscall(SYS_exit_group, status);
+    __builtin_unreachable();
 }
