@@ -59,7 +59,8 @@ Exits worker id closed old status new =
 abbrev pub Releases : ℕ → ℕ → ℕ → CoreView → Status → CoreView → Type 0
 Releases worker id closed old status new =
     let closing = closing_list old.world.spans id Handle in
-    Answers (try_close worker id) (released closing) old status new × IfDone status (closed ≡ flag (nat_lt 0 (length closing)))
+    Answers (try_close worker id) (released closing) old status new
+    × IfDone status (closed ≡ flag (nat_lt 0 (length closing)))
 
 -- ---- calls with data
 
@@ -102,8 +103,8 @@ IsMadeOrRefused request id old Done new = IsMade request id old new
 IsMadeOrRefused request id old (Refused fault) new = IsRefused old request fault new
 IsMadeOrRefused request id old _ new = ⊥
 
--- A worker makes a span. Its id is told, and 0 where there are layers and none admits it. Where the data say nothing, and where memory is
--- refused, nothing changes.
+-- A worker makes a span. Its id is told, and 0 where there are layers and none admits it. Where the data say nothing,
+-- and where memory is refused, nothing changes.
 abbrev pub MakesSpan : ℕ → ℕ → ℕ → SpanMeta → List SpanField → List ℕ → ℕ → CoreView → Status → CoreView → Type 0
 MakesSpan worker kind parent meta fields bytes id old NoSuchWorker new = LacksWorker old worker new
 MakesSpan worker kind parent meta fields bytes id old BadData new =
