@@ -7,6 +7,7 @@ use crate::fault::Fault;
 use crate::meta::Field;
 use std::alloc::Global;
 use std::fmt::{self, Debug, Formatter, Write};
+use std::hash::{Hash, Hasher};
 use std::marker::Model;
 use std::sync::Arc;
 
@@ -115,14 +116,14 @@ impl Fields {
 }
 
 impl PartialEq for Fields {
+    ghost use Rattle.std.specs.Cmp.{partial_equiv_from_equiv};
     ghost use Rattle.std.specs.Cmp.Lexicographic.{pointwise};
-    ghost use Rattle.std.specs.Cmp.Rules.{comparing};
-    ghost use Rattle.std.proofs.Common.{rules};
     ghost use Rattle.span_id.specs.Meta.{is_same_pair};
+    ghost use Rattle.span_id.specs.inside.Fields.{equivalence};
 
     ghost eq = { pointwise is_same_pair };
 
-    ghost laws = { Prim.search (comparing, rules) };
+    ghost laws = { partial_equiv_from_equiv equivalence };
 
     fn eq(&self, other: &Fields) -> bool {
         self.as_slice() == other.as_slice()
@@ -130,10 +131,23 @@ impl PartialEq for Fields {
 }
 
 impl Eq for Fields {
-    ghost use Rattle.std.specs.Cmp.Rules.{comparing};
-    ghost use Rattle.std.proofs.Common.{rules};
+    ghost use Rattle.span_id.specs.inside.Fields.{equivalence};
 
-    ghost laws = { Prim.search (comparing, rules) };
+    ghost laws = { equivalence };
+}
+
+impl Hash for Fields {
+    ghost use Rattle.std.specs.Hash as fed;
+    ghost use Rattle.span_id.specs.Meta.{pair_input};
+    ghost use Rattle.span_id.specs.inside.Fields.{alike};
+
+    ghost hash_input = { fed.slice pair_input };
+
+    ghost respects_eq = { alike.fed };
+
+    fn hash<H: Hasher>(&self, state: &mut H) {
+        self.as_slice().hash(state);
+    }
 }
 
 impl Debug for Fields {
