@@ -101,6 +101,9 @@ impl Fields {
         ensures unchanged { OnErr result (self.new ≡ self.old) }
         ensures memory { IfErr result (λ fault. fault ≡ Fault.Memory) }
     {
+        if fields.is_empty() {
+            return Ok(());
+        }
         let mut copies = copy_fields(alloc, fields)?;
         if let Some(list) = &mut self.shared {
             if let Some(list) = Arc::get_mut(list) {
