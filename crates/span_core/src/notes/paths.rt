@@ -2,7 +2,8 @@
 ghost use Rattle.std.specs.Prelude.{◌≡◌, ◌++◌, ◌∷◌, [], ℕ, List, map, length, nat_eq, string_bytes, IsTrue, IfOk, IfErr, OnOk, IfSome, IsSomeAnd};
 ghost use Rattle.std.specs.Arc.{arc_str_bytes};
 ghost use Rattle.span_id.specs.Bits.{has_bit};
-ghost use Rattle.span_forest.specs.Path.{path, path_text};
+ghost use Rattle.span_forest.specs.Spans.{Spans};
+ghost use Rattle.span_forest.specs.Path.{path_text};
 ghost use Rattle.span_core.specs.Happening.{path_at};
 ghost use Rattle.span_core.specs.inside.Telling.{text_told, Knows};
 
@@ -70,7 +71,7 @@ pub(crate) fn same_text(
     text: &str,
 ) -> Result<ArcStr, Fault>
     ensures text { IfOk result (λ told. arc_str_bytes told ≡ text.now) }
-    ensures known { OnOk result ((told : List (List ℕ) → List ℕ) (spans : _) →
+    ensures known { OnOk result ((told : List (List ℕ) → List ℕ) (spans : Spans) →
         Knows told spans last.old → Knows told spans last.new) }
     ensures memory { IfErr result (λ fault. fault ≡ Fault.Memory) }
 {
