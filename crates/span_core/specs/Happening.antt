@@ -10,7 +10,7 @@ use Rattle.span_id.specs.Meta.{KeyValue, PlainMeta}
 use Rattle.span_layers.specs.Note.{Told, PlainNote}
 use Rattle.span_layers.specs.Filter.{Filter, layer_wants, admission_set}
 use Rattle.span_forest.specs.Spans.{Spans, find}
-use Rattle.span_forest.specs.Path.{path}
+use Rattle.span_forest.specs.Path.{path, path_text}
 use Rattle.span_stack.specs.Stack.{walk}
 use Rattle.span_core.specs.World.{World, stack_of}
 use Rattle.span_outlet.specs.Request.{Request, new_span, enter, exit, try_close, record_fields, event, Answer, made, exited, released}
@@ -105,7 +105,7 @@ note_of worker what layer = record {
   kind = what.kind;
   worker = worker;
   id = id_at (what.place layer);
-  path = path_at layer what.spans (what.place layer);
+  path = path_text (path_at layer what.spans (what.place layer));
   fields = what.fields;
   tail = what.tail;
 }

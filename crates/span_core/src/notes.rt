@@ -1,27 +1,31 @@
 //! The notes that the layers are told of what happens.
-ghost use Rattle.std.specs.Prelude.{◌≡◌, ◌<◌, ◌++◌, ◌∷◌, [], if◌then◌else◌, map, flat_map, length, string_bytes, IfOk, OnOk, IfErr};
+ghost use Rattle.std.specs.Prelude.{◌≡◌, ◌<◌, ◌++◌, ◌∷◌, [], if◌then◌else◌, map, flat_map, length, IfOk, OnOk, IfErr};
+ghost use Rattle.std.specs.Arc.{arc_str_bytes};
 ghost use Rattle.span_layers.specs.declared.note.Kind.TheVariants.{OnExit};
 ghost use Rattle.span_layers.specs.Note.{plain_note, told_of};
 ghost use Rattle.span_id.specs.Meta.{plain_fields};
-ghost use Rattle.span_forest.specs.Path.{path};
-ghost use Rattle.span_core.specs.Happening.{at_span, close_of, bits_in, id_at, path_at, notes_of, notes_of_all};
+ghost use Rattle.span_outlet.specs.Request.{record_fields, request_of};
+ghost use Rattle.span_core.specs.Happening.{at_span, close_of, bits_in, notes_of, notes_of_all};
 ghost use Rattle.span_core.specs.inside.ClosingPaths.{IsChain};
-ghost use Rattle.span_core.specs.inside.Telling.{id_told, path_told, tail_told, told_to, notes_told};
+ghost use Rattle.span_core.specs.inside.Telling.{id_told, place_told, tail_told, text_told, told_to, notes_told, Knows};
 
 pub(crate) mod closing;
 pub(crate) mod events;
 pub(crate) mod layers;
 pub(crate) mod new_spans;
+pub(crate) mod paths;
 
 use closing::push_closes;
 use events::contextual_span;
-use layers::told_layers;
-use new_spans::new_path;
+use layers::{told_count, told_layers};
+use paths::{LastPath, seen_text};
 use span_forest::Forest;
-use span_id::{Bits, Fault, Field, Id, Level, copy_fields, copy_text};
+use span_id::{Bits, Fault, Field, Fields, Id, Level};
 use span_layers::{Kind, Note, Rules};
+use span_outlet::Call;
 use span_stack::SpanStack;
 use std::alloc::Global;
+use std::sync::ArcStr;
 
 /// What happened to a span: which worker caused it, its kind, the span, and the layers that admit the span.
 #[derive(Clone, Copy)]
@@ -32,13 +36,20 @@ pub(crate) struct Happening {
     pub(crate) bits: Bits,
 }
 
+/// What a call puts out: the call, and the notes for the layers.
+#[derive(Drop)]
+pub(crate) struct Announced {
+    pub(crate) call: Call,
+    pub(crate) notes: Vec<Note>,
+}
+
 /// What the layers are told: which worker caused it, its kind, the layers that admit it, the fields, and its subject.
 #[derive(Clone, Copy)]
 pub(crate) struct Telling<'a> {
     worker: u32,
     kind: Kind,
     bits: Bits,
-    fields: &'a [Field],
+    fields: &'a Fields,
     subject: Subject<'a>,
 }
 
@@ -57,97 +68,69 @@ pub(crate) enum Subject<'a> {
     Event {
         stack: &'a SpanStack,
         level: Level,
-        message: &'a str,
+        message: &'a ArcStr,
     },
 }
 
-/// What a layer sees of a subject: the number of the span's id, or 0, and the layer's path there.
-#[derive(Drop)]
-struct Seen {
-    id: u64,
-    path: Vec<String>,
-}
-
-// The path of a layer at a span that is open.
-fn path_of(forest: &Forest, layer: u32, id: Id) -> Result<Vec<String>, Fault>
-    ensures path { IfOk result (λ names. map string_bytes names.items ≡ path layer forest.now.spans id) }
-    ensures memory { IfErr result (λ fault. fault ≡ Fault.Memory) }
-{
-    match forest.path(layer, id) {
-        Ok(path) => Ok(path),
-        Err(_) => Err(Fault::Memory),
-    }
-}
-
-// A span as a layer sees it, or that it sees none.
-fn seen_at(alloc: Global, forest: &Forest, layer: u32, place: Option<Id>) -> Result<Seen, Fault>
-    ensures id { IfOk result (λ seen. seen.id ≡ id_at place) }
-    ensures path { IfOk result (λ seen. map string_bytes seen.path.items ≡ path_at layer forest.now.spans place) }
-    ensures memory { IfErr result (λ fault. fault ≡ Fault.Memory) }
-{
-    let Some(id) = place else {
-        return Ok(Seen {
-            id: 0,
-            path: Vec::new(alloc),
-        });
-    };
-    let path = path_of(forest, layer, id)?;
-    Ok(Seen { id: id.get(), path })
-}
-
-// A subject as a layer sees it.
-fn where_seen(
-    alloc: Global,
-    forest: &Forest,
-    subject: &Subject<'_>,
-    layer: u32,
-) -> Result<Seen, Fault>
-    ensures id { IfOk result (λ seen. seen.id ≡ id_told forest.now.spans subject.now layer) }
-    ensures path { IfOk result (λ seen. map string_bytes seen.path.items
-        ≡ path_told forest.now.spans subject.now layer) }
-    ensures memory { IfErr result (λ fault. fault ≡ Fault.Memory) }
+// Where a layer's path is read.
+fn place_of(forest: &Forest, subject: &Subject<'_>, layer: u32) -> Option<Id>
+    ensures { result ≡ place_told forest.now.spans subject.now layer }
 {
     match subject {
-        Subject::Span(id) => seen_at(alloc, forest, layer, Some(*id)),
-        Subject::NewSpan { id, parent, name } => {
-            let path = new_path(alloc, forest, layer, *parent, name)?;
-            Ok(Seen { id: id.get(), path })
-        }
-        Subject::Event { stack, .. } => {
-            let place = contextual_span(forest, stack, layer);
-            seen_at(alloc, forest, layer, place)
-        }
+        Subject::Span(id) => Some(*id),
+        Subject::NewSpan { parent, .. } => *parent,
+        Subject::Event { stack, .. } => contextual_span(forest, stack, layer),
     }
 }
 
-// An event's level and a copy of its message.
-fn tail(alloc: Global, subject: &Subject<'_>) -> Result<Option<(Level, String)>, Fault>
-    ensures tail { IfOk result (λ tail. told_of tail ≡ tail_told subject.now) }
+// The id that a layer is told, which reads its path at this place.
+fn id_of(subject: &Subject<'_>, place: Option<Id>) -> u64
+    ensures { result ≡ id_told subject.now place }
+{
+    match (subject, place) {
+        (Subject::NewSpan { id, .. }, _) => id.get(),
+        (_, Some(id)) => id.get(),
+        (_, None) => 0,
+    }
+}
+
+// An event's level and its message.
+fn tail(subject: &Subject<'_>) -> Result<Option<(Level, ArcStr)>, Fault>
+    ensures tail { IfOk result (λ tail. told_of arc_str_bytes tail ≡ tail_told subject.now) }
     ensures memory { IfErr result (λ fault. fault ≡ Fault.Memory) }
 {
     match subject {
         Subject::Event { level, message, .. } => {
-            let text = copy_text(alloc, message)?;
+            let text = message.clone()?;
             Ok(Some((*level, text)))
         }
         _ => Ok(None),
     }
 }
 
-// The note that a layer is told.
-fn note(alloc: Global, forest: &Forest, what: &Telling<'_>, layer: u32) -> Result<Note, Fault>
+// The note that a layer is told. It shares the path that was told last, where the layer sees the same.
+fn note(
+    alloc: Global,
+    forest: &Forest,
+    what: &Telling<'_>,
+    last: &mut Option<LastPath>,
+    layer: u32,
+) -> Result<Note, Fault>
+    requires known { Knows (text_told what.now.subject) forest.now.spans last.old }
     ensures note { IfOk result (λ note. plain_note note ≡ told_to forest.now.spans what.now layer) }
+    ensures known { OnOk result (Knows (text_told what.now.subject) forest.now.spans last.new) }
     ensures memory { IfErr result (λ fault. fault ≡ Fault.Memory) }
 {
-    let seen = where_seen(alloc, forest, &what.subject, layer)?;
-    let tail = tail(alloc, &what.subject)?;
-    let fields = copy_fields(alloc, what.fields)?;
+    let place = place_of(forest, &what.subject, layer);
+    let path = seen_text(alloc, forest, &what.subject, last, layer, place)?;
+    let fields = what.fields.share()?;
+    let tail = tail(&what.subject)?;
     Ok(Note {
         layer,
         kind: what.kind,
         worker: what.worker,
-        id: seen.id,
-        path: seen.path,
+        id: id_of(&what.subject, place),
+        path,
         fields,
         tail,
     })
@@ -165,8 +148,10 @@ fn push_told(
         ++ notes_told rules.now forest.now.spans what.now) }
     ensures memory { IfErr result (λ fault. fault ≡ Fault.Memory) }
 {
+    notes.reserve_exact(told_count(rules, what.bits, what.kind))?;
+    let mut last = None;
     for layer in told_layers(rules, what.bits, what.kind) {
-        let note = note(alloc, forest, what, layer)?;
+        let note = note(alloc, forest, what, &mut last, layer)?;
         notes.push(note)?;
     }
     Ok(())
@@ -195,12 +180,12 @@ pub(crate) fn push_notes(
     rules: &Rules,
     forest: &Forest,
     what: &Happening,
-    fields: &[Field],
+    fields: &Fields,
 ) -> Result<(), Fault>
     requires bits { what.now.bits.0 ≡ bits_in forest.now.spans what.now.id }
     ensures notes { OnOk result (map plain_note notes.new.items ≡ map plain_note notes.old.items
         ++ notes_of rules.now what.now.worker
-        (at_span forest.now.spans what.now.kind what.now.id (plain_fields fields.now))) }
+        (at_span forest.now.spans what.now.kind what.now.id fields.now)) }
     ensures memory { IfErr result (λ fault. fault ≡ Fault.Memory) }
 {
     let what = Telling {
@@ -211,6 +196,34 @@ pub(crate) fn push_notes(
         subject: Subject::Span(what.id),
     };
     push_told(alloc, notes, rules, forest, &what)
+}
+
+// The call that appends fields to those of a span, and its notes, which share the copies of the fields.
+pub(crate) fn record_told(
+    alloc: Global,
+    rules: &Rules,
+    forest: &Forest,
+    what: &Happening,
+    fields: &[Field],
+) -> Result<Announced, Fault>
+    requires bits { what.now.bits.0 ≡ bits_in forest.now.spans what.now.id }
+    ensures call { IfOk result (λ told. request_of told.call
+        ≡ record_fields what.now.worker what.now.id (plain_fields fields.now)) }
+    ensures notes { IfOk result (λ told. map plain_note told.notes.items ≡ notes_of rules.now what.now.worker
+        (at_span forest.now.spans what.now.kind what.now.id (plain_fields fields.now))) }
+    ensures memory { IfErr result (λ fault. fault ≡ Fault.Memory) }
+{
+    let fields = Fields::copy_of(alloc, fields)?;
+    let mut notes = Vec::new(alloc);
+    push_notes(alloc, &mut notes, rules, forest, what, &fields)?;
+    Ok(Announced {
+        call: Call::RecordFields {
+            worker: what.worker,
+            id: what.id,
+            fields,
+        },
+        notes,
+    })
 }
 
 // The notes of an exit: those of the exit itself, then those of the spans that it closes.
@@ -230,7 +243,7 @@ pub(crate) fn exit_notes(
     ensures memory { IfErr result (λ fault. fault ≡ Fault.Memory) }
 {
     let mut notes = Vec::new(alloc);
-    push_notes(alloc, &mut notes, rules, forest, exit, &[])?;
+    push_notes(alloc, &mut notes, rules, forest, exit, &Fields::none())?;
     push_closes(alloc, &mut notes, rules, forest, exit.worker, closing)?;
     Ok(notes)
 }

@@ -6,7 +6,7 @@ use Rattle.serde_json.specs.Data.{Members, no_members, member, array, number, st
 use Rattle.serde_json.specs.View.{items_of}
 use Rattle.serde_json.specs.Written.{outline, members_outline}
 use Rattle.span_layers.specs.Note.{Told, PlainNote, kind_name, shown}
-use Rattle.span_layers.specs.Text.{field_value, json_value, path_text, with_told}
+use Rattle.span_layers.specs.Text.{field_value, json_value, with_told}
 use Rattle.span_layers.specs.inside.Tokens.{member_tokens, told_tokens}
 
 -- the level and the message, where they are told, stand in front of what follows
@@ -19,10 +19,10 @@ pub note_tokens : (note : PlainNote) → json_tokens (outline (json_value note))
     ++ (member_tokens (codes "id") (number (unsigned note.id))
     ++ (member_tokens (codes "kind") (string (kind_name note.kind))
     ++ (told_tokens (shown note.kind note.tail)
-    ++ (member_tokens (codes "path") (string (path_text note.path))
+    ++ (member_tokens (codes "path") (string note.path)
     ++ (member_tokens (codes "worker") (number (unsigned note.worker)) ++ Token.end_object ∷ []))))))
 note_tokens note =
-    let last = member (codes "path") (string (path_text note.path)) (member (codes "worker") (number (unsigned note.worker)) no_members) in
+    let last = member (codes "path") (string note.path) (member (codes "worker") (number (unsigned note.worker)) no_members) in
     ap
     (λ tokens. Token.begin_object ∷ (member_tokens (codes "fields") (array (items_of (map field_value note.fields)))
     ++ (member_tokens (codes "id") (number (unsigned note.id)) ++ (member_tokens (codes "kind") (string (kind_name note.kind)) ++ tokens))))

@@ -9,6 +9,7 @@ mod json_form;
 mod layers;
 mod note;
 mod plain_hooks;
+mod room;
 mod rule;
 mod style;
 mod tellers;

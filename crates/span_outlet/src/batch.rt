@@ -1,14 +1,15 @@
-use span_id::{Field, Id, Meta};
+use span_id::{Fields, Id, Meta};
 use span_layers::Note;
+use std::sync::ArcStr;
 
-/// An accepted call, with its arguments. The worker is the one that called.
+/// An accepted call, with its arguments. The worker is the one that called. Its notes share its fields and message.
 #[derive(Drop)]
 pub enum Call {
     /// A span was made. The parent is the one that was found: a contextual parent by its id.
     NewSpan {
         worker: u32,
         meta: Meta,
-        fields: Vec<Field>,
+        fields: Fields,
         parent: Option<Id>,
     },
     /// One more handle of a span was given out.
@@ -35,14 +36,14 @@ pub enum Call {
     RecordFields {
         worker: u32,
         id: Id,
-        fields: Vec<Field>,
+        fields: Fields,
     },
     /// An event was told.
     Event {
         worker: u32,
         meta: Meta,
-        message: String,
-        fields: Vec<Field>,
+        message: ArcStr,
+        fields: Fields,
     },
 }
 

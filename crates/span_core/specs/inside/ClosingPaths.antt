@@ -1,11 +1,13 @@
 -- Chains of spans that close, and the paths that the notes so far tell, for the functions inside this
 -- crate: no public clause cites it.
-use Rattle.std.specs.Prelude.{◌≡◌, ℕ, ◌+◌, ◌<◌, ◌≤◌, ◌==◌, ◌++◌, Bool, true, false, if◌then◌else◌, List, [], ◌∷◌, Option, Some, None, slice_get, slice_index_or}
+use Rattle.std.specs.Prelude.{◌≡◌, ℕ, ◌+◌, ◌<◌, ◌≤◌, ◌==◌, ◌++◌, Bool, true, false, if◌then◌else◌, List, [], ◌∷◌, length, Option, Some, None, slice_get, slice_index_or}
 use Rattle.std.specs.List.{list_any}
 use Rattle.span_layers.specs.declared.note.Kind.TheVariants.{OnClose}
 use Rattle.span_layers.specs.Note.{PlainNote}
 use Rattle.span_layers.specs.Filter.{Filter, layer_wants}
 use Rattle.span_forest.specs.Spans.{Spans, IsOpen, parent_of}
+use Rattle.span_forest.specs.Path.{path_text}
+use Rattle.span_core.specs.declared.notes.closing.Place.{Place}
 use Rattle.span_core.specs.Happening.{path_at}
 
 -- the list ends, or goes on with this span
@@ -18,36 +20,32 @@ abbrev pub IsChain : Spans → List ℕ → Type 0
 IsChain spans [] = Unit {0}
 IsChain spans (id ∷ ids) = IsOpen spans id × GoesOn (parent_of spans id) ids × IsChain spans ids
 
--- the note tells this path and one name more
-abbrev pub TellsBelow : List (List ℕ) → PlainNote → Type 0
-TellsBelow path note = (name : List ℕ) × (note.path ≡ path ++ name ∷ [])
-
--- the note of a place, if there is one
-abbrev pub note_in : List PlainNote → Option ℕ → Option PlainNote
-note_in notes None = None
-note_in notes (Some at) = slice_get notes at
+-- the note tells this path and one name more, which has so many bytes
+abbrev pub TellsBelow : List (List ℕ) → ℕ → PlainNote → Type 0
+TellsBelow path bytes note = (name : List ℕ) × (length name ≡ bytes) × (note.path ≡ path_text (path ++ name ∷ []))
 
 -- the place, if there is one, is that of a note that tells the layer's path at this span and one name more
-abbrev pub IsBelow : Spans → List PlainNote → ℕ → Option ℕ → Option ℕ → Type 0
+abbrev pub IsBelow : Spans → List PlainNote → ℕ → Option ℕ → Option Place → Type 0
 IsBelow spans notes layer next None = Unit {0}
-IsBelow spans notes layer next (Some at) =
-    (note : PlainNote) × (note_in notes (Some at) ≡ Some note) × TellsBelow (path_at layer spans next) note
+IsBelow spans notes layer next (Some place) =
+    (note : PlainNote) × (slice_get notes place.at ≡ Some note)
+    × TellsBelow (path_at layer spans next) place.name note
 
 -- the place of a layer
-abbrev pub place_in : List (Option ℕ) → ℕ → Option ℕ
+abbrev pub place_in : List (Option Place) → ℕ → Option Place
 place_in places layer = slice_index_or places layer None
 
 -- each layer's place is such a one, where `next` says for each layer at which span; a layer that wants no closes has
 -- none
 pub record AreBelow
     (rules : List Filter) (spans : Spans) (notes : List PlainNote) (next : ℕ → Option ℕ)
-    (places : List (Option ℕ))
+    (places : List (Option Place))
     : Type 0 where
   pub below : (layer : ℕ) → IsBelow spans notes layer (next layer) (place_in places layer)
   pub wanted : (layer : ℕ) → layer_wants rules layer OnClose ≡ false → place_in places layer ≡ None
 
 -- the same at the first span of a list, if it has one
-abbrev pub AreBelowFirst : List Filter → Spans → List PlainNote → List ℕ → List (Option ℕ) → Type 0
+abbrev pub AreBelowFirst : List Filter → Spans → List PlainNote → List ℕ → List (Option Place) → Type 0
 AreBelowFirst rules spans notes [] places = Unit {0}
 AreBelowFirst rules spans notes (id ∷ ids) places = AreBelow rules spans notes (λ layer. Some id) places
 

@@ -11,6 +11,7 @@ use Rattle.span_layers.specs.Filter.{Filter, layer_wants}
 use Rattle.span_forest.specs.Spans.{Spans}
 use Rattle.span_forest.specs.Forest.{ForestView}
 use Rattle.span_forest.specs.Live.{stands_in}
+use Rattle.span_forest.specs.Path.{path_text}
 use Rattle.span_core.specs.World.{IsWorld}
 use Rattle.span_core.specs.Happening.{path_at}
 use Rattle.span_outlet.specs.Batch.{PlainBatch}
@@ -52,7 +53,7 @@ first_note spans worker id parent name fields layer = record {
   kind = OnNew;
   worker = worker;
   id = id;
-  path = path_at layer spans parent ++ name ∷ [];
+  path = path_text (path_at layer spans parent ++ name ∷ []);
   fields = fields;
   tail = None;
 }

@@ -1,34 +1,48 @@
 -- What the layers are told, as it can be said before the call is done, for the functions inside this
 -- crate: no public clause cites it.
-use Rattle.std.specs.Prelude.{ℕ, ◌-◌, List, [], ◌∷◌, ◌++◌, length, map, filter, Option, Some, None}
+use Rattle.std.specs.Prelude.{◌≡◌, ℕ, ◌-◌, List, [], ◌∷◌, ◌++◌, length, map, filter, Option, Some, None, IsTrue}
+use Rattle.std.specs.Arc.{arc_str_bytes}
 use Rattle.std.specs.List.{range_with_len}
-use Rattle.span_id.specs.Meta.{plain_fields}
+use Rattle.span_id.specs.Bits.{has_bit}
 use Rattle.span_layers.specs.declared.note.Kind.{Kind}
 use Rattle.span_layers.specs.Note.{PlainNote, Told}
 use Rattle.span_layers.specs.Filter.{Filter}
 use Rattle.span_forest.specs.Spans.{Spans}
-use Rattle.span_forest.specs.Path.{path}
+use Rattle.span_forest.specs.Path.{path_text}
 use Rattle.span_core.specs.declared.notes.Telling.{Telling}
+use Rattle.span_core.specs.declared.notes.paths.LastPath.{LastPath}
 use Rattle.span_core.specs.declared.notes.Subject.{Subject}
 use Rattle.span_core.specs.declared.notes.Subject.TheVariants.{Span, NewSpan, Event}
 use Rattle.span_core.specs.inside.Sound.{hears}
 use Rattle.span_core.specs.Happening.{contextual_span, id_at, path_at}
 
--- the id that a layer is told
-abbrev pub id_told : Spans → Subject → ℕ → ℕ
-id_told spans (Span id) layer = id
-id_told spans (NewSpan id parent name) layer = id
-id_told spans (Event stack level message) layer = id_at (contextual_span spans stack.now.ids layer)
+-- where the path of a layer is read: that of a new span at its parent
+abbrev pub place_told : Spans → Subject → ℕ → Option ℕ
+place_told spans (Span id) layer = Some id
+place_told spans (NewSpan id parent name) layer = parent
+place_told spans (Event stack level message) layer = contextual_span spans stack.now.ids layer
 
--- the path that it is told; that of a new span is its parent's, and its own name
-abbrev pub path_told : Spans → Subject → ℕ → List (List ℕ)
-path_told spans (Span id) layer = path layer spans id
-path_told spans (NewSpan id parent name) layer = path_at layer spans parent ++ name.now ∷ []
-path_told spans (Event stack level message) layer = path_at layer spans (contextual_span spans stack.now.ids layer)
+-- the id that a layer is told, which reads its path at this place
+abbrev pub id_told : Subject → Option ℕ → ℕ
+id_told (Span id) place = id_at place
+id_told (NewSpan id parent name) place = id
+id_told (Event stack level message) place = id_at place
+
+-- the text of the path that it is told, which has these names where it is read; a new span has its own name too
+abbrev pub text_told : Subject → List (List ℕ) → List ℕ
+text_told (Span id) path = path_text path
+text_told (NewSpan id parent name) path = path_text (path ++ name.now ∷ [])
+text_told (Event stack level message) path = path_text path
+
+-- what is known of the text that was told last: these layers read it at its place
+abbrev pub Knows : (List (List ℕ) → List ℕ) → Spans → Option LastPath → Type 0
+Knows told spans None = Unit {0}
+Knows told spans (Some last) =
+    (layer : ℕ) → IsTrue (has_bit last.same.0 layer) → arc_str_bytes last.text ≡ told (path_at layer spans last.place)
 
 -- the level and the message that it is told
 abbrev pub tail_told : Subject → Option Told
-tail_told (Event stack level message) = Some (level, message.now)
+tail_told (Event stack level message) = Some (level, arc_str_bytes message.now)
 tail_told _ = None
 
 -- what a layer is told
@@ -37,9 +51,9 @@ told_to spans what layer = record {
   layer = layer;
   kind = what.kind;
   worker = what.worker;
-  id = id_told spans what.subject layer;
-  path = path_told spans what.subject layer;
-  fields = plain_fields what.fields.now;
+  id = id_told what.subject (place_told spans what.subject layer);
+  path = text_told what.subject (path_at layer spans (place_told spans what.subject layer));
+  fields = what.fields.now;
   tail = tail_told what.subject;
 }
 

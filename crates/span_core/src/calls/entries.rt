@@ -19,7 +19,7 @@ use crate::laws::the_named_span_closes_first;
 use crate::notes::{Happening, exit_notes, push_notes};
 use crate::stacks::{is_outside, pop_at, push_at, stays_inside};
 use span_forest::{Forest, Holder};
-use span_id::{Fault, Id};
+use span_id::{Fault, Fields, Id};
 use span_layers::Kind;
 use span_outlet::{Batch, Call, Outlet, Reply};
 use std::alloc::Global;
@@ -57,7 +57,7 @@ impl<O: Outlet, A> Core<O, A> {
             &self.rules,
             &self.forest,
             &what,
-            &[],
+            &Fields::none(),
         )?;
         push_at(&mut self.stacks, worker, id, first)?;
         keep_first(&mut self.forest, first, id);

@@ -1,18 +1,16 @@
 //! Events.
-ghost use Rattle.std.specs.Prelude.{◌≡◌, ◌<◌, IfOk, OnOk, IfErr};
+ghost use Rattle.std.specs.Prelude.{◌<◌, OnOk, IfErr};
 ghost use Rattle.span_id.specs.Meta.{plain_meta, plain_fields};
-ghost use Rattle.span_outlet.specs.Request.{event, told, request_of};
-ghost use Rattle.span_core.specs.inside.Lent.{event_request};
+ghost use Rattle.span_outlet.specs.Request.{event, told};
 ghost use Rattle.span_core.specs.Core.{IsAccepted, IsRefused};
 
 use crate::Core;
 use crate::calls::names::are_keys;
 use crate::calls::room::ask;
-use crate::notes::events::{Event, event_notes};
-use span_id::{Fault, Field, Meta, copy_fields, copy_text};
+use crate::notes::events::{Event, event_told};
+use span_id::{Fault, Field, Meta};
 use span_layers::Admit;
-use span_outlet::{Batch, Call, Outlet, Reply};
-use std::alloc::Global;
+use span_outlet::{Batch, Outlet, Reply};
 
 impl<O: Outlet, A: Admit> Core<O, A> {
     /// Tells an event. The number of the worker that tells it needs to be below `workers`. The world stays as it is;
@@ -48,31 +46,13 @@ impl<O: Outlet, A: Admit> Core<O, A> {
             fields,
         };
         let stacks = self.stacks.as_slice();
-        let notes = event_notes(self.alloc, &self.rules, &self.forest, stacks, &event)?;
-        let call = event_call(self.alloc, &event)?;
+        let told = event_told(self.alloc, &self.rules, &self.forest, stacks, &event)?;
         self.calls += 1;
         self.outlet.put(Batch {
-            call,
+            call: told.call,
             reply: Reply::Told,
-            notes,
+            notes: told.notes,
         });
         Ok(())
     }
-}
-
-// The call that tells an event, with copies of what the caller lent.
-fn event_call(alloc: Global, event: &Event<'_>) -> Result<Call, Fault>
-    ensures call { IfOk result (λ call. request_of call
-        ≡ event_request event.now) }
-    ensures memory { IfErr result (λ fault. fault ≡ Fault.Memory) }
-{
-    let meta = event.meta.copy(alloc)?;
-    let message = copy_text(alloc, event.message)?;
-    let fields = copy_fields(alloc, event.fields)?;
-    Ok(Call::Event {
-        worker: event.worker,
-        meta,
-        message,
-        fields,
-    })
 }

@@ -4,7 +4,7 @@ ghost use Rattle.span_forest.specs.declared.span.Holder.TheVariants.{Handle};
 ghost use Rattle.span_forest.specs.Spans.{find};
 ghost use Rattle.span_forest.specs.Release.{closing_list};
 ghost use Rattle.span_id.specs.Meta.{plain_fields};
-ghost use Rattle.span_outlet.specs.Request.{clone_span, cloned, record_fields, recorded, try_close, released, request_of};
+ghost use Rattle.span_outlet.specs.Request.{clone_span, cloned, record_fields, recorded, try_close, released};
 ghost use Rattle.span_core.specs.Core.{IsDue, IsAccepted, IsRefused};
 ghost use Rattle.span_core.specs.Shown.{MayBeShown, IsShown};
 
@@ -14,12 +14,11 @@ use crate::calls::names::are_keys;
 use crate::calls::room::ask;
 use crate::laws::the_named_span_closes_first;
 use crate::notes::closing::push_closes;
-use crate::notes::{Happening, push_notes};
+use crate::notes::{Happening, record_told};
 use span_forest::Holder;
-use span_id::{Fault, Field, Id, copy_fields};
+use span_id::{Fault, Field, Id};
 use span_layers::Kind;
 use span_outlet::{Batch, Call, Outlet, Reply};
-use std::alloc::Global;
 
 impl<O: Outlet, A> Core<O, A> {
     /// One more handle of a span that has a handle. The number of the worker that calls needs to be below `workers`.
@@ -78,24 +77,15 @@ impl<O: Outlet, A> Core<O, A> {
             id,
             bits: held.bits,
         };
-        let mut notes = Vec::new(self.alloc);
-        push_notes(
-            self.alloc,
-            &mut notes,
-            &self.rules,
-            &self.forest,
-            &what,
-            fields,
-        )?;
-        let call = record_call(self.alloc, worker, id, fields)?;
+        let told = record_told(self.alloc, &self.rules, &self.forest, &what, fields)?;
         let Ok(()) = self.forest.write_fields(id, fields) else {
             return Err(Fault::Memory);
         };
         self.calls += 1;
         self.outlet.put(Batch {
-            call,
+            call: told.call,
             reply: Reply::Recorded,
-            notes,
+            notes: told.notes,
         });
         Ok(())
     }
@@ -171,13 +161,4 @@ impl<O: Outlet, A> Core<O, A> {
         });
         Ok(closed)
     }
-}
-
-// The call that appends fields, with copies of what the caller lent.
-fn record_call(alloc: Global, worker: u32, id: Id, fields: &[Field]) -> Result<Call, Fault>
-    ensures call { IfOk result (λ call. request_of call ≡ record_fields worker id (plain_fields fields.now)) }
-    ensures memory { IfErr result (λ fault. fault ≡ Fault.Memory) }
-{
-    let fields = copy_fields(alloc, fields)?;
-    Ok(Call::RecordFields { worker, id, fields })
 }

@@ -2,7 +2,7 @@
 ghost use Rattle.std.specs.Prelude.{◌≡◌, ◌<◌, true, false, not, string_bytes, IfOk, OnOk, IfErr, IfSome, IfNone, OnSome, Some, None};
 ghost use Rattle.span_layers.specs.Filter.{admission_set};
 ghost use Rattle.span_id.specs.Meta.{plain_meta, plain_fields};
-ghost use Rattle.span_outlet.specs.Request.{new_span, made, request_of};
+ghost use Rattle.span_outlet.specs.Request.{new_span, made};
 ghost use Rattle.span_core.specs.Parent.{parent_found};
 ghost use Rattle.span_core.specs.Step.{is_open_parent};
 ghost use Rattle.span_core.specs.NextId.{next_id};
@@ -12,13 +12,12 @@ ghost use Rattle.span_core.specs.Core.{is_parent_below_max, IsDue, IsAccepted, I
 use crate::Core;
 use crate::calls::names::are_keys;
 use crate::calls::room::ask;
-use crate::notes::new_spans::{NewSpan, new_notes};
+use crate::notes::new_spans::{NewSpan, new_told};
 use span_forest::Forest;
 use span_forest::laws::{each_slot_has_one_open_id, next_id_is_new, open_spans_are_counted};
-use span_id::{Fault, Field, Id, Meta, copy_fields};
+use span_id::{Fault, Field, Id, Meta};
 use span_layers::Admit;
-use span_outlet::{Batch, Call, Outlet, ParentOf, Reply};
-use std::alloc::Global;
+use span_outlet::{Batch, Outlet, ParentOf, Reply};
 
 impl<O: Outlet, A: Admit> Core<O, A> {
     // The parent that a caller means.
@@ -106,35 +105,19 @@ impl<O: Outlet, A: Admit> Core<O, A> {
         next_id_is_new(&self.forest);
         each_slot_has_one_open_id(&self.forest);
         open_spans_are_counted(&self.forest);
-        let notes = new_notes(self.alloc, &self.rules, &self.forest, new)?;
-        let call = new_call(self.alloc, new)?;
+        let told = new_told(self.alloc, &self.rules, &self.forest, new)?;
         let Ok(id) = self.forest.add(new.meta, new.fields, new.parent, new.bits) else {
             return Err(Fault::Memory);
         };
         self.calls += 1;
         self.made += 1;
         self.outlet.put(Batch {
-            call,
+            call: told.call,
             reply: Reply::Made(id),
-            notes,
+            notes: told.notes,
         });
         Ok(())
     }
-}
-
-// The call that makes a span, with copies of what the caller lent.
-fn new_call(alloc: Global, new: &NewSpan<'_>) -> Result<Call, Fault>
-    ensures call { IfOk result (λ call. request_of call ≡ span_request new.now) }
-    ensures memory { IfErr result (λ fault. fault ≡ Fault.Memory) }
-{
-    let meta = new.meta.copy(alloc)?;
-    let fields = copy_fields(alloc, new.fields)?;
-    Ok(Call::NewSpan {
-        worker: new.worker,
-        meta,
-        fields,
-        parent: new.parent,
-    })
 }
 
 // Whether the count of a parent is at its greatest; none where the parent isn't open.

@@ -1,24 +1,42 @@
 //! The notes of spans that close, one after the other up a walk.
-ghost use Rattle.std.specs.Prelude.{◌≡◌, ◌<◌, ◌++◌, ◌∷◌, [], ℕ, List, if◌then◌else◌, map, flat_map, length, replicate, slice_set, string_bytes, IfOk, OnOk, IfErr, IfSome, Some, None};
+ghost use Rattle.std.specs.Prelude.{◌≡◌, ◌<◌, ◌++◌, ◌∷◌, [], ℕ, List, map, flat_map, length, replicate, slice_get, slice_set, string_bytes, IfOk, OnOk, IfErr, IfSome, IsSomeAnd, Some, None};
+ghost use Rattle.std.specs.Arc.{arc_str_bytes};
 ghost use Rattle.span_layers.specs.Note.{plain_note};
 ghost use Rattle.span_forest.specs.declared.span.Holder.{Holder};
 ghost use Rattle.span_forest.specs.Node.{node_of};
 ghost use Rattle.span_forest.specs.Spans.{find, parent_of};
-ghost use Rattle.span_forest.specs.Path.{path};
+ghost use Rattle.span_forest.specs.Path.{path, path_text};
 ghost use Rattle.span_forest.specs.Holders.{IsHeld};
 ghost use Rattle.span_forest.specs.Release.{closing_list};
 ghost use Rattle.span_core.specs.Happening.{close_of, note_of, notes_of};
-ghost use Rattle.span_core.specs.inside.ClosingPaths.{IsChain, TellsBelow, IsBelow, note_in, place_in, AreBelow};
+ghost use Rattle.span_core.specs.inside.ClosingPaths.{IsChain, TellsBelow, IsBelow, place_in, AreBelow};
+ghost use Rattle.span_core.specs.inside.Telling.{Knows};
 
-use crate::notes::layers::told_layers;
-use crate::notes::path_of;
+use crate::notes::Subject;
+use crate::notes::layers::{told_count, told_layers};
+use crate::notes::paths::{LastPath, same_text, seen_text};
 use span_forest::laws::{
     closing_list_begins_the_walk, held_ids_are_open, open_spans_are_counted, walks_end,
 };
 use span_forest::{Forest, Span};
-use span_id::{Fault, Id, copy_fields, copy_text};
+use span_id::{Fault, Fields, Id};
 use span_layers::{Kind, Note, Rules};
 use std::alloc::Global;
+use std::sync::ArcStr;
+
+/// Where a note stands that tells a path, and how many bytes the path's last name has.
+#[derive(Clone, Copy)]
+pub(crate) struct Place {
+    at: usize,
+    name: usize,
+}
+
+/// A note that tells a path and one name more, which has so many bytes.
+#[derive(Clone, Copy)]
+struct Below<'a> {
+    note: &'a Note,
+    name: usize,
+}
 
 /// A span that closes: which worker caused it, its id, and what is still to be found of it.
 #[derive(Clone, Copy)]
@@ -57,7 +75,9 @@ pub(crate) fn push_closes(
     if closed.is_empty() {
         return Ok(());
     }
+    notes.reserve_exact(closes_count(rules, forest, closed))?;
     let mut places = no_places(alloc, rules.len())?;
+    let mut last = None;
     for id in closed {
         let Some(span) = forest.find(*id) else {
             unreachable!()
@@ -67,13 +87,24 @@ pub(crate) fn push_closes(
             id: *id,
             span,
         };
-        push_close(alloc, notes, &mut places, rules, forest, &what)?;
+        push_close(alloc, notes, &mut places, &mut last, rules, forest, &what)?;
     }
     Ok(())
 }
 
+// How many notes the layers are told of spans that close.
+fn closes_count(rules: &Rules, forest: &Forest, closed: &[Id]) -> usize {
+    let mut count = 0usize;
+    for id in closed {
+        if let Some(span) = forest.find(*id) {
+            count = count.saturating_add(told_count(rules, span.bits, Kind::OnClose));
+        }
+    }
+    count
+}
+
 // No place yet, for each layer.
-fn no_places(alloc: Global, layers: usize) -> Result<Vec<Option<usize>>, Fault>
+fn no_places(alloc: Global, layers: usize) -> Result<Vec<Option<Place>>, Fault>
     ensures places { IfOk result (λ places. places.items ≡ replicate layers None) }
     ensures memory { IfErr result (λ fault. fault ≡ Fault.Memory) }
 {
@@ -88,7 +119,8 @@ fn no_places(alloc: Global, layers: usize) -> Result<Vec<Option<usize>>, Fault>
 fn push_close(
     alloc: Global,
     notes: &mut Vec<Note>,
-    places: &mut Vec<Option<usize>>,
+    places: &mut Vec<Option<Place>>,
+    last: &mut Option<LastPath>,
     rules: &Rules,
     forest: &Forest,
     what: &Closing<'_>,
@@ -97,16 +129,18 @@ fn push_close(
     requires found { find forest.now.spans what.now.id ≡ Some (node_of what.now.span.now) }
     requires below { AreBelow rules.now forest.now.spans (map plain_note notes.old.items)
         (λ layer. Some what.now.id) places.old.items }
+    requires known { Knows path_text forest.now.spans last.old }
     ensures length { OnOk result (length places.new.items ≡ length rules.now) }
     ensures notes { OnOk result (map plain_note notes.new.items ≡ map plain_note notes.old.items
         ++ notes_of rules.now what.now.worker (close_of forest.now.spans what.now.id)) }
     ensures below { OnOk result (AreBelow rules.now forest.now.spans (map plain_note notes.new.items)
         (λ layer. parent_of forest.now.spans what.now.id) places.new.items) }
+    ensures known { OnOk result (Knows path_text forest.now.spans last.new) }
     ensures memory { IfErr result (λ fault. fault ≡ Fault.Memory) }
 {
     walks_end(forest);
     for layer in told_layers(rules, what.span.bits, Kind::OnClose) {
-        push_close_note(alloc, notes, places, forest, what, layer)?;
+        push_close_note(alloc, notes, places, last, forest, what, layer)?;
     }
     Ok(())
 }
@@ -115,7 +149,8 @@ fn push_close(
 fn push_close_note(
     alloc: Global,
     notes: &mut Vec<Note>,
-    places: &mut Vec<Option<usize>>,
+    places: &mut Vec<Option<Place>>,
+    last: &mut Option<LastPath>,
     forest: &Forest,
     what: &Closing<'_>,
     layer: u32,
@@ -124,44 +159,62 @@ fn push_close_note(
     requires found { find forest.now.spans what.now.id ≡ Some (node_of what.now.span.now) }
     requires below { IsBelow forest.now.spans (map plain_note notes.old.items) layer
         (Some what.now.id) (place_in places.old.items layer) }
+    requires known { Knows path_text forest.now.spans last.old }
     ensures notes { OnOk result (map plain_note notes.new.items ≡ map plain_note notes.old.items
         ++ note_of what.now.worker (close_of forest.now.spans what.now.id) layer ∷ []) }
     ensures places { OnOk result (places.new.items
-        ≡ slice_set places.old.items layer (Some (length notes.old.items))) }
+        ≡ slice_set places.old.items layer (Some (record {
+          at = length notes.old.items;
+          name = length (string_bytes what.now.span.now.meta.name);
+        }))) }
+    ensures known { OnOk result (Knows path_text forest.now.spans last.new) }
     ensures memory { IfErr result (λ fault. fault ≡ Fault.Memory) }
 {
-    let place = notes.len();
+    let place = Place {
+        at: notes.len(),
+        name: what.span.meta.name.len(),
+    };
     let before = note_at(notes.as_slice(), places[layer as usize]);
-    let note = close_note(alloc, forest, before, what, layer)?;
+    let note = close_note(alloc, forest, before, what, last, layer)?;
     notes.push(note)?;
     places[layer as usize] = Some(place);
     Ok(())
 }
 
 // The note of a place, if there is one.
-fn note_at(notes: &[Note], place: Option<usize>) -> Option<&Note>
-    ensures { IfSome result (λ note. note_in (map plain_note notes.now) place ≡ Some (plain_note note.now)) }
+fn note_at(notes: &[Note], place: Option<Place>) -> Option<Below<'_>>
+    ensures { IfSome result (λ below. IsSomeAnd place (λ place.
+        (slice_get (map plain_note notes.now) place.at ≡ Some (plain_note below.note.now))
+        × (place.name ≡ below.name))) }
 {
-    notes.get(place?)
+    let place = place?;
+    let note = notes.get(place.at)?;
+    Some(Below {
+        note,
+        name: place.name,
+    })
 }
 
 // The note that a layer is told of a span that closes, where the note before tells one name more than the path.
 fn close_note(
     alloc: Global,
     forest: &Forest,
-    before: Option<&Note>,
+    before: Option<Below<'_>>,
     what: &Closing<'_>,
+    last: &mut Option<LastPath>,
     layer: u32,
 ) -> Result<Note, Fault>
     requires found { find forest.now.spans what.now.id ≡ Some (node_of what.now.span.now) }
-    requires below { IfSome before (λ note.
-        TellsBelow (path layer forest.now.spans what.now.id) (plain_note note.now)) }
+    requires below { IfSome before (λ below.
+        TellsBelow (path layer forest.now.spans what.now.id) below.name (plain_note below.note.now)) }
+    requires known { Knows path_text forest.now.spans last.old }
     ensures note { IfOk result (λ note. plain_note note
         ≡ note_of what.now.worker (close_of forest.now.spans what.now.id) layer) }
+    ensures known { OnOk result (Knows path_text forest.now.spans last.new) }
     ensures memory { IfErr result (λ fault. fault ≡ Fault.Memory) }
 {
-    let path = close_path(alloc, forest, before, layer, what.id)?;
-    let fields = copy_fields(alloc, what.span.fields.as_slice())?;
+    let path = close_path(alloc, forest, before, last, layer, what.id)?;
+    let fields = Fields::copy_of(alloc, what.span.fields.as_slice())?;
     Ok(Note {
         layer,
         kind: Kind::OnClose,
@@ -177,40 +230,34 @@ fn close_note(
 fn close_path(
     alloc: Global,
     forest: &Forest,
-    before: Option<&Note>,
+    before: Option<Below<'_>>,
+    last: &mut Option<LastPath>,
     layer: u32,
     id: Id,
-) -> Result<Vec<String>, Fault>
-    requires below { IfSome before (λ note. TellsBelow (path layer forest.now.spans id) (plain_note note.now)) }
-    ensures path { IfOk result (λ names. map string_bytes names.items ≡ path layer forest.now.spans id) }
+) -> Result<ArcStr, Fault>
+    requires below { IfSome before (λ below.
+        TellsBelow (path layer forest.now.spans id) below.name (plain_note below.note.now)) }
+    requires known { Knows path_text forest.now.spans last.old }
+    ensures path { IfOk result (λ text. arc_str_bytes text ≡ path_text (path layer forest.now.spans id)) }
+    ensures known { OnOk result (Knows path_text forest.now.spans last.new) }
     ensures memory { IfErr result (λ fault. fault ≡ Fault.Memory) }
 {
-    if let Some(note) = before {
-        return path_above(alloc, note);
+    match before.and_then(path_above) {
+        Some(text) => same_text(alloc, last, text),
+        None => seen_text(alloc, forest, &Subject::Span(id), last, layer, Some(id)),
     }
-    path_of(forest, layer, id)
 }
 
 // The path of a note without its last name.
-fn path_above(alloc: Global, note: &Note) -> Result<Vec<String>, Fault>
-    ensures path { IfOk result (λ names. (path : List (List ℕ)) →
-        TellsBelow path (plain_note note.now) → map string_bytes names.items ≡ path) }
-    ensures memory { IfErr result (λ fault. fault ≡ Fault.Memory) }
+fn path_above(below: Below<'_>) -> Option<&str>
+    ensures path { IfSome result (λ text. (path : List (List ℕ)) →
+        TellsBelow path below.name (plain_note below.note.now) → text.now ≡ path_text path) }
 {
-    match note.path.as_slice().split_last() {
-        Some((_, above)) => copy_texts(alloc, above),
-        None => Ok(Vec::new(alloc)),
+    let text = below.note.path.as_str();
+    let above = text.len().checked_sub(below.name)?;
+    if above == 0 {
+        return Some("-");
     }
-}
-
-fn copy_texts(alloc: Global, texts: &[String]) -> Result<Vec<String>, Fault>
-    ensures texts { IfOk result (λ copies. map string_bytes copies.items ≡ map string_bytes texts.now) }
-    ensures memory { IfErr result (λ fault. fault ≡ Fault.Memory) }
-{
-    let mut copies = Vec::with_capacity(alloc, texts.len())?;
-    for text in texts {
-        let copy = copy_text(alloc, text.as_str())?;
-        copies.push_reserved(copy);
-    }
-    Ok(copies)
+    let (above, _) = text.split_at_checked(above - 1)?;
+    Some(above)
 }

@@ -1,18 +1,23 @@
-//! The notes of an event, in the span where each layer sees the caller.
+//! An event's call and its notes, in the span where each layer sees the caller.
 ghost use Rattle.std.specs.Prelude.{◌≡◌, ◌<◌, [], map, length, IfOk, IfErr, slice_index_or};
+ghost use Rattle.std.specs.Arc.{arc_str_bytes};
 ghost use Rattle.std.specs.List.{find as first_that};
 ghost use Rattle.span_id.specs.Bits.{has_bit};
+ghost use Rattle.span_id.specs.Meta.{plain_fields};
 ghost use Rattle.span_layers.specs.Note.{plain_note};
+ghost use Rattle.span_outlet.specs.Request.{request_of};
 ghost use Rattle.span_stack.specs.Stack.{walk, ids_of_each};
 ghost use Rattle.span_core.specs.Happening.{bits_in, notes_of};
-ghost use Rattle.span_core.specs.inside.Lent.{event_seen};
+ghost use Rattle.span_core.specs.inside.Lent.{event_request, event_seen};
 
-use crate::notes::{Subject, Telling, told};
+use crate::notes::{Subject, Telling, Announced, told};
 use span_forest::Forest;
-use span_id::{Bits, Fault, Field, Id, Meta};
+use span_id::{Bits, Fault, Field, Fields, Id, Meta};
 use span_layers::{Kind, Note, Rules};
+use span_outlet::Call;
 use span_stack::SpanStack;
 use std::alloc::Global;
+use std::sync::ArcStr;
 
 /// An event: which worker tells it, the layers that admit it, and what the caller lent.
 #[derive(Clone, Copy)]
@@ -24,15 +29,49 @@ pub(crate) struct Event<'a> {
     pub(crate) fields: &'a [Field],
 }
 
-// The notes of an event: one for each layer that admits it.
-pub(crate) fn event_notes(
+// The call that tells an event, and its notes, which share the copies of the message and the fields.
+pub(crate) fn event_told(
     alloc: Global,
     rules: &Rules,
     forest: &Forest,
     stacks: &[SpanStack],
     event: &Event<'_>,
-) -> Result<Vec<Note>, Fault>
+) -> Result<Announced, Fault>
     requires { event.now.worker < length stacks.now }
+    ensures call { IfOk result (λ told. request_of told.call ≡ event_request event.now) }
+    ensures notes { IfOk result (λ told. map plain_note told.notes.items
+        ≡ notes_of rules.now event.now.worker
+        (event_seen forest.now.spans (slice_index_or (ids_of_each stacks.now) event.now.worker []) event.now)) }
+    ensures memory { IfErr result (λ fault. fault ≡ Fault.Memory) }
+{
+    let meta = event.meta.copy(alloc)?;
+    let message = ArcStr::from_str(alloc, event.message)?;
+    let fields = Fields::copy_of(alloc, event.fields)?;
+    let notes = event_notes(alloc, rules, forest, stacks, event, &message, &fields)?;
+    Ok(Announced {
+        call: Call::Event {
+            worker: event.worker,
+            meta,
+            message,
+            fields,
+        },
+        notes,
+    })
+}
+
+// The notes of an event: one for each layer that admits it.
+fn event_notes(
+    alloc: Global,
+    rules: &Rules,
+    forest: &Forest,
+    stacks: &[SpanStack],
+    event: &Event<'_>,
+    message: &ArcStr,
+    fields: &Fields,
+) -> Result<Vec<Note>, Fault>
+    requires worker { event.now.worker < length stacks.now }
+    requires message { arc_str_bytes message.now ≡ event.now.message.now }
+    requires fields { fields.now ≡ plain_fields event.now.fields.now }
     ensures notes { IfOk result (λ notes. map plain_note notes.items
         ≡ notes_of rules.now event.now.worker
         (event_seen forest.now.spans (slice_index_or (ids_of_each stacks.now) event.now.worker []) event.now)) }
@@ -42,11 +81,11 @@ pub(crate) fn event_notes(
         worker: event.worker,
         kind: Kind::OnEvent,
         bits: event.bits,
-        fields: event.fields,
+        fields,
         subject: Subject::Event {
             stack: &stacks[event.worker as usize],
             level: event.meta.level,
-            message: event.message,
+            message,
         },
     };
     told(alloc, rules, forest, &what)

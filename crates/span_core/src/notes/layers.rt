@@ -60,6 +60,11 @@ pub(crate) fn told_layers(rules: &Rules, bits: Bits, kind: Kind) -> ToldLayers<'
     }
 }
 
+// How many layers are told.
+pub(crate) fn told_count(rules: &Rules, bits: Bits, kind: Kind) -> usize {
+    told_layers(rules, bits, kind).count()
+}
+
 // Whether a layer is told: it admits what happened, and wants the kind.
 fn is_told(rules: &Rules, bits: Bits, kind: Kind, layer: u32) -> bool
     requires { layer < length rules.now }

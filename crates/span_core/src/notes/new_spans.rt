@@ -1,16 +1,18 @@
-//! The notes of a new span, which are made before it is there.
-ghost use Rattle.std.specs.Prelude.{◌≡◌, ◌++◌, ◌∷◌, [], map, filter, length, string_bytes, IfOk, IfErr};
+//! A new span's call and its notes, which are made before it is there.
+ghost use Rattle.std.specs.Prelude.{◌≡◌, map, filter, length, IfOk, IfErr};
 ghost use Rattle.std.specs.List.{range_with_len};
 ghost use Rattle.span_layers.specs.declared.note.Kind.TheVariants.{OnNew};
+ghost use Rattle.span_id.specs.Meta.{plain_fields};
 ghost use Rattle.span_layers.specs.Note.{plain_note};
-ghost use Rattle.span_core.specs.Happening.{path_at};
+ghost use Rattle.span_outlet.specs.Request.{request_of};
 ghost use Rattle.span_core.specs.inside.Sound.{hears};
-ghost use Rattle.span_core.specs.inside.Lent.{first_note_of};
+ghost use Rattle.span_core.specs.inside.Lent.{first_note_of, span_request};
 
-use crate::notes::{Subject, Telling, seen_at, told};
+use crate::notes::{Subject, Telling, Announced, told};
 use span_forest::Forest;
-use span_id::{Bits, Fault, Field, Id, Meta, copy_text};
+use span_id::{Bits, Fault, Field, Fields, Id, Meta};
 use span_layers::{Kind, Note, Rules};
+use span_outlet::Call;
 use std::alloc::Global;
 
 /// A new span: which worker makes it, the id that it gets, the layers that admit it, its parent, and what the caller
@@ -25,13 +27,42 @@ pub(crate) struct NewSpan<'a> {
     pub(crate) fields: &'a [Field],
 }
 
-// The notes of a new span: one for each layer that admits it and wants new spans.
-pub(crate) fn new_notes(
+// The call that makes a span, and its notes, which share the copies of the fields.
+pub(crate) fn new_told(
     alloc: Global,
     rules: &Rules,
     forest: &Forest,
     new: &NewSpan<'_>,
+) -> Result<Announced, Fault>
+    ensures call { IfOk result (λ told. request_of told.call ≡ span_request new.now) }
+    ensures notes { IfOk result (λ told. map plain_note told.notes.items
+        ≡ map (first_note_of forest.now.spans new.now)
+        (filter (hears rules.now new.now.bits.0 OnNew) (range_with_len 0 (length rules.now)))) }
+    ensures memory { IfErr result (λ fault. fault ≡ Fault.Memory) }
+{
+    let meta = new.meta.copy(alloc)?;
+    let fields = Fields::copy_of(alloc, new.fields)?;
+    let notes = new_notes(alloc, rules, forest, new, &fields)?;
+    Ok(Announced {
+        call: Call::NewSpan {
+            worker: new.worker,
+            meta,
+            fields,
+            parent: new.parent,
+        },
+        notes,
+    })
+}
+
+// The notes of a new span: one for each layer that admits it and wants new spans.
+fn new_notes(
+    alloc: Global,
+    rules: &Rules,
+    forest: &Forest,
+    new: &NewSpan<'_>,
+    fields: &Fields,
 ) -> Result<Vec<Note>, Fault>
+    requires fields { fields.now ≡ plain_fields new.now.fields.now }
     ensures notes { IfOk result (λ notes. map plain_note notes.items
         ≡ map (first_note_of forest.now.spans new.now)
         (filter (hears rules.now new.now.bits.0 OnNew) (range_with_len 0 (length rules.now)))) }
@@ -41,7 +72,7 @@ pub(crate) fn new_notes(
         worker: new.worker,
         kind: Kind::OnNew,
         bits: new.bits,
-        fields: new.fields,
+        fields,
         subject: Subject::NewSpan {
             id: new.id,
             parent: new.parent,
@@ -49,22 +80,4 @@ pub(crate) fn new_notes(
         },
     };
     told(alloc, rules, forest, &what)
-}
-
-// The path of a layer at a new span: that of its parent, and its own name.
-pub(crate) fn new_path(
-    alloc: Global,
-    forest: &Forest,
-    layer: u32,
-    parent: Option<Id>,
-    name: &str,
-) -> Result<Vec<String>, Fault>
-    ensures path { IfOk result (λ path. map string_bytes path.items
-        ≡ path_at layer forest.now.spans parent ++ name.now ∷ []) }
-    ensures memory { IfErr result (λ fault. fault ≡ Fault.Memory) }
-{
-    let mut path = seen_at(alloc, forest, layer, parent)?.path;
-    let name = copy_text(alloc, name)?;
-    path.push(name)?;
-    Ok(path)
 }

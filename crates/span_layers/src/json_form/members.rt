@@ -1,6 +1,7 @@
 //! The members of a note's object that have a text or a number.
 
 ghost use Rattle.std.specs.Prelude.{codes, ◌++◌};
+ghost use Rattle.std.specs.Arc.{arc_str_bytes};
 ghost use Rattle.serde_json.specs.Data.{number, string, unsigned};
 ghost use Rattle.span_layers.specs.Note.{shown, told_of};
 ghost use Rattle.span_layers.specs.inside.Tokens.{Appends, member_tokens, told_tokens};
@@ -27,7 +28,7 @@ pub(super) fn write_number(out: &mut Writer, name: &str, value: u64) -> Result<(
 
 /// Writes an event's level and message, and of other notes nothing.
 pub(super) fn write_told(out: &mut Writer, note: &Note) -> Result<(), AllocError>
-    ensures { Appends result out.old out.new (told_tokens (shown note.now.kind (told_of note.now.tail))) }
+    ensures { Appends result out.old out.new (told_tokens (shown note.now.kind (told_of arc_str_bytes note.now.tail))) }
 {
     match (note.kind, &note.tail) {
         (Kind::OnEvent, Some((level, message))) => {

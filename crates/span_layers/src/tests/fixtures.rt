@@ -10,10 +10,11 @@ ghost use Rattle.span_layers.specs.Text.{text_of};
 use crate::{
     Filters, FmtSpan, Form, Hooks, Kind, Layer, Layers, Note, Rule, Style, Tellers, admits, text,
 };
-use span_id::{Bits, Field, Level, Meta};
+use span_id::{Bits, Fault, Field, Fields, Level, Meta};
 use std::alloc::{AllocError, Global};
 use std::fmt::{Debug, Display};
 use std::process::Abort;
+use std::sync::ArcStr;
 
 /// Whether the answer is the one that is wanted; `of` tells the case.
 pub(crate) fn same<T: PartialEq + Debug + Copy, D: Display + Copy>(
@@ -92,14 +93,6 @@ pub(crate) fn admission(
     filters.bits(&meta(alloc, target, level).expect(rt, "memory"))
 }
 
-pub(crate) fn names(alloc: Global, names: &[&str]) -> Result<Vec<String>, AllocError> {
-    let mut made = Vec::new(alloc);
-    for name in names {
-        made.push(String::from_str(alloc, name)?)?;
-    }
-    Ok(made)
-}
-
 fn field(alloc: Global, key: &str, value: &str) -> Result<Field, AllocError> {
     Ok(Field {
         key: String::from_str(alloc, key)?,
@@ -107,12 +100,12 @@ fn field(alloc: Global, key: &str, value: &str) -> Result<Field, AllocError> {
     })
 }
 
-pub(crate) fn fields(alloc: Global, pairs: &[(&str, &str)]) -> Result<Vec<Field>, AllocError> {
+pub(crate) fn fields(alloc: Global, pairs: &[(&str, &str)]) -> Result<Fields, Fault> {
     let mut made = Vec::new(alloc);
     for (key, value) in pairs {
         made.push(field(alloc, key, value)?)?;
     }
-    Ok(made)
+    Fields::copy_of(alloc, made.as_slice())
 }
 
 /// A note to the layer of this number: `new 1 w3 a k=1`.
@@ -122,7 +115,7 @@ pub(crate) fn note(rt: &impl Abort, alloc: Global, layer: u32) -> Note {
         kind: Kind::OnNew,
         worker: 3,
         id: 1,
-        path: names(alloc, &["a"]).expect(rt, "memory"),
+        path: ArcStr::from_str(alloc, "a").expect(rt, "memory"),
         fields: fields(alloc, &[("k", "1")]).expect(rt, "memory"),
         tail: None,
     }

@@ -6,11 +6,12 @@ ghost use Rattle.span_layers.specs.Rule.{pairs_of, is_admitted};
 ghost use Rattle.span_layers.specs.Text.{text_of};
 
 use crate::{Batch, Call, Drain, Line, Outlet, Reply, Ring, Tap};
-use span_id::{Id, Limits, Meta};
+use span_id::{Fields, Id, Limits, Meta};
 use span_layers::{
     FmtSpan, Form, Hooks, Kind, Layer, Layers, Note, Rule, Style, Tellers, admits, text,
 };
 use std::alloc::{AllocError, Global};
+use std::sync::ArcStr;
 use std::test::Fail;
 
 // Hooks whose text of a new span is refused memory.
@@ -99,17 +100,16 @@ pub(crate) fn batch(alloc: Global, kind: Kind, layers: &[u32]) -> Result<Batch, 
     let Some(id) = Id::from_u64(1) else {
         return Err(Fail::new("no id"));
     };
+    let path = ArcStr::from_str(alloc, "a")?;
     let mut notes = Vec::new(alloc);
     for layer in layers {
-        let mut path = Vec::new(alloc);
-        path.push(String::from_str(alloc, "a")?)?;
         notes.push(Note {
             layer: *layer,
             kind,
             worker: 0,
             id: 1,
-            path,
-            fields: Vec::new(alloc),
+            path: path.clone()?,
+            fields: Fields::none(),
             tail: None,
         })?;
     }
