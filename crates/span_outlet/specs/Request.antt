@@ -1,7 +1,7 @@
 -- What a caller asks for, and what an accepted call answers, with texts as bytes.
 use Rattle.std.specs.Prelude.{ℕ, Bool, List, Option}
 use Rattle.std.specs.Arc.{arc_str_bytes}
-use Rattle.span_id.specs.Meta.{PlainMeta, KeyValue, plain_meta}
+use Rattle.span_id.specs.Meta.{PlainMeta, KeyValue}
 use Rattle.span_outlet.specs.declared.batch.Call.{Call}
 use Rattle.span_outlet.specs.declared.batch.Call.TheVariants.{NewSpan, CloneSpan, Enter, Exit, TryClose, RecordFields, Event}
 use Rattle.span_outlet.specs.declared.batch.Reply.{Reply}
@@ -29,14 +29,13 @@ pub data Answer : Type 0 where
 
 -- what the code's call and reply stand for
 abbrev pub request_of : Call → Request
-request_of (NewSpan worker meta fields parent) = new_span worker (plain_meta meta) fields parent
+request_of (NewSpan worker meta fields parent) = new_span worker meta fields parent
 request_of (CloneSpan worker id) = clone_span worker id
 request_of (Enter worker id) = enter worker id
 request_of (Exit worker id) = exit worker id
 request_of (TryClose worker id) = try_close worker id
 request_of (RecordFields worker id fields) = record_fields worker id fields
-request_of (Event worker meta message fields) =
-    event worker (plain_meta meta) (arc_str_bytes message) fields
+request_of (Event worker meta message fields) = event worker meta (arc_str_bytes message) fields
 
 abbrev pub answer_of : Reply → Answer
 answer_of (Made id) = made id

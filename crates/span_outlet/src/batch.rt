@@ -1,14 +1,15 @@
-use span_id::{Fields, Id, Meta};
+use span_id::{Fields, Id, SharedMeta};
 use span_layers::Note;
 use std::sync::ArcStr;
 
-/// An accepted call, with its arguments. The worker is the one that called. Its notes share its fields and message.
+/// An accepted call, with its arguments. The worker is the one that called. The call shares its meta and fields with the
+/// span that it makes, and its fields and message with its notes.
 #[derive(Drop)]
 pub enum Call {
     /// A span was made. The parent is the one that was found: a contextual parent by its id.
     NewSpan {
         worker: u32,
-        meta: Meta,
+        meta: SharedMeta,
         fields: Fields,
         parent: Option<Id>,
     },
@@ -41,7 +42,7 @@ pub enum Call {
     /// An event was told.
     Event {
         worker: u32,
-        meta: Meta,
+        meta: SharedMeta,
         message: ArcStr,
         fields: Fields,
     },
