@@ -1,11 +1,12 @@
-ghost use Rattle.std.specs.Prelude.{◌≡◌, ℕ, Some, None, IfSome, IfNone, IfOk, IfErr, OnOk, OnErr, IsTrue, ◌↔◌, ◌⊎◌, length, [], map, string_bytes};
+ghost use Rattle.std.specs.Prelude.{◌≡◌, ℕ, ◌<◌, Some, None, IfSome, IfNone, IfOk, IfErr, OnOk, OnErr, IsTrue, ◌↔◌, ◌⊎◌, length, [], map, string_bytes};
 ghost use Rattle.span_id.specs.Id.{IsId};
+ghost use Rattle.span_id.specs.Bits.{has_bit};
 ghost use Rattle.span_slots.specs.Table.{IsIssued};
 ghost use Rattle.span_id.specs.Meta.{plain_fields};
 ghost use Rattle.span_forest.specs.Node.{Node, node_of, new_node, with_fields};
 ghost use Rattle.span_forest.specs.Spans.{find, IsOpen, with_change, WhyNotFound};
 ghost use Rattle.span_forest.specs.Count.{reference_count, total_held, total_handles};
-ghost use Rattle.span_forest.specs.Path.{path};
+ghost use Rattle.span_forest.specs.Path.{path, path_text};
 ghost use Rattle.span_forest.specs.Forest.{next_span_id, table_of};
 ghost use Rattle.span_forest.specs.Holders.{IsHeld};
 ghost use Rattle.span_forest.specs.Keep.{with_holder, CanKeep, WhyNotKept};
@@ -17,6 +18,7 @@ pub mod laws;
 use crate::adding::{checked_parent, place};
 use crate::closing::{chain, let_go};
 use crate::holders::{count_of, handles_in, is_held, is_open, raise_holder};
+use crate::path_text::{PathText, path_text_of};
 use crate::span::{Holder, Span};
 use crate::writing::{append_fields, names_of};
 use span_id::{Bits, Checked, Fault, Field, Id, Meta, copy_fields};
@@ -26,8 +28,8 @@ use std::marker::Model;
 
 /// The open spans, each under its id, with what holds them.
 ///
-/// No call costs more than its work: `release` and `closing` go along the spans that close, `path` along the
-/// walk to the root, `add` and `write_fields` over what they copy. All others cost the same however many
+/// No call costs more than its work: `release` and `closing` go along the spans that close, `path` and `path_text`
+/// along the walk to the root, `add` and `write_fields` over what they copy. All others cost the same however many
 /// spans are open. What a forest promises beside its calls' contracts is said by the functions of [`laws`].
 #[derive(Debug, Drop)]
 pub struct Forest {
@@ -289,5 +291,23 @@ impl Forest {
             return Err(Fault::Unknown);
         }
         Ok(names_of(&self.slots, self.alloc, layer, id)?)
+    }
+
+    /// The text of the path that `path` gives: the names joined by `:`, root first; of no names `-`.
+    ///
+    /// With it come the layers that admit the same spans on the walk, and so see the same path.
+    /// Refused in this order: `Unknown` where the span isn't open, `Memory`.
+    pub fn path_text(&self, layer: u32, id: Id) -> Result<PathText, Fault>
+        ensures found { OnOk result (IsOpen self.now.spans id) }
+        ensures text { IfOk result (λ seen. string_bytes seen.text ≡ path_text (path layer self.now.spans id)) }
+        ensures same { IfOk result (λ seen. (other : ℕ) → IsTrue (has_bit seen.same.0 other) →
+            path other self.now.spans id ≡ path layer self.now.spans id) }
+        ensures own { IfOk result (λ seen. layer < 64 → IsTrue (has_bit seen.same.0 layer)) }
+        ensures refused { IfErr result (λ fault. WhyNotFound self.now.spans id fault) }
+    {
+        if !is_open(&self.slots, id) {
+            return Err(Fault::Unknown);
+        }
+        Ok(path_text_of(&self.slots, self.alloc, layer, id)?)
     }
 }

@@ -118,6 +118,30 @@ fn a_path_names_what_the_layer_admits(rt: HostRuntime) -> Result<(), Fail> {
     Ok(())
 }
 
+// Whether this is the text of a path, and these of the first four layers see that path.
+fn sees(forest: &Forest, layer: u32, id: Id, text: &str, same: Bits) -> bool {
+    match forest.path_text(layer, id) {
+        Ok(path) => path.text.as_str() == text && path.same.and(Bits(15)) == same,
+        Err(_) => false,
+    }
+}
+
+#[test]
+fn a_text_is_of_the_layers_that_see_its_path(rt: HostRuntime) -> Result<(), Fail> {
+    let alloc = rt.alloc();
+    let mut forest = Forest::new(alloc, &checked(1024, 4294967295, 4294967295)?)?;
+    add(alloc, &mut forest, "a", None, 3)?;
+    add(alloc, &mut forest, "b", Id::from_u64(1), 7)?;
+    add(alloc, &mut forest, "c", Id::from_u64(2), 3)?;
+    let (root, last) = (id(&rt, 1), id(&rt, 3));
+    assert!(rt; sees(&forest, 0, last, "a:b:c", Bits(3)));
+    assert!(rt; sees(&forest, 1, last, "a:b:c", Bits(3)));
+    assert!(rt; sees(&forest, 2, last, "b", Bits(4)));
+    assert!(rt; sees(&forest, 3, last, "-", Bits(8)));
+    assert!(rt; sees(&forest, 64, root, "-", Bits(12)));
+    Ok(())
+}
+
 #[test]
 fn fields_are_written_at_the_end(rt: HostRuntime) -> Result<(), Fail> {
     let mut forest = pair(rt.alloc())?;
@@ -147,6 +171,7 @@ fn a_child_keeps_its_parent_open(rt: HostRuntime) -> Result<(), Fail> {
     assert_eq!(rt; forest.total(), 0);
     assert!(rt; forest.release(id(&rt, 2), Holder::Handle).is_err());
     assert!(rt; forest.path(0, id(&rt, 2)).is_err());
+    assert!(rt; forest.path_text(0, id(&rt, 2)).is_err());
     // The root's slot was freed last.
     assert_eq!(rt; forest.next_id(), Id::from_u64(16777217));
     Ok(())
@@ -180,6 +205,7 @@ fn finds_nothing(forest: &mut Forest, absent: Id) -> bool {
         && forest.closing(absent, Holder::Handle).is_err()
         && forest.release(absent, Holder::Handle).is_err()
         && forest.path(0, absent).is_err()
+        && forest.path_text(0, absent).is_err()
 }
 
 #[test]
