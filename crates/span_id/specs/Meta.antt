@@ -1,5 +1,8 @@
 -- The texts of spans, events and fields, as contracts see them: lists of bytes.
-use Rattle.std.specs.Prelude.{ℕ, List, map, string_bytes}
+use Rattle.std.specs.Prelude.{ℕ, Bool, List, ◌++◌, map, string_bytes, nat_eq}
+use Rattle.std.specs.Ordering.{on, eq_of_both}
+use Rattle.std.specs.Cmp.Lexicographic.{pointwise}
+use Rattle.std.specs.Hash as fed
 use Rattle.span_id.specs.declared.level.Level.{Level}
 use Rattle.span_id.specs.declared.meta.Meta.{Meta}
 use Rattle.span_id.specs.declared.meta.Field.{Field}
@@ -22,3 +25,11 @@ key_value field = (string_bytes field.key, string_bytes field.value)
 
 abbrev pub plain_fields : List Field → List KeyValue
 plain_fields fields = map key_value fields
+
+-- the keys are the same bytes, and the values are
+abbrev pub is_same_pair : KeyValue → KeyValue → Bool
+is_same_pair = eq_of_both (on (λ pair. pair.0) (pointwise nat_eq)) (on (λ pair. pair.1) (pointwise nat_eq))
+
+-- what a pair feeds a hasher
+abbrev pub pair_input : KeyValue → fed.HashWrites
+pair_input pair = fed.str pair.0 ++ fed.str pair.1

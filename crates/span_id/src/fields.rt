@@ -1,0 +1,157 @@
+//! Lists of fields that have several owners.
+ghost use Rattle.std.specs.Prelude.{◌≡◌, ◌++◌, [], IfOk, IfErr, OnOk, OnErr, length, map, nat_eq};
+ghost use Rattle.span_id.specs.Meta.{key_value, plain_fields};
+
+use crate::copies::copy_fields;
+use crate::fault::Fault;
+use crate::meta::Field;
+use std::alloc::Global;
+use std::fmt::{self, Debug, Formatter, Write};
+use std::hash::{Hash, Hasher};
+use std::marker::Model;
+use std::sync::Arc;
+
+/// Fields that are copied once, and then shared by whoever keeps them, in any threads.
+///
+/// Contracts see the keys and the values, in order. No fields take no memory.
+#[derive(Drop)]
+pub struct Fields {
+    shared: Option<Arc<Vec<Field>, Global>>,
+}
+
+impl Model for Fields {
+    ghost use Rattle.std.specs.Prelude.{List};
+    ghost use Rattle.span_id.specs.Meta.{KeyValue};
+
+    ghost Value = { List KeyValue };
+
+    ghost use Rattle.std.specs.Prelude.{vec_items};
+    ghost use Rattle.std.specs.Arc.{arc_value};
+    ghost use Rattle.span_id.specs.inside.Fields.{fields_of};
+
+    ghost view = { λ fields. fields_of (λ shared. vec_items (arc_value shared)) fields.shared };
+}
+
+impl Fields {
+    /// No fields, which takes no memory.
+    pub fn none() -> Fields
+        ensures { result ≡ [] }
+    {
+        Fields { shared: None }
+    }
+
+    /// Equal fields of their own, in the same order. The only error is `Memory`.
+    pub fn copy_of(alloc: Global, fields: &[Field]) -> Result<Fields, Fault>
+        ensures fields { IfOk result (λ copies. copies ≡ plain_fields fields.now) }
+        ensures memory { IfErr result (λ fault. fault ≡ Fault.Memory) }
+    {
+        if fields.is_empty() {
+            return Ok(Fields::none());
+        }
+        let copies = copy_fields(alloc, fields)?;
+        let shared = Arc::new(alloc, copies)?;
+        Ok(Fields {
+            shared: Some(shared),
+        })
+    }
+
+    /// One more owner of the same list: nothing is copied. The only error is `Memory`, where one more can't be counted.
+    pub fn share(&self) -> Result<Fields, Fault>
+        ensures same { IfOk result (λ shared. shared ≡ self.now) }
+        ensures memory { IfErr result (λ fault. fault ≡ Fault.Memory) }
+    {
+        let Some(list) = &self.shared else {
+            return Ok(Fields::none());
+        };
+        let shared = Arc::try_clone(list)?;
+        Ok(Fields {
+            shared: Some(shared),
+        })
+    }
+
+    /// The fields, in order.
+    pub fn as_slice(&self) -> &[Field]
+        ensures { plain_fields result.now ≡ self.now }
+    {
+        match &self.shared {
+            Some(list) => list.as_slice(),
+            None => &[],
+        }
+    }
+
+    /// How many fields there are.
+    pub fn len(&self) -> usize
+        ensures { result ≡ length self.now }
+    {
+        self.as_slice().len()
+    }
+
+    /// Whether there are no fields.
+    pub fn is_empty(&self) -> bool
+        ensures { result ≡ nat_eq (length self.now) 0 }
+    {
+        self.len() == 0
+    }
+
+    /// Appends equal fields, in the same order. Where the list has another owner, that one keeps the list as it was.
+    ///
+    /// The only error is `Memory`, after which the fields are as before.
+    pub fn extend(&mut self, alloc: Global, fields: &[Field]) -> Result<(), Fault>
+        ensures fields { OnOk result (self.new ≡ self.old ++ plain_fields fields.now) }
+        ensures unchanged { OnErr result (self.new ≡ self.old) }
+        ensures memory { IfErr result (λ fault. fault ≡ Fault.Memory) }
+    {
+        let mut copies = copy_fields(alloc, fields)?;
+        if let Some(list) = &mut self.shared {
+            if let Some(list) = Arc::get_mut(list) {
+                list.append(&mut copies)?;
+                return Ok(());
+            }
+        }
+        let mut list = copy_fields(alloc, self.as_slice())?;
+        list.append(&mut copies)?;
+        self.shared = Some(Arc::new(alloc, list)?);
+        Ok(())
+    }
+}
+
+impl PartialEq for Fields {
+    ghost use Rattle.std.specs.Cmp.{partial_equiv_from_equiv};
+    ghost use Rattle.std.specs.Cmp.Lexicographic.{pointwise};
+    ghost use Rattle.span_id.specs.Meta.{is_same_pair};
+    ghost use Rattle.span_id.specs.inside.Fields.{equivalence};
+
+    ghost eq = { pointwise is_same_pair };
+
+    ghost laws = { partial_equiv_from_equiv equivalence };
+
+    fn eq(&self, other: &Fields) -> bool {
+        self.as_slice() == other.as_slice()
+    }
+}
+
+impl Eq for Fields {
+    ghost use Rattle.span_id.specs.inside.Fields.{equivalence};
+
+    ghost laws = { equivalence };
+}
+
+impl Hash for Fields {
+    ghost use Rattle.std.specs.Hash as fed;
+    ghost use Rattle.span_id.specs.Meta.{pair_input};
+    ghost use Rattle.span_id.specs.inside.Fields.{alike};
+
+    ghost hash_input = { fed.slice pair_input };
+
+    ghost respects_eq = { alike.fed };
+
+    fn hash<H: Hasher>(&self, state: &mut H) {
+        self.as_slice().hash(state);
+    }
+}
+
+impl Debug for Fields {
+    fn fmt<W: Write>(&self, f: &mut Formatter<W>) -> fmt::Result {
+        f.debug_list().slice(self.as_slice()).finish()
+    }
+}
