@@ -21,7 +21,7 @@ use crate::holders::{count_of, handles_in, is_held, is_open, raise_holder};
 use crate::path_text::{PathText, path_text_of};
 use crate::span::{Holder, Span};
 use crate::writing::{append_fields, names_of};
-use span_id::{Bits, Checked, Fault, Field, Id, Meta, copy_fields};
+use span_id::{Bits, Checked, Fault, Field, Fields, Id, Meta};
 use span_slots::Slots;
 use std::alloc::Global;
 use std::marker::Model;
@@ -131,21 +131,21 @@ impl Forest {
         self.slots.next_id()
     }
 
-    /// Makes a span with copies of the meta and the fields. It has one handle, and its parent's count rises.
+    /// Makes a span with a copy of the meta and with these fields. It has one handle, and its parent's count rises.
     ///
     /// Refused in this order: `Unknown` where the parent isn't open, `CountFull` where the parent's count
     /// stands at its greatest, `Full` where no slot is free, `Memory`.
     pub fn add(
         &mut self,
         meta: &Meta,
-        fields: &[Field],
+        fields: Fields,
         parent: Option<Id>,
         bits: Bits,
     ) -> Result<Id, Fault>
         ensures parent { OnOk result (CanHaveChild self.old.spans self.old.max_count parent) }
         ensures id { IfOk result (λ id. next_span_id self.old ≡ Some id) }
         ensures forest { IfOk result (λ id.
-            self.new ≡ with_span self.old id (new_node meta.now fields.now parent bits.0)) }
+            self.new ≡ with_span self.old id (new_node meta.now fields parent bits.0)) }
 
         // The id was never issued before, and is the only one that this call issues.
         ensures never_issued { IfOk result (λ id. IsIssued (table_of self.old) id → ⊥) }
@@ -161,7 +161,6 @@ impl Forest {
             return Err(Fault::Full);
         }
         let meta = meta.copy(self.alloc)?;
-        let fields = copy_fields(self.alloc, fields)?;
         let span = Span {
             meta,
             fields,
@@ -260,7 +259,8 @@ impl Forest {
         self.handles -= handles_in(holder);
     }
 
-    /// Appends copies of the fields to those of a span, in their order.
+    /// Appends copies of the fields to those of a span, in their order. Where its list has another owner, that one
+    /// keeps the list as it was.
     ///
     /// Refused in this order: `Unknown` where the span isn't open, `Memory`.
     pub fn write_fields(&mut self, id: Id, fields: &[Field]) -> Result<(), Fault>
@@ -274,9 +274,7 @@ impl Forest {
         if !is_open(&self.slots, id) {
             return Err(Fault::Unknown);
         }
-        let copies = copy_fields(self.alloc, fields)?;
-        append_fields(&mut self.slots, id, copies)?;
-        Ok(())
+        append_fields(&mut self.slots, self.alloc, id, fields)
     }
 
     /// The names of a span and its ancestors, root first, without those that the layer doesn't admit.
