@@ -68,7 +68,7 @@ map-reverse f (x ∷ xs) =
     ∙ sym (reverse-append (f x ∷ []) (map f xs))))
 
 -- a span that the layer admits gives its name
-pub named : (layer : ℕ) (span : Span) (names more : List (String Global)) (text : String Global) → has_bit span.bits.0 layer ≡ true → more ≡ names ++ text ∷ [] → string_bytes text ≡ string_bytes span.meta.name → map string_bytes more ≡ map string_bytes names ++ name_for layer (Some (node_of span))
+pub named : (layer : ℕ) (span : Span) (names more : List (String Global)) (text : String Global) → has_bit span.bits.0 layer ≡ true → more ≡ names ++ text ∷ [] → string_bytes text ≡ span.meta.name → map string_bytes more ≡ map string_bytes names ++ name_for layer (Some (node_of span))
 named layer span names more text h m t =
     ap (map string_bytes) m ∙ (map-append string_bytes names (text ∷ []) ∙ (rw (h, t) refl))
 

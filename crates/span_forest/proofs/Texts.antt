@@ -1,6 +1,6 @@
 -- The text of a path, joined as the loop joins it, and the layers that see the same path.
 use Rattle.std.proofs.Common.{◌≡◌, ℕ, ◌<◌, ◌++◌, ◌↔◌, true, List, [], ◌∷◌, Option, Some, refl, sym, ap, ◌∙◌, cond, rules}
-use Rattle.std.specs.Prelude.{flat_map, string_bytes}
+use Rattle.std.specs.Prelude.{flat_map}
 use Rattle.span_id.specs.Bits.{has_bit}
 use Rattle.span_slots.specs.Table.{value_at}
 use Rattle.span_forest.specs.declared.span.Span.{Span}
@@ -34,7 +34,7 @@ Sees_turn es layer id at span names more same left next forest sees is found tak
   alike = λ other h.
       let k = (stays other).0 h in
       let named : name_for layer (Some (node_of span)) ≡ name_for other (Some (node_of span)) =
-      ap (λ b. cond b (string_bytes span.meta.name ∷ []) []) (sym k.1) in
+      ap (λ b. cond b (span.meta.name ∷ []) []) (sym k.1) in
       (Gathers_turn es other id at span names more next forest (sees.alike other k.0) is found (taken ∙ ap (λ v. names ++ v) named)).gathers;
   own = λ low. (stays layer).1 (sees.own low, refl);
 }

@@ -1,9 +1,9 @@
 -- A new span.
-use Rattle.std.specs.Prelude.{ℕ, ◌≡◌, ◌<◌, Option, None, IsSome, IsSomeAnd, MatchOption, drop}
+use Rattle.std.specs.Prelude.{ℕ, ◌≡◌, ◌<◌, Option, None, IsSomeAnd, MatchOption, drop}
 use Rattle.span_slots.specs.Table.{issue}
 use Rattle.span_id.specs.Id.{slot_of}
 use Rattle.span_id.specs.declared.fault.Fault.{Fault}
-use Rattle.span_id.specs.declared.fault.Fault.TheVariants.{Unknown, CountFull, Full, Memory}
+use Rattle.span_id.specs.declared.fault.Fault.TheVariants.{Unknown, CountFull, Full}
 use Rattle.span_forest.specs.Node.{Node}
 use Rattle.span_forest.specs.Spans.{Spans, find, IsOpen, with_node}
 use Rattle.span_forest.specs.Count.{reference_count}
@@ -22,12 +22,10 @@ with_span forest id node = record forest {
   freed = drop 1 forest.freed;
 }
 
--- why no span is added: the parent isn't open, else its count is at its greatest, else no slot is free,
--- else there was no memory
+-- why no span is added: the parent isn't open, else its count is at its greatest, else no slot is free
 abbrev pub WhyNotAdded : ForestView → Option ℕ → Fault → Type 0
 WhyNotAdded forest parent Unknown = IsSomeAnd parent (λ p. find forest.spans p ≡ None)
 WhyNotAdded forest parent CountFull =
     IsSomeAnd parent (λ p. IsOpen forest.spans p × (reference_count forest.spans p ≡ forest.max_count))
 WhyNotAdded forest parent Full = CanHaveChild forest.spans forest.max_count parent × (next_span_id forest ≡ None)
-WhyNotAdded forest parent Memory = CanHaveChild forest.spans forest.max_count parent × IsSome (next_span_id forest)
 WhyNotAdded forest parent _ = ⊥

@@ -1,8 +1,7 @@
 -- A span as contracts see it.
-use Rattle.std.specs.Prelude.{ℕ, List, ◌++◌, string_bytes, Option}
+use Rattle.std.specs.Prelude.{ℕ, List, ◌++◌, Option}
 use Rattle.span_id.specs.declared.level.Level.{Level}
-use Rattle.span_id.specs.declared.meta.Meta.{Meta}
-use Rattle.span_id.specs.Meta.{KeyValue}
+use Rattle.span_id.specs.Meta.{KeyValue, PlainMeta}
 use Rattle.span_forest.specs.declared.span.Span.{Span}
 
 -- a span: what it was made with, its parent, and how many handles and entries hold it
@@ -20,8 +19,8 @@ pub record Node : Type 0 where
 -- what the code's span stands for
 abbrev pub node_of : Span → Node
 node_of span = record {
-  name = string_bytes span.meta.name;
-  target = string_bytes span.meta.target;
+  name = span.meta.name;
+  target = span.meta.target;
   level = span.meta.level;
   fields = span.fields;
   bits = span.bits.0;
@@ -31,10 +30,10 @@ node_of span = record {
 }
 
 -- a new span has one handle and no entry
-abbrev pub new_node : Meta → List KeyValue → Option ℕ → ℕ → Node
+abbrev pub new_node : PlainMeta → List KeyValue → Option ℕ → ℕ → Node
 new_node meta fields parent bits = record {
-  name = string_bytes meta.name;
-  target = string_bytes meta.target;
+  name = meta.name;
+  target = meta.target;
   level = meta.level;
   fields = fields;
   bits = bits;

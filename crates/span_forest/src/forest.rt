@@ -21,7 +21,7 @@ use crate::holders::{count_of, handles_in, is_held, is_open, raise_holder};
 use crate::path_text::{PathText, path_text_of};
 use crate::span::{Holder, Span};
 use crate::writing::{append_fields, names_of};
-use span_id::{Bits, Checked, Fault, Field, Fields, Id, Meta};
+use span_id::{Bits, Checked, Fault, Field, Fields, Id, SharedMeta};
 use span_slots::Slots;
 use std::alloc::Global;
 use std::marker::Model;
@@ -29,8 +29,8 @@ use std::marker::Model;
 /// The open spans, each under its id, with what holds them.
 ///
 /// No call costs more than its work: `release` and `closing` go along the spans that close, `path` and `path_text`
-/// along the walk to the root, `add` and `write_fields` over what they copy. All others cost the same however many
-/// spans are open. What a forest promises beside its calls' contracts is said by the functions of [`laws`].
+/// along the walk to the root, `write_fields` over what it copies. All others cost the same however many spans are
+/// open. What a forest promises beside its calls' contracts is said by the functions of [`laws`].
 #[derive(Debug, Drop)]
 pub struct Forest {
     slots: Slots<Span>,
@@ -131,13 +131,13 @@ impl Forest {
         self.slots.next_id()
     }
 
-    /// Makes a span with a copy of the meta and with these fields. It has one handle, and its parent's count rises.
+    /// Makes a span with this meta and these fields. It has one handle, and its parent's count rises. It takes no memory.
     ///
     /// Refused in this order: `Unknown` where the parent isn't open, `CountFull` where the parent's count
-    /// stands at its greatest, `Full` where no slot is free, `Memory`.
+    /// stands at its greatest, `Full` where no slot is free.
     pub fn add(
         &mut self,
-        meta: &Meta,
+        meta: SharedMeta,
         fields: Fields,
         parent: Option<Id>,
         bits: Bits,
@@ -145,7 +145,7 @@ impl Forest {
         ensures parent { OnOk result (CanHaveChild self.old.spans self.old.max_count parent) }
         ensures id { IfOk result (λ id. next_span_id self.old ≡ Some id) }
         ensures forest { IfOk result (λ id.
-            self.new ≡ with_span self.old id (new_node meta.now fields parent bits.0)) }
+            self.new ≡ with_span self.old id (new_node meta fields parent bits.0)) }
 
         // The id was never issued before, and is the only one that this call issues.
         ensures never_issued { IfOk result (λ id. IsIssued (table_of self.old) id → ⊥) }
@@ -160,7 +160,6 @@ impl Forest {
         if self.slots.next_id().is_none() {
             return Err(Fault::Full);
         }
-        let meta = meta.copy(self.alloc)?;
         let span = Span {
             meta,
             fields,

@@ -93,7 +93,7 @@ impl<'a> Seen<'a> {
             × (has_bit span.now.bits.0 other ≡ has_bit span.now.bits.0 layer))) }
     {
         if span.bits.has(layer) {
-            self.names.push(span.meta.name.as_str())?;
+            self.names.push(span.meta.as_meta().name.as_str())?;
             self.same = self.same.and(span.bits);
         } else {
             self.same = self.same.without(span.bits);

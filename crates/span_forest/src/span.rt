@@ -1,10 +1,10 @@
-use span_id::{Bits, Fields, Id, Meta};
+use span_id::{Bits, Fields, Id, SharedMeta};
 
 /// An open span: what it was made with, its parent, and what holds it.
 #[derive(Debug, Drop)]
 pub struct Span {
     /// The name, target and level that it was made with.
-    pub meta: Meta,
+    pub meta: SharedMeta,
     /// The fields, in the order in which they were written; a repeated key stands twice. The list may have more owners.
     pub fields: Fields,
     /// The parent, which is open; a root has none.

@@ -2,7 +2,7 @@ mod row;
 mod tree;
 
 use super::*;
-use span_id::{Bits, Checked, Fault, Field, Fields, Id, Level, Limits, Meta};
+use span_id::{Bits, Checked, Fault, Field, Fields, Id, Level, Limits, Meta, SharedMeta};
 use std::alloc::Global;
 use std::process::Abort;
 use std::test::Fail;
@@ -18,12 +18,13 @@ fn checked(slots: u32, last_generation: u32, max_count: u32) -> Result<Checked, 
     limits.check()
 }
 
-fn named(alloc: Global, name: &str) -> Result<Meta, Fail> {
-    Ok(Meta {
+fn named(alloc: Global, name: &str) -> Result<SharedMeta, Fail> {
+    let meta = Meta {
         name: String::from_str(alloc, name)?,
         target: String::from_str(alloc, "app")?,
         level: Level::Info,
-    })
+    };
+    Ok(SharedMeta::copy_of(alloc, &meta)?)
 }
 
 // Adds a span that the layers of these bits admit, and answers its number.
@@ -35,7 +36,7 @@ fn add(
     bits: u64,
 ) -> Result<u64, Fail> {
     let meta = named(alloc, name)?;
-    let id = forest.add(&meta, Fields::none(), parent, Bits(bits))?;
+    let id = forest.add(meta.share()?, Fields::none(), parent, Bits(bits))?;
     Ok(id.get())
 }
 
@@ -167,7 +168,7 @@ fn another_owner_keeps_its_fields(rt: HostRuntime) -> Result<(), Fail> {
     let one = [Field { key, value }];
     let fields = Fields::copy_of(alloc, &one)?;
     let meta = named(alloc, "c")?;
-    let made = forest.add(&meta, fields.share()?, None, Bits(1))?;
+    let made = forest.add(meta.share()?, fields.share()?, None, Bits(1))?;
     forest.write_fields(made, &one)?;
     let span = forest.find(made).expect(&rt, "c is open");
     assert_eq!(rt; span.fields.len(), 2);
@@ -212,7 +213,7 @@ fn a_slot_that_gave_its_last_id_gives_no_more(rt: HostRuntime) -> Result<(), Fai
     assert_eq!(rt; forest.next_id(), None);
     let meta = named(rt.alloc(), "b")?;
     assert_eq!(rt;
-        forest.add(&meta, Fields::none(), None, Bits(0)),
+        forest.add(meta.share()?, Fields::none(), None, Bits(0)),
         Err(Fault::Full)
     );
     Ok(())
@@ -250,15 +251,15 @@ fn refusals_in_their_order(rt: HostRuntime) -> Result<(), Fail> {
     add(rt.alloc(), &mut forest, "a", None, 1)?;
     let meta = named(rt.alloc(), "b")?;
     assert_eq!(rt;
-        forest.add(&meta, Fields::none(), Id::from_u64(2), Bits(1)),
+        forest.add(meta.share()?, Fields::none(), Id::from_u64(2), Bits(1)),
         Err(Fault::Unknown)
     );
     assert_eq!(rt;
-        forest.add(&meta, Fields::none(), Id::from_u64(1), Bits(1)),
+        forest.add(meta.share()?, Fields::none(), Id::from_u64(1), Bits(1)),
         Err(Fault::CountFull)
     );
     assert_eq!(rt;
-        forest.add(&meta, Fields::none(), None, Bits(1)),
+        forest.add(meta.share()?, Fields::none(), None, Bits(1)),
         Err(Fault::Full)
     );
     assert_eq!(rt;
@@ -274,9 +275,9 @@ fn refusals_in_their_order(rt: HostRuntime) -> Result<(), Fail> {
 fn a_chain_of_65536_spans(rt: HostRuntime) -> Result<(), Fail> {
     let mut forest = Forest::new(rt.alloc(), &checked(65536, 0, 2)?)?;
     let meta = named(rt.alloc(), "p")?;
-    let mut last = forest.add(&meta, Fields::none(), None, Bits(1))?;
+    let mut last = forest.add(meta.share()?, Fields::none(), None, Bits(1))?;
     for number in 2..=65536 {
-        let next = forest.add(&meta, Fields::none(), Some(last), Bits(1))?;
+        let next = forest.add(meta.share()?, Fields::none(), Some(last), Bits(1))?;
         assert_eq!(rt; next.get(), number);
         assert!(rt; forest.release(last, Holder::Handle)?.is_empty());
         last = next;
@@ -302,7 +303,9 @@ fn more_roots_than_the_older_layout_had_slots(rt: HostRuntime) -> Result<(), Fai
     let meta = named(rt.alloc(), "r")?;
     for number in 1..=65537 {
         assert_eq!(rt;
-            forest.add(&meta, Fields::none(), None, Bits(0))?.get(),
+            forest
+                .add(meta.share()?, Fields::none(), None, Bits(0))?
+                .get(),
             number
         );
     }

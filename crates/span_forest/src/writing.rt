@@ -71,7 +71,7 @@ fn push_name(
     if !span.bits.has(layer) {
         return Ok(());
     }
-    let name = String::from_str(alloc, span.meta.name.as_str())?;
+    let name = String::from_str(alloc, span.meta.as_meta().name.as_str())?;
     names.push(name)?;
     Ok(())
 }
