@@ -59,7 +59,7 @@ Gathers_turn es layer id at span names more next w g0 n f m =
       smaller = (let k = ap length step in let b = ap (λ o. length (walk_from spans o)) n in omega arith);
     }
 
-map-reverse : {A B : Type 0} (f : A → B) (xs : List A) → map f (reverse xs) ≡ reverse (map f xs)
+pub map-reverse : {A B : Type 0} (f : A → B) (xs : List A) → map f (reverse xs) ≡ reverse (map f xs)
 map-reverse f [] = refl
 map-reverse f (x ∷ xs) =
     ap (map f) (reverse-append (x ∷ []) xs)

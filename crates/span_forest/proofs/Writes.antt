@@ -1,13 +1,10 @@
 -- A write of one span that leaves its parent and its holders as they are.
-use Rattle.std.proofs.Common.{◌≡◌, ℕ, ◌++◌, Vec, Global, List, [], ◌∷◌, length, is_ok, cond, Option, Some, None, IsSome, refl, sym, ap, ◌∙◌, inl, inr, arith}
-use Rattle.std.specs.Prelude.{Result, Ok, Err, OnOk, OnErr, string_bytes}
+use Rattle.std.proofs.Common.{◌≡◌, ℕ, ◌++◌, List, [], ◌∷◌, length, Option, Some, None, IsSome, refl, sym, ap, ◌∙◌, inl, inr, arith}
+use Rattle.std.specs.Prelude.{Result, Ok, Err, OnOk, OnErr}
 use Rattle.std.specs.Option.{option_map}
 use Rattle.std.proofs.lemmas.Bool.Decides.{eqb_tells}
-use Rattle.std.proofs.lemmas.List.{map-append}
-use Rattle.span_id.specs.declared.meta.Field.{Field}
 use Rattle.span_slots.specs.Table.{value_at, with_value}
 use Rattle.span_forest.specs.declared.span.Span.{Span}
-use Rattle.span_id.specs.Meta.{plain_fields}
 use Rattle.span_forest.specs.Node.{Node, node_of, with_fields}
 use Rattle.span_forest.specs.Spans.{Spans, find, nodes_of, with_change}
 use Rattle.span_forest.specs.Count.{holders, holders_in, reference_count, total_held}
@@ -94,27 +91,24 @@ changed-absent f (e ∷ es) id h =
     ]
 
 -- the code's span with these fields
-abbrev pub refielded : Span → Vec Field Global → Span
+abbrev pub refielded : Span → List (List ℕ × List ℕ) → Span
 refielded span fields = record span { fields = fields }
 
-module _ (es : List (ℕ × Span)) (id : ℕ) (span : Span) (new : Vec Field Global) (more : List Field) where
-  appended_node : new.items ≡ span.fields.items ++ more → node_of (refielded span new) ≡ with_fields (plain_fields more) (node_of span)
-  appended_node h = ap (λ fields. record (node_of span) { fields = fields }) (ap plain_fields h ∙ map-append (λ f. (string_bytes f.key, string_bytes f.value)) span.fields.items more)
+module _ (es : List (ℕ × Span)) (id : ℕ) (span : Span) (new more : List (List ℕ × List ℕ)) where
+  refielded_node : (fields : List (List ℕ × List ℕ)) → new ≡ fields → node_of (refielded span new) ≡ record (node_of span) { fields = fields }
+  refielded_node fields h = ap (λ fields. record (node_of span) { fields = fields }) h
 
-  kept_node : new.items ≡ span.fields.items → node_of (refielded span new) ≡ node_of span
-  kept_node h = ap (λ fields. record (node_of span) { fields = fields }) (ap plain_fields h)
+  pub settled_appended : {R E : Type 0} (r : Result R E) → IsSettled es → value_at es id ≡ Some span → OnOk r (new ≡ span.fields ++ more) → OnErr r (new ≡ span.fields) → IsSettled (with_value es id (refielded span new))
+  settled_appended (Ok v) w f h k = IsSettled-written (with_fields more) (with_fields-parent more) (with_fields-holders more) es id span (refielded span new) w f (refielded_node (span.fields ++ more) h) refl
+  settled_appended (Err v) w f h k = IsSettled-written (λ n. n) (λ n. refl) (λ n. refl) es id span (refielded span new) w f (refielded_node span.fields k) refl
 
-  pub settled_appended : {R E : Type 0} (r : Result R E) → IsSettled es → value_at es id ≡ Some span → new.items ≡ cond (is_ok r) (span.fields.items ++ more) span.fields.items → IsSettled (with_value es id (refielded span new))
-  settled_appended (Ok v) w f h = IsSettled-written (with_fields (plain_fields more)) (with_fields-parent (plain_fields more)) (with_fields-holders (plain_fields more)) es id span (refielded span new) w f (appended_node h) refl
-  settled_appended (Err v) w f h = IsSettled-written (λ n. n) (λ n. refl) (λ n. refl) es id span (refielded span new) w f (kept_node h) refl
-
-  pub written_appended : {R E : Type 0} (r : Result R E) → IsSettled es → value_at es id ≡ Some span → new.items ≡ cond (is_ok r) (span.fields.items ++ more) span.fields.items → OnOk r (nodes_of (with_value es id (refielded span new)) ≡ with_change (with_fields (plain_fields more)) (nodes_of es) id)
-  written_appended (Ok v) w f h = nodes-written (with_fields (plain_fields more)) es id span (refielded span new) w.forest.ids_apart f (appended_node h)
+  pub written_appended : {R E : Type 0} (r : Result R E) → IsSettled es → value_at es id ≡ Some span → OnOk r (new ≡ span.fields ++ more) → OnOk r (nodes_of (with_value es id (refielded span new)) ≡ with_change (with_fields more) (nodes_of es) id)
+  written_appended (Ok v) w f h = nodes-written (with_fields more) es id span (refielded span new) w.forest.ids_apart f (refielded_node (span.fields ++ more) h)
   written_appended (Err v) w f h = tt
 
-  pub refused_appended : {R E : Type 0} (r : Result R E) → IsSettled es → value_at es id ≡ Some span → new.items ≡ cond (is_ok r) (span.fields.items ++ more) span.fields.items → OnErr r (nodes_of (with_value es id (refielded span new)) ≡ nodes_of es)
+  pub refused_appended : {R E : Type 0} (r : Result R E) → IsSettled es → value_at es id ≡ Some span → OnErr r (new ≡ span.fields) → OnErr r (nodes_of (with_value es id (refielded span new)) ≡ nodes_of es)
   refused_appended (Ok v) w f h = tt
-  refused_appended (Err v) w f h = nodes-written (λ n. n) es id span (refielded span new) w.forest.ids_apart f (kept_node h) ∙ changed_none (nodes_of es) id
+  refused_appended (Err v) w f h = nodes-written (λ n. n) es id span (refielded span new) w.forest.ids_apart f (refielded_node span.fields h) ∙ changed_none (nodes_of es) id
 
 -- a forest after an append, or after one that was refused
 pub IsConsistent-appended : {R E : Type 0} (r : Result R E) (es new : List (ℕ × Span)) (max total handles id : ℕ) (more : List (List ℕ × List ℕ)) → IsConsistent es max total handles → IsSettled new → OnOk r (nodes_of new ≡ with_change (with_fields more) (nodes_of es) id) → OnErr r (nodes_of new ≡ nodes_of es) → IsConsistent new max total handles

@@ -2,8 +2,7 @@
 use Rattle.std.specs.Prelude.{ℕ, List, ◌++◌, string_bytes, Option}
 use Rattle.span_id.specs.declared.level.Level.{Level}
 use Rattle.span_id.specs.declared.meta.Meta.{Meta}
-use Rattle.span_id.specs.declared.meta.Field.{Field}
-use Rattle.span_id.specs.Meta.{KeyValue, plain_fields}
+use Rattle.span_id.specs.Meta.{KeyValue}
 use Rattle.span_forest.specs.declared.span.Span.{Span}
 
 -- a span: what it was made with, its parent, and how many handles and entries hold it
@@ -24,7 +23,7 @@ node_of span = record {
   name = string_bytes span.meta.name;
   target = string_bytes span.meta.target;
   level = span.meta.level;
-  fields = plain_fields span.fields.items;
+  fields = span.fields;
   bits = span.bits.0;
   parent = span.parent;
   handles = span.handles;
@@ -32,12 +31,12 @@ node_of span = record {
 }
 
 -- a new span has one handle and no entry
-abbrev pub new_node : Meta → List Field → Option ℕ → ℕ → Node
+abbrev pub new_node : Meta → List KeyValue → Option ℕ → ℕ → Node
 new_node meta fields parent bits = record {
   name = string_bytes meta.name;
   target = string_bytes meta.target;
   level = meta.level;
-  fields = plain_fields fields;
+  fields = fields;
   bits = bits;
   parent = parent;
   handles = 1;

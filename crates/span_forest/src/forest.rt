@@ -1,11 +1,12 @@
-ghost use Rattle.std.specs.Prelude.{◌≡◌, ℕ, Some, None, IfSome, IfNone, IfOk, IfErr, OnOk, OnErr, IsTrue, ◌↔◌, ◌⊎◌, length, [], map, string_bytes};
+ghost use Rattle.std.specs.Prelude.{◌≡◌, ℕ, ◌<◌, Some, None, IfSome, IfNone, IfOk, IfErr, OnOk, OnErr, IsTrue, ◌↔◌, ◌⊎◌, length, [], map, string_bytes};
 ghost use Rattle.span_id.specs.Id.{IsId};
+ghost use Rattle.span_id.specs.Bits.{has_bit};
 ghost use Rattle.span_slots.specs.Table.{IsIssued};
 ghost use Rattle.span_id.specs.Meta.{plain_fields};
 ghost use Rattle.span_forest.specs.Node.{Node, node_of, new_node, with_fields};
 ghost use Rattle.span_forest.specs.Spans.{find, IsOpen, with_change, WhyNotFound};
 ghost use Rattle.span_forest.specs.Count.{reference_count, total_held, total_handles};
-ghost use Rattle.span_forest.specs.Path.{path};
+ghost use Rattle.span_forest.specs.Path.{path, path_text};
 ghost use Rattle.span_forest.specs.Forest.{next_span_id, table_of};
 ghost use Rattle.span_forest.specs.Holders.{IsHeld};
 ghost use Rattle.span_forest.specs.Keep.{with_holder, CanKeep, WhyNotKept};
@@ -17,17 +18,18 @@ pub mod laws;
 use crate::adding::{checked_parent, place};
 use crate::closing::{chain, let_go};
 use crate::holders::{count_of, handles_in, is_held, is_open, raise_holder};
+use crate::path_text::{PathText, path_text_of};
 use crate::span::{Holder, Span};
 use crate::writing::{append_fields, names_of};
-use span_id::{Bits, Checked, Fault, Field, Id, Meta, copy_fields};
+use span_id::{Bits, Checked, Fault, Field, Fields, Id, Meta};
 use span_slots::Slots;
 use std::alloc::Global;
 use std::marker::Model;
 
 /// The open spans, each under its id, with what holds them.
 ///
-/// No call costs more than its work: `release` and `closing` go along the spans that close, `path` along the
-/// walk to the root, `add` and `write_fields` over what they copy. All others cost the same however many
+/// No call costs more than its work: `release` and `closing` go along the spans that close, `path` and `path_text`
+/// along the walk to the root, `add` and `write_fields` over what they copy. All others cost the same however many
 /// spans are open. What a forest promises beside its calls' contracts is said by the functions of [`laws`].
 #[derive(Debug, Drop)]
 pub struct Forest {
@@ -129,21 +131,21 @@ impl Forest {
         self.slots.next_id()
     }
 
-    /// Makes a span with copies of the meta and the fields. It has one handle, and its parent's count rises.
+    /// Makes a span with a copy of the meta and with these fields. It has one handle, and its parent's count rises.
     ///
     /// Refused in this order: `Unknown` where the parent isn't open, `CountFull` where the parent's count
     /// stands at its greatest, `Full` where no slot is free, `Memory`.
     pub fn add(
         &mut self,
         meta: &Meta,
-        fields: &[Field],
+        fields: Fields,
         parent: Option<Id>,
         bits: Bits,
     ) -> Result<Id, Fault>
         ensures parent { OnOk result (CanHaveChild self.old.spans self.old.max_count parent) }
         ensures id { IfOk result (λ id. next_span_id self.old ≡ Some id) }
         ensures forest { IfOk result (λ id.
-            self.new ≡ with_span self.old id (new_node meta.now fields.now parent bits.0)) }
+            self.new ≡ with_span self.old id (new_node meta.now fields parent bits.0)) }
 
         // The id was never issued before, and is the only one that this call issues.
         ensures never_issued { IfOk result (λ id. IsIssued (table_of self.old) id → ⊥) }
@@ -159,7 +161,6 @@ impl Forest {
             return Err(Fault::Full);
         }
         let meta = meta.copy(self.alloc)?;
-        let fields = copy_fields(self.alloc, fields)?;
         let span = Span {
             meta,
             fields,
@@ -258,7 +259,8 @@ impl Forest {
         self.handles -= handles_in(holder);
     }
 
-    /// Appends copies of the fields to those of a span, in their order.
+    /// Appends copies of the fields to those of a span, in their order. Where its list has another owner, that one
+    /// keeps the list as it was.
     ///
     /// Refused in this order: `Unknown` where the span isn't open, `Memory`.
     pub fn write_fields(&mut self, id: Id, fields: &[Field]) -> Result<(), Fault>
@@ -272,9 +274,7 @@ impl Forest {
         if !is_open(&self.slots, id) {
             return Err(Fault::Unknown);
         }
-        let copies = copy_fields(self.alloc, fields)?;
-        append_fields(&mut self.slots, id, copies)?;
-        Ok(())
+        append_fields(&mut self.slots, self.alloc, id, fields)
     }
 
     /// The names of a span and its ancestors, root first, without those that the layer doesn't admit.
@@ -289,5 +289,23 @@ impl Forest {
             return Err(Fault::Unknown);
         }
         Ok(names_of(&self.slots, self.alloc, layer, id)?)
+    }
+
+    /// The text of the path that `path` gives: the names joined by `:`, root first; of no names `-`.
+    ///
+    /// With it come the layers that admit the same spans on the walk, and so see the same path.
+    /// Refused in this order: `Unknown` where the span isn't open, `Memory`.
+    pub fn path_text(&self, layer: u32, id: Id) -> Result<PathText, Fault>
+        ensures found { OnOk result (IsOpen self.now.spans id) }
+        ensures text { IfOk result (λ seen. string_bytes seen.text ≡ path_text (path layer self.now.spans id)) }
+        ensures same { IfOk result (λ seen. (other : ℕ) → IsTrue (has_bit seen.same.0 other) →
+            path other self.now.spans id ≡ path layer self.now.spans id) }
+        ensures own { IfOk result (λ seen. layer < 64 → IsTrue (has_bit seen.same.0 layer)) }
+        ensures refused { IfErr result (λ fault. WhyNotFound self.now.spans id fault) }
+    {
+        if !is_open(&self.slots, id) {
+            return Err(Fault::Unknown);
+        }
+        Ok(path_text_of(&self.slots, self.alloc, layer, id)?)
     }
 }

@@ -8,10 +8,12 @@ mod adding;
 mod closing;
 mod forest;
 mod holders;
+mod path_text;
 mod span;
 #[cfg(test)]
 mod tests;
 mod writing;
 
 pub use forest::{Forest, laws};
+pub use path_text::PathText;
 pub use span::{Holder, Span};

@@ -1,12 +1,12 @@
-use span_id::{Bits, Field, Id, Meta};
+use span_id::{Bits, Fields, Id, Meta};
 
 /// An open span: what it was made with, its parent, and what holds it.
 #[derive(Debug, Drop)]
 pub struct Span {
     /// The name, target and level that it was made with.
     pub meta: Meta,
-    /// The fields, in the order in which they were written; a repeated key stands twice.
-    pub fields: Vec<Field>,
+    /// The fields, in the order in which they were written; a repeated key stands twice. The list may have more owners.
+    pub fields: Fields,
     /// The parent, which is open; a root has none.
     pub parent: Option<Id>,
     /// The layers that admit the span.

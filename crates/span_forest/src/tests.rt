@@ -2,7 +2,7 @@ mod row;
 mod tree;
 
 use super::*;
-use span_id::{Bits, Checked, Fault, Field, Id, Level, Limits, Meta};
+use span_id::{Bits, Checked, Fault, Field, Fields, Id, Level, Limits, Meta};
 use std::alloc::Global;
 use std::process::Abort;
 use std::test::Fail;
@@ -35,7 +35,7 @@ fn add(
     bits: u64,
 ) -> Result<u64, Fail> {
     let meta = named(alloc, name)?;
-    let id = forest.add(&meta, &[], parent, Bits(bits))?;
+    let id = forest.add(&meta, Fields::none(), parent, Bits(bits))?;
     Ok(id.get())
 }
 
@@ -118,6 +118,30 @@ fn a_path_names_what_the_layer_admits(rt: HostRuntime) -> Result<(), Fail> {
     Ok(())
 }
 
+// Whether this is the text of a path, and these of the first four layers see that path.
+fn sees(forest: &Forest, layer: u32, id: Id, text: &str, same: Bits) -> bool {
+    match forest.path_text(layer, id) {
+        Ok(path) => path.text.as_str() == text && path.same.and(Bits(15)) == same,
+        Err(_) => false,
+    }
+}
+
+#[test]
+fn a_text_is_of_the_layers_that_see_its_path(rt: HostRuntime) -> Result<(), Fail> {
+    let alloc = rt.alloc();
+    let mut forest = Forest::new(alloc, &checked(1024, 4294967295, 4294967295)?)?;
+    add(alloc, &mut forest, "a", None, 3)?;
+    add(alloc, &mut forest, "b", Id::from_u64(1), 7)?;
+    add(alloc, &mut forest, "c", Id::from_u64(2), 3)?;
+    let (root, last) = (id(&rt, 1), id(&rt, 3));
+    assert!(rt; sees(&forest, 0, last, "a:b:c", Bits(3)));
+    assert!(rt; sees(&forest, 1, last, "a:b:c", Bits(3)));
+    assert!(rt; sees(&forest, 2, last, "b", Bits(4)));
+    assert!(rt; sees(&forest, 3, last, "-", Bits(8)));
+    assert!(rt; sees(&forest, 64, root, "-", Bits(12)));
+    Ok(())
+}
+
 #[test]
 fn fields_are_written_at_the_end(rt: HostRuntime) -> Result<(), Fail> {
     let mut forest = pair(rt.alloc())?;
@@ -127,9 +151,27 @@ fn fields_are_written_at_the_end(rt: HostRuntime) -> Result<(), Fail> {
     forest.write_fields(id(&rt, 1), &fields)?;
     forest.write_fields(id(&rt, 1), &fields)?;
     let span = forest.find(id(&rt, 1)).expect(&rt, "a is open");
+    let written = span.fields.as_slice();
+    assert_eq!(rt; written.len(), 2);
+    assert_eq!(rt; written[1].key.as_str(), "k");
+    assert_eq!(rt; written[1].value.as_str(), "1");
+    Ok(())
+}
+
+#[test]
+fn another_owner_keeps_its_fields(rt: HostRuntime) -> Result<(), Fail> {
+    let alloc = rt.alloc();
+    let mut forest = pair(alloc)?;
+    let key = String::from_str(alloc, "k")?;
+    let value = String::from_str(alloc, "1")?;
+    let one = [Field { key, value }];
+    let fields = Fields::copy_of(alloc, &one)?;
+    let meta = named(alloc, "c")?;
+    let made = forest.add(&meta, fields.share()?, None, Bits(1))?;
+    forest.write_fields(made, &one)?;
+    let span = forest.find(made).expect(&rt, "c is open");
     assert_eq!(rt; span.fields.len(), 2);
-    assert_eq!(rt; span.fields[1].key.as_str(), "k");
-    assert_eq!(rt; span.fields[1].value.as_str(), "1");
+    assert_eq!(rt; fields.len(), 1);
     Ok(())
 }
 
@@ -147,6 +189,7 @@ fn a_child_keeps_its_parent_open(rt: HostRuntime) -> Result<(), Fail> {
     assert_eq!(rt; forest.total(), 0);
     assert!(rt; forest.release(id(&rt, 2), Holder::Handle).is_err());
     assert!(rt; forest.path(0, id(&rt, 2)).is_err());
+    assert!(rt; forest.path_text(0, id(&rt, 2)).is_err());
     // The root's slot was freed last.
     assert_eq!(rt; forest.next_id(), Id::from_u64(16777217));
     Ok(())
@@ -168,7 +211,10 @@ fn a_slot_that_gave_its_last_id_gives_no_more(rt: HostRuntime) -> Result<(), Fai
     release(&rt, rt.alloc(), &mut forest, 1, Holder::Handle, "1")?;
     assert_eq!(rt; forest.next_id(), None);
     let meta = named(rt.alloc(), "b")?;
-    assert_eq!(rt; forest.add(&meta, &[], None, Bits(0)), Err(Fault::Full));
+    assert_eq!(rt;
+        forest.add(&meta, Fields::none(), None, Bits(0)),
+        Err(Fault::Full)
+    );
     Ok(())
 }
 
@@ -180,6 +226,7 @@ fn finds_nothing(forest: &mut Forest, absent: Id) -> bool {
         && forest.closing(absent, Holder::Handle).is_err()
         && forest.release(absent, Holder::Handle).is_err()
         && forest.path(0, absent).is_err()
+        && forest.path_text(0, absent).is_err()
 }
 
 #[test]
@@ -203,14 +250,17 @@ fn refusals_in_their_order(rt: HostRuntime) -> Result<(), Fail> {
     add(rt.alloc(), &mut forest, "a", None, 1)?;
     let meta = named(rt.alloc(), "b")?;
     assert_eq!(rt;
-        forest.add(&meta, &[], Id::from_u64(2), Bits(1)),
+        forest.add(&meta, Fields::none(), Id::from_u64(2), Bits(1)),
         Err(Fault::Unknown)
     );
     assert_eq!(rt;
-        forest.add(&meta, &[], Id::from_u64(1), Bits(1)),
+        forest.add(&meta, Fields::none(), Id::from_u64(1), Bits(1)),
         Err(Fault::CountFull)
     );
-    assert_eq!(rt; forest.add(&meta, &[], None, Bits(1)), Err(Fault::Full));
+    assert_eq!(rt;
+        forest.add(&meta, Fields::none(), None, Bits(1)),
+        Err(Fault::Full)
+    );
     assert_eq!(rt;
         forest.keep(id(&rt, 1), Holder::Entry),
         Err(Fault::CountFull)
@@ -224,9 +274,9 @@ fn refusals_in_their_order(rt: HostRuntime) -> Result<(), Fail> {
 fn a_chain_of_65536_spans(rt: HostRuntime) -> Result<(), Fail> {
     let mut forest = Forest::new(rt.alloc(), &checked(65536, 0, 2)?)?;
     let meta = named(rt.alloc(), "p")?;
-    let mut last = forest.add(&meta, &[], None, Bits(1))?;
+    let mut last = forest.add(&meta, Fields::none(), None, Bits(1))?;
     for number in 2..=65536 {
-        let next = forest.add(&meta, &[], Some(last), Bits(1))?;
+        let next = forest.add(&meta, Fields::none(), Some(last), Bits(1))?;
         assert_eq!(rt; next.get(), number);
         assert!(rt; forest.release(last, Holder::Handle)?.is_empty());
         last = next;
@@ -251,7 +301,10 @@ fn more_roots_than_the_older_layout_had_slots(rt: HostRuntime) -> Result<(), Fai
     let mut forest = Forest::new(rt.alloc(), &checked(65537, 0, 1)?)?;
     let meta = named(rt.alloc(), "r")?;
     for number in 1..=65537 {
-        assert_eq!(rt; forest.add(&meta, &[], None, Bits(0))?.get(), number);
+        assert_eq!(rt;
+            forest.add(&meta, Fields::none(), None, Bits(0))?.get(),
+            number
+        );
     }
     assert_eq!(rt; forest.len(), 65537);
     assert_eq!(rt; forest.next_id(), None);

@@ -8,27 +8,29 @@ ghost use Rattle.span_forest.specs.Forest.{IsForest};
 ghost use Rattle.span_forest.specs.inside.Invariant.{IsSettled};
 
 use crate::span::Span;
-use span_id::{Field, Id};
+use span_id::{Fault, Field, Id};
 use span_slots::Slots;
 use std::alloc::{AllocError, Global};
 
 // Appends these fields to those of a span. Where memory is refused the span stays as it was.
 pub(crate) fn append_fields(
     slots: &mut Slots<Span>,
+    alloc: Global,
     id: Id,
-    mut fields: Vec<Field>,
-) -> Result<(), AllocError>
+    fields: &[Field],
+) -> Result<(), Fault>
     requires settled { IsSettled slots.old.entries }
     ensures settled { IsSettled slots.new.entries }
     ensures written { OnOk result
-        (nodes_of slots.new.entries ≡ with_change (with_fields (plain_fields fields.items))
+        (nodes_of slots.new.entries ≡ with_change (with_fields (plain_fields fields.now))
         (nodes_of slots.old.entries) id) }
     ensures refused { OnErr result (nodes_of slots.new.entries ≡ nodes_of slots.old.entries) }
+    ensures memory { IfErr result (λ fault. fault ≡ Fault.Memory) }
     ensures table { slots.new ≡ record slots.old { entries = slots.new.entries } }
 {
     match slots.get_mut(id) {
         None => Ok(()),
-        Some(span) => span.fields.append(&mut fields),
+        Some(span) => span.fields.extend(alloc, fields),
     }
 }
 

@@ -9,16 +9,16 @@ use Rattle.span_forest.proofs.writing.append_fields.Goals as goal
 
 pub returns-in-None-clause-written : goal.returns-in-None-clause-written
 returns-in-None-clause-written c =
-    sym (changed-absent (with_fields (plain_fields c.args.fields.items)) (nodes_of c.args.slots.now.entries) c.args.id (not_found c.args.slots.now.entries c.args.id (sym c.get_mut.ensures.value ∙ ap option_copied_mut c.in-None.is)))
+    sym (changed-absent (with_fields (plain_fields c.args.fields.now)) (nodes_of c.args.slots.now.entries) c.args.id (not_found c.args.slots.now.entries c.args.id (sym c.get_mut.ensures.value ∙ ap option_copied_mut c.in-None.is)))
 
-pub returns-clause-settled : goal.returns-clause-settled
-returns-clause-settled c =
-    settled_appended c.args.slots.now.entries c.args.id c.in-Some.span.now c.append.new.self c.args.fields.items c.append.result c.requires.settled (sym c.get_mut.ensures.value ∙ ap option_copied_mut c.in-Some.is) c.append.ensures.items
+pub returns-in-Some-clause-settled : goal.returns-in-Some-clause-settled
+returns-in-Some-clause-settled c =
+    settled_appended c.args.slots.now.entries c.args.id c.in-Some.span.now c.extend.new.self (plain_fields c.args.fields.now) c.extend.result c.requires.settled (sym c.get_mut.ensures.value ∙ ap option_copied_mut c.in-Some.is) c.extend.ensures.fields c.extend.ensures.unchanged
 
-pub returns-clause-written : goal.returns-clause-written
-returns-clause-written c =
-    written_appended c.args.slots.now.entries c.args.id c.in-Some.span.now c.append.new.self c.args.fields.items c.append.result c.requires.settled (sym c.get_mut.ensures.value ∙ ap option_copied_mut c.in-Some.is) c.append.ensures.items
+pub returns-in-Some-clause-written : goal.returns-in-Some-clause-written
+returns-in-Some-clause-written c =
+    written_appended c.args.slots.now.entries c.args.id c.in-Some.span.now c.extend.new.self (plain_fields c.args.fields.now) c.extend.result c.requires.settled (sym c.get_mut.ensures.value ∙ ap option_copied_mut c.in-Some.is) c.extend.ensures.fields
 
-pub returns-clause-refused : goal.returns-clause-refused
-returns-clause-refused c =
-    refused_appended c.args.slots.now.entries c.args.id c.in-Some.span.now c.append.new.self c.args.fields.items c.append.result c.requires.settled (sym c.get_mut.ensures.value ∙ ap option_copied_mut c.in-Some.is) c.append.ensures.items
+pub returns-in-Some-clause-refused : goal.returns-in-Some-clause-refused
+returns-in-Some-clause-refused c =
+    refused_appended c.args.slots.now.entries c.args.id c.in-Some.span.now c.extend.new.self (plain_fields c.args.fields.now) c.extend.result c.requires.settled (sym c.get_mut.ensures.value ∙ ap option_copied_mut c.in-Some.is) c.extend.ensures.unchanged

@@ -7,7 +7,7 @@ use Rattle.span_forest.proofs.forest.Forest.add.Goals.{After-place}
 
 -- the new span
 made : After-place → Span
-made c = record { meta = c.in_ok-meta.meta; fields = c.in_ok-fields.fields; parent = c.in_ok-parent.parent; bits = c.args.bits; handles = 1; entries = 0; count = 1 }
+made c = record { meta = c.in_ok-meta.meta; fields = c.args.fields; parent = c.in_ok-parent.parent; bits = c.args.bits; handles = 1; entries = 0; count = 1 }
 
 pub overflow_add-self : goal.overflow_add-self
 overflow_add-self c =

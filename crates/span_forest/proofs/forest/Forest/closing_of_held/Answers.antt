@@ -1,4 +1,4 @@
-use Rattle.span_forest.specs.Spans.{Spans, nodes_of}
+use Rattle.span_forest.specs.Spans.{nodes_of}
 use Rattle.span_forest.specs.Holders.{IsHeld}
 use Rattle.span_forest.proofs.Along.{released_by}
 use Rattle.span_forest.specs.Forest.{ForestView}
