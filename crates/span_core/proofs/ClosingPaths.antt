@@ -1,6 +1,6 @@
 -- The notes of a chain of spans that close: how each tells the path at the next.
-use Rattle.std.proofs.Common.{◌≡◌, ◌≢◌, ℕ, zero, suc, ◌+◌, ◌<◌, ◌≤◌, Bool, true, false, cond, ◌&&◌, ◌||◌, List, [], ◌∷◌, ◌++◌, length, filter, reverse, replicate, take, set, eqb, Option, Some, None, refl, sym, ap, ◌∙◌, subst, inl, inr, arith}
-use Rattle.std.specs.Prelude.{slice_get}
+use Rattle.std.proofs.Common.{◌≡◌, ◌≢◌, ℕ, zero, suc, ◌+◌, ◌<◌, ◌≤◌, Bool, true, false, cond, ◌&&◌, ◌||◌, List, [], ◌∷◌, ◌++◌, length, map, filter, reverse, replicate, take, set, eqb, Option, Some, None, refl, sym, ap, ◌∙◌, subst, inl, inr, arith}
+use Rattle.std.specs.Prelude.{slice_get, IfSome, IsSomeAnd}
 use Rattle.std.specs.List.{list_any, range_with_len}
 use Rattle.std.specs.Option.{option_map_or}
 use Rattle.std.proofs.lemmas.Bool.{cases_Bool, cases_lt, true≢false, eqb-true, eq-eqb, ne_eqb}
@@ -9,7 +9,8 @@ use Rattle.std.proofs.lemmas.List.{append-nil, reverse-append, get_or-set_same, 
 use Rattle.std.proofs.lemmas.Map.Views.{any-filter_same}
 use Rattle.span_id.specs.Bits.{has_bit}
 use Rattle.span_layers.specs.declared.note.Kind.TheVariants.{OnClose}
-use Rattle.span_layers.specs.Note.{PlainNote}
+use Rattle.span_layers.specs.Note.{PlainNote, plain_note}
+use Rattle.span_layers.specs.declared.note.Note.{Note}
 use Rattle.span_layers.specs.Filter.{Filter, layer_wants}
 use Rattle.span_forest.specs.Node.{Node}
 use Rattle.span_forest.specs.Spans.{Spans, find, IsOpen, parent_of}
@@ -21,6 +22,7 @@ use Rattle.span_core.specs.Happening.{bits_in, close_of, is_told, note_of, path_
 use Rattle.span_core.specs.inside.Sound.{hears}
 use Rattle.span_core.specs.inside.ClosingPaths.{GoesOn, IsChain, TellsBelow, IsBelow, AreBelow, AreBelowFirst, place_in, AreAscending, with_left}
 use Rattle.span_core.specs.declared.notes.closing.Place.{Place}
+use Rattle.span_core.specs.declared.notes.closing.Below.{Below}
 use Rattle.span_core.proofs.NewSpans.{ParentsOpen, parent_is_open, path_is}
 
 -- a walk is its first span and the walk of that one's parent
@@ -92,6 +94,19 @@ tells_below spans notes layer id place note is found =
   where
     some_same : (a b : PlainNote) → Some a ≡ Some b → a ≡ b
     some_same a b same = cc
+
+-- what the note that was looked up tells
+pub told_above : (spans : Spans) (seen notes : List Note) (layer id : ℕ) (held place : Option Place) (found : Option Below) → seen ≡ notes → held ≡ place
+    → IsBelow spans (map plain_note notes) layer (Some id) held
+    → IfSome found (λ below. IsSomeAnd place (λ p. (slice_get (map plain_note seen) p.at ≡ Some (plain_note below.note.now)) × (p.name ≡ below.name)))
+    → IfSome found (λ below. TellsBelow (path layer spans id) below.name (plain_note below.note.now))
+told_above spans seen notes layer id held place None same at is there = tt
+told_above spans seen notes layer id held None (Some below) same at is there = absurd there
+told_above spans seen notes layer id held (Some place) (Some below) same at is there =
+    subst (λ (bytes : ℕ). TellsBelow (path layer spans id) bytes (plain_note below.note.now)) there.1
+    (tells_below spans (map plain_note notes) layer id place (plain_note below.note.now)
+    (subst (λ (p : Option Place). IsBelow spans (map plain_note notes) layer (Some id) p) at is)
+    (ap (λ (ns : List Note). slice_get (map plain_note ns) place.at) (sym same) ∙ there.0))
 
 -- numbers that ascend from a bound on ascend from each lower one
 AreAscending-lower : (test : ℕ → Bool) (low from end : ℕ) (ns : List ℕ) → low ≤ from → AreAscending test from end ns → AreAscending test low end ns

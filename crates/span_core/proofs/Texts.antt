@@ -1,6 +1,7 @@
 -- The texts of paths, one name longer and one name shorter.
-use Rattle.std.proofs.Common.{◌≡◌, ℕ, ◌+◌, ◌-◌, ◌<◌, Bool, cond, nat_eq, List, [], ◌∷◌, ◌++◌, length, take, codes, refl, sym, ap, ◌∙◌, append_assoc, arith}
+use Rattle.std.proofs.Common.{◌≡◌, ℕ, suc, ◌+◌, ◌-◌, ◌<◌, Bool, cond, nat_eq, List, [], ◌∷◌, ◌++◌, length, take, codes, refl, sym, ap, ◌∙◌, append_assoc, arith}
 use Rattle.std.proofs.lemmas.List.{length-append}
+use Rattle.std.proofs.Math.Dec.{eqb-suc-zero}
 use Rattle.std.proofs.Math.Seq.{take-append_seam}
 use Rattle.span_forest.specs.Path.{path_text}
 
@@ -11,7 +12,7 @@ text_more first (next ∷ others) name =
     ap (λ rest. first ++ (58 ∷ rest)) (text_more next others name)
     ∙ sym (append_assoc first (58 ∷ path_text (next ∷ others)) (58 ∷ name))
 
-long : (first : List ℕ) (others : List (List ℕ)) (name : List ℕ) → length (path_text ((first ∷ others) ++ name ∷ [])) ≡ length (path_text (first ∷ others)) + (1 + length name)
+long : (first : List ℕ) (others : List (List ℕ)) (name : List ℕ) → length (path_text ((first ∷ others) ++ name ∷ [])) ≡ length (path_text (first ∷ others)) + suc (length name)
 long first others name = ap length (text_more first others name) ∙ length-append (path_text (first ∷ others)) (58 ∷ name)
 
 -- where the last name is the whole text, there is no other
@@ -32,4 +33,4 @@ above_is (first ∷ others) name above sum there =
 pub text_below : (path : List (List ℕ)) (none : Bool) (above name : List ℕ) → above ≡ path_text path → none ≡ nat_eq (length path) 0
     → path_text (path ++ name ∷ []) ≡ cond none name (above ++ 58 ∷ name)
 text_below [] none above name is there = rw there refl
-text_below (first ∷ others) none above name is there = rw there (text_more first others name ∙ ap (λ text. text ++ 58 ∷ name) (sym is))
+text_below (first ∷ others) none above name is there = rw there (text_more first others name ∙ ap (λ text. text ++ 58 ∷ name) (sym is) ∙ ap (λ b. cond b name (above ++ 58 ∷ name)) (sym (eqb-suc-zero (length others))))

@@ -18,7 +18,7 @@ use span_forest::laws::{
     closing_list_begins_the_walk, held_ids_are_open, open_spans_are_counted, walks_end,
 };
 use span_forest::{Forest, Span};
-use span_id::{Fault, Fields, Id};
+use span_id::{Fault, Id};
 use span_layers::{Kind, Note, Rules};
 use std::alloc::Global;
 use std::sync::ArcStr;
@@ -213,7 +213,7 @@ fn close_note(
     ensures memory { IfErr result (λ fault. fault ≡ Fault.Memory) }
 {
     let path = close_path(alloc, forest, before, last, layer, what.id)?;
-    let fields = Fields::copy_of(alloc, what.span.fields.as_slice())?;
+    let fields = what.span.fields.share()?;
     Ok(Note {
         layer,
         kind: Kind::OnClose,

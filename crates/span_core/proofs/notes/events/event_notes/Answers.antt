@@ -9,9 +9,7 @@ use Rattle.span_core.proofs.notes.events.event_notes.Goals as goal
 pub returns-clause-notes : goal.returns-clause-notes
 returns-clause-notes c =
     let event = c.args.event.now in
-    let are : List ℕ → List ℕ → List KeyValue → Type 0 = (λ ids message fields. IfOk c.told.result (λ notes. map plain_note notes.items
-    ≡ notes_of c.args.rules.now event.worker (event_at c.args.forest.now.spans ids event.bits.0 event.meta.now.level message fields))) in
-    subst (λ (ids : List ℕ). are ids event.message.now (Rattle.span_id.specs.Meta.plain_fields event.fields.now))
-    (sym (ids_at c.args.stacks.now event.worker _ c.requires.worker c.index-stacks-event.is))
-    (subst (λ (message : List ℕ). are _ message (Rattle.span_id.specs.Meta.plain_fields event.fields.now)) c.requires.message
-    (subst (λ (fields : List KeyValue). are _ _ fields) c.requires.fields c.told.ensures.notes))
+    let ids_are = sym (ids_at c.args.stacks.now event.worker _ c.requires.worker c.index-stacks-event.is) in
+    subst (λ (lent : List ℕ × List ℕ × List KeyValue). IfOk c.told.result (λ notes. map plain_note notes.items
+    ≡ notes_of c.args.rules.now event.worker (event_at c.args.forest.now.spans lent.0 event.bits.0 event.meta.now.level lent.1 lent.2)))
+    (λ j. (ids_are j, c.requires.message j, c.requires.fields j)) c.told.ensures.notes
