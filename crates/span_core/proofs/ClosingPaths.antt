@@ -1,6 +1,6 @@
 -- The notes of a chain of spans that close: how each tells the path at the next.
-use Rattle.std.proofs.Common.{◌≡◌, ◌≢◌, ℕ, zero, suc, ◌+◌, ◌<◌, ◌≤◌, Bool, true, false, cond, ◌&&◌, ◌||◌, List, [], ◌∷◌, ◌++◌, length, filter, reverse, replicate, take, set, eqb, Option, Some, None, refl, sym, ap, ◌∙◌, subst, inl, inr, arith}
-use Rattle.std.specs.Prelude.{slice_get}
+use Rattle.std.proofs.Common.{◌≡◌, ◌≢◌, ℕ, zero, suc, ◌+◌, ◌<◌, ◌≤◌, Bool, true, false, cond, ◌&&◌, ◌||◌, List, [], ◌∷◌, ◌++◌, length, map, filter, reverse, replicate, take, set, eqb, Option, Some, None, refl, sym, ap, ◌∙◌, subst, inl, inr, arith}
+use Rattle.std.specs.Prelude.{slice_get, IfSome, IsSomeAnd}
 use Rattle.std.specs.List.{list_any, range_with_len}
 use Rattle.std.specs.Option.{option_map_or}
 use Rattle.std.proofs.lemmas.Bool.{cases_Bool, cases_lt, true≢false, eqb-true, eq-eqb, ne_eqb}
@@ -9,17 +9,20 @@ use Rattle.std.proofs.lemmas.List.{append-nil, reverse-append, get_or-set_same, 
 use Rattle.std.proofs.lemmas.Map.Views.{any-filter_same}
 use Rattle.span_id.specs.Bits.{has_bit}
 use Rattle.span_layers.specs.declared.note.Kind.TheVariants.{OnClose}
-use Rattle.span_layers.specs.Note.{PlainNote}
+use Rattle.span_layers.specs.Note.{PlainNote, plain_note}
+use Rattle.span_layers.specs.declared.note.Note.{Note}
 use Rattle.span_layers.specs.Filter.{Filter, layer_wants}
 use Rattle.span_forest.specs.Node.{Node}
 use Rattle.span_forest.specs.Spans.{Spans, find, IsOpen, parent_of}
 use Rattle.span_forest.specs.Walk.{walk, walk_within, Ends}
-use Rattle.span_forest.specs.Path.{path, names_for, name_for}
+use Rattle.span_forest.specs.Path.{path, path_text, names_for, name_for}
 use Rattle.span_forest.proofs.Ranks.{walk_more}
 use Rattle.span_core.specs.Step.{is_open_parent}
 use Rattle.span_core.specs.Happening.{bits_in, close_of, is_told, note_of, path_at}
 use Rattle.span_core.specs.inside.Sound.{hears}
-use Rattle.span_core.specs.inside.ClosingPaths.{GoesOn, IsChain, TellsBelow, IsBelow, AreBelow, AreBelowFirst, note_in, place_in, AreAscending, with_left}
+use Rattle.span_core.specs.inside.ClosingPaths.{GoesOn, IsChain, TellsBelow, IsBelow, AreBelow, AreBelowFirst, place_in, AreAscending, with_left}
+use Rattle.span_core.specs.declared.notes.closing.Place.{Place}
+use Rattle.span_core.specs.declared.notes.closing.Below.{Below}
 use Rattle.span_core.proofs.NewSpans.{ParentsOpen, parent_is_open, path_is}
 
 -- a walk is its first span and the walk of that one's parent
@@ -73,23 +76,37 @@ get_pushed [] x = refl
 get_pushed (y ∷ ys) x = get_pushed ys x
 
 -- more notes change nothing of those that stand
-below_more : (spans : Spans) (notes more : List PlainNote) (layer : ℕ) (next place : Option ℕ) → IsBelow spans notes layer next place → IsBelow spans (notes ++ more) layer next place
+below_more : (spans : Spans) (notes more : List PlainNote) (layer : ℕ) (next : Option ℕ) (place : Option Place) → IsBelow spans notes layer next place → IsBelow spans (notes ++ more) layer next place
 below_more spans notes more layer next None is = tt
-below_more spans notes more layer next (Some at) is = (is.0, get_more notes more at is.0 is.1, is.2)
+below_more spans notes more layer next (Some place) is = (is.0, get_more notes more place.at is.0 is.1, is.2)
 
-below_at : (spans : Spans) (notes : List PlainNote) (layer : ℕ) (old_next next old_place place : Option ℕ) → next ≡ old_next → place ≡ old_place → IsBelow spans notes layer old_next old_place → IsBelow spans notes layer next place
+below_at : (spans : Spans) (notes : List PlainNote) (layer : ℕ) (old_next next : Option ℕ) (old_place place : Option Place) → next ≡ old_next → place ≡ old_place → IsBelow spans notes layer old_next old_place → IsBelow spans notes layer next place
 below_at spans notes layer old_next next old_place place nexts places is = rw (nexts, places) is
 
-none_below : (spans : Spans) (notes : List PlainNote) (layer : ℕ) (next place : Option ℕ) → place ≡ None → IsBelow spans notes layer next place
+none_below : (spans : Spans) (notes : List PlainNote) (layer : ℕ) (next : Option ℕ) (place : Option Place) → place ≡ None → IsBelow spans notes layer next place
 none_below spans notes layer next place none = rw none tt
 
 -- what the note of a place tells
-pub tells_below : (spans : Spans) (notes : List PlainNote) (layer id : ℕ) (place : Option ℕ) (note : PlainNote) → IsBelow spans notes layer (Some id) place → note_in notes place ≡ Some note → TellsBelow (path layer spans id) note
-tells_below spans notes layer id None note is found = cc
-tells_below spans notes layer id (Some at) note is found = let same : is.0 ≡ note = some_same (is.0) note (sym is.1 ∙ found) in subst (TellsBelow (path layer spans id)) same is.2
+pub tells_below : (spans : Spans) (notes : List PlainNote) (layer id : ℕ) (place : Place) (note : PlainNote) → IsBelow spans notes layer (Some id) (Some place) → slice_get notes place.at ≡ Some note
+    → TellsBelow (path layer spans id) place.name note
+tells_below spans notes layer id place note is found =
+    let same : is.0 ≡ note = some_same (is.0) note (sym is.1 ∙ found) in subst (TellsBelow (path layer spans id) place.name) same is.2
   where
     some_same : (a b : PlainNote) → Some a ≡ Some b → a ≡ b
     some_same a b same = cc
+
+-- what the note that was looked up tells
+pub told_above : (spans : Spans) (seen notes : List Note) (layer id : ℕ) (held place : Option Place) (found : Option Below) → seen ≡ notes → held ≡ place
+    → IsBelow spans (map plain_note notes) layer (Some id) held
+    → IfSome found (λ below. IsSomeAnd place (λ p. (slice_get (map plain_note seen) p.at ≡ Some (plain_note below.note.now)) × (p.name ≡ below.name)))
+    → IfSome found (λ below. TellsBelow (path layer spans id) below.name (plain_note below.note.now))
+told_above spans seen notes layer id held place None same at is there = tt
+told_above spans seen notes layer id held None (Some below) same at is there = absurd there
+told_above spans seen notes layer id held (Some place) (Some below) same at is there =
+    subst (λ (bytes : ℕ). TellsBelow (path layer spans id) bytes (plain_note below.note.now)) there.1
+    (tells_below spans (map plain_note notes) layer id place (plain_note below.note.now)
+    (subst (λ (p : Option Place). IsBelow spans (map plain_note notes) layer (Some id) p) at is)
+    (ap (λ (ns : List Note). slice_get (map plain_note ns) place.at) (sym same) ∙ there.0))
 
 -- numbers that ascend from a bound on ascend from each lower one
 AreAscending-lower : (test : ℕ → Bool) (low from end : ℕ) (ns : List ℕ) → low ≤ from → AreAscending test from end ns → AreAscending test low end ns
@@ -155,22 +172,22 @@ not_first true b h k = absurd (true≢false (sym k ∙ h))
 not_first false b h k = refl
 
 -- a layer that is told: its place is that of its note
-pub below_turn : (rules : List Filter) (spans : Spans) (id layer worker : ℕ) (node : Node) (left rest : List ℕ) (notes after : List PlainNote) (places later : List (Option ℕ)) (count : ℕ)
+pub below_turn : (rules : List Filter) (spans : Spans) (id layer worker : ℕ) (node : Node) (left rest : List ℕ) (notes after : List PlainNote) (places later : List (Option Place)) (count : ℕ)
     → find spans id ≡ Some node → Ends (length spans) spans (Some id) → length places ≡ length rules → count ≡ length notes
     → left ≡ layer ∷ rest → AreAscending (is_told rules (close_of spans id)) 0 (length rules) left
     → AreBelow rules spans notes (with_left spans id left) places
-    → after ≡ notes ++ note_of worker (close_of spans id) layer ∷ [] → later ≡ set places layer (Some count)
+    → after ≡ notes ++ note_of worker (close_of spans id) layer ∷ [] → later ≡ set places layer (Some (record { at = count; name = length node.name }))
     → AreBelow rules spans after (with_left spans id rest) later
 below_turn rules spans id layer worker node left rest notes after places later count found ends long counted next up old after_is later_is =
     rw (after_is, later_is) (record {
       below = λ k. elim (eqb_tells k layer) [
         | inl same ↦ subst (λ (n : ℕ). IsBelow spans told n (with_left spans id rest n) (place_in placed n)) (sym same.1) here
-        | inr other ↦ below_at spans told k _ _ _ _ (past k other.1) (get_or-set_other places layer k (Some count) None other.1)
+        | inr other ↦ below_at spans told k _ _ _ _ (past k other.1) (get_or-set_other places layer k (Some place) None other.1)
             (below_more spans notes (note ∷ []) k _ _ (old.below k))
       ];
       wanted = λ k unwanted. elim (eqb_tells k layer) [
         | inl same ↦ absurd (true≢false (sym both.1 ∙ ap (λ n. layer_wants rules n OnClose) (sym same.1) ∙ unwanted))
-        | inr other ↦ get_or-set_other places layer k (Some count) None other.1 ∙ old.wanted k unwanted
+        | inr other ↦ get_or-set_other places layer k (Some place) None other.1 ∙ old.wanted k unwanted
       ];
     })
   where
@@ -180,8 +197,11 @@ below_turn rules spans id layer worker node left rest notes after places later c
     told : List PlainNote
     told = notes ++ note ∷ []
 
-    placed : List (Option ℕ)
-    placed = set places layer (Some count)
+    place : Place
+    place = record { at = count; name = length node.name }
+
+    placed : List (Option Place)
+    placed = set places layer (Some place)
 
     first : AreAscending (is_told rules (close_of spans id)) 0 (length rules) (layer ∷ rest)
     first = subst (λ layers. AreAscending (is_told rules (close_of spans id)) 0 (length rules) layers) next up
@@ -197,10 +217,10 @@ below_turn rules spans id layer worker node left rest notes after places later c
 
     here : IsBelow spans told layer (with_left spans id rest layer) (place_in placed layer)
     here =
-        below_at spans told layer (parent_of spans id) _ (Some count) _
+        below_at spans told layer (parent_of spans id) _ (Some place) _
         (left_at spans id layer rest false (absent_below (is_told rules (close_of spans id)) (layer + 1) (length rules) layer rest (omega arith) first.3))
-        (get_or-set_same places layer (Some count) None (omega (arith, long, first.1)))
-        (note, stands, (node.name, named))
+        (get_or-set_same places layer (Some place) None (omega (arith, long, first.1)))
+        (note, stands, (node.name, refl, ap path_text named))
 
     past : (k : ℕ) → k ≢ layer → with_left spans id rest k ≡ with_left spans id left k
     past k other =
@@ -218,7 +238,7 @@ pub left_there : (test : ℕ → Bool) (end layer : ℕ) (left rest : List ℕ) 
 left_there test end layer left rest next up =
     let first : AreAscending test 0 end (layer ∷ rest) = subst (λ layers. AreAscending test 0 end layers) next up in first.1
 
-pub left_below : (rules : List Filter) (spans : Spans) (id layer : ℕ) (left rest : List ℕ) (notes : List PlainNote) (places : List (Option ℕ))
+pub left_below : (rules : List Filter) (spans : Spans) (id layer : ℕ) (left rest : List ℕ) (notes : List PlainNote) (places : List (Option Place))
     → left ≡ layer ∷ rest → AreBelow rules spans notes (with_left spans id left) places → IsBelow spans notes layer (Some id) (place_in places layer)
 left_below rules spans id layer left rest notes places next old =
     below_at spans notes layer _ (Some id) _ _
@@ -227,7 +247,7 @@ left_below rules spans id layer left rest notes places next old =
 
 -- before the first turn: a layer that isn't told either has no place, as it wants no closes or isn't there, or doesn't
 -- admit the span, and its path stays
-pub below_start : (rules : List Filter) (spans : Spans) (id : ℕ) (node : Node) (left : List ℕ) (notes : List PlainNote) (places : List (Option ℕ))
+pub below_start : (rules : List Filter) (spans : Spans) (id : ℕ) (node : Node) (left : List ℕ) (notes : List PlainNote) (places : List (Option Place))
     → find spans id ≡ Some node → Ends (length spans) spans (Some id) → length places ≡ length rules
     → left ≡ filter (is_told rules (close_of spans id)) (range_with_len 0 (length rules))
     → AreBelow rules spans notes (λ layer. Some id) places → AreBelow rules spans notes (with_left spans id left) places
@@ -243,9 +263,9 @@ below_start rules spans id node left notes places found ends long are old =
     same_path : (k : ℕ) → has_bit (bits_in spans id) k ≡ false → path k spans id ≡ path_at k spans (parent_of spans id)
     same_path k refused = step_named spans k id node ends found ∙ ap (λ b. path_at k spans (parent_of spans id) ++ cond b (node.name ∷ []) []) refused ∙ append-nil _
 
-    moved : (k : ℕ) (place : Option ℕ) → has_bit (bits_in spans id) k ≡ false → IsBelow spans notes k (Some id) place → IsBelow spans notes k (parent_of spans id) place
+    moved : (k : ℕ) (place : Option Place) → has_bit (bits_in spans id) k ≡ false → IsBelow spans notes k (Some id) place → IsBelow spans notes k (parent_of spans id) place
     moved k None refused is = tt
-    moved k (Some at) refused is = (is.0, is.1, (is.2.0, is.2.1 ∙ ap (λ p. p ++ is.2.0 ∷ []) (same_path k refused)))
+    moved k (Some at) refused is = (is.0, is.1, (is.2.0, is.2.1, is.2.2 ∙ ap (λ p. path_text (p ++ is.2.0 ∷ [])) (same_path k refused)))
 
     up : (k : ℕ) → list_any (λ other. eqb other k) left ≡ false → IsBelow spans notes k (parent_of spans id) (place_in places k)
     up k quiet =
@@ -266,7 +286,7 @@ left_start test end left are = subst (λ layers. AreAscending test 0 end layers)
     zeros = omega arith
 
 -- after the last turn
-pub below_end : (rules : List Filter) (spans : Spans) (id : ℕ) (left : List ℕ) (notes : List PlainNote) (places : List (Option ℕ))
+pub below_end : (rules : List Filter) (spans : Spans) (id : ℕ) (left : List ℕ) (notes : List PlainNote) (places : List (Option Place))
     → left ≡ [] → AreBelow rules spans notes (with_left spans id left) places → AreBelow rules spans notes (λ layer. parent_of spans id) places
 below_end rules spans id left notes places none old =
     record {
@@ -280,7 +300,7 @@ nowhere (suc layers) zero = refl
 nowhere (suc layers) (suc k) = nowhere layers k
 
 -- before the first span: there are no places
-pub below_nothing : (rules : List Filter) (spans : Spans) (notes : List PlainNote) (closed : List ℕ) (places : List (Option ℕ)) (layers : ℕ)
+pub below_nothing : (rules : List Filter) (spans : Spans) (notes : List PlainNote) (closed : List ℕ) (places : List (Option Place)) (layers : ℕ)
     → places ≡ replicate layers None → AreBelowFirst rules spans notes closed places
 below_nothing rules spans notes [] places layers none = tt
 below_nothing rules spans notes (id ∷ ids) places layers none =
@@ -290,7 +310,7 @@ below_nothing rules spans notes (id ∷ ids) places layers none =
     }
 
 -- on to the next span, the parent of the one that was told of
-pub below_next : (rules : List Filter) (spans : Spans) (notes : List PlainNote) (next : Option ℕ) (closed : List ℕ) (places : List (Option ℕ))
+pub below_next : (rules : List Filter) (spans : Spans) (notes : List PlainNote) (next : Option ℕ) (closed : List ℕ) (places : List (Option Place))
     → GoesOn next closed → AreBelow rules spans notes (λ layer. next) places → AreBelowFirst rules spans notes closed places
 below_next rules spans notes next [] places on old = tt
 below_next rules spans notes next (id ∷ ids) places on old = subst (λ (o : Option ℕ). AreBelow rules spans notes (λ layer. o) places) on old

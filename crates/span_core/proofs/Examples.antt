@@ -60,12 +60,12 @@ nothing_entered : contextual_span three (stack_of inside 1) 0 ≡ None
 nothing_entered = refl
 
 -- each layer is told of an event with its own id and path
-abbrev noted : ℕ → ℕ → List (List ℕ) → PlainNote
+abbrev noted : ℕ → ℕ → List ℕ → PlainNote
 noted layer id path = record { layer = layer; kind = OnEvent; worker = 0; id = id; path = path; fields = (codes "k", codes "v") ∷ []; tail = Some (Info, codes "hi") }
 
 event_of_two_layers :
     notes_of_all (everything ∷ only_app ∷ []) 0 (event_told (everything ∷ only_app ∷ []) inside 0 (meta (codes "event") (codes "app")) (codes "hi") ((codes "k", codes "v") ∷ []) ∷ [])
-    ≡ noted 0 2 (codes "a" ∷ codes "q" ∷ []) ∷ noted 1 1 (codes "a" ∷ []) ∷ []
+    ≡ noted 0 2 (codes "a:q") ∷ noted 1 1 (codes "a") ∷ []
 unfolding is_admitted
 event_of_two_layers =
     refl
@@ -82,13 +82,13 @@ wanted_without_layers = refl
 abbrev entered_alone : World
 entered_alone = record { spans = (1, span (codes "a") 3 None 0 0) ∷ (2, span (codes "b") 3 (Some 1) 0 1) ∷ []; stacks = (2 ∷ []) ∷ [] }
 
-abbrev note_at : Bool → ℕ → List (List ℕ) → PlainNote
+abbrev note_at : Bool → ℕ → List ℕ → PlainNote
 note_at true id path = record { layer = 0; kind = OnExit; worker = 0; id = id; path = path; fields = []; tail = None }
 note_at false id path = record { layer = 0; kind = OnClose; worker = 0; id = id; path = path; fields = []; tail = None }
 
 exit_before_closes :
     notes_of_all (everything ∷ only_app ∷ []) 0 (happenings (everything ∷ only_app ∷ []) entered_alone (exit 0 2) (exited (closing_list entered_alone.spans 2 Entry)) (empty_world 1))
-    ≡ note_at true 2 (codes "a" ∷ codes "b" ∷ []) ∷ note_at false 2 (codes "a" ∷ codes "b" ∷ []) ∷ note_at false 1 (codes "a" ∷ []) ∷ []
+    ≡ note_at true 2 (codes "a:b") ∷ note_at false 2 (codes "a:b") ∷ note_at false 1 (codes "a") ∷ []
 exit_before_closes =
     refl
 
@@ -125,7 +125,7 @@ second_layer_wants_none : hears_close (everything ∷ only_app ∷ []) entered_a
 second_layer_wants_none = refl
 
 abbrev notes_of_exit : List PlainNote
-notes_of_exit = note_at true 2 (codes "a" ∷ codes "b" ∷ []) ∷ note_at false 2 (codes "a" ∷ codes "b" ∷ []) ∷ note_at false 1 (codes "a" ∷ []) ∷ []
+notes_of_exit = note_at true 2 (codes "a:b") ∷ note_at false 2 (codes "a:b") ∷ note_at false 1 (codes "a") ∷ []
 
 told_of_child_once : count_by (tells_close 0 2) notes_of_exit ≡ 1
 told_of_child_once = refl
@@ -198,7 +198,7 @@ legal =
 
 -- the lines of a history: the number of the batch, the place in it, the layer, and the text
 abbrev told_of_a : PlainNote
-told_of_a = record { layer = 0; kind = OnNew; worker = 0; id = 1; path = codes "a" ∷ []; fields = []; tail = None }
+told_of_a = record { layer = 0; kind = OnNew; worker = 0; id = 1; path = codes "a"; fields = []; tail = None }
 
 line_of_a : lines_of (Compact ∷ []) (record { request = new_span 0 (meta (codes "a") (codes "app")) [] None; answer = made 1; notes = told_of_a ∷ [] } ∷ [])
     ≡ (record { batch = 0; place = 0; layer = 0; text = codes "new 1 w0 a" }) ∷ []
@@ -272,7 +272,7 @@ no_slot = refl
 
 -- where a slot is free, the span is made under the next id, and the layer is told
 new_of_x : PlainNote
-new_of_x = record { layer = 0; kind = OnNew; worker = 0; id = 3; path = codes "a" ∷ codes "b" ∷ codes "x" ∷ []; fields = []; tail = None }
+new_of_x = record { layer = 0; kind = OnNew; worker = 0; id = 3; path = codes "a:b:x"; fields = []; tail = None }
 
 made_under_b :
     outcome (core_of two_made) (new_span 0 (meta (codes "x") (codes "app")) [] (Some 2))

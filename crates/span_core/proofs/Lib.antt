@@ -3,6 +3,7 @@ pub mod Worlds
 pub mod StackLists
 pub mod Accepting
 pub mod Telling
+pub mod Texts
 pub mod NewSpans
 pub mod ClosingPaths
 pub mod Counted

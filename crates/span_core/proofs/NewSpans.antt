@@ -22,7 +22,7 @@ use Rattle.span_forest.specs.Forest.{ForestView, table_of, next_span_id}
 use Rattle.span_forest.specs.Live.{stands_in}
 use Rattle.span_forest.specs.Add.{with_span}
 use Rattle.span_forest.specs.Walk.{walk_within}
-use Rattle.span_forest.specs.Path.{path, names_for, name_for}
+use Rattle.span_forest.specs.Path.{path, path_text, names_for, name_for}
 use Rattle.span_forest.proofs.Adds.{find-with_same, find-with_other}
 use Rattle.span_forest.proofs.Slotted.{issue_more}
 use Rattle.span_core.specs.World.{IsWorld}
@@ -118,7 +118,7 @@ new_notes rules worker id spans new_spans node fields notes gone whole there are
         map-filter-same (first_note spans worker id node.parent node.name fields) (note_of worker (at_span (with_node spans id node) OnNew id fields)) (hears rules node.bits OnNew) (is_told rules (at_span (with_node spans id node) OnNew id fields))
         (λ k. ap (λ b. has_bit b k && layer_wants rules k OnNew) (sym bits_are))
         (λ k told_k. let admitted = and_first (has_bit node.bits k) (layer_wants rules k OnNew) told_k in
-        let p = sym (new_path spans id node k gone whole there admitted) in
+        let p = ap path_text (sym (new_path spans id node k gone whole there admitted)) in
         λ j. record { layer = k; kind = OnNew; worker = worker; id = id; path = p j; fields = fields; tail = None })
         (range_with_len 0 (length rules))
 

@@ -5,7 +5,7 @@ ghost use Rattle.span_layers.specs.declared.note.Kind.TheVariants.{OnExit};
 ghost use Rattle.span_layers.specs.Note.{plain_note, told_of};
 ghost use Rattle.span_id.specs.Meta.{plain_fields};
 ghost use Rattle.span_outlet.specs.Request.{record_fields, request_of};
-ghost use Rattle.span_core.specs.Happening.{at_span, close_of, bits_in, notes_of, notes_of_all};
+ghost use Rattle.span_core.specs.Happening.{at_span, close_of, bits_in, notes_of, notes_of_all, path_at};
 ghost use Rattle.span_core.specs.inside.ClosingPaths.{IsChain};
 ghost use Rattle.span_core.specs.inside.Telling.{id_told, place_told, tail_told, text_told, told_to, notes_told, Knows};
 
@@ -18,7 +18,7 @@ pub(crate) mod paths;
 use closing::push_closes;
 use events::contextual_span;
 use layers::{told_count, told_layers};
-use paths::{LastPath, seen_text};
+use paths::{LastPath, new_text, seen_text};
 use span_forest::Forest;
 use span_id::{Bits, Fault, Field, Fields, Id, Level};
 use span_layers::{Kind, Note, Rules};
@@ -84,13 +84,35 @@ fn place_of(forest: &Forest, subject: &Subject<'_>, layer: u32) -> Option<Id>
 }
 
 // The id that a layer is told, which reads its path at this place.
-fn id_of(subject: &Subject<'_>, place: Option<Id>) -> u64
-    ensures { result ≡ id_told subject.now place }
+fn id_of(subject: &Subject<'_>, place: &Option<Id>) -> u64
+    ensures { result ≡ id_told subject.now place.now }
 {
     match (subject, place) {
         (Subject::NewSpan { id, .. }, _) => id.get(),
         (_, Some(id)) => id.get(),
         (_, None) => 0,
+    }
+}
+
+// The path of a layer at a place, as it is told of a subject.
+fn path_of(
+    alloc: Global,
+    forest: &Forest,
+    subject: &Subject<'_>,
+    last: &mut Option<LastPath>,
+    layer: u32,
+    place: &Option<Id>,
+) -> Result<ArcStr, Fault>
+    requires known { Knows (text_told subject.now) forest.now.spans last.old }
+    ensures text { IfOk result (λ text. arc_str_bytes text
+        ≡ text_told subject.now (path_at layer forest.now.spans place.now)) }
+    ensures known { OnOk result (Knows (text_told subject.now) forest.now.spans last.new) }
+    ensures memory { IfErr result (λ fault. fault ≡ Fault.Memory) }
+{
+    match subject {
+        Subject::NewSpan { name, .. } => new_text(alloc, forest, last, layer, place, name),
+        Subject::Span(_) => seen_text(alloc, forest, last, layer, place),
+        Subject::Event { .. } => seen_text(alloc, forest, last, layer, place),
     }
 }
 
@@ -101,7 +123,7 @@ fn tail(subject: &Subject<'_>) -> Result<Option<(Level, ArcStr)>, Fault>
 {
     match subject {
         Subject::Event { level, message, .. } => {
-            let text = message.clone()?;
+            let text = (**message).clone()?;
             Ok(Some((*level, text)))
         }
         _ => Ok(None),
@@ -122,14 +144,14 @@ fn note(
     ensures memory { IfErr result (λ fault. fault ≡ Fault.Memory) }
 {
     let place = place_of(forest, &what.subject, layer);
-    let path = seen_text(alloc, forest, &what.subject, last, layer, place)?;
+    let path = path_of(alloc, forest, &what.subject, last, layer, &place)?;
     let fields = what.fields.share()?;
     let tail = tail(&what.subject)?;
     Ok(Note {
         layer,
         kind: what.kind,
         worker: what.worker,
-        id: id_of(&what.subject, place),
+        id: id_of(&what.subject, &place),
         path,
         fields,
         tail,

@@ -12,14 +12,13 @@ ghost use Rattle.span_core.specs.Happening.{close_of, note_of, notes_of};
 ghost use Rattle.span_core.specs.inside.ClosingPaths.{IsChain, TellsBelow, IsBelow, place_in, AreBelow};
 ghost use Rattle.span_core.specs.inside.Telling.{Knows};
 
-use crate::notes::Subject;
 use crate::notes::layers::{told_count, told_layers};
 use crate::notes::paths::{LastPath, same_text, seen_text};
 use span_forest::laws::{
     closing_list_begins_the_walk, held_ids_are_open, open_spans_are_counted, walks_end,
 };
 use span_forest::{Forest, Span};
-use span_id::{Fault, Fields, Id};
+use span_id::{Fault, Id};
 use span_layers::{Kind, Note, Rules};
 use std::alloc::Global;
 use std::sync::ArcStr;
@@ -214,7 +213,7 @@ fn close_note(
     ensures memory { IfErr result (λ fault. fault ≡ Fault.Memory) }
 {
     let path = close_path(alloc, forest, before, last, layer, what.id)?;
-    let fields = Fields::copy_of(alloc, what.span.fields.as_slice())?;
+    let fields = what.span.fields.share()?;
     Ok(Note {
         layer,
         kind: Kind::OnClose,
@@ -242,19 +241,21 @@ fn close_path(
     ensures known { OnOk result (Knows path_text forest.now.spans last.new) }
     ensures memory { IfErr result (λ fault. fault ≡ Fault.Memory) }
 {
-    match before.and_then(path_above) {
-        Some(text) => same_text(alloc, last, text),
-        None => seen_text(alloc, forest, &Subject::Span(id), last, layer, Some(id)),
+    if let Some(below) = before {
+        if let Some(text) = path_above(below.note, below.name) {
+            return same_text(alloc, last, text);
+        }
     }
+    seen_text(alloc, forest, last, layer, &Some(id))
 }
 
-// The path of a note without its last name.
-fn path_above(below: Below<'_>) -> Option<&str>
+// The path of a note without its last name, which has so many bytes.
+fn path_above(note: &Note, name: usize) -> Option<&str>
     ensures path { IfSome result (λ text. (path : List (List ℕ)) →
-        TellsBelow path below.name (plain_note below.note.now) → text.now ≡ path_text path) }
+        TellsBelow path name (plain_note note.now) → text.now ≡ path_text path) }
 {
-    let text = below.note.path.as_str();
-    let above = text.len().checked_sub(below.name)?;
+    let text = note.path.as_str();
+    let above = text.len().checked_sub(name)?;
     if above == 0 {
         return Some("-");
     }

@@ -62,7 +62,11 @@ pub(crate) fn told_layers(rules: &Rules, bits: Bits, kind: Kind) -> ToldLayers<'
 
 // How many layers are told.
 pub(crate) fn told_count(rules: &Rules, bits: Bits, kind: Kind) -> usize {
-    told_layers(rules, bits, kind).count()
+    let mut count = 0usize;
+    for _ in told_layers(rules, bits, kind) {
+        count = count.saturating_add(1);
+    }
+    count
 }
 
 // Whether a layer is told: it admits what happened, and wants the kind.

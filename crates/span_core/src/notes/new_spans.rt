@@ -27,13 +27,15 @@ pub(crate) struct NewSpan<'a> {
     pub(crate) fields: &'a [Field],
 }
 
-// The call that makes a span, and its notes, which share the copies of the fields.
+// The call that makes a span, and its notes, which share the fields.
 pub(crate) fn new_told(
     alloc: Global,
     rules: &Rules,
     forest: &Forest,
     new: &NewSpan<'_>,
+    fields: &Fields,
 ) -> Result<Announced, Fault>
+    requires fields { fields.now ≡ plain_fields new.now.fields.now }
     ensures call { IfOk result (λ told. request_of told.call ≡ span_request new.now) }
     ensures notes { IfOk result (λ told. map plain_note told.notes.items
         ≡ map (first_note_of forest.now.spans new.now)
@@ -41,8 +43,8 @@ pub(crate) fn new_told(
     ensures memory { IfErr result (λ fault. fault ≡ Fault.Memory) }
 {
     let meta = new.meta.copy(alloc)?;
-    let fields = Fields::copy_of(alloc, new.fields)?;
-    let notes = new_notes(alloc, rules, forest, new, &fields)?;
+    let notes = new_notes(alloc, rules, forest, new, fields)?;
+    let fields = fields.share()?;
     Ok(Announced {
         call: Call::NewSpan {
             worker: new.worker,

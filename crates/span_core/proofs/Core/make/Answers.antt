@@ -70,13 +70,15 @@ no_other g c x fits low =
     ]
 
 forest_is : (g : given.Over) (c : After-put g) → c.add.new.self ≡ with_span c.self.inside.forest c.in-Ok.id (made_node c.self.inside.rules (plain_meta c.args.new.now.meta.now) (plain_fields c.args.new.now.fields.now) c.args.new.now.parent)
-forest_is g c = c.in-Ok.ensures.forest ∙ ap (λ b. with_span c.self.inside.forest c.in-Ok.id (new_node c.args.new.now.meta.now c.args.new.now.fields.now c.args.new.now.parent b)) (bits_are g c)
+forest_is g c =
+    c.in-Ok.ensures.forest
+    ∙ (λ j. with_span c.self.inside.forest c.in-Ok.id (new_node c.args.new.now.meta.now (c.in_ok-fields.ensures.fields j) c.args.new.now.parent (bits_are g c j)))
 
-told : (g : given.Over) (c : After-put g) → map plain_note c.in_ok-notes.notes.items ≡ notes_of_all c.self.inside.rules c.args.new.now.worker (at_span c.add.new.self.spans OnNew c.in-Ok.id (plain_fields c.args.new.now.fields.now) ∷ [])
+told : (g : given.Over) (c : After-put g) → map plain_note c.in_ok-told.told.notes.items ≡ notes_of_all c.self.inside.rules c.args.new.now.worker (at_span c.add.new.self.spans OnNew c.in-Ok.id (plain_fields c.args.new.now.fields.now) ∷ [])
 told g c =
     new_notes c.self.inside.rules c.args.new.now.worker c.in-Ok.id c.self.inside.forest.spans c.add.new.self.spans (made_node c.self.inside.rules (plain_meta c.args.new.now.meta.now) (plain_fields c.args.new.now.fields.now) c.args.new.now.parent) (plain_fields c.args.new.now.fields.now) _
     (gone g c) c.open_spans_are_counted.ensures.parent (parent_open g c) (ap (λ f. f.spans) (forest_is g c))
-    (c.in_ok-notes.ensures.notes
+    (c.in_ok-told.ensures.notes
     ∙ (λ j. map (first_note c.self.inside.forest.spans c.args.new.now.worker (same_id g c j) c.args.new.now.parent (string_bytes c.args.new.now.meta.now.name) (plain_fields c.args.new.now.fields.now))
     (filter (hears c.self.inside.rules (bits_are g c j) OnNew) (range_with_len 0 (length c.self.inside.rules)))))
 
@@ -95,16 +97,16 @@ pub invariant_of-self-2 : goal.invariant_of-self-2
 invariant_of-self-2 g c = (
   sound_new _ _ _ _ _ _ _ _ _ c.args.new.now.worker c.in-Ok.id (plain_meta c.args.new.now.meta.now) (plain_fields c.args.new.now.fields.now) c.args.new.now.parent _ _
       c.self.invariant.0 (within g c) (in_layout g c) c.in-Ok.ensures.never_issued (now_issued g c) (no_other g c) (wanted g c) (parent_open g c) (gone g c) (forest_is g c) (told g c)
-      c.in_ok-call.ensures.call c.in_ok-ask.ensures.sent c.put.ensures.sent,
+      c.in_ok-told.ensures.call c.in_ok-ask.ensures.sent c.put.ensures.sent,
   one_made _ _ _ _ _ _ c.self.invariant.1 refl c.in_ok-ask.ensures.sent c.put.ensures.sent,
 )
 
 pub returns-clause-made : goal.returns-clause-made
 returns-clause-made g c =
     let request = span_request c.args.new.now in
-    let call_is = c.in_ok-call.ensures.call in
+    let call_is = c.in_ok-told.ensures.call in
     let sent_is : g.O.Outlet.sent c.ask.new.outlet ≡ c.args.self.now.sent = c.in_ok-ask.ensures.sent ∙ ap (λ (v : CoreView). v.sent) c.self.view_is in
-    let step : IsStep c.self.inside.rules (issued (g.O.Outlet.sent c.self.inside.outlet)) (record { spans = c.self.inside.forest.spans; stacks = ids_of_each c.self.inside.stacks.items }) request (made c.in-Ok.id) (map plain_note c.in_ok-notes.notes.items) (record { spans = c.add.new.self.spans; stacks = ids_of_each c.self.inside.stacks.items }) =
+    let step : IsStep c.self.inside.rules (issued (g.O.Outlet.sent c.self.inside.outlet)) (record { spans = c.self.inside.forest.spans; stacks = ids_of_each c.self.inside.stacks.items }) request (made c.in-Ok.id) (map plain_note c.in_ok-told.told.notes.items) (record { spans = c.add.new.self.spans; stacks = ids_of_each c.self.inside.stacks.items }) =
     step_new c.self.inside.rules (issued (g.O.Outlet.sent c.self.inside.outlet)) c.self.inside.forest.spans c.add.new.self.spans (ids_of_each c.self.inside.stacks.items) c.args.new.now.worker c.in-Ok.id (plain_meta c.args.new.now.meta.now) (plain_fields c.args.new.now.fields.now) c.args.new.now.parent _
     (within g c) (in_layout g c) (not_in_history _ _ _ _ _ _ c.in-Ok.id c.self.invariant.0 c.in-Ok.ensures.never_issued) (wanted g c) (parent_open g c) (ap (λ f. f.spans) (forest_is g c)) (told g c) in
     let same = sym (same_id g c) in
@@ -112,10 +114,10 @@ returns-clause-made g c =
       due = c.requires.due;
       limits = ap (λ (v : CoreView). v.limits) c.self.view_is;
       rules = ap (λ (v : CoreView). v.rules) c.self.view_is;
-      notes = map plain_note c.in_ok-notes.notes.items;
-      step = subst (λ (id : ℕ). IsStep c.args.self.now.rules (issued c.args.self.now.sent) c.args.self.now.world request (made id) (map plain_note c.in_ok-notes.notes.items) (record { spans = c.add.new.self.spans; stacks = ids_of_each c.self.inside.stacks.items })) same
-          (subst (λ (v : CoreView). IsStep v.rules (issued v.sent) v.world request (made c.in-Ok.id) (map plain_note c.in_ok-notes.notes.items) (record { spans = c.add.new.self.spans; stacks = ids_of_each c.self.inside.stacks.items })) c.self.view_is step);
-      sent = c.put.ensures.sent ∙ (λ j. sent_is j ++ (record { request = call_is j; answer = made (same j); notes = map plain_note c.in_ok-notes.notes.items }) ∷ []);
+      notes = map plain_note c.in_ok-told.told.notes.items;
+      step = subst (λ (id : ℕ). IsStep c.args.self.now.rules (issued c.args.self.now.sent) c.args.self.now.world request (made id) (map plain_note c.in_ok-told.told.notes.items) (record { spans = c.add.new.self.spans; stacks = ids_of_each c.self.inside.stacks.items })) same
+          (subst (λ (v : CoreView). IsStep v.rules (issued v.sent) v.world request (made c.in-Ok.id) (map plain_note c.in_ok-told.told.notes.items) (record { spans = c.add.new.self.spans; stacks = ids_of_each c.self.inside.stacks.items })) c.self.view_is step);
+      sent = c.put.ensures.sent ∙ (λ j. sent_is j ++ (record { request = call_is j; answer = made (same j); notes = map plain_note c.in_ok-told.told.notes.items }) ∷ []);
       times_full = c.put.ensures.times_full ∙ c.in_ok-ask.ensures.times_full ∙ ap (λ (v : CoreView). v.times_full) c.self.view_is;
       forms = c.put.ensures.forms ∙ c.in_ok-ask.ensures.forms ∙ ap (λ (v : CoreView). v.forms) c.self.view_is;
       name = c.put.ensures.name ∙ c.in_ok-ask.ensures.name ∙ ap (λ (v : CoreView). v.name) c.self.view_is;

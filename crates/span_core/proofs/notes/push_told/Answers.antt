@@ -8,13 +8,16 @@ use Rattle.span_core.proofs.notes.push_told.Goals as goal
 pub loop-layer-preserved : goal.loop-layer-preserved
 loop-layer-preserved c =
     let before = map plain_note c.loop-layer.notes.items in
-    layer_more (told_to c.args.forest.now.spans c.args.what.now) c.in-Some.layer _ _ _ before _ c.in-Some.ensures.steps c.loop-layer.invariant
-    (ap (map plain_note) c.in_ok-push.ensures.items ∙ map-append plain_note c.loop-layer.notes.items (c.in_ok-note.note ∷ [])
-    ∙ ap (λ note. before ++ note ∷ []) c.in_ok-note.ensures.note)
+    record {
+      told = layer_more (told_to c.args.forest.now.spans c.args.what.now) c.in-Some.layer _ _ _ before _ c.in-Some.ensures.steps c.loop-layer.invariant.told
+          (ap (map plain_note) c.in_ok-push.ensures.items ∙ map-append plain_note c.loop-layer.notes.items (c.in_ok-note.note ∷ [])
+          ∙ ap (λ note. before ++ note ∷ []) c.in_ok-note.ensures.note);
+      known = c.in_ok-note.ensures.known;
+    }
 
 pub returns-clause-notes : goal.returns-clause-notes
 returns-clause-notes c =
-    let first = map plain_note c.args.notes.now.items in
     let told = told_to c.args.forest.now.spans c.args.what.now in
-    layers_end told _ _ _ c.in-None.ensures.steps.0 c.loop-layer.invariant
-    ∙ ap (λ layers. first ++ map told layers) (c.into_iter-layer-iterator.ensures.into_iter_gives ∙ c.told_layers-layer-items.ensures)
+    let layers = c.into_iter-layer-iterator.ensures.into_iter_gives ∙ c.told_layers-layer-items.ensures in
+    layers_end told _ _ _ c.in-None.ensures.steps.0 c.loop-layer.invariant.told
+    ∙ (λ j. map plain_note (c.reserve_exact.ensures.items j) ++ map told (layers j))

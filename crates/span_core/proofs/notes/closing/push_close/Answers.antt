@@ -24,6 +24,7 @@ loop-layer-init c =
       left = left_start (is_told c.args.rules.now (close_of c.args.forest.now.spans c.args.what.now.id)) (length c.args.rules.now) _ (layers c);
       length = c.requires.length;
       below = below_start c.args.rules.now c.args.forest.now.spans c.args.what.now.id _ _ _ _ c.requires.found ends c.requires.length (layers c) c.requires.below;
+      known = c.requires.known;
     }
 
 pub loop-layer-preserved : goal.loop-layer-preserved
@@ -39,6 +40,7 @@ loop-layer-preserved c =
       below = below_turn c.args.rules.now c.args.forest.now.spans c.args.what.now.id c.in-Some.layer c.args.what.now.worker _ _ _ _ _ _ _ _
           c.requires.found ends was.length (sym (length-map c.loop-layer.notes.items plain_note)) next was.left was.below
           c.in_ok-push_close_note.ensures.notes c.in_ok-push_close_note.ensures.places;
+      known = c.in_ok-push_close_note.ensures.known;
     }
 
 pub push_close_note-requires-clause-there : goal.push_close_note-requires-clause-there

@@ -1,5 +1,7 @@
 use Rattle.std.proofs.Common.{◌≡◌, ◌++◌, length, map}
 use Rattle.span_layers.specs.Note.{plain_note}
+use Rattle.span_forest.specs.Path.{path_text}
+use Rattle.span_core.specs.inside.Telling.{Knows}
 use Rattle.span_core.specs.Happening.{close_of, is_told, note_of}
 use Rattle.span_core.specs.inside.ClosingPaths.{AreAscending, AreBelow, with_left}
 use Rattle.span_core.proofs.notes.closing.push_close.Given as goal
@@ -13,4 +15,5 @@ invariant-loop-layer l = record {
   left : AreAscending (is_told l.rules (close_of l.forest.spans l.what.id)) 0 (length l.rules) l.layer-iterator;
   length : length l.places.items ≡ length l.rules;
   below : AreBelow l.rules l.forest.spans (map plain_note l.notes.items) (with_left l.forest.spans l.what.id l.layer-iterator) l.places.items;
+  known : Knows path_text l.forest.spans l.last;
 }

@@ -1,6 +1,8 @@
 use Rattle.std.proofs.Common.{◌≡◌, ◌++◌, length, map, drop}
 use Rattle.std.specs.Prelude.{flat_map}
 use Rattle.span_layers.specs.Note.{plain_note}
+use Rattle.span_forest.specs.Path.{path_text}
+use Rattle.span_core.specs.inside.Telling.{Knows}
 use Rattle.span_core.specs.Happening.{close_of, notes_of}
 use Rattle.span_core.specs.inside.ClosingPaths.{IsChain, AreBelowFirst}
 use Rattle.span_core.proofs.notes.closing.push_closes.Given as goal
@@ -13,4 +15,5 @@ invariant-loop-id l = record {
   length : length l.places.items ≡ length l.rules;
   chain : IsChain l.forest.spans (drop l.id-index l.closed);
   below : AreBelowFirst l.rules l.forest.spans (map plain_note l.notes.items) (drop l.id-index l.closed) l.places.items;
+  known : Knows path_text l.forest.spans l.last;
 }
