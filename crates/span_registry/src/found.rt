@@ -28,7 +28,7 @@ impl Found {
         ensures found { IfOk result (λ found. IsFound (node_of span.now) span.now.count found) }
         ensures memory { IfErr result (λ fault. fault ≡ Fault.Memory) }
     {
-        let name = copy_text(alloc, span.meta.name.as_str())?;
+        let name = copy_text(alloc, span.meta.as_meta().name.as_str())?;
         Ok(Found {
             name,
             parent: span.parent,

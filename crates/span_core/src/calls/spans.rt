@@ -15,7 +15,7 @@ use crate::calls::room::ask;
 use crate::notes::new_spans::{NewSpan, new_told};
 use span_forest::Forest;
 use span_forest::laws::{each_slot_has_one_open_id, next_id_is_new, open_spans_are_counted};
-use span_id::{Fault, Field, Fields, Id, Meta};
+use span_id::{Fault, Field, Fields, Id, Meta, SharedMeta};
 use span_layers::Admit;
 use span_outlet::{Batch, Outlet, ParentOf, Reply};
 
@@ -105,10 +105,11 @@ impl<O: Outlet, A: Admit> Core<O, A> {
         next_id_is_new(&self.forest);
         each_slot_has_one_open_id(&self.forest);
         open_spans_are_counted(&self.forest);
+        let meta = SharedMeta::copy_of(self.alloc, new.meta)?;
         let fields = Fields::copy_of(self.alloc, new.fields)?;
-        let told = new_told(self.alloc, &self.rules, &self.forest, new, &fields)?;
-        let Ok(id) = self.forest.add(new.meta, fields, new.parent, new.bits) else {
-            return Err(Fault::Memory);
+        let told = new_told(self.alloc, &self.rules, &self.forest, new, &meta, &fields)?;
+        let Ok(id) = self.forest.add(meta, fields, new.parent, new.bits) else {
+            unreachable!();
         };
         self.calls += 1;
         self.made += 1;

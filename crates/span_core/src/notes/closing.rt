@@ -164,14 +164,14 @@ fn push_close_note(
     ensures places { OnOk result (places.new.items
         ≡ slice_set places.old.items layer (Some (record {
           at = length notes.old.items;
-          name = length (string_bytes what.now.span.now.meta.name);
+          name = length what.now.span.now.meta.name;
         }))) }
     ensures known { OnOk result (Knows path_text forest.now.spans last.new) }
     ensures memory { IfErr result (λ fault. fault ≡ Fault.Memory) }
 {
     let place = Place {
         at: notes.len(),
-        name: what.span.meta.name.len(),
+        name: what.span.meta.as_meta().name.len(),
     };
     let before = note_at(notes.as_slice(), places[layer as usize]);
     let note = close_note(alloc, forest, before, what, last, layer)?;

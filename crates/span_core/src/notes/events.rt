@@ -10,9 +10,9 @@ ghost use Rattle.span_stack.specs.Stack.{walk, ids_of_each};
 ghost use Rattle.span_core.specs.Happening.{bits_in, notes_of};
 ghost use Rattle.span_core.specs.inside.Lent.{event_request, event_seen};
 
-use crate::notes::{Subject, Telling, Announced, told};
+use crate::notes::{Announced, Subject, Telling, told};
 use span_forest::Forest;
-use span_id::{Bits, Fault, Field, Fields, Id, Meta};
+use span_id::{Bits, Fault, Field, Fields, Id, Meta, SharedMeta};
 use span_layers::{Kind, Note, Rules};
 use span_outlet::Call;
 use span_stack::SpanStack;
@@ -44,7 +44,7 @@ pub(crate) fn event_told(
         (event_seen forest.now.spans (slice_index_or (ids_of_each stacks.now) event.now.worker []) event.now)) }
     ensures memory { IfErr result (λ fault. fault ≡ Fault.Memory) }
 {
-    let meta = event.meta.copy(alloc)?;
+    let meta = SharedMeta::copy_of(alloc, event.meta)?;
     let message = ArcStr::from_str(alloc, event.message)?;
     let fields = Fields::copy_of(alloc, event.fields)?;
     let notes = event_notes(alloc, rules, forest, stacks, event, &message, &fields)?;

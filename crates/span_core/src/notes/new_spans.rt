@@ -2,15 +2,15 @@
 ghost use Rattle.std.specs.Prelude.{◌≡◌, map, filter, length, IfOk, IfErr};
 ghost use Rattle.std.specs.List.{range_with_len};
 ghost use Rattle.span_layers.specs.declared.note.Kind.TheVariants.{OnNew};
-ghost use Rattle.span_id.specs.Meta.{plain_fields};
+ghost use Rattle.span_id.specs.Meta.{plain_meta, plain_fields};
 ghost use Rattle.span_layers.specs.Note.{plain_note};
 ghost use Rattle.span_outlet.specs.Request.{request_of};
 ghost use Rattle.span_core.specs.inside.Sound.{hears};
 ghost use Rattle.span_core.specs.inside.Lent.{first_note_of, span_request};
 
-use crate::notes::{Subject, Telling, Announced, told};
+use crate::notes::{Announced, Subject, Telling, told};
 use span_forest::Forest;
-use span_id::{Bits, Fault, Field, Fields, Id, Meta};
+use span_id::{Bits, Fault, Field, Fields, Id, Meta, SharedMeta};
 use span_layers::{Kind, Note, Rules};
 use span_outlet::Call;
 use std::alloc::Global;
@@ -27,14 +27,16 @@ pub(crate) struct NewSpan<'a> {
     pub(crate) fields: &'a [Field],
 }
 
-// The call that makes a span, and its notes, which share the fields.
+// The call that makes a span, and its notes: the call shares the meta and the fields, the notes the fields.
 pub(crate) fn new_told(
     alloc: Global,
     rules: &Rules,
     forest: &Forest,
     new: &NewSpan<'_>,
+    meta: &SharedMeta,
     fields: &Fields,
 ) -> Result<Announced, Fault>
+    requires meta { meta.now ≡ plain_meta new.now.meta.now }
     requires fields { fields.now ≡ plain_fields new.now.fields.now }
     ensures call { IfOk result (λ told. request_of told.call ≡ span_request new.now) }
     ensures notes { IfOk result (λ told. map plain_note told.notes.items
@@ -42,8 +44,8 @@ pub(crate) fn new_told(
         (filter (hears rules.now new.now.bits.0 OnNew) (range_with_len 0 (length rules.now)))) }
     ensures memory { IfErr result (λ fault. fault ≡ Fault.Memory) }
 {
-    let meta = new.meta.copy(alloc)?;
     let notes = new_notes(alloc, rules, forest, new, fields)?;
+    let meta = meta.share()?;
     let fields = fields.share()?;
     Ok(Announced {
         call: Call::NewSpan {

@@ -37,7 +37,7 @@ fn find(core: &RingCore, id: u64, found: &mut SpanFound) -> Status
         handles: span.handles,
         entries: span.entries,
         count: span.count,
-        level: u32::from(span.meta.level.verbosity()),
+        level: u32::from(span.meta.as_meta().level.verbosity()),
     };
     Status::Done
 }

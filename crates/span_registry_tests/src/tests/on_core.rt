@@ -16,7 +16,7 @@ fn found<V: Say>(alloc: Global, core: &Core<Kept<V>>, id: Id) -> Result<Option<F
         return Ok(None);
     };
     Ok(Some(Found {
-        name: copy_text(alloc, span.meta.name.as_str())?,
+        name: copy_text(alloc, span.meta.as_meta().name.as_str())?,
         parent: span.parent,
         handles: span.handles,
         entries: span.entries,

@@ -346,14 +346,14 @@ fn write_notes<V: Say>(kept: &Kept<V>, from: usize, text: &mut Vec<u8>) -> Resul
 
 // What is told of a span that was looked up.
 fn found(span: &Span) -> Found<'_>
-    ensures name { result.name.now ≡ string_bytes span.now.meta.name }
+    ensures name { result.name.now ≡ span.now.meta.name }
     ensures parent { result.parent ≡ id_at span.now.parent }
     ensures handles { result.handles ≡ span.now.handles }
     ensures entries { result.entries ≡ span.now.entries }
     ensures count { result.count ≡ span.now.count }
 {
     Found {
-        name: &span.meta.name,
+        name: span.meta.as_meta().name.as_str(),
         parent: span.parent.map_or(0, Id::get),
         handles: span.handles,
         entries: span.entries,

@@ -72,7 +72,7 @@ no_other g c x fits low =
 forest_is : (g : given.Over) (c : After-put g) → c.add.new.self ≡ with_span c.self.inside.forest c.in-Ok.id (made_node c.self.inside.rules (plain_meta c.args.new.now.meta.now) (plain_fields c.args.new.now.fields.now) c.args.new.now.parent)
 forest_is g c =
     c.in-Ok.ensures.forest
-    ∙ (λ j. with_span c.self.inside.forest c.in-Ok.id (new_node c.args.new.now.meta.now (c.in_ok-fields.ensures.fields j) c.args.new.now.parent (bits_are g c j)))
+    ∙ (λ j. with_span c.self.inside.forest c.in-Ok.id (new_node (c.in_ok-meta.ensures.meta j) (c.in_ok-fields.ensures.fields j) c.args.new.now.parent (bits_are g c j)))
 
 told : (g : given.Over) (c : After-put g) → map plain_note c.in_ok-told.told.notes.items ≡ notes_of_all c.self.inside.rules c.args.new.now.worker (at_span c.add.new.self.spans OnNew c.in-Ok.id (plain_fields c.args.new.now.fields.now) ∷ [])
 told g c =
