@@ -10,7 +10,7 @@ ghost use Rattle.span_stack.specs.Stack.{walk, ids_of_each};
 ghost use Rattle.span_core.specs.Happening.{bits_in, notes_of};
 ghost use Rattle.span_core.specs.inside.Lent.{event_request, event_seen};
 
-use crate::notes::{Subject, Telling, Announced, told};
+use crate::notes::{Announced, Subject, Telling, told};
 use span_forest::Forest;
 use span_id::{Bits, Fault, Field, Fields, Id, Meta};
 use span_layers::{Kind, Note, Rules};

@@ -8,7 +8,7 @@ ghost use Rattle.span_outlet.specs.Request.{request_of};
 ghost use Rattle.span_core.specs.inside.Sound.{hears};
 ghost use Rattle.span_core.specs.inside.Lent.{first_note_of, span_request};
 
-use crate::notes::{Subject, Telling, Announced, told};
+use crate::notes::{Announced, Subject, Telling, told};
 use span_forest::Forest;
 use span_id::{Bits, Fault, Field, Fields, Id, Meta};
 use span_layers::{Kind, Note, Rules};

@@ -86,11 +86,7 @@ pub(crate) fn same_text(
 }
 
 // The text that was told last, if the layer is among those of which it is known that they see it at this place.
-fn known_text<'a>(
-    last: &'a Option<LastPath>,
-    layer: u32,
-    place: &Option<Id>,
-) -> Option<&'a ArcStr>
+fn known_text<'a>(last: &'a Option<LastPath>, layer: u32, place: &Option<Id>) -> Option<&'a ArcStr>
     ensures { IfSome result (λ text. IsSomeAnd last.now (λ last.
         (last.text ≡ text.now) × (last.place ≡ place.now) × IsTrue (has_bit last.same.0 layer))) }
 {
@@ -103,11 +99,7 @@ fn known_text<'a>(
 }
 
 // A new text, which from now on is the one that was told last.
-fn tell(
-    last: &mut Option<LastPath>,
-    place: &Option<Id>,
-    seen: PathText,
-) -> Result<ArcStr, Fault>
+fn tell(last: &mut Option<LastPath>, place: &Option<Id>, seen: PathText) -> Result<ArcStr, Fault>
     ensures text { IfOk result (λ told. arc_str_bytes told ≡ string_bytes seen.text) }
     ensures last { OnOk result (IsSomeAnd last.new (λ last.
         (arc_str_bytes last.text ≡ string_bytes seen.text) × (last.place ≡ place.now) × (last.same ≡ seen.same))) }
@@ -169,12 +161,7 @@ fn text_below(
 }
 
 // Whether the path, which is told so, has no names. A name may be `-` too.
-fn is_nameless(
-    forest: &Forest,
-    layer: u32,
-    place: &Option<Id>,
-    text: &str,
-) -> Result<bool, Fault>
+fn is_nameless(forest: &Forest, layer: u32, place: &Option<Id>, text: &str) -> Result<bool, Fault>
     requires text { text.now ≡ path_text (path_at layer forest.now.spans place.now) }
     ensures none { IfOk result (λ none. none ≡ nat_eq (length (path_at layer forest.now.spans place.now)) 0) }
     ensures memory { IfErr result (λ fault. fault ≡ Fault.Memory) }
