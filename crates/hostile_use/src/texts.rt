@@ -1,10 +1,11 @@
 //! Metas, fields, notes and rules, and how they are looked at.
 
 use span_forest::Span;
-use span_id::{Field, Level, Meta};
+use span_id::{Field, Fields, Level, Meta};
 use span_layers::{Kind, Note, Rule};
 use span_stack::SpanStack;
 use std::alloc::{AllocError, Global};
+use std::sync::ArcStr;
 
 /// What a span or an event of target `app` is known by.
 pub(crate) fn meta_of(alloc: Global, name: &str, level: Level) -> Result<Meta, AllocError> {
@@ -32,6 +33,18 @@ pub(crate) fn fields_of(alloc: Global, pairs: &[(&str, &str)]) -> Result<Vec<Fie
     Ok(fields)
 }
 
+/// Fields that several owners may share.
+pub(crate) fn shared_fields_of(
+    alloc: Global,
+    pairs: &[(&str, &str)],
+) -> Result<Fields, AllocError> {
+    let fields = fields_of(alloc, pairs)?;
+    match Fields::copy_of(alloc, fields.as_slice()) {
+        Ok(shared) => Ok(shared),
+        Err(_) => Err(AllocError),
+    }
+}
+
 /// The rule that admits everything.
 pub(crate) fn everything(alloc: Global) -> Result<Rule, AllocError> {
     let mut pairs = Vec::new(alloc);
@@ -46,22 +59,22 @@ pub(crate) fn note_of(
     kind: Kind,
     fields: &[(&str, &str)],
 ) -> Result<Note, AllocError> {
-    let mut note = Note {
+    let of_event = kind == Kind::OnEvent;
+    let tail = if of_event {
+        Some((Level::Warn, ArcStr::from_str(alloc, "x\ny")?))
+    } else {
+        None
+    };
+    let (id, path) = if of_event { (0, "-") } else { (1, "a") };
+    Ok(Note {
         layer,
         kind,
         worker: 0,
-        id: 0,
-        path: Vec::new(alloc),
-        fields: fields_of(alloc, fields)?,
-        tail: None,
-    };
-    if kind == Kind::OnEvent {
-        note.tail = Some((Level::Warn, String::from_str(alloc, "x\ny")?));
-    } else {
-        note.id = 1;
-        note.path.push(String::from_str(alloc, "a")?)?;
-    }
-    Ok(note)
+        id,
+        path: ArcStr::from_str(alloc, path)?,
+        fields: shared_fields_of(alloc, fields)?,
+        tail,
+    })
 }
 
 /// The meta as text.

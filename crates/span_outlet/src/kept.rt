@@ -12,15 +12,6 @@ use span_layers::{Formatters, Say, Tellers};
 use std::alloc::{AllocError, Global};
 use std::marker::Model;
 
-// The batch with no room for further notes, since it is kept as long as the outlet is.
-fn trimmed(batch: Batch) -> Batch
-    ensures { plain_batch result ≡ plain_batch batch }
-{
-    let mut kept = batch;
-    kept.notes.shrink_to_fit();
-    kept
-}
-
 /// An outlet that keeps the batches, and at once the lines of their notes.
 ///
 /// It always has room for one more batch or lacks memory. A note is missed where its layer has no form, where its text
@@ -169,9 +160,8 @@ impl<V: Say> Outlet for Kept<V> {
             ready,
             formatters,
         } = self;
-        let kept = trimmed(batch);
-        told.tell_all(&*formatters, batches.len() as u64, &kept);
+        told.tell_all(&*formatters, batches.len() as u64, &batch);
         *ready = false;
-        batches.push_reserved(kept);
+        batches.push_reserved(batch);
     }
 }

@@ -3,15 +3,15 @@
 use crate::answer::Answer;
 use crate::stage::Stage;
 use crate::stop::Stop;
-use crate::texts::{fields_of, meta_of, span_text};
+use crate::texts::{fields_of, meta_of, shared_fields_of, span_text};
 use crate::trial::{Subject, made, perform, takes, takes_none};
 use span_forest::{Forest, Holder};
-use span_id::{Bits, Fault, Field, Id, Level, Limits, Meta};
+use span_id::{Bits, Fault, Field, Fields, Id, Level, Limits, Meta};
 use std::alloc::{AllocError, Global};
 
 #[derive(Clone, Copy)]
 enum Act<'a> {
-    Add(&'a Meta, &'a [Field], Option<Id>),
+    Add(&'a Meta, &'a Fields, Option<Id>),
     Keep(Id, Holder),
     Closing(Id, Holder),
     Release(Id, Holder),
@@ -31,12 +31,14 @@ pub(crate) fn run<R: Print>(stage: &Stage<R>, alloc: Global) -> Result<(), Stop>
     let mut forest = made(stage, "new", || Forest::new(alloc, &checked))?;
     let a = meta_of(alloc, "a", Level::Info)?;
     let b = meta_of(alloc, "b", Level::Info)?;
-    let fields = fields_of(alloc, &[("k", "v"), ("l", "w")])?;
+    let pairs = [("k", "v"), ("l", "w")];
+    let fields = fields_of(alloc, &pairs)?;
+    let (none, shared) = (Fields::none(), shared_fields_of(alloc, &pairs)?);
     let (one, two) = (Id::pack(0, 0), Id::pack(1, 0));
     let (handle, entry) = (Holder::Handle, Holder::Entry);
     let plan = [
-        takes("add a", Act::Add(&a, &[], None)),
-        takes("add b under 1", Act::Add(&b, fields.as_slice(), Some(one))),
+        takes("add a", Act::Add(&a, &none, None)),
+        takes("add b under 1", Act::Add(&b, &shared, Some(one))),
         takes("path of 2 for layer 0", Act::Path(0, two)),
         takes("path of 2 for layer 1", Act::Path(1, two)),
         takes(
@@ -64,7 +66,7 @@ impl<'a> Subject<Act<'a>> for Forest {
     fn call(&mut self, act: &Act<'a>) -> Result<Answer, Fault> {
         Ok(match act {
             Act::Add(meta, fields, parent) => {
-                Answer::Span(self.add(meta, fields, *parent, Bits(1))?)
+                Answer::Span(self.add(meta, fields.share()?, *parent, Bits(1))?)
             }
             Act::Keep(id, holder) => {
                 self.keep(*id, *holder)?;

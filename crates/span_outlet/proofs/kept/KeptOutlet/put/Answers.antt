@@ -5,5 +5,5 @@ use Rattle.span_outlet.proofs.kept.KeptOutlet.put.Goals as goal
 pub invariant_of-self : goal.invariant_of-self
 invariant_of-self g c =
     let number_is : c.len.result ≡ length c.self.inside.batches.items = search rules in
-    let sent : c.push_reserved.new.self.items ≡ c.self.inside.batches.items ++ c.trimmed-kept.result ∷ [] = search rules in
-    (batch_kept _ _ _ _ c.trimmed-kept.result _ _ _ c.tell_all.ensures.forms number_is sent (kept_more _ _ _ _ _ _ _ c.self.invariant.0 c.tell_all.ensures.told), search rules)
+    let sent : c.push_reserved.new.self.items ≡ c.self.inside.batches.items ++ c.args.batch ∷ [] = search rules in
+    (batch_kept _ _ _ _ c.args.batch _ _ _ c.tell_all.ensures.forms number_is sent (kept_more _ _ _ _ _ _ _ c.self.invariant.0 c.tell_all.ensures.told), search rules)
