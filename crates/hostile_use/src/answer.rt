@@ -16,6 +16,7 @@ pub(crate) enum Answer {
     Span(Id),
     Spans(Vec<Id>),
     Names(Vec<String>),
+    Text(String),
     Found(Found),
     /// Handles, entries and count.
     Held(u32, u32, u32),
@@ -51,6 +52,7 @@ impl fmt::Display for Answer {
                 }
                 f.write_str(" ]")
             }
+            Answer::Text(text) => f.write_str(text.as_str()),
             Answer::Found(found) => {
                 let Found {
                     name,

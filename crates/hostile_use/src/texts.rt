@@ -1,7 +1,7 @@
 //! Metas, fields, notes and rules, and how they are looked at.
 
 use span_forest::Span;
-use span_id::{Field, Fields, Level, Meta};
+use span_id::{Field, Fields, Level, Meta, SharedMeta};
 use span_layers::{Kind, Note, Rule};
 use span_stack::SpanStack;
 use std::alloc::{AllocError, Global};
@@ -33,16 +33,19 @@ pub(crate) fn fields_of(alloc: Global, pairs: &[(&str, &str)]) -> Result<Vec<Fie
     Ok(fields)
 }
 
+/// What spans of this name are known by, which several owners may share.
+pub(crate) fn shared_meta_of(alloc: Global, name: &str) -> Result<SharedMeta, AllocError> {
+    let meta = meta_of(alloc, name, Level::Info)?;
+    SharedMeta::copy_of(alloc, &meta).map_err(|_| AllocError)
+}
+
 /// Fields that several owners may share.
 pub(crate) fn shared_fields_of(
     alloc: Global,
     pairs: &[(&str, &str)],
 ) -> Result<Fields, AllocError> {
     let fields = fields_of(alloc, pairs)?;
-    match Fields::copy_of(alloc, fields.as_slice()) {
-        Ok(shared) => Ok(shared),
-        Err(_) => Err(AllocError),
-    }
+    Fields::copy_of(alloc, fields.as_slice()).map_err(|_| AllocError)
 }
 
 /// The rule that admits everything.
@@ -121,7 +124,7 @@ pub(crate) fn span_text(alloc: Global, span: &Span) -> Result<String, AllocError
         entries,
         count,
     } = span;
-    let meta = meta_text(alloc, meta)?;
+    let meta = meta_text(alloc, meta.as_meta())?;
     let fields = fields_text(alloc, fields.as_slice())?;
     format!(in alloc; "{meta}{fields} {parent:?} {bits:?} {handles} {entries} {count}\n")
 }

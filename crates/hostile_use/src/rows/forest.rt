@@ -3,20 +3,21 @@
 use crate::answer::Answer;
 use crate::stage::Stage;
 use crate::stop::Stop;
-use crate::texts::{fields_of, meta_of, shared_fields_of, span_text};
+use crate::texts::{fields_of, shared_fields_of, shared_meta_of, span_text};
 use crate::trial::{Subject, made, perform, takes, takes_none};
 use span_forest::{Forest, Holder};
-use span_id::{Bits, Fault, Field, Fields, Id, Level, Limits, Meta};
+use span_id::{Bits, Fault, Field, Fields, Id, Limits, SharedMeta};
 use std::alloc::{AllocError, Global};
 
 #[derive(Clone, Copy)]
 enum Act<'a> {
-    Add(&'a Meta, &'a Fields, Option<Id>),
+    Add(&'a SharedMeta, &'a Fields, Option<Id>),
     Keep(Id, Holder),
     Closing(Id, Holder),
     Release(Id, Holder),
     WriteFields(Id, &'a [Field]),
     Path(u32, Id),
+    PathText(u32, Id),
     Find(Id),
     Len,
     Total,
@@ -29,21 +30,26 @@ pub(crate) fn run<R: Print>(stage: &Stage<R>, alloc: Global) -> Result<(), Stop>
         return Err(Stop::Memory);
     };
     let mut forest = made(stage, "new", || Forest::new(alloc, &checked))?;
-    let a = meta_of(alloc, "a", Level::Info)?;
-    let b = meta_of(alloc, "b", Level::Info)?;
+    let (a, b) = (shared_meta_of(alloc, "a")?, shared_meta_of(alloc, "b")?);
     let pairs = [("k", "v"), ("l", "w")];
     let fields = fields_of(alloc, &pairs)?;
     let (none, shared) = (Fields::none(), shared_fields_of(alloc, &pairs)?);
     let (one, two) = (Id::pack(0, 0), Id::pack(1, 0));
     let (handle, entry) = (Holder::Handle, Holder::Entry);
     let plan = [
-        takes("add a", Act::Add(&a, &none, None)),
-        takes("add b under 1", Act::Add(&b, &shared, Some(one))),
+        takes_none("add a", Act::Add(&a, &none, None)),
+        takes_none("add b under 1", Act::Add(&b, &shared, Some(one))),
         takes("path of 2 for layer 0", Act::Path(0, two)),
         takes("path of 2 for layer 1", Act::Path(1, two)),
+        takes("path text of 2 for layer 0", Act::PathText(0, two)),
+        takes("path text of 2 for layer 1", Act::PathText(1, two)),
         takes(
             "write fields of 1",
             Act::WriteFields(one, fields.as_slice()),
+        ),
+        takes(
+            "write fields of 2",
+            Act::WriteFields(two, fields.as_slice()),
         ),
         takes_none("keep 1 by an entry", Act::Keep(one, entry)),
         takes("release 1 by its entry", Act::Release(one, entry)),
@@ -66,7 +72,7 @@ impl<'a> Subject<Act<'a>> for Forest {
     fn call(&mut self, act: &Act<'a>) -> Result<Answer, Fault> {
         Ok(match act {
             Act::Add(meta, fields, parent) => {
-                Answer::Span(self.add(meta, fields.share()?, *parent, Bits(1))?)
+                Answer::Span(self.add(meta.share()?, fields.share()?, *parent, Bits(1))?)
             }
             Act::Keep(id, holder) => {
                 self.keep(*id, *holder)?;
@@ -79,6 +85,7 @@ impl<'a> Subject<Act<'a>> for Forest {
                 Answer::Done
             }
             Act::Path(layer, id) => Answer::Names(self.path(*layer, *id)?),
+            Act::PathText(layer, id) => Answer::Text(self.path_text(*layer, *id)?.text),
             Act::Find(id) => self.find(*id).map_or(Answer::Nothing, |span| {
                 Answer::Held(span.handles, span.entries, span.count)
             }),
