@@ -258,9 +258,12 @@ static void check_bad_data_of_spans(long allowed) {
 }
 
 static void test_bad_data_of_spans(void) {
+    const SpanMeta meta = {2, 1, 1};
+    const SpanField field = {1, 1};
     uint64_t id = 99;
     CHECK(open_usual(usual_limits) == SPAN_OK);
-    CHECK(make_span(0, SPAN_ROOT, 0, &id) == SPAN_OK && id == 1);
+    CHECK(span_registry_new_span(&registry, 0, SPAN_ROOT, 0, &meta, &field, 1, bytes("atkv"), 4, &id) == SPAN_OK);
+    CHECK(id == 1);
     for (long allowed = -1; allowed < 4; allowed++)
         check_bad_data_of_spans(allowed);
     CHECK_LINE(0, "new 1 w0 a k=v");
