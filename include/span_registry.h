@@ -86,11 +86,11 @@ typedef struct SpanCounts {
 /* Texts stand one after another in `texts`, each of the length that its struct tells, and all bytes have to be used up.
  * Of several things that stand against a call the status tells the first: SPAN_EMPTY_HANDLE, SPAN_NO_SUCH_WORKER,
  * SPAN_BAD_DATA, SPAN_BAD_NAME, SPAN_UNKNOWN, SPAN_COUNT_FULL, SPAN_FULL, SPAN_NOT_ENTERED; SPAN_BACKLOG comes where
- * none of these does, and SPAN_OUT_OF_MEMORY may come before SPAN_BAD_DATA and what follows it. That no layer wants a
+ * none of these does, and SPAN_OUT_OF_MEMORY may come before SPAN_BAD_NAME and what follows it. That no layer wants a
  * span is found after SPAN_BAD_NAME and before SPAN_UNKNOWN. Workers and layers are numbered from 0. */
 
 /* Fills two empty handles. Each layer takes the next of the rules for its own; texts: the prefixes of all rules.
- * Refused in this order: SPAN_HANDLE_IN_USE, SPAN_BAD_LIMITS, SPAN_TOO_MANY_LAYERS, and then SPAN_BAD_DATA or
+ * Refused in this order: SPAN_HANDLE_IN_USE, SPAN_BAD_LIMITS, SPAN_TOO_MANY_LAYERS, SPAN_BAD_DATA,
  * SPAN_OUT_OF_MEMORY. */
 uint32_t span_registry_new(SpanRegistry *registry, SpanDrain *drain, const SpanLimits *limits,
     const SpanLayer *layers, size_t layers_len, const SpanRule *rules, size_t rules_len,

@@ -232,11 +232,12 @@ static void test_backlog(void) {
     CHECK(span_registry_free(&registry) == SPAN_OK);
 }
 
-static void test_bad_data_of_spans(void) {
+/* data that say nothing, for calls of which some memory is refused after so many allocations */
+static void check_bad_data_of_spans(long allowed) {
     const SpanMeta good = {2, 1, 1}, no_level = {5, 1, 1}, too_long = {2, 1, 4294967295u};
     const SpanField field = {1, 1}, long_value = {1, 2};
     uint64_t id = 99;
-    CHECK(open_usual(usual_limits) == SPAN_OK);
+    allocations_left = allowed;
 #define NEW(kind, parent, meta, field, text, len) \
     span_registry_new_span(&registry, 0, kind, parent, meta, field, 1, bytes(text), len, &id)
     CHECK(NEW(SPAN_ROOT, 0, &no_level, &field, "atkv", 4) == SPAN_BAD_DATA);
@@ -246,13 +247,25 @@ static void test_bad_data_of_spans(void) {
     CHECK(NEW(SPAN_ROOT, 0, &good, &field, "atk\xff", 4) == SPAN_BAD_DATA);
     CHECK(NEW(3, 1, &good, &field, "atkv", 4) == SPAN_BAD_DATA);
     CHECK(NEW(4294967295u, 0, &good, &field, "atkv", 4) == SPAN_BAD_DATA);
-    CHECK(NEW(SPAN_ROOT, 0, &good, &field, "atkv", 4) == SPAN_OK && id == 1);
 #undef NEW
     CHECK(span_registry_event(&registry, 0, &good, 3, no_fields, 0, bytes("etm"), 3) == SPAN_BAD_DATA);
     CHECK(span_registry_event(&registry, 0, &no_level, 1, no_fields, 0, bytes("etm"), 3) == SPAN_BAD_DATA);
     CHECK(span_registry_event(&registry, 0, &good, 0, no_fields, 0, bytes("etm"), 3) == SPAN_BAD_DATA);
-    CHECK(span_registry_record(&registry, 0, id, &field, 1, bytes("k"), 1) == SPAN_BAD_DATA);
-    CHECK(span_registry_record(&registry, 0, id, no_fields, 0, bytes("k"), 1) == SPAN_BAD_DATA);
+    CHECK(span_registry_record(&registry, 0, 1, &field, 1, bytes("k"), 1) == SPAN_BAD_DATA);
+    CHECK(span_registry_record(&registry, 0, 1, no_fields, 0, bytes("k"), 1) == SPAN_BAD_DATA);
+    CHECK(id == 99);
+    allocations_left = -1;
+}
+
+static void test_bad_data_of_spans(void) {
+    const SpanMeta meta = {2, 1, 1};
+    const SpanField field = {1, 1};
+    uint64_t id = 99;
+    CHECK(open_usual(usual_limits) == SPAN_OK);
+    CHECK(span_registry_new_span(&registry, 0, SPAN_ROOT, 0, &meta, &field, 1, bytes("atkv"), 4, &id) == SPAN_OK);
+    CHECK(id == 1);
+    for (long allowed = -1; allowed < 4; allowed++)
+        check_bad_data_of_spans(allowed);
     CHECK_LINE(0, "new 1 w0 a k=v");
     check_no_line(__LINE__);
     close_both();
@@ -262,12 +275,10 @@ static uint32_t open_with(SpanLayer layer, SpanRule rule, const char *texts, siz
     return span_registry_new(&registry, &drain, &usual_limits, &layer, 1, &rule, 1, bytes(texts), len);
 }
 
-static void test_bad_data_of_registries(void) {
+static void check_bad_data_of_registries(long allowed) {
     const SpanLayer layer = {0, 15, 1};
     const SpanRule rule = {1, 4};
-    SpanLimits limits = usual_limits;
-    SpanLayer many[65];
-    memset(many, 0, sizeof many);
+    allocations_left = allowed;
     CHECK(open_with((SpanLayer){2, 15, 1}, rule, "a", 1) == SPAN_BAD_DATA);
     CHECK(open_with((SpanLayer){0, 16, 1}, rule, "a", 1) == SPAN_BAD_DATA);
     CHECK(open_with((SpanLayer){0, 15, 0}, rule, "a", 1) == SPAN_BAD_DATA);
@@ -276,6 +287,17 @@ static void test_bad_data_of_registries(void) {
     CHECK(open_with(layer, (SpanRule){2, 4}, "a", 1) == SPAN_BAD_DATA);
     CHECK(open_with(layer, rule, "ab", 2) == SPAN_BAD_DATA);
     CHECK(open_with(layer, rule, "\xff", 1) == SPAN_BAD_DATA);
+    CHECK(registry.at == NULL && drain.at == NULL);
+    allocations_left = -1;
+}
+
+static void test_bad_data_of_registries(void) {
+    const SpanRule rule = {1, 4};
+    SpanLimits limits = usual_limits;
+    SpanLayer many[65];
+    memset(many, 0, sizeof many);
+    for (long allowed = -1; allowed < 4; allowed++)
+        check_bad_data_of_registries(allowed);
     CHECK(span_registry_new(&registry, &drain, &limits, many, 65, &rule, 0, bytes(""), 0) == SPAN_TOO_MANY_LAYERS);
     limits.workers = 257;
     CHECK(span_registry_new(&registry, &drain, &limits, many, 65, &rule, 0, bytes(""), 0) == SPAN_BAD_LIMITS);

@@ -81,7 +81,7 @@ makes worker kind parent meta fields bytes made old (Refused TooManyLayers) new 
 makes worker kind parent meta fields bytes made old (Refused BadName) new within says is = (within, says, is)
 makes worker kind parent meta fields bytes made old (Refused Backlog) new within says is = (within, says, is)
 makes worker kind parent meta fields bytes made old (Refused BadLimits) new within says is = (within, says, is)
-makes worker kind parent meta fields bytes made old (Refused Memory) new within says is = (within, is.unchanged)
+makes worker kind parent meta fields bytes made old (Refused Memory) new within says is = (within, says, is.unchanged)
 makes worker kind parent meta fields bytes made old BadData new within says is = absurd is
 makes worker kind parent meta fields bytes made old EmptyHandle new within says is = absurd is
 makes worker kind parent meta fields bytes made old HandleInUse new within says is = absurd is

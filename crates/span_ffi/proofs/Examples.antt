@@ -1,18 +1,15 @@
 -- Worked cases of the definitions, computed from them alone.
-use Rattle.std.proofs.Common.{◌≡◌, refl, List, [], ◌∷◌, Some, None, true, false}
+use Rattle.std.proofs.Common.{◌≡◌, ℕ, ◌+◌, refl, List, [], ◌∷◌, Some, None, true, false}
 use Rattle.span_id.specs.declared.fault.Fault.TheVariants.{Unknown, Memory}
 use Rattle.span_id.specs.declared.level.Level.TheVariants.{Error, Trace}
-use Rattle.span_layers.specs.declared.form.Form.TheVariants.{Compact, Json}
 use Rattle.span_outlet.specs.declared.batch.ParentOf.TheVariants.{Root, Current, Of}
 use Rattle.span_ffi.specs.declared.data.SpanMeta.{SpanMeta}
 use Rattle.span_ffi.specs.declared.data.SpanField.{SpanField}
-use Rattle.span_ffi.specs.declared.data.SpanLayer.{SpanLayer}
-use Rattle.span_ffi.specs.declared.data.SpanRule.{SpanRule}
-use Rattle.span_ffi.specs.declared.status.Status.TheVariants.{Done, Refused, BadData, ShortBuffer}
+use Rattle.span_ffi.specs.declared.status.Status.{Status}
+use Rattle.span_ffi.specs.declared.status.Status.TheVariants.{Done, Refused, BadData, EmptyHandle, ShortBuffer}
 use Rattle.span_ffi.specs.Status.{meaning}
-use Rattle.span_ffi.specs.Ends.{flag}
+use Rattle.span_ffi.specs.Ends.{Ends, Keeps, flag}
 use Rattle.span_ffi.specs.Data.{said_level, said_parent, said_meta, said_fields, behind_meta}
-use Rattle.span_ffi.specs.Opening.{said_filters, said_forms}
 use Rattle.span_ffi.specs.Calls.{id_number}
 
 -- the first and the last number, those beside the gap, and those that mean nothing
@@ -70,20 +67,6 @@ keyed : said_fields fields (behind_meta meta (1 ∷ 2 ∷ 3 ∷ 4 ∷ 5 ∷ 6 �
     ≡ (4 ∷ [], 5 ∷ []) ∷ (6 ∷ [], []) ∷ []
 keyed = refl
 
--- two layers: the first has no rule, the second both, with prefixes of 1 byte and of none
-abbrev layers : List SpanLayer
-layers = (record { form = 0; kinds = 15; rules = 0 }) ∷ (record { form = 1; kinds = 8; rules = 2 }) ∷ []
-
-abbrev rules : List SpanRule
-rules = (record { prefix_len = 1; level = 4 }) ∷ (record { prefix_len = 0; level = 0 }) ∷ []
-
-filtered : said_filters layers rules (97 ∷ [])
-    ≡ (record { pairs = []; spans = 15 }) ∷ (record { pairs = (97 ∷ [], Trace) ∷ ([], Error) ∷ []; spans = 8 }) ∷ []
-filtered = refl
-
-formed : said_forms layers ≡ Compact ∷ Json ∷ []
-formed = refl
-
 -- flags and ids as numbers
 yes : flag true ≡ 1
 yes = refl
@@ -93,3 +76,31 @@ no = refl
 
 no_id : id_number None ≡ 0
 no_id = refl
+
+-- a call that adds 1 to the number that a handle holds, or is refused
+abbrev AddsOne : ℕ → Status → ℕ → Type 0
+AddsOne old Done new = new ≡ old + 1
+AddsOne old _ new = new ≡ old
+
+added : Ends (Some 3) AddsOne (Some Done) (Some 4)
+added = refl
+
+refused : Ends (Some 3) AddsOne (Some BadData) (Some 3)
+refused = refl
+
+nothing_held : Ends None AddsOne (Some EmptyHandle) None
+nothing_held = (refl, refl)
+
+-- what the handle holds isn't lost, and each answer is the number of a status
+lost : Ends (Some 3) AddsOne (Some Done) None → ⊥
+lost ends = ends
+
+no_status : Ends (Some 3) AddsOne None (Some 4) → ⊥
+no_status ends = ends
+
+-- an output changes only where the call was done
+written : Keeps {X = ℕ} (Some Done) 3 4
+written = tt
+
+kept : Keeps {X = ℕ} (Some BadData) 3 3
+kept = refl

@@ -1,5 +1,5 @@
 -- What the calls on a registry do, by their status.
-use Rattle.std.specs.Prelude.{◌≡◌, ◌≢◌, ℕ, ◌<◌, ◌≤◌, ◌==◌, nat_lt, List, length, take, drop, Option, Some, None, IsSomeAnd}
+use Rattle.std.specs.Prelude.{◌≡◌, ◌≢◌, ℕ, ◌<◌, ◌≤◌, ◌==◌, nat_lt, List, length, take, drop, Option, Some, None, is_none, IsSomeAnd}
 use Rattle.span_id.specs.declared.fault.Fault.TheVariants.{Unknown, Memory}
 use Rattle.span_id.specs.Level.{verbosity}
 use Rattle.span_stack.specs.Stack.{current}
@@ -49,27 +49,30 @@ abbrev pub Enters : ℕ → ℕ → ℕ → CoreView → Status → CoreView →
 Enters worker id first old status new =
     Answers (enter worker id) (entered (first == 1)) old status new × IfDone status (first ≤ 1)
 
--- A worker leaves a span; 1 is told where the span closed, else 0.
+-- A worker leaves a span; 1 is told where the span closed, and then it is no longer found, else 0.
 abbrev pub Exits : ℕ → ℕ → ℕ → CoreView → Status → CoreView → Type 0
 Exits worker id closed old status new =
     let closing = closed_by_exit old.world worker id in
-    Answers (exit worker id) (exited closing) old status new × IfDone status (closed ≡ flag (nat_lt 0 (length closing)))
+    Answers (exit worker id) (exited closing) old status new
+    × IfDone status (closed ≡ flag (nat_lt 0 (length closing)))
+    × IfDone status (closed ≡ flag (is_none (find new.world.spans id)))
 
--- A handle of a span is given back; 1 is told where the span closed, else 0.
+-- A handle of a span is given back; 1 is told where the span closed, and then it is no longer found, else 0.
 abbrev pub Releases : ℕ → ℕ → ℕ → CoreView → Status → CoreView → Type 0
 Releases worker id closed old status new =
     let closing = closing_list old.world.spans id Handle in
     Answers (try_close worker id) (released closing) old status new
     × IfDone status (closed ≡ flag (nat_lt 0 (length closing)))
+    × IfDone status (closed ≡ flag (is_none (find new.world.spans id)))
 
 -- ---- calls with data
 
 -- A call of a worker with data. `Says` holds where they say something, and then `request` is what they say. Where they
--- say nothing, and where memory is refused, nothing changes.
+-- say nothing, the status says so, also where memory is short. Then, and where memory is refused, nothing changes.
 abbrev pub AnswersData : ℕ → Type 0 → Request → Answer → CoreView → Status → CoreView → Type 0
 AnswersData worker Says request answer old NoSuchWorker new = LacksWorker old worker new
 AnswersData worker Says request answer old BadData new = HasWorker old worker × (Says → ⊥) × (new ≡ old)
-AnswersData worker Says request answer old (Refused Memory) new = HasWorker old worker × (new ≡ old)
+AnswersData worker Says request answer old (Refused Memory) new = HasWorker old worker × Says × (new ≡ old)
 AnswersData worker Says request answer old status new = Says × Answers request answer old status new
 
 -- fields are appended to those of a span
@@ -104,12 +107,13 @@ IsMadeOrRefused request id old (Refused fault) new = IsRefused old request fault
 IsMadeOrRefused request id old _ new = ⊥
 
 -- A worker makes a span. Its id is told, and 0 where there are layers and none admits it. Where the data say nothing,
--- and where memory is refused, nothing changes.
+-- the status says so, also where memory is short. Then, and where memory is refused, nothing changes.
 abbrev pub MakesSpan : ℕ → ℕ → ℕ → SpanMeta → List SpanField → List ℕ → ℕ → CoreView → Status → CoreView → Type 0
 MakesSpan worker kind parent meta fields bytes id old NoSuchWorker new = LacksWorker old worker new
 MakesSpan worker kind parent meta fields bytes id old BadData new =
     HasWorker old worker × (IsSpan kind meta fields bytes → ⊥) × (new ≡ old)
-MakesSpan worker kind parent meta fields bytes id old (Refused Memory) new = HasWorker old worker × (new ≡ old)
+MakesSpan worker kind parent meta fields bytes id old (Refused Memory) new =
+    HasWorker old worker × IsSpan kind meta fields bytes × (new ≡ old)
 MakesSpan worker kind parent meta fields bytes id old status new =
     HasWorker old worker × IsSpan kind meta fields bytes
     × IsMadeOrRefused (span_asked worker kind parent meta fields bytes old) id old status new

@@ -2,7 +2,6 @@
 -- Texts stand one after another in the bytes, each as long as a number says.
 use Rattle.std.specs.Prelude.{◌≡◌, ℕ, ◌≤◌, ◌==◌, if◌then◌else◌, List, [], ◌∷◌, length, take, drop}
 use Rattle.std.specs.Str.{IsUtf8}
-use Rattle.span_id.specs.declared.fault.Fault.TheVariants.{Memory}
 use Rattle.span_id.specs.declared.level.Level.{Level}
 use Rattle.span_id.specs.declared.level.Level.TheVariants.{Error, Warn, Info, Debug, Trace}
 use Rattle.span_id.specs.Meta.{PlainMeta, KeyValue}
@@ -10,8 +9,6 @@ use Rattle.span_outlet.specs.declared.batch.ParentOf.{ParentOf}
 use Rattle.span_outlet.specs.declared.batch.ParentOf.TheVariants.{Root, Current, Of}
 use Rattle.span_ffi.specs.declared.data.SpanMeta.{SpanMeta}
 use Rattle.span_ffi.specs.declared.data.SpanField.{SpanField}
-use Rattle.span_ffi.specs.declared.status.Status.{Status}
-use Rattle.span_ffi.specs.declared.status.Status.TheVariants.{Refused, BadData}
 
 -- the first `len` bytes are a text: they are there, and they are UTF-8
 abbrev pub BeginsWithText : ℕ → List ℕ → Type 0
@@ -74,9 +71,3 @@ pub record IsEvent (meta : SpanMeta) (message_len : ℕ) (fields : List SpanFiel
   pub meta_is : IsMeta meta bytes
   pub message : BeginsWithText message_len (behind_meta meta bytes)
   pub fields_are : AreFields fields (drop message_len (behind_meta meta bytes))
-
--- why data, which say something where `Says` holds, were not read: they say nothing, or memory was refused
-abbrev pub WhyUnread : Type 0 → Status → Type 0
-WhyUnread Says BadData = Says → ⊥
-WhyUnread Says (Refused Memory) = Unit {0}
-WhyUnread Says _ = ⊥

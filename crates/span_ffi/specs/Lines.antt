@@ -1,7 +1,7 @@
 -- What the calls on a drain do, by their status, and how a text goes into a buffer.
 use Rattle.std.specs.Prelude.{◌≡◌, ℕ, ◌<◌, ◌≤◌, List, [], ◌∷◌, ◌++◌, length, drop, slice_get, Option, Some, None, IsSomeAnd}
 use Rattle.span_outlet.specs.Lines.{PlainLine}
-use Rattle.span_outlet.specs.LineReader.{LineReaderView, TakesBatches}
+use Rattle.span_outlet.specs.LineReader.{LineReaderView, TakesBatches, looks_of_fill}
 use Rattle.span_ffi.specs.declared.status.Status.{Status}
 use Rattle.span_ffi.specs.declared.status.Status.TheVariants.{Done, BadData, NoLine, ShortBuffer}
 
@@ -25,10 +25,11 @@ KeepsLength (Some Done) old new = Unit {0}
 KeepsLength (Some ShortBuffer) old new = Unit {0}
 KeepsLength _ old new = new ≡ old
 
--- batches were taken, perhaps none, and none where a line waited already
+-- batches were taken, perhaps none, and none where a line waited already; where none waited, the ring was looked into
 pub record Fills (old new : LineReaderView) : Type 0 where
   pub taken : TakesBatches old new
   pub waited : 0 < length old.waiting → new ≡ old
+  pub looked : new.looks ≡ looks_of_fill old.waiting old.looks
   pub name : new.name ≡ old.name
   pub forms : new.forms ≡ old.forms
 

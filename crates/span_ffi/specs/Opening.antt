@@ -7,6 +7,7 @@ use Rattle.span_layers.specs.declared.form.Form.{Form}
 use Rattle.span_layers.specs.declared.form.Form.TheVariants.{Compact, Json}
 use Rattle.span_layers.specs.Rule.{Pair}
 use Rattle.span_layers.specs.Filter.{Filter}
+use Rattle.span_outlet.specs.Ring.{places_of}
 use Rattle.span_outlet.specs.LineReader.{LineReaderView}
 use Rattle.span_core.specs.World.{empty_world}
 use Rattle.span_core.specs.Core.{CoreView}
@@ -69,7 +70,7 @@ abbrev pub said_forms : List SpanLayer → List Form
 said_forms layers = map (λ layer. said_form layer.form) layers
 
 -- A new registry and the other end of its ring: the limits are in their ranges, the layers are few enough, and the data
--- say them. No span is open, nothing was sent, and nothing was taken.
+-- say them. The ring has as many places as the limits say. No span is open, nothing was sent, and nothing was taken.
 pub record AreNew
     (limits : SpanLimits) (layers : List SpanLayer) (rules : List SpanRule) (bytes : List ℕ)
     (core : CoreView) (reader : LineReaderView)
@@ -77,6 +78,7 @@ pub record AreNew
   pub in_range : AreInRange (said_limits limits)
   pub few : length layers ≤ 64
   pub said : AreLayers layers rules bytes
+  pub places : places_of reader.name ≡ limits.ring
   pub core_is : core ≡ record {
     limits = said_limits limits;
     rules = said_filters layers rules bytes;
@@ -88,19 +90,21 @@ pub record AreNew
   }
   pub reader_is : reader ≡ record {
     name = reader.name;
+    looks = 0;
     forms = said_forms layers;
     taken = [];
     waiting = [];
     refused = 0;
   }
 
--- why there is no new registry
+-- Why there is no new registry. Data that say nothing are told as such, also where memory is short.
 abbrev pub WhyNone : SpanLimits → List SpanLayer → List SpanRule → List ℕ → Status → Type 0
 WhyNone limits layers rules bytes (Refused BadLimits) = AreInRange (said_limits limits) → ⊥
 WhyNone limits layers rules bytes (Refused TooManyLayers) = AreInRange (said_limits limits) × (64 < length layers)
 WhyNone limits layers rules bytes BadData =
     AreInRange (said_limits limits) × (length layers ≤ 64) × (AreLayers layers rules bytes → ⊥)
-WhyNone limits layers rules bytes (Refused Memory) = AreInRange (said_limits limits) × (length layers ≤ 64)
+WhyNone limits layers rules bytes (Refused Memory) =
+    AreInRange (said_limits limits) × (length layers ≤ 64) × AreLayers layers rules bytes
 WhyNone limits layers rules bytes _ = ⊥
 
 -- Two empty handles get a new registry and the other end of its ring; else both stay as they were, and the status says

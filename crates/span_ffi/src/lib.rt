@@ -13,6 +13,7 @@ mod reading;
 mod registry;
 mod registry_handle;
 mod status;
+mod valid;
 
 pub use data::{SpanCounts, SpanField, SpanFound, SpanLayer, SpanLimits, SpanMeta, SpanRule};
 pub use drain_handle::SpanDrain;

@@ -1,19 +1,23 @@
 //! The making of a registry and of the other end of its ring, from what C passes.
-ghost use Rattle.std.specs.Prelude.{◌≡◌, ◌≤◌, ◌↔◌, [], Some, take, drop, length, IsOk, IsSome, IfSome, IfOk, OnOk, IfErr};
+//!
+//! Where one of the `read_` functions gives None, the data say nothing, or memory is refused.
+ghost use Rattle.std.specs.Prelude.{◌≡◌, ◌≤◌, ◌↔◌, [], Some, take, drop, length, IsOk, IsSome, IfSome, OnSome, IfOk, IfErr};
 ghost use Rattle.span_id.specs.Limits.{AreInRange};
 ghost use Rattle.span_layers.specs.Rule.{pair_of, pairs_of};
 ghost use Rattle.span_layers.specs.Filter.{filter_of};
 ghost use Rattle.span_layers.specs.FmtSpan.{bits_of};
 ghost use Rattle.span_layers.specs.Layers.{filters_in, forms_in};
+ghost use Rattle.span_outlet.specs.Ring.{places_of};
 ghost use Rattle.span_core.specs.World.{empty_world};
-ghost use Rattle.span_ffi.specs.Data.{BeginsWithText, said_level, WhyUnread};
+ghost use Rattle.span_ffi.specs.Data.{BeginsWithText, said_level};
 ghost use Rattle.span_ffi.specs.Opening.{AreRules, said_pairs, behind_rules, said_form, AreLayers, said_filters, said_forms, said_limits, AreNew, WhyNone};
 
 use crate::data::{SpanLayer, SpanLimits, SpanRule};
 use crate::reader::Reader;
-use crate::reading::{read_level, read_text};
+use crate::reading::{read_level, read_text, unread};
 use crate::registry::Registry;
 use crate::status::Status;
+use crate::valid::are_layers;
 use bitflags::Flags;
 use span_core::Core;
 use span_id::{Checked, Fault, Level, Limits};
@@ -29,32 +33,23 @@ fn read_pair<'b>(
     alloc: Global,
     rule: &SpanRule,
     bytes: &'b [u8],
-) -> Result<((String, Level), &'b [u8]), Status>
-    ensures level { OnOk result (rule.now.level ≤ 4) }
-    ensures begins { OnOk result (BeginsWithText rule.now.prefix_len bytes.now) }
-    ensures pair { IfOk result (λ read. pair_of read.0
+) -> Option<((String, Level), &'b [u8])>
+    ensures level { OnSome result (rule.now.level ≤ 4) }
+    ensures begins { OnSome result (BeginsWithText rule.now.prefix_len bytes.now) }
+    ensures pair { IfSome result (λ read. pair_of read.0
         ≡ (take rule.now.prefix_len bytes.now, said_level rule.now.level)) }
-    ensures behind { IfOk result (λ read. read.1.now ≡ drop rule.now.prefix_len bytes.now) }
-    ensures unread { IfErr result (λ status.
-        WhyUnread ((rule.now.level ≤ 4) × BeginsWithText rule.now.prefix_len bytes.now) status) }
+    ensures behind { IfSome result (λ read. read.1.now ≡ drop rule.now.prefix_len bytes.now) }
 {
-    let Some(level) = read_level(rule.level) else {
-        return Err(Status::BadData);
-    };
+    let level = read_level(rule.level)?;
     let (prefix, left) = read_text(alloc, bytes, rule.prefix_len)?;
-    Ok(((prefix, level), left))
+    Some(((prefix, level), left))
 }
 
 // The rule of these pairs, and the bytes behind their prefixes.
-fn read_rule<'b>(
-    alloc: Global,
-    rules: &[SpanRule],
-    bytes: &'b [u8],
-) -> Result<(Rule, &'b [u8]), Status>
-    ensures are { OnOk result (AreRules rules.now bytes.now) }
-    ensures pairs { IfOk result (λ read. pairs_of read.0 ≡ said_pairs rules.now bytes.now) }
-    ensures behind { IfOk result (λ read. read.1.now ≡ behind_rules rules.now bytes.now) }
-    ensures unread { IfErr result (λ status. WhyUnread (AreRules rules.now bytes.now) status) }
+fn read_rule<'b>(alloc: Global, rules: &[SpanRule], bytes: &'b [u8]) -> Option<(Rule, &'b [u8])>
+    ensures are { OnSome result (AreRules rules.now bytes.now) }
+    ensures pairs { IfSome result (λ read. pairs_of read.0 ≡ said_pairs rules.now bytes.now) }
+    ensures behind { IfSome result (λ read. read.1.now ≡ behind_rules rules.now bytes.now) }
 {
     let mut left = bytes;
     let mut pairs = Vec::new(alloc);
@@ -62,10 +57,10 @@ fn read_rule<'b>(
         let (pair, behind) = read_pair(alloc, rule, left)?;
         left = behind;
         if pairs.push(pair).is_err() {
-            return Err(Status::Refused(Fault::Memory));
+            return None;
         }
     }
-    Ok((Rule { pairs }, left))
+    Some((Rule { pairs }, left))
 }
 
 // How and of what a layer writes.
@@ -92,23 +87,19 @@ fn read_layer<'b>(
     layer: &SpanLayer,
     own: &[SpanRule],
     bytes: &'b [u8],
-) -> Result<(Layer<ByRule, ByForm>, &'b [u8]), Status>
-    ensures form { OnOk result (layer.now.form ≤ 1) }
-    ensures kinds { OnOk result (layer.now.kinds ≤ 15) }
-    ensures rules { OnOk result (AreRules own.now bytes.now) }
-    ensures filter { IfOk result (λ read. filter_of read.0.rule read.0.style.spans
+) -> Option<(Layer<ByRule, ByForm>, &'b [u8])>
+    ensures form { OnSome result (layer.now.form ≤ 1) }
+    ensures kinds { OnSome result (layer.now.kinds ≤ 15) }
+    ensures rules { OnSome result (AreRules own.now bytes.now) }
+    ensures filter { IfSome result (λ read. filter_of read.0.rule read.0.style.spans
         ≡ record { pairs = said_pairs own.now bytes.now; spans = layer.now.kinds }) }
-    ensures style { IfOk result (λ read. read.0.style.form ≡ said_form layer.now.form) }
-    ensures behind { IfOk result (λ read. read.1.now ≡ behind_rules own.now bytes.now) }
-    ensures unread { IfErr result (λ status.
-        WhyUnread ((layer.now.form ≤ 1) × (layer.now.kinds ≤ 15) × AreRules own.now bytes.now) status) }
+    ensures style { IfSome result (λ read. read.0.style.form ≡ said_form layer.now.form) }
+    ensures behind { IfSome result (λ read. read.1.now ≡ behind_rules own.now bytes.now) }
 {
-    let Some(style) = read_style(layer) else {
-        return Err(Status::BadData);
-    };
+    let style = read_style(layer)?;
     let (rule, left) = read_rule(alloc, own, bytes)?;
     let hooks = Hooks::by_rule_and_form();
-    Ok((Layer { style, rule, hooks }, left))
+    Some((Layer { style, rule, hooks }, left))
 }
 
 // The layers, with all rules and all bytes.
@@ -117,31 +108,28 @@ fn read_layers(
     layers: &[SpanLayer],
     rules: &[SpanRule],
     bytes: &[u8],
-) -> Result<PlainLayers, Status>
+) -> Option<PlainLayers>
     requires { length layers.now ≤ 64 }
-    ensures are { OnOk result (AreLayers layers.now rules.now bytes.now) }
-    ensures filters { IfOk result (λ read. filters_in read ≡ said_filters layers.now rules.now bytes.now) }
-    ensures forms { IfOk result (λ read. forms_in read ≡ said_forms layers.now) }
-    ensures unread { IfErr result (λ status. WhyUnread (AreLayers layers.now rules.now bytes.now) status) }
+    ensures are { OnSome result (AreLayers layers.now rules.now bytes.now) }
+    ensures filters { IfSome result (λ read. filters_in read ≡ said_filters layers.now rules.now bytes.now) }
+    ensures forms { IfSome result (λ read. forms_in read ≡ said_forms layers.now) }
 {
     let mut read = Layers::new(alloc);
     let mut rules_left = rules;
     let mut left = bytes;
     for item in layers {
-        let Some((own, others)) = rules_left.split_at_checked(item.rules as usize) else {
-            return Err(Status::BadData);
-        };
+        let (own, others) = rules_left.split_at_checked(item.rules as usize)?;
         let (layer, behind) = read_layer(alloc, item, own, left)?;
         rules_left = others;
         left = behind;
         if read.add(layer).is_err() {
-            return Err(Status::Refused(Fault::Memory));
+            return None;
         }
     }
     if !(rules_left.is_empty() && left.is_empty()) {
-        return Err(Status::BadData);
+        return None;
     }
-    Ok(read)
+    Some(read)
 }
 
 // The limits, where each is in its range.
@@ -173,11 +161,13 @@ fn make(alloc: Global, checked: &Checked, layers: PlainLayers) -> Result<(Regist
     }) }
     ensures reader { IfOk result (λ made. made.1 ≡ record {
       name = made.1.name;
+      looks = 0;
       forms = forms_in layers;
       taken = [];
       waiting = [];
       refused = 0;
     }) }
+    ensures places { IfOk result (λ made. places_of made.1.name ≡ checked.now.ring) }
     ensures memory { IfErr result (λ fault. fault ≡ Fault.Memory) }
 {
     let (filters, tellers) = layers.split();
@@ -206,7 +196,9 @@ pub(crate) fn open(
     if layers.len() > MAX_LAYERS {
         return Err(Status::Refused(Fault::TooManyLayers));
     }
-    let layers = read_layers(alloc, layers, rules, bytes)?;
+    let Some(layers) = read_layers(alloc, layers, rules, bytes) else {
+        return Err(unread(are_layers(layers, rules, bytes)));
+    };
     let Ok((registry, reader)) = make(alloc, &checked, layers) else {
         return Err(Status::Refused(Fault::Memory));
     };

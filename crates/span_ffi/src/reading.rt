@@ -1,13 +1,24 @@
-//! The reading of texts that stand one after another.
-ghost use Rattle.std.specs.Prelude.{◌≡◌, ◌≤◌, ◌↔◌, take, drop, string_bytes, IsSome, IfSome, IfOk, OnOk, IfErr};
+//! The reading of texts that stand one after another. None: the data say nothing, or memory is refused.
+ghost use Rattle.std.specs.Prelude.{◌≡◌, ◌≤◌, ◌↔◌, take, drop, string_bytes, if◌then◌else◌, IsSome, IfSome, OnSome};
 ghost use Rattle.span_id.specs.Meta.{plain_meta, plain_fields, key_value};
-ghost use Rattle.span_ffi.specs.Data.{BeginsWithText, said_level, IsMeta, said_meta, behind_meta, AreFields, said_fields, behind_field, WhyUnread};
+ghost use Rattle.span_ffi.specs.Data.{BeginsWithText, said_level, IsMeta, said_meta, behind_meta, AreFields, said_fields, behind_field};
 
 use crate::data::{SpanField, SpanMeta};
 use crate::status::Status;
 use span_id::{Fault, Field, Level, Meta};
 use std::alloc::Global;
 use std::str;
+
+/// Why data were not read: they are bad, or else memory was refused.
+pub(crate) fn unread(are_good: bool) -> Status
+    ensures { result ≡ (if are_good then Status.Refused Fault.Memory else Status.BadData) }
+{
+    if are_good {
+        Status::Refused(Fault::Memory)
+    } else {
+        Status::BadData
+    }
+}
 
 /// The level of a number, where there is one.
 pub(crate) fn read_level(number: u32) -> Option<Level>
@@ -24,23 +35,30 @@ pub(crate) fn read_level(number: u32) -> Option<Level>
     }
 }
 
-/// The text of the first `len` bytes, and the bytes behind it. It fails where they are no text, or for want of memory.
-pub(crate) fn read_text(alloc: Global, bytes: &[u8], len: u32) -> Result<(String, &[u8]), Status>
-    ensures begins { OnOk result (BeginsWithText len bytes.now) }
-    ensures text { IfOk result (λ read. string_bytes read.0 ≡ take len bytes.now) }
-    ensures behind { IfOk result (λ read. read.1.now ≡ drop len bytes.now) }
-    ensures unread { IfErr result (λ status. WhyUnread (BeginsWithText len bytes.now) status) }
+/// The first `len` bytes, where they are a text, and the bytes behind it.
+pub(crate) fn split_text(bytes: &[u8], len: u32) -> Option<(&str, &[u8])>
+    ensures exact { IsSome result ↔ BeginsWithText len bytes.now }
+    ensures text { IfSome result (λ split. split.0.now ≡ take len bytes.now) }
+    ensures behind { IfSome result (λ split. split.1.now ≡ drop len bytes.now) }
 {
-    let Some((front, back)) = bytes.split_at_checked(len as usize) else {
-        return Err(Status::BadData);
-    };
+    let (front, behind) = bytes.split_at_checked(len as usize)?;
     let Ok(text) = str::from_utf8(front) else {
-        return Err(Status::BadData);
+        return None;
     };
+    Some((text, behind))
+}
+
+/// The text of the first `len` bytes, and the bytes behind it.
+pub(crate) fn read_text(alloc: Global, bytes: &[u8], len: u32) -> Option<(String, &[u8])>
+    ensures begins { OnSome result (BeginsWithText len bytes.now) }
+    ensures text { IfSome result (λ read. string_bytes read.0 ≡ take len bytes.now) }
+    ensures behind { IfSome result (λ read. read.1.now ≡ drop len bytes.now) }
+{
+    let (text, behind) = split_text(bytes, len)?;
     let Ok(text) = String::from_str(alloc, text) else {
-        return Err(Status::Refused(Fault::Memory));
+        return None;
     };
-    Ok((text, back))
+    Some((text, behind))
 }
 
 /// The meta, and the bytes behind its texts.
@@ -48,18 +66,15 @@ pub(crate) fn read_meta<'b>(
     alloc: Global,
     meta: &SpanMeta,
     bytes: &'b [u8],
-) -> Result<(Meta, &'b [u8]), Status>
-    ensures is { OnOk result (IsMeta meta.now bytes.now) }
-    ensures meta { IfOk result (λ read. plain_meta read.0 ≡ said_meta meta.now bytes.now) }
-    ensures behind { IfOk result (λ read. read.1.now ≡ behind_meta meta.now bytes.now) }
-    ensures unread { IfErr result (λ status. WhyUnread (IsMeta meta.now bytes.now) status) }
+) -> Option<(Meta, &'b [u8])>
+    ensures is { OnSome result (IsMeta meta.now bytes.now) }
+    ensures meta { IfSome result (λ read. plain_meta read.0 ≡ said_meta meta.now bytes.now) }
+    ensures behind { IfSome result (λ read. read.1.now ≡ behind_meta meta.now bytes.now) }
 {
-    let Some(level) = read_level(meta.level) else {
-        return Err(Status::BadData);
-    };
+    let level = read_level(meta.level)?;
     let (name, bytes) = read_text(alloc, bytes, meta.name_len)?;
     let (target, bytes) = read_text(alloc, bytes, meta.target_len)?;
-    Ok((
+    Some((
         Meta {
             name,
             target,
@@ -70,33 +85,22 @@ pub(crate) fn read_meta<'b>(
 }
 
 // A field, and the bytes behind its texts.
-fn read_field<'b>(
-    alloc: Global,
-    field: &SpanField,
-    bytes: &'b [u8],
-) -> Result<(Field, &'b [u8]), Status>
-    ensures key { OnOk result (BeginsWithText field.now.key_len bytes.now) }
-    ensures value { OnOk result (BeginsWithText field.now.value_len (drop field.now.key_len bytes.now)) }
-    ensures field { IfOk result (λ read. key_value read.0
+fn read_field<'b>(alloc: Global, field: &SpanField, bytes: &'b [u8]) -> Option<(Field, &'b [u8])>
+    ensures key { OnSome result (BeginsWithText field.now.key_len bytes.now) }
+    ensures value { OnSome result (BeginsWithText field.now.value_len (drop field.now.key_len bytes.now)) }
+    ensures field { IfSome result (λ read. key_value read.0
         ≡ (take field.now.key_len bytes.now, take field.now.value_len (drop field.now.key_len bytes.now))) }
-    ensures behind { IfOk result (λ read. read.1.now ≡ behind_field field.now bytes.now) }
-    ensures unread { IfErr result (λ status. WhyUnread (BeginsWithText field.now.key_len bytes.now
-        × BeginsWithText field.now.value_len (drop field.now.key_len bytes.now)) status) }
+    ensures behind { IfSome result (λ read. read.1.now ≡ behind_field field.now bytes.now) }
 {
     let (key, bytes) = read_text(alloc, bytes, field.key_len)?;
     let (value, bytes) = read_text(alloc, bytes, field.value_len)?;
-    Ok((Field { key, value }, bytes))
+    Some((Field { key, value }, bytes))
 }
 
 /// The fields whose texts are all the bytes.
-pub(crate) fn read_fields(
-    alloc: Global,
-    fields: &[SpanField],
-    bytes: &[u8],
-) -> Result<Vec<Field>, Status>
-    ensures are { OnOk result (AreFields fields.now bytes.now) }
-    ensures fields { IfOk result (λ read. plain_fields read.items ≡ said_fields fields.now bytes.now) }
-    ensures unread { IfErr result (λ status. WhyUnread (AreFields fields.now bytes.now) status) }
+pub(crate) fn read_fields(alloc: Global, fields: &[SpanField], bytes: &[u8]) -> Option<Vec<Field>>
+    ensures are { OnSome result (AreFields fields.now bytes.now) }
+    ensures fields { IfSome result (λ read. plain_fields read.items ≡ said_fields fields.now bytes.now) }
 {
     let mut left = bytes;
     let mut read = Vec::new(alloc);
@@ -104,11 +108,11 @@ pub(crate) fn read_fields(
         let (field, behind) = read_field(alloc, item, left)?;
         left = behind;
         if read.push(field).is_err() {
-            return Err(Status::Refused(Fault::Memory));
+            return None;
         }
     }
     if !left.is_empty() {
-        return Err(Status::BadData);
+        return None;
     }
-    Ok(read)
+    Some(read)
 }

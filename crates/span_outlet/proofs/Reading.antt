@@ -39,7 +39,7 @@ takes_none view low = record { batches = []; taken = sym (append-nil view.taken)
 
 -- the ring was looked at, and no batch was taken
 pub takes_nothing : (name same : RingName) (forms : List Form) (old new : List Batch) (lines : List Line) (refused : ℕ) → new ≡ old → lines ≡ [] → refused ≤ 2 ^ 64 - 1
-    → TakesBatches (reader_view name forms old [] refused) (reader_view same forms new lines refused)
+    → TakesBatches (reader_view name 0 forms old [] refused) (reader_view same 0 forms new lines refused)
 takes_nothing name same forms old new lines refused is nothing low = record {
   batches = [];
   taken = ap (map plain_batch) is ∙ sym (append-nil (map plain_batch old));
@@ -50,9 +50,9 @@ takes_nothing name same forms old new lines refused is nothing low = record {
 pub takes_more : (name same other : RingName) (forms kept still : List Form) (old mid new : List Batch) (batch : Batch) (number : ℕ)
     (lines after : List Line) (refused some more : ℕ)
     → kept ≡ forms → number ≡ length mid → new ≡ mid ++ batch ∷ []
-    → TakesBatches (reader_view name forms old [] refused) (reader_view same kept mid lines some)
+    → TakesBatches (reader_view name 0 forms old [] refused) (reader_view same 0 kept mid lines some)
     → GainsLines kept (numbered_in (number, plain_batch batch)) (map plain_line lines) some (map plain_line after) more
-    → TakesBatches (reader_view name forms old [] refused) (reader_view other still new after more)
+    → TakesBatches (reader_view name 0 forms old [] refused) (reader_view other 0 still new after more)
 takes_more name same other forms kept still old mid new batch number lines after refused some more kept_is number_is is takes gains =
     let first = length (map plain_batch old) in
     let count : length mid ≡ first + length takes.batches = sym (length-map mid plain_batch) ∙ ap length takes.taken ∙ length-append (map plain_batch old) takes.batches in
@@ -93,8 +93,8 @@ none_of_last taken lines nothing = subst (OfLast taken) (sym nothing) (All-nil (
 -- ---- the lines are those that are left
 
 -- nothing was taken yet
-pub nothing_left : (name : RingName) (forms : List Form) (taken : List Batch) (lines : List Line) → taken ≡ [] → lines ≡ [] → AreLeft (reader_view name forms taken lines 0)
-nothing_left name forms taken lines none_taken no_lines = rw (none_taken, no_lines) (record { given = []; kept = record { missed = []; each = none; counted = refl } })
+pub nothing_left : (name : RingName) (looks : ℕ) (forms : List Form) (taken : List Batch) (lines : List Line) → taken ≡ [] → lines ≡ [] → AreLeft (reader_view name looks forms taken lines 0)
+nothing_left name looks forms taken lines none_taken no_lines = rw (none_taken, no_lines) (record { given = []; kept = record { missed = []; each = none; counted = refl } })
 
 -- batches more were taken where no line waited
 pub more_left : (old new : LineReaderView) → old.waiting ≡ [] → new.forms ≡ old.forms → AreLeft old → TakesBatches old new → AreLeft new
@@ -118,24 +118,24 @@ more_left old new nothing same left takes =
 pub as_told : (lines kept : List Line) → kept ≡ reverse lines → reverse kept ≡ lines
 as_told lines kept is = ap reverse is ∙ reverse-reverse lines
 
-pub filled_takes : (name seen same : RingName) (forms kept : List Form) (old looked new : List Batch) (before lines waiting : List Line) (refused more : ℕ)
-    → before ≡ [] → looked ≡ old → waiting ≡ lines → TakesBatches (reader_view seen forms looked [] refused) (reader_view same kept new lines more)
-    → TakesBatches (reader_view name forms old before refused) (reader_view same kept new waiting more)
-filled_takes name seen same forms kept old looked new before lines waiting refused more nothing looks is takes =
-    let from_old : TakesBatches (reader_view seen forms old before refused) (reader_view same kept new lines more) =
-    subst (λ bs. TakesBatches (reader_view seen forms bs before refused) (reader_view same kept new lines more)) looks
-    (subst (λ ls. TakesBatches (reader_view seen forms looked ls refused) (reader_view same kept new lines more)) (sym nothing) takes) in
-    let to_new : TakesBatches (reader_view seen forms old before refused) (reader_view same kept new waiting more) =
-    subst (λ ls. TakesBatches (reader_view seen forms old before refused) (reader_view same kept new ls more)) (sym is) from_old in
+pub filled_takes : (name seen same : RingName) (times counted : ℕ) (forms kept : List Form) (old looked new : List Batch) (before lines waiting : List Line) (refused more : ℕ)
+    → before ≡ [] → looked ≡ old → waiting ≡ lines → TakesBatches (reader_view seen 0 forms looked [] refused) (reader_view same 0 kept new lines more)
+    → TakesBatches (reader_view name times forms old before refused) (reader_view same counted kept new waiting more)
+filled_takes name seen same times counted forms kept old looked new before lines waiting refused more nothing looks is takes =
+    let from_old : TakesBatches (reader_view seen 0 forms old before refused) (reader_view same 0 kept new lines more) =
+    subst (λ bs. TakesBatches (reader_view seen 0 forms bs before refused) (reader_view same 0 kept new lines more)) looks
+    (subst (λ ls. TakesBatches (reader_view seen 0 forms looked ls refused) (reader_view same 0 kept new lines more)) (sym nothing) takes) in
+    let to_new : TakesBatches (reader_view seen 0 forms old before refused) (reader_view same 0 kept new waiting more) =
+    subst (λ ls. TakesBatches (reader_view seen 0 forms old before refused) (reader_view same 0 kept new ls more)) (sym is) from_old in
     record { batches = to_new.batches; taken = to_new.taken; gains = to_new.gains }
 
-pub filled_left : (name seen same : RingName) (forms kept : List Form) (old looked new : List Batch) (before lines waiting : List Line) (refused more : ℕ)
+pub filled_left : (name seen same : RingName) (times counted : ℕ) (forms kept : List Form) (old looked new : List Batch) (before lines waiting : List Line) (refused more : ℕ)
     → before ≡ [] → kept ≡ forms → looked ≡ old → waiting ≡ lines
-    → AreLeft (reader_view name forms old before refused) → TakesBatches (reader_view seen forms looked [] refused) (reader_view same kept new lines more)
-    → AreLeft (reader_view same kept new waiting more)
-filled_left name seen same forms kept old looked new before lines waiting refused more nothing kept_is looks is left takes =
-    more_left (reader_view name forms old before refused) (reader_view same kept new waiting more) (ap (map plain_line) nothing) kept_is left
-    (filled_takes name seen same forms kept old looked new before lines waiting refused more nothing looks is takes)
+    → AreLeft (reader_view name times forms old before refused) → TakesBatches (reader_view seen 0 forms looked [] refused) (reader_view same 0 kept new lines more)
+    → AreLeft (reader_view same counted kept new waiting more)
+filled_left name seen same times counted forms kept old looked new before lines waiting refused more nothing kept_is looks is left takes =
+    more_left (reader_view name times forms old before refused) (reader_view same counted kept new waiting more) (ap (map plain_line) nothing) kept_is left
+    (filled_takes name seen same times counted forms kept old looked new before lines waiting refused more nothing looks is takes)
 
 -- where nothing is left in the ring
 pub all_taken : (taken standing : List Batch) (lines waiting : List Line) (sent : List PlainBatch) → waiting ≡ lines → (lines ≡ [] → standing ≡ []) → map plain_batch (taken ++ standing) ≡ sent
@@ -155,9 +155,9 @@ all_rest : {X : Type 0} (P : X → Type 0) (xs ys : List X) → All P (xs ++ ys)
 all_rest P [] ys each = each
 all_rest P (x ∷ xs) ys each = all_rest P xs ys (All-tail P x (xs ++ ys) each)
 
-pub rest_left : (name : RingName) (forms : List Form) (taken : List Batch) (lines out rest : List Line) (refused : ℕ) → lines ≡ out ++ rest
-    → AreLeft (reader_view name forms taken lines refused) → AreLeft (reader_view name forms taken rest refused)
-rest_left name forms taken lines out rest refused is left =
+pub rest_left : (name : RingName) (looks : ℕ) (forms : List Form) (taken : List Batch) (lines out rest : List Line) (refused : ℕ) → lines ≡ out ++ rest
+    → AreLeft (reader_view name looks forms taken lines refused) → AreLeft (reader_view name looks forms taken rest refused)
+rest_left name looks forms taken lines out rest refused is left =
     let all : left.given ++ map plain_line lines ≡ (left.given ++ map plain_line out) ++ map plain_line rest =
     (ap (λ ls. left.given ++ map plain_line ls) is ∙ ap (λ ls. left.given ++ ls) (map-append plain_line out rest) ∙ sym (append_assoc left.given (map plain_line out) (map plain_line rest))) in
     record {

@@ -1,16 +1,17 @@
 -- What a contract sees of a line reader, and what it does when it takes batches.
-use Rattle.std.specs.Prelude.{◌≡◌, ℕ, ◌+◌, List, ◌++◌, flat_map, length, All}
+use Rattle.std.specs.Prelude.{◌≡◌, ℕ, ◌+◌, List, [], ◌∷◌, ◌++◌, flat_map, length, All}
 use Rattle.std.specs.List.{enumerate_from}
 use Rattle.span_layers.specs.declared.form.Form.{Form}
 use Rattle.span_outlet.specs.Batch.{PlainBatch}
-use Rattle.span_outlet.specs.Outlet.{RingName}
+use Rattle.span_outlet.specs.Outlet.{RingName, one_more}
 use Rattle.span_outlet.specs.Lines.{PlainLine}
 use Rattle.span_outlet.specs.Kept.{AreKept, GainsLines, NumberedNote, numbered, numbered_in}
 
--- the name of its ring, the forms in which it writes, the batches that it took, the lines of their notes that were not
--- given out yet, in order, and how many notes were missed
+-- the name of its ring, how often it looked there for batches, the forms in which it writes, the batches that it took,
+-- the lines of their notes that were not given out yet, in order, and how many notes were missed
 pub record LineReaderView : Type 0 where
   pub name : RingName
+  pub looks : ℕ
   pub forms : List Form
   pub taken : List PlainBatch
   pub waiting : List PlainLine
@@ -27,6 +28,11 @@ pub record TakesBatches (old new : LineReaderView) : Type 0 where
   pub taken : new.taken ≡ old.taken ++ batches
   pub gains : GainsLines old.forms (numbered_from (length old.taken) batches)
       old.waiting old.refused new.waiting new.refused
+
+-- a look at the ring is due where no line waits, and it is counted; the number stays at the greatest `u64`
+abbrev pub looks_of_fill : List PlainLine → ℕ → ℕ
+looks_of_fill [] looks = one_more looks
+looks_of_fill (_ ∷ _) looks = looks
 
 -- The lines that wait are the last ones of all that was taken: with those given out before them they are its lines, but
 -- for the notes that were missed.

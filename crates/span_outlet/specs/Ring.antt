@@ -3,6 +3,10 @@ use Rattle.std.specs.Prelude.{ℕ, Bool, List}
 use Rattle.span_outlet.specs.Batch.{PlainBatch}
 use Rattle.span_outlet.specs.Outlet.{RingName}
 
+-- how many places a ring has, which its name tells
+abbrev pub places_of : RingName → ℕ
+places_of name = name.names.0
+
 -- its name, the batches sent so far, how many places it knows to be free, whether the last `room` answered true and
 -- no `put` came since, and how often `room` answered false
 pub record RingView : Type 0 where

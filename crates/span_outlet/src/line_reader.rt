@@ -1,9 +1,10 @@
 //! What takes the batches out of a ring and gives out the lines of their notes, one after another.
-ghost use Rattle.std.specs.Prelude.{◌≡◌, ◌<◌, ◌∷◌, [], ◌++◌, ◌↔◌, false, Some, IfSome, IfNone, IsTrue, map, length, slice_get};
-ghost use Rattle.rtrb.specs.Ring.{received, known_items};
+ghost use Rattle.std.specs.Prelude.{◌≡◌, ◌<◌, ◌+◌, ◌∷◌, [], ◌++◌, ◌↔◌, false, Some, IfSome, IfNone, IsTrue, map, take, length, slice_get};
+ghost use Rattle.rtrb.specs.Ring.{received, known_items, ConsumerLooked};
 ghost use Rattle.span_outlet.specs.Batch.{plain_batch};
 ghost use Rattle.span_outlet.specs.Lines.{plain_line};
-ghost use Rattle.span_outlet.specs.LineReader.{AreLeft, AreOfLast, TakesBatches};
+ghost use Rattle.span_outlet.specs.Outlet.{one_more};
+ghost use Rattle.span_outlet.specs.LineReader.{AreLeft, AreOfLast, TakesBatches, looks_of_fill};
 ghost use Rattle.span_outlet.specs.inside.Ends.{name_of_consumer};
 ghost use Rattle.span_outlet.specs.inside.Reading.{reader_view};
 
@@ -22,6 +23,8 @@ use std::marker::Model;
 #[derive(Drop)]
 pub struct LineReader<V = Formatters> {
     consumer: Consuming,
+    // How often it looked into the ring for batches. Stays at its greatest value.
+    looks: u64,
     taken: u64,
     // The lines that wait, the last one first: so the first one can be popped.
     told: Told,
@@ -39,15 +42,25 @@ impl<V> Model for LineReader<V> {
     ghost Value = { LineReaderView };
 
     ghost view = { λ reader.
-        reader_view (name_of_consumer reader.consumer) reader.told.forms (received reader.consumer)
+        reader_view (name_of_consumer reader.consumer) reader.looks reader.told.forms (received reader.consumer)
         (reverse reader.told.lines.items) reader.told.refused };
 
     ghost invariant = { λ reader.
-        AreLeft (reader_view (name_of_consumer reader.consumer) reader.told.forms (received reader.consumer)
+        AreLeft (reader_view (name_of_consumer reader.consumer) reader.looks reader.told.forms (received reader.consumer)
         (reverse reader.told.lines.items) reader.told.refused)
-        × AreOfLast (reader_view (name_of_consumer reader.consumer) reader.told.forms (received reader.consumer)
+        × AreOfLast (reader_view (name_of_consumer reader.consumer) reader.looks reader.told.forms (received reader.consumer)
         (reverse reader.told.lines.items) reader.told.refused)
         × (reader.taken ≡ length (received reader.consumer)) };
+}
+
+// Looks into the ring for batches, and counts the look. How many are known to stand there then.
+fn look(consumer: &mut Consuming, looks: &mut u64) -> usize
+    ensures looked { ConsumerLooked consumer.old consumer.new }
+    ensures counted { looks.new ≡ one_more looks.old }
+    ensures value { result ≡ length (known_items consumer.new) }
+{
+    *looks = looks.saturating_add(1);
+    consumer.slots()
 }
 
 // Takes the batches that are known to stand in the ring, one by one, and tells their notes, until there is a line.
@@ -65,11 +78,11 @@ fn take_until_told<V: Say>(
     ensures name { name_of_consumer consumer.new ≡ name_of_consumer consumer.old }
     ensures forms { told.new.forms ≡ told.old.forms }
     ensures batches { TakesBatches
-        (reader_view (name_of_consumer consumer.old) told.old.forms (received consumer.old) [] told.old.refused)
-        (reader_view (name_of_consumer consumer.new) told.new.forms (received consumer.new) told.new.lines.items
+        (reader_view (name_of_consumer consumer.old) 0 told.old.forms (received consumer.old) [] told.old.refused)
+        (reader_view (name_of_consumer consumer.new) 0 told.new.forms (received consumer.new) told.new.lines.items
         told.new.refused) }
     ensures last { AreOfLast
-        (reader_view (name_of_consumer consumer.new) told.new.forms (received consumer.new) told.new.lines.items
+        (reader_view (name_of_consumer consumer.new) 0 told.new.forms (received consumer.new) told.new.lines.items
         told.new.refused) }
     ensures fifo { map plain_batch (received consumer.new ++ known_items consumer.new)
         ≡ map plain_batch (received consumer.old ++ known_items consumer.old) }
@@ -88,12 +101,20 @@ fn take_until_told<V: Say>(
 impl<F: Drop> LineReader<Formatters<F>> {
     /// A reader that took nothing, and which writes as the tellers do. It takes no memory.
     pub fn new(alloc: Global, tap: Tap, tellers: Tellers<F>) -> LineReader<Formatters<F>>
-        ensures { result ≡ record { name = tap; forms = tellers.forms; taken = []; waiting = []; refused = 0 } }
+        ensures { result ≡ record {
+          name = tap;
+          looks = 0;
+          forms = tellers.forms;
+          taken = [];
+          waiting = [];
+          refused = 0;
+        } }
     {
         let Tap { consumer } = tap;
         let Tellers { forms, formatters } = tellers;
         LineReader {
             consumer,
+            looks: 0,
             taken: 0,
             told: Told {
                 forms,
@@ -114,12 +135,14 @@ impl<V: Say> LineReader<V> {
         ensures answer { IsTrue result ↔ (0 < length self.new.waiting) }
         ensures none { result ≡ false → self.new.waiting ≡ [] }
         ensures waited { 0 < length self.old.waiting → self.new ≡ self.old }
+        ensures looked { self.new.looks ≡ looks_of_fill self.old.waiting self.old.looks }
         ensures taken { TakesBatches self.old self.new }
         ensures name { self.new.name ≡ self.old.name }
         ensures forms { self.new.forms ≡ self.old.forms }
     {
         let LineReader {
             consumer,
+            looks,
             taken,
             told,
             formatters,
@@ -127,7 +150,7 @@ impl<V: Say> LineReader<V> {
         if !told.lines.is_empty() {
             return true;
         }
-        let standing = consumer.slots();
+        let standing = look(consumer, looks);
         take_until_told(consumer, taken, told, &*formatters, standing);
         told.lines.reverse();
         !told.lines.is_empty()
@@ -140,6 +163,7 @@ impl<V: Say> LineReader<V> {
         ensures answer { IsTrue result ↔ (0 < length self.new.waiting) }
         ensures none { result ≡ false → self.new.waiting ≡ [] }
         ensures waited { 0 < length self.old.waiting → self.new ≡ self.old }
+        ensures looked { self.new.looks ≡ looks_of_fill self.old.waiting self.old.looks }
         ensures taken { TakesBatches self.old self.new }
         ensures sent { self.new.waiting ≡ [] → self.new.taken ≡ ring.old.sent }
         ensures name { self.new.name ≡ self.old.name }
@@ -148,6 +172,7 @@ impl<V: Say> LineReader<V> {
     {
         let LineReader {
             consumer,
+            looks,
             taken,
             told,
             formatters,
@@ -155,6 +180,7 @@ impl<V: Say> LineReader<V> {
         if !told.lines.is_empty() {
             return true;
         }
+        *looks = looks.saturating_add(1);
         let standing = ring.look_beside(consumer);
         take_until_told(consumer, taken, told, &*formatters, standing);
         told.lines.reverse();
@@ -181,6 +207,25 @@ impl<V> LineReader<V> {
         ensures rest { self.new ≡ record self.old { waiting = self.new.waiting } }
     {
         self.told.lines.pop()
+    }
+
+    /// How many batches still stand in the ring, in a thread that has both of its ends: those that were taken are the
+    /// first of all that were sent, and these are the others. Nothing is taken.
+    pub fn behind(&mut self, ring: &mut Ring) -> usize
+        requires pair { ring.old.name ≡ self.old.name }
+        ensures order { self.old.taken ≡ take (length self.old.taken) ring.old.sent }
+        ensures value { length self.old.taken + result ≡ length ring.old.sent }
+        ensures same { self.new ≡ self.old }
+        ensures ring { ring.new ≡ record ring.old { free = ring.new.free } }
+    {
+        ring.look_beside(&mut self.consumer)
+    }
+
+    /// How often it looked into the ring for batches to take. It stays at its greatest value.
+    pub fn looks(&self) -> u64
+        ensures { result ≡ self.now.looks }
+    {
+        self.looks
     }
 
     /// How many batches were taken.

@@ -3,6 +3,7 @@ ghost use Rattle.std.specs.Prelude.{◌≡◌, ◌+◌, ◌-◌, ◌^◌, ◌<�
 ghost use Rattle.rtrb.specs.Ring.{received, known_items, ConsumerLooked};
 ghost use Rattle.span_outlet.specs.Batch.{plain_batch};
 ghost use Rattle.span_outlet.specs.Outlet.{one_more};
+ghost use Rattle.span_outlet.specs.Ring.{places_of};
 ghost use Rattle.span_outlet.specs.inside.Ends.{name_of_consumer};
 
 use crate::batch::Batch;
@@ -85,6 +86,7 @@ impl Ring {
           ready = false;
           times_full = 0;
         }) }
+        ensures places { IfOk result (λ ends. places_of ends.1 ≡ limits.now.ring) }
         ensures memory { IfErr result (λ fault. fault ≡ Fault.Memory) }
     {
         let places = limits.limits().ring as usize;

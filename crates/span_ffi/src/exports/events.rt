@@ -1,18 +1,19 @@
 //! What a worker tells: more fields of a span, and events.
-ghost use Rattle.std.specs.Prelude.{◌≡◌, if◌then◌else◌, take, drop, string_bytes, IfOk, OnOk, IfErr};
+ghost use Rattle.std.specs.Prelude.{◌≡◌, if◌then◌else◌, take, drop, string_bytes, IfSome, OnSome};
 ghost use Rattle.span_id.specs.Meta.{plain_meta, plain_fields};
 ghost use Rattle.span_core.specs.Core.{are_keys};
 ghost use Rattle.span_ffi.specs.Status.{meaning};
 ghost use Rattle.span_ffi.specs.Ends.{Ends};
-ghost use Rattle.span_ffi.specs.Data.{IsEvent, said_meta, said_fields, behind_meta, WhyUnread};
+ghost use Rattle.span_ffi.specs.Data.{IsEvent, said_meta, said_fields, behind_meta};
 ghost use Rattle.span_ffi.specs.Calls.{Records, Tells};
 
 use crate::data::{SpanField, SpanMeta};
 use crate::exports::callers::{has_worker, id_of};
-use crate::reading::{read_fields, read_meta, read_text};
+use crate::reading::{read_fields, read_meta, read_text, unread};
 use crate::registry::RingCore;
 use crate::registry_handle::SpanRegistry;
 use crate::status::Status;
+use crate::valid::{are_fields, is_event};
 use span_id::{Fault, Field, Meta};
 use std::alloc::Global;
 
@@ -47,9 +48,8 @@ fn record(
     if !has_worker(core, worker) {
         return Status::NoSuchWorker;
     }
-    let fields = match read_fields(alloc, fields, texts) {
-        Ok(fields) => fields,
-        Err(status) => return status,
+    let Some(fields) = read_fields(alloc, fields, texts) else {
+        return unread(are_fields(fields, texts));
     };
     let Some(id) = id_of(core, id) else {
         return Status::Refused(fault_of_absent(fields.as_slice()));
@@ -94,9 +94,8 @@ fn event(
     if !has_worker(core, worker) {
         return Status::NoSuchWorker;
     }
-    let (meta, message, fields) = match read_event(alloc, meta, message_len, fields, texts) {
-        Ok(event) => event,
-        Err(status) => return status,
+    let Some((meta, message, fields)) = read_event(alloc, meta, message_len, fields, texts) else {
+        return unread(is_event(meta, message_len, fields, texts));
     };
     match core.event(worker, &meta, message.as_str(), fields.as_slice()) {
         Ok(()) => Status::Done,
@@ -104,26 +103,24 @@ fn event(
     }
 }
 
-// The meta, the message and the fields of an event.
+// The meta, the message and the fields of an event. None: the data say nothing, or memory is refused.
 fn read_event(
     alloc: Global,
     meta: &SpanMeta,
     message_len: u32,
     fields: &[SpanField],
     texts: &[u8],
-) -> Result<(Meta, String, Vec<Field>), Status>
-    ensures is { OnOk result (IsEvent meta.now message_len fields.now texts.now) }
-    ensures meta { IfOk result (λ event. plain_meta event.0 ≡ said_meta meta.now texts.now) }
-    ensures message { IfOk result (λ event. string_bytes event.1 ≡ take message_len (behind_meta meta.now texts.now)) }
-    ensures fields { IfOk result (λ event. plain_fields event.2.items
+) -> Option<(Meta, String, Vec<Field>)>
+    ensures is { OnSome result (IsEvent meta.now message_len fields.now texts.now) }
+    ensures meta { IfSome result (λ event. plain_meta event.0 ≡ said_meta meta.now texts.now) }
+    ensures message { IfSome result (λ event. string_bytes event.1 ≡ take message_len (behind_meta meta.now texts.now)) }
+    ensures fields { IfSome result (λ event. plain_fields event.2.items
         ≡ said_fields fields.now (drop message_len (behind_meta meta.now texts.now))) }
-    ensures unread { IfErr result (λ status.
-        WhyUnread (IsEvent meta.now message_len fields.now texts.now) status) }
 {
     let (meta, rest) = read_meta(alloc, meta, texts)?;
     let (message, rest) = read_text(alloc, rest, message_len)?;
     let fields = read_fields(alloc, fields, rest)?;
-    Ok((meta, message, fields))
+    Some((meta, message, fields))
 }
 
 /// Tells an event. The texts are its name, its target, the message, and the keys and values, one after another.

@@ -1,21 +1,22 @@
 //! New spans.
-ghost use Rattle.std.specs.Prelude.{◌≡◌, ◌≤◌, ◌<◌, ◌↔◌, false, Some, IsSome, IfSome, IfOk, OnOk, IfErr};
+ghost use Rattle.std.specs.Prelude.{◌≡◌, ◌≤◌, ◌<◌, ◌↔◌, false, Some, IsSome, IfSome, OnSome};
 ghost use Rattle.span_id.specs.Meta.{plain_meta, plain_fields};
 ghost use Rattle.span_outlet.specs.Request.{new_span};
 ghost use Rattle.span_core.specs.Step.{is_open};
 ghost use Rattle.span_core.specs.Parent.{parent_found};
 ghost use Rattle.span_ffi.specs.Status.{meaning};
 ghost use Rattle.span_ffi.specs.Ends.{Ends, Keeps};
-ghost use Rattle.span_ffi.specs.Data.{IsMeta, AreFields, said_meta, said_fields, said_parent, behind_meta, WhyUnread};
+ghost use Rattle.span_ffi.specs.Data.{IsMeta, AreFields, said_meta, said_fields, said_parent, behind_meta};
 ghost use Rattle.span_ffi.specs.Calls.{MakesSpan, IsMadeOrRefused};
 ghost use Rattle.span_ffi.specs.inside.Parents.{AreAlike};
 
 use crate::data::{SpanField, SpanMeta};
 use crate::exports::callers::{has_worker, id_of};
-use crate::reading::{read_fields, read_meta};
+use crate::reading::{read_fields, read_meta, unread};
 use crate::registry::RingCore;
 use crate::registry_handle::SpanRegistry;
 use crate::status::Status;
+use crate::valid::is_span;
 use span_core::laws::each_slot_has_one_open_span;
 use span_id::{Fault, Field, Id, Meta};
 use span_outlet::ParentOf;
@@ -49,24 +50,22 @@ fn read_parent(core: &RingCore, kind: u32, parent: u64) -> Option<ParentOf>
     }
 }
 
-// The meta and the fields of a span.
+// The meta and the fields of a span. None: the data say nothing, or memory is refused.
 fn read_span(
     alloc: Global,
     meta: &SpanMeta,
     fields: &[SpanField],
     texts: &[u8],
-) -> Result<(Meta, Vec<Field>), Status>
-    ensures is { OnOk result (IsMeta meta.now texts.now) }
-    ensures are { OnOk result (AreFields fields.now (behind_meta meta.now texts.now)) }
-    ensures meta { IfOk result (λ span. plain_meta span.0 ≡ said_meta meta.now texts.now) }
-    ensures fields { IfOk result (λ span. plain_fields span.1.items
+) -> Option<(Meta, Vec<Field>)>
+    ensures is { OnSome result (IsMeta meta.now texts.now) }
+    ensures are { OnSome result (AreFields fields.now (behind_meta meta.now texts.now)) }
+    ensures meta { IfSome result (λ span. plain_meta span.0 ≡ said_meta meta.now texts.now) }
+    ensures fields { IfSome result (λ span. plain_fields span.1.items
         ≡ said_fields fields.now (behind_meta meta.now texts.now)) }
-    ensures unread { IfErr result (λ status.
-        WhyUnread (IsMeta meta.now texts.now × AreFields fields.now (behind_meta meta.now texts.now)) status) }
 {
     let (meta, rest) = read_meta(alloc, meta, texts)?;
     let fields = read_fields(alloc, fields, rest)?;
-    Ok((meta, fields))
+    Some((meta, fields))
 }
 
 fn new_span(
@@ -116,8 +115,8 @@ fn make_span(
         return Status::BadData;
     };
     match read_span(alloc, meta, fields, texts) {
-        Ok((meta, fields)) => new_span(core, worker, parent, &meta, fields.as_slice(), id),
-        Err(status) => status,
+        Some((meta, fields)) => new_span(core, worker, parent, &meta, fields.as_slice(), id),
+        None => unread(is_span(meta, fields, texts)),
     }
 }
 

@@ -8,11 +8,12 @@ use Rattle.span_outlet.specs.Lines.{plain_line}
 use Rattle.span_outlet.specs.Outlet.{RingName}
 use Rattle.span_outlet.specs.LineReader.{LineReaderView}
 
--- the batches that it took, and the lines that wait, in order
-abbrev pub reader_view : RingName → List Form → List Batch → List Line → ℕ → LineReaderView
-reader_view name forms taken waiting refused =
+-- the looks, the batches that it took, and the lines that wait, in order
+abbrev pub reader_view : RingName → ℕ → List Form → List Batch → List Line → ℕ → LineReaderView
+reader_view name looks forms taken waiting refused =
     record {
       name = name;
+      looks = looks;
       forms = forms;
       taken = map plain_batch taken;
       waiting = map plain_line waiting;

@@ -137,9 +137,12 @@ fn both_ends_in_one_thread(rt: HostRuntime) -> Result<(), Fail> {
     assert!(rt; !reader.fill_beside(&mut ring));
     assert!(rt; send(&mut ring, batch(alloc, Kind::OnNew, &[0])?)?);
     assert!(rt; send(&mut ring, batch(alloc, Kind::OnExit, &[0])?)?);
+    assert_eq!(rt; reader.behind(&mut ring), 2);
     assert!(rt; reader.fill_beside(&mut ring));
+    assert_eq!(rt; reader.behind(&mut ring), 0);
     assert_eq!(rt; reader.next().map(|line| line.batch), Some(1));
     assert!(rt; !reader.fill_beside(&mut ring));
+    assert_eq!(rt; reader.looks(), 3);
     stands_at(&rt, &mut reader, 2, 1);
     Ok(())
 }

@@ -4,8 +4,8 @@ use Rattle.span_ffi.specs.Data.{IsSpan}
 use Rattle.span_ffi.proofs.Alike.{makes_as_read}
 use Rattle.span_ffi.proofs.exports.spans.make_span.Goals as goal
 
-pub returns-in-Ok-clause-made : goal.returns-in-Ok-clause-made
-returns-in-Ok-clause-made c =
+pub returns-in-Some-read_span-clause-made : goal.returns-in-Some-read_span-clause-made
+returns-in-Some-read_span-clause-made c =
     let within : HasWorker c.args.core.now c.args.worker = search rules in
     let says : IsSpan c.args.parent_kind c.args.meta.now c.args.fields.now c.args.texts.now = search rules in
     makes_as_read c.args.worker c.args.parent_kind c.args.parent c.args.meta.now c.args.fields.now c.args.texts.now c.new_span.new.id c.args.core.now c.new_span.result c.new_span.new.core

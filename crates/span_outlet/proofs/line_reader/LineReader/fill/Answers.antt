@@ -11,9 +11,9 @@ returns-then-not-is_empty-clause-taken g c = rw (← c.self.view_is) (takes_none
 pub invariant_of-self-2 : goal.invariant_of-self-2
 invariant_of-self-2 g c =
     let nothing : c.self.inside.told.lines.items ≡ [] = nil_from_length _ (search rules) in
-    let looks : received c.slots-standing.new.self ≡ received c.self.inside.consumer = search rules in
+    let looks : received c.look-standing.new.consumer ≡ received c.self.inside.consumer = search rules in
     let told : reverse c.reverse.new.self.items ≡ c.take_until_told.new.told.lines.items = as_told _ _ c.reverse.ensures.items in (
-      filled_left _ _ _ _ _ _ _ _ _ _ _ _ _ (ap reverse nothing) c.take_until_told.ensures.forms looks told c.self.invariant.0 c.take_until_told.ensures.batches,
+      filled_left _ _ _ _ _ _ _ _ _ _ _ _ _ _ _ (ap reverse nothing) c.take_until_told.ensures.forms looks told c.self.invariant.0 c.take_until_told.ensures.batches,
       subst (OfLast _) (sym told) c.take_until_told.ensures.last,
       c.take_until_told.ensures.number,
     )
@@ -21,6 +21,6 @@ invariant_of-self-2 g c =
 pub returns-clause-taken : goal.returns-clause-taken
 returns-clause-taken g c =
     let nothing : c.self.inside.told.lines.items ≡ [] = nil_from_length _ (search rules) in
-    let looks : received c.slots-standing.new.self ≡ received c.self.inside.consumer = search rules in
+    let looks : received c.look-standing.new.consumer ≡ received c.self.inside.consumer = search rules in
     let told : reverse c.reverse.new.self.items ≡ c.take_until_told.new.told.lines.items = as_told _ _ c.reverse.ensures.items in
-    rw (← c.self.view_is) (filled_takes _ _ _ _ _ _ _ _ _ _ _ _ _ (ap reverse nothing) looks told c.take_until_told.ensures.batches)
+    rw (← c.self.view_is) (filled_takes _ _ _ _ _ _ _ _ _ _ _ _ _ _ _ (ap reverse nothing) looks told c.take_until_told.ensures.batches)
