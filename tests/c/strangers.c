@@ -19,7 +19,7 @@ static void check(int good, const char *what, uint64_t id) {
     }
 }
 
-enum { GENERATION = 1 << 24, OPEN = 2 };
+enum { GENERATION = 1 << 24, OPEN = GENERATION + 2 };
 
 /* what the registry below has no open span of */
 static const struct {
@@ -30,7 +30,8 @@ static const struct {
     {1, "closed, of a slot that is retired"},
     {GENERATION + 1, "the retired slot's last one"},
     {2 * GENERATION + 1, "the retired slot at a generation past its last"},
-    {GENERATION + OPEN, "the open span's slot at its next generation"},
+    {2, "closed, of the open span's slot"},
+    {2 * GENERATION + 2, "the open span's slot at its next generation"},
     {3, "closed, of a slot that is free"},
     {GENERATION + 3, "the free slot's next one"},
     {4, "a slot that was never used"},
@@ -59,7 +60,8 @@ static int makes_and_closes(uint64_t wanted) {
         && span_registry_try_close(&registry, 0, id, &closed) == SPAN_OK && closed == 1;
 }
 
-/* slot 0 is retired, slot 1 has an open span that the worker is inside, slot 2 is free again, slot 3 was never used */
+/* slot 0 is retired, slot 1 has its second span, which is open and the worker is inside it, slot 2 is free again, slot 3
+ * was never used */
 static int opens_with_a_past(void) {
     const SpanLimits limits = {4, 1, 9, 1, 64};
     const SpanLayer layer = {0, 15, 1};
@@ -67,7 +69,7 @@ static int opens_with_a_past(void) {
     uint64_t open = 0;
     uint32_t first = 0;
     return span_registry_new(&registry, &drain, &limits, &layer, 1, &rule, 1, texts, 0) == SPAN_OK
-        && makes_and_closes(1) && makes_and_closes(GENERATION + 1)
+        && makes_and_closes(1) && makes_and_closes(GENERATION + 1) && makes_and_closes(2)
         && make_span(SPAN_ROOT, 0, &open) == SPAN_OK && open == OPEN
         && span_registry_enter(&registry, 0, open, &first) == SPAN_OK && first == 1
         && makes_and_closes(3);
@@ -115,7 +117,7 @@ static unsigned lines(void) {
 
 int main(void) {
     check(opens_with_a_past(), "the registry", OPEN);
-    check(lines() == 8, "the lines of four spans, three of them closed, and one entered", OPEN);
+    check(lines() == 10, "the lines of five spans, four of them closed, and one entered", OPEN);
     for (size_t row = 0; row < sizeof strangers / sizeof strangers[0]; row++) {
         Seen before = seen();
         refuses(strangers[row].id);

@@ -9,31 +9,20 @@ use crate::task::Task;
 use span_id::{Fault, Id};
 use span_registry::{ParentOf, Registry, Ring, Setup, Share, Worker};
 use std::alloc::Global;
-use std::marker::Model;
 use std::sync::Wait;
 use std::sync::atomic::Ordering;
 use std::sync::ledger::Ledger;
 use std::thread;
 
-/// A worker, its handles, and the spans that it is inside. Contracts see how many parts of the ledger of handles it has
-/// with its handles.
+/// A worker, its handles, and the spans that it is inside; how many notes its calls have, and how often there was no
+/// place for one.
 #[derive(Drop)]
-pub struct Caller<'a, H: Ledger, C: Ledger, S: Setup> {
-    registry: &'a Registry<H, C, S, Ring>,
-    task: &'a Task,
+pub struct Caller<H: Ledger, C: Ledger, S: Setup> {
     worker: Worker<H, C>,
     hands: Vec<Held<H, C, S>>,
     inside: Vec<Id>,
     notes: u64,
     backlogs: u64,
-}
-
-impl<'a, H: Ledger, C: Ledger, S: Setup> Model for Caller<'a, H, C, S> {
-    ghost use Rattle.std.specs.Prelude.{ℕ, ◌+◌, vec_len};
-
-    ghost Value = { ℕ };
-
-    ghost view = { λ caller. caller.worker.spare + vec_len caller.hands };
 }
 
 /// What a worker does: its random calls, and then it gives all back and leaves.
@@ -47,9 +36,7 @@ pub fn work<H: Ledger, C: Ledger, S: Setup, R: Wait>(
     ensures { IfOk result (HasParts worker.spare) }
 {
     let mut dice = Dice::new(task.seed, worker.number());
-    let mut caller = Caller {
-        registry,
-        task,
+    let mut caller: Caller<H, C, S> = Caller {
         worker,
         hands: Vec::with_capacity(alloc, MOST_HANDLES)?,
         inside: Vec::with_capacity(alloc, MOST_INSIDE)?,
@@ -58,41 +45,50 @@ pub fn work<H: Ledger, C: Ledger, S: Setup, R: Wait>(
     };
     for _ in 0..task.rounds {
         let act = choose(&mut dice, caller.hands.len(), caller.inside.len());
-        caller.make(rt, act)?;
+        caller.make(rt, registry, task, act)?;
     }
-    caller.leave(rt)
+    caller.leave(rt, registry, task)
 }
 
-impl<'a, H: Ledger, C: Ledger, S: Setup> Caller<'a, H, C, S> {
+impl<H: Ledger, C: Ledger, S: Setup> Caller<H, C, S> {
     // Gives all back, tells the counts, and leaves.
-    fn leave<R: Wait>(self, rt: &R) -> Result<Share<H, C>, Fault>
-        ensures { IfOk result (HasParts self) }
+    fn leave<R: Wait>(
+        self,
+        rt: &R,
+        registry: &Registry<H, C, S, Ring>,
+        task: &Task,
+    ) -> Result<Share<H, C>, Fault>
+        ensures { IfOk result (HasParts (self.worker.spare + vec_len self.hands)) }
     {
         let mut caller = self;
         for _ in rt.forever() {
             if !caller.inside.is_empty() {
-                caller.make(rt, Act::Exit(0))?;
+                caller.make(rt, registry, task, Act::Exit(0))?;
             } else if !caller.hands.is_empty() {
-                caller.make(rt, Act::Close(0))?;
+                caller.make(rt, registry, task, Act::Close(0))?;
             } else {
                 break;
             }
         }
-        caller.task.notes.fetch_add(caller.notes, Ordering::SeqCst);
-        caller
-            .task
-            .backlogs
-            .fetch_add(caller.backlogs, Ordering::SeqCst);
+        task.notes.fetch_add(caller.notes, Ordering::SeqCst);
+        task.backlogs.fetch_add(caller.backlogs, Ordering::SeqCst);
         let Caller { worker, .. } = caller;
         Ok(worker.leave())
     }
 
     // Makes a call until it isn't refused for want of a place.
-    fn make<R: Wait>(&mut self, rt: &R, act: Act) -> Result<(), Fault>
-        ensures parts { self.new ≡ self.old }
+    fn make<R: Wait>(
+        &mut self,
+        rt: &R,
+        registry: &Registry<H, C, S, Ring>,
+        task: &Task,
+        act: Act,
+    ) -> Result<(), Fault>
+        ensures parts { self.new.worker.spare + vec_len self.new.hands
+            ≡ self.old.worker.spare + vec_len self.old.hands }
     {
         for _ in rt.forever() {
-            match self.call(rt, act) {
+            match self.call(rt, registry, task, act) {
                 Err(Fault::Backlog) => {
                     self.backlogs = self.backlogs.saturating_add(1);
                     thread::yield_now();
@@ -107,35 +103,48 @@ impl<'a, H: Ledger, C: Ledger, S: Setup> Caller<'a, H, C, S> {
     }
 
     // Makes a call once.
-    fn call<R: Wait>(&mut self, rt: &R, act: Act) -> Result<(), Fault>
-        ensures parts { self.new ≡ self.old }
+    fn call<R: Wait>(
+        &mut self,
+        rt: &R,
+        registry: &Registry<H, C, S, Ring>,
+        task: &Task,
+        act: Act,
+    ) -> Result<(), Fault>
+        ensures parts { self.new.worker.spare + vec_len self.new.hands
+            ≡ self.old.worker.spare + vec_len self.old.hands }
     {
         match act {
-            Act::NewRoot => self.new_span(rt, ParentOf::Root),
-            Act::NewCurrent => self.new_span(rt, ParentOf::Current),
-            Act::NewUnder(place) => self.new_under(rt, place),
-            Act::Clone(place) => self.clone_span(rt, place),
-            Act::Enter(place) => self.enter(rt, place),
-            Act::Exit(place) => self.exit(rt, place),
-            Act::Record(place) => self.record(rt, place),
-            Act::Event => {
-                let Task { meta, fields, .. } = self.task;
-                let registry = self.registry;
-                registry.event(rt, &mut self.worker, meta, "a message", fields)
-            }
-            Act::Close(place) => self.try_close(rt, place),
+            Act::NewRoot => self.new_span(rt, registry, task, ParentOf::Root),
+            Act::NewCurrent => self.new_span(rt, registry, task, ParentOf::Current),
+            Act::NewUnder(place) => self.new_under(rt, registry, task, place),
+            Act::Clone(place) => self.clone_span(rt, registry, place),
+            Act::Enter(place) => self.enter(rt, registry, place),
+            Act::Exit(place) => self.exit(rt, registry, place),
+            Act::Record(place) => self.record(rt, registry, task, place),
+            Act::Event => registry.event(
+                rt,
+                &mut self.worker,
+                &task.meta,
+                "a message",
+                &task.fields,
+            ),
+            Act::Close(place) => self.try_close(rt, registry, place),
         }
     }
 
     // A new span, whose handle is kept.
-    fn new_span<R: Wait>(&mut self, rt: &R, parent: ParentOf) -> Result<(), Fault>
-        ensures parts { self.new ≡ self.old }
+    fn new_span<R: Wait>(
+        &mut self,
+        rt: &R,
+        registry: &Registry<H, C, S, Ring>,
+        task: &Task,
+        parent: ParentOf,
+    ) -> Result<(), Fault>
+        ensures parts { self.new.worker.spare + vec_len self.new.hands
+            ≡ self.old.worker.spare + vec_len self.old.hands }
     {
         self.hands.reserve(1)?;
-        let Task { meta, fields, .. } = self.task;
-        let made = self
-            .registry
-            .new_span(rt, &mut self.worker, meta, fields, parent)?;
+        let made = registry.new_span(rt, &mut self.worker, &task.meta, &task.fields, parent)?;
         if let Some(handle) = made {
             self.hands.push_reserved(Held { handle });
         }
@@ -143,77 +152,109 @@ impl<'a, H: Ledger, C: Ledger, S: Setup> Caller<'a, H, C, S> {
     }
 
     // The same under the span of a handle.
-    fn new_under<R: Wait>(&mut self, rt: &R, place: usize) -> Result<(), Fault>
-        ensures parts { self.new ≡ self.old }
+    fn new_under<R: Wait>(
+        &mut self,
+        rt: &R,
+        registry: &Registry<H, C, S, Ring>,
+        task: &Task,
+        place: usize,
+    ) -> Result<(), Fault>
+        ensures parts { self.new.worker.spare + vec_len self.new.hands
+            ≡ self.old.worker.spare + vec_len self.old.hands }
     {
-        match self.hands.get(place) {
-            Some(held) => self.new_span(rt, ParentOf::Of(held.handle.id())),
-            None => Err(Fault::Unknown),
-        }
+        let Some(held) = self.hands.get(place) else {
+            return Err(Fault::Unknown);
+        };
+        let parent = held.handle.id();
+        self.new_span(rt, registry, task, ParentOf::Of(parent))
     }
 
     // One more handle, which is kept.
-    fn clone_span<R: Wait>(&mut self, rt: &R, place: usize) -> Result<(), Fault>
-        ensures parts { self.new ≡ self.old }
+    fn clone_span<R: Wait>(
+        &mut self,
+        rt: &R,
+        registry: &Registry<H, C, S, Ring>,
+        place: usize,
+    ) -> Result<(), Fault>
+        ensures parts { self.new.worker.spare + vec_len self.new.hands
+            ≡ self.old.worker.spare + vec_len self.old.hands }
     {
         self.hands.reserve(1)?;
         let Some(held) = self.hands.get_mut(place) else {
             return Err(Fault::Unknown);
         };
-        let handle = self
-            .registry
-            .clone_span(rt, &mut self.worker, &mut held.handle)?;
+        let handle = registry.clone_span(rt, &mut self.worker, &mut held.handle)?;
         self.hands.push_reserved(Held { handle });
         Ok(())
     }
 
     // The span that is entered is written down.
-    fn enter<R: Wait>(&mut self, rt: &R, place: usize) -> Result<(), Fault>
-        ensures parts { self.new ≡ self.old }
+    fn enter<R: Wait>(
+        &mut self,
+        rt: &R,
+        registry: &Registry<H, C, S, Ring>,
+        place: usize,
+    ) -> Result<(), Fault>
+        ensures parts { self.new.worker.spare + vec_len self.new.hands
+            ≡ self.old.worker.spare + vec_len self.old.hands }
     {
         self.inside.reserve(1)?;
         let Some(held) = self.hands.get_mut(place) else {
             return Err(Fault::Unknown);
         };
-        self.registry.enter(rt, &mut self.worker, &mut held.handle)?;
+        registry.enter(rt, &mut self.worker, &mut held.handle)?;
         self.inside.push_reserved(held.handle.id());
         Ok(())
     }
 
-    fn exit<R: Wait>(&mut self, rt: &R, place: usize) -> Result<(), Fault>
-        ensures parts { self.new ≡ self.old }
+    fn exit<R: Wait>(
+        &mut self,
+        rt: &R,
+        registry: &Registry<H, C, S, Ring>,
+        place: usize,
+    ) -> Result<(), Fault>
+        ensures parts { self.new.worker.spare + vec_len self.new.hands
+            ≡ self.old.worker.spare + vec_len self.old.hands }
     {
         let Some(id) = self.inside.get(place).copied() else {
             return Err(Fault::NotEntered);
         };
-        self.registry.exit(rt, &mut self.worker, id)?;
+        registry.exit(rt, &mut self.worker, id)?;
         self.inside.swap_remove(place);
         Ok(())
     }
 
-    fn record<R: Wait>(&mut self, rt: &R, place: usize) -> Result<(), Fault>
-        ensures parts { self.new ≡ self.old }
+    fn record<R: Wait>(
+        &mut self,
+        rt: &R,
+        registry: &Registry<H, C, S, Ring>,
+        task: &Task,
+        place: usize,
+    ) -> Result<(), Fault>
+        ensures parts { self.new.worker.spare + vec_len self.new.hands
+            ≡ self.old.worker.spare + vec_len self.old.hands }
     {
         let Some(held) = self.hands.get_mut(place) else {
             return Err(Fault::Unknown);
         };
-        let fields = &self.task.fields;
-        self.registry
-            .record(rt, &mut self.worker, &mut held.handle, fields)
+        registry.record(rt, &mut self.worker, &mut held.handle, &task.fields)
     }
 
     // Gives a handle back. Where that is refused, the handle that comes back is kept.
-    fn try_close<R: Wait>(&mut self, rt: &R, place: usize) -> Result<(), Fault>
-        ensures parts { self.new ≡ self.old }
+    fn try_close<R: Wait>(
+        &mut self,
+        rt: &R,
+        registry: &Registry<H, C, S, Ring>,
+        place: usize,
+    ) -> Result<(), Fault>
+        ensures parts { self.new.worker.spare + vec_len self.new.hands
+            ≡ self.old.worker.spare + vec_len self.old.hands }
     {
         if place >= self.hands.len() {
             return Err(Fault::Unknown);
         }
         let held = self.hands.swap_remove(place);
-        match self
-            .registry
-            .try_close(rt, &mut self.worker, held.into_handle())
-        {
+        match registry.try_close(rt, &mut self.worker, held.into_handle()) {
             Ok(_closed) => Ok(()),
             Err((handle, fault)) => {
                 self.hands.push_reserved(Held { handle });

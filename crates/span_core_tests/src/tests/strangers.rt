@@ -19,29 +19,33 @@ const LIMITS: Limits = Limits {
     ring: 1,
 };
 
-// Slot 0 is retired, slot 1 has an open span that the worker is inside, slot 2 is free again, slot 3 was never used.
-fn past<'a>() -> [(u32, Act<'a>); 9] {
+// Slot 0 is retired, slot 1 has its second span, which is open and the worker is inside it, slot 2 is free again, slot
+// 3 was never used.
+fn past<'a>() -> [(u32, Act<'a>); 11] {
     [
         (0, child("a", 0)),
         (0, Act::Close(1)),
         (0, child("b", 0)),
         (0, Act::Close(16777217)),
         (0, child("c", 0)),
-        (0, Act::Enter(2)),
+        (0, Act::Close(2)),
         (0, child("d", 0)),
+        (0, Act::Enter(16777218)),
+        (0, child("e", 0)),
         (0, Act::Close(3)),
-        (0, Act::Clone(2)),
+        (0, Act::Clone(16777218)),
     ]
 }
 
-// The closed id of the retired slot, the id with which it was retired, and one more generation of it; the next
-// generation of the open span's slot; the closed id of the free slot, and the id that it will give; the slot never
+// The closed ids of the retired slot, and one generation more of it; the closed id of the open span's slot, and one
+// generation more than the open one's; the closed id of the free slot, and the id that it will give; the slot never
 // used, one beyond the table, the last one of the layout, and the greatest id.
-const STRANGERS: [u64; 10] = [
+const STRANGERS: [u64; 11] = [
     1,
     16777217,
     33554433,
-    16777218,
+    2,
+    33554434,
     3,
     16777219,
     4,
@@ -53,7 +57,7 @@ const STRANGERS: [u64; 10] = [
 // Each call that takes an id, and its answer.
 fn calls_on<'a>(id: u64) -> [(u32, Act<'a>); 6] {
     [
-        (0, child("e", id)),
+        (0, child("f", id)),
         (0, Act::Clone(id)),
         (0, Act::Enter(id)),
         (0, Act::Exit(id)),
@@ -70,9 +74,17 @@ fn seen<V: Say>(alloc: Global, core: &Core<Kept<V>>) -> Result<String, Fail>
 {
     let spans = (core.len(), core.total(), core.handles(), core.entries());
     let calls = (core.calls(), core.made(), core.closed());
-    let (open, current) = (core.find(Id::pack(1, 0)), core.stack(0).current());
+    let (open, current) = (core.find(Id::pack(1, 1)), core.stack(0).current());
     let (batches, lines) = (core.outlet().batches().len(), core.outlet().all().len());
     Ok(format!(in alloc; "{spans:?} {calls:?} {open:?} {current:?} {batches} {lines}")?)
+}
+
+// Whether a span of this id is open.
+fn is_open<V: Say>(core: &Core<Kept<V>>, number: u64) -> bool {
+    match Id::from_u64(number) {
+        Some(id) => core.find(id).is_some(),
+        None => false,
+    }
 }
 
 // The calls are made on a core with a past.
@@ -88,13 +100,12 @@ fn refuses_strangers<V: Say>(
     play(alloc, &mut core, 1, &past())?;
     let before = seen(alloc, &core)?;
     for stranger in STRANGERS {
-        let found = Id::from_u64(stranger).and_then(|id| core.find(id));
-        assert!(rt; found.is_none(), "{stranger}");
+        let is_open = is_open(&core, stranger);
         let text = play(alloc, &mut core, 1, &calls_on(stranger))?;
-        assert!(rt; text.as_str() == REFUSED, "{stranger}");
+        assert!(rt; !is_open && text.as_str() == REFUSED, "{stranger}");
     }
     assert_eq!(rt; seen(alloc, &core)?.as_str(), before.as_str());
-    assert_eq!(rt; (core.len(), core.handles(), core.calls()), (1, 2, 9));
+    assert_eq!(rt; (core.len(), core.handles(), core.calls()), (1, 2, 11));
     Ok(())
 }
 

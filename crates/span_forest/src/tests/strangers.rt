@@ -3,14 +3,15 @@ use super::*;
 
 const LIMITS: [u32; 3] = [4, 1, 9];
 
-// The closed id of a retired slot, the id with which it was retired, and one more generation of it; the next generation
-// of an open span's slot; the closed id of a free slot, and the id that it will give; a slot never used, one beyond the
-// table, the last one of the layout, and the greatest id.
-const STRANGERS: [u64; 10] = [
+// The closed ids of the retired slot, and one generation more of it; the closed id of the open span's slot, and one
+// generation more than the open one's; the closed id of the free slot, and the id that it will give; the slot never
+// used, one beyond the table, the last one of the layout, and the greatest id.
+const STRANGERS: [u64; 11] = [
     1,
     16777217,
     33554433,
-    16777218,
+    2,
+    33554434,
     3,
     16777219,
     4,
@@ -19,16 +20,16 @@ const STRANGERS: [u64; 10] = [
     72057594037927936,
 ];
 
-// Slot 0 is retired, slot 1 has the open span `c`, slot 2 is free again, and slot 3 was never used.
+// Slot 0 is retired, slot 1 has its second span, which is open, slot 2 is free again, slot 3 was never used.
 fn forest_with_a_past(rt: &impl Abort, alloc: Global) -> Result<Forest, Fail> {
     let [slots, last_generation, max_count] = LIMITS;
     let mut forest = Forest::new(alloc, &checked(slots, last_generation, max_count)?)?;
-    for number in [1, 16777217] {
+    for number in [1, 16777217, 2] {
         add(alloc, &mut forest, "a", None, 1)?;
         forest.release(id(rt, number), Holder::Handle)?;
     }
-    add(alloc, &mut forest, "c", None, 1)?;
     add(alloc, &mut forest, "d", None, 1)?;
+    add(alloc, &mut forest, "e", None, 1)?;
     forest.release(id(rt, 3), Holder::Handle)?;
     Ok(forest)
 }
@@ -36,7 +37,7 @@ fn forest_with_a_past(rt: &impl Abort, alloc: Global) -> Result<Forest, Fail> {
 // All that can be seen of the forest.
 fn seen(alloc: Global, forest: &Forest) -> Result<String, Fail> {
     let (open, total, handles) = (forest.len(), forest.total(), forest.handles());
-    let (next, span) = (forest.next_id(), forest.find(Id::pack(1, 0)));
+    let (next, span) = (forest.next_id(), forest.find(Id::pack(1, 1)));
     Ok(format!(in alloc; "{open} {total} {handles} {next:?} {span:?}")?)
 }
 
@@ -57,7 +58,7 @@ fn holds_nothing(forest: &mut Forest, stranger: Id, holder: Holder) -> bool {
 #[test]
 fn strangers_ids_find_nothing_and_change_nothing(rt: HostRuntime) -> Result<(), Fail> {
     let mut forest = forest_with_a_past(&rt, rt.alloc())?;
-    let meta = named(rt.alloc(), "e")?;
+    let meta = named(rt.alloc(), "f")?;
     let before = seen(rt.alloc(), &forest)?;
     for number in STRANGERS {
         let stranger = id(&rt, number);
