@@ -44,11 +44,14 @@ class Run:
         began = time.monotonic()
         running = subprocess.Popen(words, stdin=subprocess.DEVNULL, stdout=subprocess.PIPE, stderr=subprocess.PIPE)
         self.samples = []
-        while running.poll() is None:
-            memory = resident(running.pid)
-            if memory is not None:
-                self.samples.append((time.monotonic() - began, memory))
-            time.sleep(every)
+        try:
+            while running.poll() is None:
+                memory = resident(running.pid)
+                if memory is not None:
+                    self.samples.append((time.monotonic() - began, memory))
+                time.sleep(every)
+        finally:
+            running.kill()
         self.seconds = time.monotonic() - began
         self.output, self.error = (text.decode() for text in running.communicate())
         self.status = running.returncode
