@@ -1,6 +1,6 @@
 #!/usr/bin/env python3
-"""A long run: storms one after the other, and then random calls by 8 threads on one registry, beside a slow drain behind
-a ring of 4 places, where a call that is refused for want of a place is made again. No part of ./check.
+"""A long run: storms one after the other, and then random calls by 8 threads on one registry, beside a slow drain
+behind a ring of 4 places, where a call that is refused for want of a place is made again. No part of ./check.
 
 usage: soak.py [--minutes M] [--storms N] [--program FILE] [--soak FILE] [--seed S]
 FILE is tracerun for the storms, and the program of the crate `soak` for the calls. How many calls make a run of so many
@@ -111,7 +111,8 @@ def soaked(program, minutes, seed):
     yield told("the long run", [] if is_level(run) else ["its memory grew"])
     numbers = run.numbers()
     if numbers:
-        print(f"{run.seconds / 60:.1f} minutes, {numbers['calls']} calls, {numbers['calls'] / run.seconds:.0f} a second, "
+        calls = numbers["calls"]
+        print(f"{run.seconds / 60:.1f} minutes, {calls} calls, {calls / run.seconds:.0f} a second, "
               f"{numbers['made']} spans, {numbers['notes']} notes, {run.refused()} times no place")
 
 

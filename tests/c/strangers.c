@@ -60,8 +60,8 @@ static int makes_and_closes(uint64_t wanted) {
         && span_registry_try_close(&registry, 0, id, &closed) == SPAN_OK && closed == 1;
 }
 
-/* slot 0 is retired, slot 1 has its second span, which is open and the worker is inside it, slot 2 is free again, slot 3
- * was never used */
+/* slot 0 is retired, slot 1 has its second span, which is open and the worker is inside it, slot 2 is free again, slot
+ * 3 was never used */
 static int opens_with_a_past(void) {
     const SpanLimits limits = {4, 1, 9, 1, 64};
     const SpanLayer layer = {0, 15, 1};

@@ -1,5 +1,5 @@
-//! A long run: workers that make random calls on one registry, each in a thread of its own, beside a slow drain behind a
-//! ring of few places. What is refused for want of a place is called again, and in the end all is given back.
+//! A long run: workers that make random calls on one registry, each in a thread of its own, beside a slow drain behind
+//! a ring of few places. What is refused for want of a place is called again, and in the end all is given back.
 //!
 //! `soak WORKERS PLACES ROUNDS SEED`; with no words a short run.
 #![tactic(auto)]
