@@ -1,5 +1,5 @@
-"""Builds the C program tests/c/span_registry.c against the static library of crates/span_ffi, and runs it with the
-sanitizers of the C compiler and under valgrind. The last line is 'N passed, M failed'.
+"""Builds the C programs of tests/c against the static library of crates/span_ffi, and runs each with the sanitizers of
+the C compiler and under valgrind. The last line is 'N passed, M failed'.
 
 The library is that of `rt lib`, which is made first where it isn't there or a source is newer, or that of --library.
 The C compiler is $CC, else cc.
@@ -11,13 +11,21 @@ import re
 import subprocess
 import sys
 import tempfile
+from itertools import product
 from pathlib import Path
 
 TOP = Path(__file__).resolve().parent.parent
 CRATE = TOP / "crates/span_ffi"
-SOURCE = TOP / "tests/c/span_registry.c"
 WARNINGS = ["-std=gnu11", "-pthread", "-Wall", "-Wextra", "-Wpedantic", "-Werror"]
-WRAPS = ["-Wl,--wrap=malloc", "-Wl,--wrap=realloc"]
+# Each program, and what it is linked with: the first one refuses memory to the library.
+PROGRAMS = [
+    ("span_registry", ["-Wl,--wrap=malloc", "-Wl,--wrap=realloc"]),
+    ("strangers", []),
+]
+RUNS = [
+    ("with sanitizers", ["-g", "-fsanitize=address,undefined", "-fno-sanitize-recover=all"], []),
+    ("under valgrind", ["-g", "-O1"], ["valgrind", "--quiet", "--leak-check=full", "--error-exitcode=3"]),
+]
 
 
 def shim_folder():
@@ -39,10 +47,9 @@ def current_library():
     return library if done.returncode == 0 else None
 
 
-def built(library, folder, name, flags):
-    """The program, built with these flags; none where the build fails."""
-    program = Path(folder) / name
-    command = [os.environ.get("CC", "cc"), *WARNINGS, *flags, *WRAPS, "-I", str(TOP / "include"), str(SOURCE),
+def built(library, source, program, flags):
+    """The program of a source, built with these flags; none where the build fails."""
+    command = [os.environ.get("CC", "cc"), *WARNINGS, *flags, "-I", str(TOP / "include"), str(source),
                str(library), str(shim_folder() / "liblibc_c.a"), "-o", str(program)]
     done = subprocess.run(command, capture_output=True, text=True)
     sys.stdout.write(done.stdout + done.stderr)
@@ -69,14 +76,12 @@ def main():
     if library is None:
         print("0 passed, 1 failed")
         return 1
-    runs = [
-        ("with sanitizers", ["-g", "-fsanitize=address,undefined", "-fno-sanitize-recover=all"], []),
-        ("under valgrind", ["-g", "-O1"], ["valgrind", "--quiet", "--leak-check=full", "--error-exitcode=3"]),
-    ]
     passed = failed = 0
     with tempfile.TemporaryDirectory() as folder:
-        for number, (name, flags, runner) in enumerate(runs):
-            program = built(library, folder, f"program{number}", flags)
+        for (program_name, wraps), (run_name, flags, runner) in product(PROGRAMS, RUNS):
+            name = f"{program_name} {run_name}"
+            source = TOP / f"tests/c/{program_name}.c"
+            program = built(library, source, Path(folder) / name.replace(" ", "_"), [*flags, *wraps])
             if program is None:
                 print(f"{name}: it was not built")
                 failed += 1

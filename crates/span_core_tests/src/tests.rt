@@ -7,4 +7,5 @@ mod missed;
 mod on_a_ring;
 mod rows;
 mod sharing;
+mod strangers;
 mod workers;

@@ -1,4 +1,5 @@
 mod row;
+mod strangers;
 mod tree;
 
 use super::*;
@@ -216,32 +217,6 @@ fn a_slot_that_gave_its_last_id_gives_no_more(rt: HostRuntime) -> Result<(), Fai
         forest.add(meta.share()?, Fields::none(), None, Bits(0)),
         Err(Fault::Full)
     );
-    Ok(())
-}
-
-// Whether each call that takes an id finds none.
-fn finds_nothing(forest: &mut Forest, absent: Id) -> bool {
-    forest.find(absent).is_none()
-        && forest.keep(absent, Holder::Entry) == Err(Fault::Unknown)
-        && forest.write_fields(absent, &[]) == Err(Fault::Unknown)
-        && forest.closing(absent, Holder::Handle).is_err()
-        && forest.release(absent, Holder::Handle).is_err()
-        && forest.path(0, absent).is_err()
-        && forest.path_text(0, absent).is_err()
-}
-
-#[test]
-fn what_is_not_open_finds_nothing(rt: HostRuntime) -> Result<(), Fail> {
-    let mut forest = Forest::new(rt.alloc(), &checked(3, 9, 9)?)?;
-    add(rt.alloc(), &mut forest, "a", None, 1)?;
-    release(&rt, rt.alloc(), &mut forest, 1, Holder::Handle, "1")?;
-    assert_eq!(rt; add(rt.alloc(), &mut forest, "b", None, 1)?, 16777217);
-    // The closed id, the open slot's next generation, a slot never used, one beyond the table.
-    for number in [1, 33554433, 2, 4] {
-        assert!(rt; finds_nothing(&mut forest, id(&rt, number)), "{number}");
-    }
-    assert_eq!(rt; forest.len(), 1);
-    assert_eq!(rt; forest.total(), 1);
     Ok(())
 }
 
