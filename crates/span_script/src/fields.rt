@@ -33,7 +33,7 @@ fn all_fields(alloc: Global, list: &[Value]) -> Result<Vec<Field>, Stop>
     ensures { AnswersOrStops (λ fields. map key_value fields.items) result
         (or_fault (all_of field_in (items_view list.now)) (Reason.BadKey Key.Fields)) }
 {
-    let mut fields = Vec::new(alloc);
+    let mut fields = Vec::with_capacity(alloc, list.len())?;
     for value in list {
         let Some((key, value)) = pair_of_texts(value) else {
             return Err(Stop::Refused(Reason::BadKey(Key::Fields)));

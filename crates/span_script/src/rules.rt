@@ -37,7 +37,7 @@ fn all_pairs(alloc: Global, list: &[Value]) -> Result<Rule, Stop>
     ensures { AnswersOrStops pairs_of result
         (or_fault (all_of prefix_in (items_view list.now)) (Reason.BadKey Key.Rule)) }
 {
-    let mut pairs = Vec::new(alloc);
+    let mut pairs = Vec::with_capacity(alloc, list.len())?;
     for value in list {
         let Some((prefix, level)) = prefix_and_level(value) else {
             return Err(Stop::Refused(Reason::BadKey(Key::Rule)));

@@ -9,7 +9,7 @@ mod tests;
 use crate::command_line::orders::Order;
 use clap::Error;
 use span_layers::MAX_LAYERS;
-use span_replay::replay_with_layers;
+use span_replay::{Remains, replay_with_layers};
 use span_run::{Counted, RunFault};
 use std::io;
 use std::io::{BufWriter, ErrorKind};
@@ -56,7 +56,8 @@ fn no_order(rt: &HostRuntime, error: &Error) -> io::Result<ExitCode> {
     }
 }
 
-/// Runs the script of standard input. What it answers goes to standard output through a buffer.
+/// Runs the script of standard input. What it answers goes to standard output through a buffer. The program ends then,
+/// so the system frees what the run kept.
 fn replay(rt: &HostRuntime) -> Result<(), RunFault> {
     let alloc = rt.alloc();
     let Ok(buffer) = BufWriter::new(alloc, rt.stdout()) else {
@@ -64,7 +65,7 @@ fn replay(rt: &HostRuntime) -> Result<(), RunFault> {
     };
     let mut input = Counted::new(rt.stdin());
     let mut output = Counted::new(buffer);
-    match replay_with_layers(alloc, &mut input, &mut output, MAX_LAYERS) {
+    match replay_with_layers(alloc, &mut input, &mut output, MAX_LAYERS, Remains::Left) {
         Ok(_) => Ok(()),
         Err(fault) => Err(fault),
     }

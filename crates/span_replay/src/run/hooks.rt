@@ -10,6 +10,7 @@ ghost use Rattle.span_replay.specs.Replayed.{FlushesOnce, IsReplayed, IsWhole, K
 ghost use Rattle.span_run.specs.RunFault.{EndsAsCounted};
 
 use crate::run::replay::replay;
+use crate::run::tidying::Remains;
 use span_id::Meta;
 use span_layers::{Form, Hooks, Note, Rule, admits, text};
 use span_run::{Counted, RunFault};
@@ -23,6 +24,7 @@ pub fn replay_with_layers<R: Read, W: Write>(
     input: &mut Counted<R>,
     output: &mut Counted<W>,
     layers: usize,
+    remains: Remains,
 ) -> Result<u64, RunFault>
     requires calls { calls_of input.old < 2 ^ 63 }
     requires reads_failed { failed_of input.old < 2 ^ 63 }
@@ -63,5 +65,5 @@ pub fn replay_with_layers<R: Read, W: Write>(
             return Err(RunFault::Memory);
         }
     }
-    replay(alloc, input, output, hooks)
+    replay(alloc, input, output, hooks, remains)
 }

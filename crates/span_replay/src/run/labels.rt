@@ -44,11 +44,15 @@ impl Labels {
 
     /// Binds a label to an id, in place of what it named before. The other labels stay.
     ///
-    /// Where memory is refused, no label has changed.
+    /// A label that is bound already takes no memory. Where memory is refused, no label has changed.
     pub fn bind(&mut self, alloc: Global, label: &str, id: Id) -> Result<(), AllocError>
         ensures ok { OnOk result (self.new ≡ with_label self.old label.now id) }
         ensures err { OnErr result (self.new ≡ self.old) }
     {
+        if let Some(bound) = self.ids.get_mut(label) {
+            *bound = id;
+            return Ok(());
+        }
         let label = String::from_str(alloc, label)?;
         self.ids.insert(label, id)?;
         Ok(())

@@ -15,7 +15,7 @@ ghost use Rattle.span_replay.specs.inside.Turns.{HasTurned, Sent, TurnFails, ope
 use crate::run::fault::at_line;
 use crate::run::opening::Rest;
 use crate::run::script::Script;
-use crate::run::tidying::tidy;
+use crate::run::tidying::{Remains, tidy};
 use serde_json::Value;
 use span_id::Checked;
 use span_layers::{Filters, Say};
@@ -32,6 +32,7 @@ pub fn run_rest<V: Say, W: Write>(
     filters: Filters,
     kept: Kept<V>,
     rest: &Rest<'_>,
+    remains: Remains,
     text: &mut Vec<u8>,
     output: &mut Counted<W>,
 ) -> Result<u64, RunFault>
@@ -51,7 +52,7 @@ pub fn run_rest<V: Say, W: Write>(
         return Err(RunFault::Memory);
     };
     match run_first(alloc, rest, &mut script, text, output) {
-        Ok(()) => tidy(alloc, script, text, output),
+        Ok(()) => tidy(alloc, script, remains, text, output),
         Err(fault) => Err(fault),
     }
 }

@@ -11,6 +11,7 @@ ghost use Rattle.span_replay.specs.State.{first_state};
 use crate::run::lines::run_rest;
 use crate::run::opening::open;
 use crate::run::setup::Setup;
+use crate::run::tidying::Remains;
 use span_layers::Hooks;
 use span_outlet::Kept;
 use span_run::{Counted, RunFault, flush, read_script};
@@ -21,7 +22,7 @@ use std::io::{Read, Write};
 ///
 /// The input is read to its end first. Each layer takes one of the hooks, in their order. Where the result is `Ok`,
 /// what was written is the notes and the answer of each line, those of the tidying, and then how many spans are left
-/// open, which is the result, and which is 0. After a fault of the script the text of the lines before it stands.
+/// open, which is the result, and which is 0. What the run kept is then freed or left, as `remains` says. After a fault of the script the text of the lines before it stands.
 /// After `Memory` and `Device` a front of the text went out, and nothing where it was the reader that failed. The
 /// output is flushed by one call, which is the last: where memory is refused or a device fails before it, there is
 /// none.
@@ -30,6 +31,7 @@ pub fn replay<R: Read, W: Write>(
     input: &mut Counted<R>,
     output: &mut Counted<W>,
     hooks: Vec<Hooks>,
+    remains: Remains,
 ) -> Result<u64, RunFault>
     requires calls { calls_of input.old < 2 ^ 63 }
     requires reads_failed { failed_of input.old < 2 ^ 63 }
@@ -48,7 +50,7 @@ pub fn replay<R: Read, W: Write>(
         (failed_of input.old) (failed_of input.new) (failed_of output.old) (failed_of output.new) result }
     ensures reads { calls_of input.new ≤ calls_of input.old + 16777217 }
 {
-    match perform(alloc, input, output, hooks) {
+    match perform(alloc, input, output, hooks, remains) {
         Ok(left) => match flush(output) {
             Ok(()) => Ok(left),
             Err(fault) => Err(fault),
@@ -70,6 +72,7 @@ fn perform<R: Read, W: Write>(
     input: &mut Counted<R>,
     output: &mut Counted<W>,
     hooks: Vec<Hooks>,
+    remains: Remains,
 ) -> Result<u64, RunFault>
     requires calls { calls_of input.old < 2 ^ 63 }
     requires reads_failed { failed_of input.old < 2 ^ 63 }
@@ -85,7 +88,7 @@ fn perform<R: Read, W: Write>(
     ensures reads { calls_of input.new ≤ calls_of input.old + 16777217 }
 {
     match read_script(alloc, input) {
-        Ok(script) => run_script(alloc, &script, output, hooks),
+        Ok(script) => run_script(alloc, &script, output, hooks, remains),
         Err(fault) => Err(fault),
     }
 }
@@ -96,6 +99,7 @@ fn run_script<W: Write>(
     script: &[u8],
     output: &mut Counted<W>,
     hooks: Vec<Hooks>,
+    remains: Remains,
 ) -> Result<u64, RunFault>
     requires failed { failed_of output.old < 2 ^ 63 }
     requires fits { length script.now ≤ most_bytes }
@@ -112,5 +116,7 @@ fn run_script<W: Write>(
     };
     let (checked, filters, tellers) = setup.split();
     let kept = Kept::new(alloc, tellers);
-    run_rest(alloc, &checked, filters, kept, &rest, &mut text, output)
+    run_rest(
+        alloc, &checked, filters, kept, &rest, remains, &mut text, output,
+    )
 }

@@ -25,11 +25,21 @@ use std::alloc::Global;
 use std::io::Write;
 use std::mem;
 
+/// What becomes of the memory that a run kept for its history, its spans and its labels.
+#[derive(Clone, Copy, Debug, PartialEq, Eq)]
+pub enum Remains {
+    /// It is freed.
+    Freed,
+    /// It is left to the system, for a program that ends after the run: that frees all of it at once.
+    Left,
+}
+
 /// Leaves what is entered, worker by worker, closes what the labels name, label by label, and writes how many spans
 /// are left open, which is the answer.
 pub fn tidy<V: Say, W: Write>(
     alloc: Global,
     mut script: Script<V>,
+    remains: Remains,
     text: &mut Vec<u8>,
     output: &mut Counted<W>,
 ) -> Result<u64, RunFault>
@@ -47,7 +57,12 @@ pub fn tidy<V: Say, W: Write>(
     if let Err(fault) = close_all(alloc, &mut script, &labels, text, output) {
         return Err(fault);
     }
-    finish(script.open_spans(), text, output)
+    let left = script.open_spans();
+    if remains == Remains::Left {
+        mem::forget(script);
+        mem::forget(labels);
+    }
+    finish(left, text, output)
 }
 
 /// Leaves what the workers have entered, worker by worker, the last entry first.

@@ -3,7 +3,7 @@ ghost use Rattle.std.specs.Prelude.{◌≡◌};
 ghost use Rattle.span_run.specs.Counted.{failed_of};
 
 use crate::tests::hooks::hooks;
-use span_replay::{replay, replay_with_layers};
+use span_replay::{Remains, replay, replay_with_layers};
 use span_run::{Counted, RunFault};
 use std::alloc::{AllocError, Global};
 use std::io;
@@ -92,7 +92,7 @@ fn flushes_once_at_the_end(rt: HostRuntime) -> io::Result<()> {
     for (script, can_flush, end) in rows {
         let mut input = Counted::new(script.as_bytes());
         let mut output = writer(64, can_flush);
-        let ended = replay_with_layers(rt.alloc(), &mut input, &mut output, 0);
+        let ended = replay_with_layers(rt.alloc(), &mut input, &mut output, 0, Remains::Freed);
         assert!(rt; ended_so(rt.alloc(), ended, output, end, 1)?, "{script}");
     }
     Ok(())
@@ -102,11 +102,11 @@ fn flushes_once_at_the_end(rt: HostRuntime) -> io::Result<()> {
 fn does_not_flush_after_a_device_that_failed(rt: HostRuntime) -> io::Result<()> {
     let mut input = Counted::new(ONE_SPAN.as_bytes());
     let mut output = writer(2, true);
-    let ended = replay_with_layers(rt.alloc(), &mut input, &mut output, 0);
+    let ended = replay_with_layers(rt.alloc(), &mut input, &mut output, 0, Remains::Freed);
     assert!(rt; ended_so(rt.alloc(), ended, output, "device: write failed", 0)?);
     let mut input = Counted::new(NoReader);
     let mut output = writer(64, true);
-    let ended = replay_with_layers(rt.alloc(), &mut input, &mut output, 0);
+    let ended = replay_with_layers(rt.alloc(), &mut input, &mut output, 0, Remains::Freed);
     assert!(rt; ended_so(rt.alloc(), ended, output, "device: read failed", 0)?);
     Ok(())
 }
@@ -118,7 +118,7 @@ fn does_not_flush_after_want_of_memory(rt: HostRuntime) -> io::Result<()> {
     all.push(hooks(alloc, false)?)?;
     let mut input = Counted::new(ONE_LAYER.as_bytes());
     let mut output = writer(64, true);
-    let ended = replay(alloc, &mut input, &mut output, all);
+    let ended = replay(alloc, &mut input, &mut output, all, Remains::Freed);
     assert!(rt; ended_so(alloc, ended, output, "out of memory", 0)?);
     Ok(())
 }

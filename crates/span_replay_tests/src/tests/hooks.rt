@@ -7,7 +7,7 @@ ghost use Rattle.span_layers.specs.Text.{text_of};
 
 use span_id::Meta;
 use span_layers::{Form, Hooks, Note, Rule, admits, text};
-use span_replay::replay;
+use span_replay::{Remains, replay};
 use span_run::Counted;
 use std::alloc::{AllocError, Global};
 use std::io;
@@ -53,7 +53,7 @@ fn runs_so(
     let mut input = Counted::new(script.as_bytes());
     let mut taken = Vec::new(alloc);
     let mut output = Counted::new(&mut taken);
-    let ended = match replay(alloc, &mut input, &mut output, hooks) {
+    let ended = match replay(alloc, &mut input, &mut output, hooks, Remains::Freed) {
         Ok(left) => left.to_string(alloc)?,
         Err(fault) => fault.to_string(alloc)?,
     };

@@ -1,5 +1,5 @@
 //! Whole runs of scripts.
-use span_replay::replay_with_layers;
+use span_replay::{Remains, replay_with_layers};
 use span_run::{Counted, RunFault};
 use std::alloc::{AllocError, Global};
 use std::io;
@@ -74,7 +74,7 @@ fn runs_so(
     let mut input = Counted::new(script.as_bytes());
     let mut taken = Vec::new(alloc);
     let mut output = Counted::new(&mut taken);
-    let ended = replay_with_layers(alloc, &mut input, &mut output, layers);
+    let ended = replay_with_layers(alloc, &mut input, &mut output, layers, Remains::Freed);
     Ok(taken.as_slice() == text.as_bytes() && told(alloc, ended)?.as_str() == end)
 }
 
@@ -182,7 +182,7 @@ fn stops_reading(alloc: Global, script: &str, good_calls: u64) -> Result<bool, A
     });
     let mut taken = Vec::new(alloc);
     let mut output = Counted::new(&mut taken);
-    let ended = replay_with_layers(alloc, &mut input, &mut output, 1);
+    let ended = replay_with_layers(alloc, &mut input, &mut output, 1, Remains::Freed);
     let ended = told(alloc, ended)?;
     let stopped = input.calls().checked_sub(1) == Some(good_calls) && input.failed() == 1;
     Ok(stopped && taken.is_empty() && ended.as_str() == "device: read failed")
@@ -219,7 +219,7 @@ fn run_failing(
         takes_none,
         can_flush,
     });
-    let ended = replay_with_layers(alloc, &mut input, &mut output, 1);
+    let ended = replay_with_layers(alloc, &mut input, &mut output, 1, Remains::Freed);
     let ended = told(alloc, ended)?;
     Ok((taken, ended))
 }
@@ -275,13 +275,13 @@ fn faults_have_their_status(rt: HostRuntime) -> io::Result<()> {
     let alloc = rt.alloc();
     let mut input = Counted::new("[1]".as_bytes());
     let mut output = Counted::new(Vec::new(alloc));
-    let ended = replay_with_layers(alloc, &mut input, &mut output, 0);
+    let ended = replay_with_layers(alloc, &mut input, &mut output, 0, Remains::Freed);
     assert!(rt; matches!(&ended, Err(fault) if fault.status() == 1));
     let mut input = Counted::new(FailingReader {
         rest: [].as_slice(),
         good_calls: 0,
     });
-    let ended = replay_with_layers(alloc, &mut input, &mut output, 0);
+    let ended = replay_with_layers(alloc, &mut input, &mut output, 0, Remains::Freed);
     assert!(rt; matches!(&ended, Err(fault) if fault.status() == 3));
     Ok(())
 }

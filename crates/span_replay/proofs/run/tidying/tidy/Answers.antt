@@ -12,4 +12,4 @@ returns-in-Err-close_all-clause-runs g c = λ stage.
 
 pub returns-clause-runs : goal.returns-clause-runs
 returns-clause-runs g c = λ stage.
-    tidied_runs _ _ _ _ (state_at c.args.script stage) _ _ _ _ _ _ _ c.requires.written.workers c.in_default.ensures.made (c.replace-labels.ensures.value ∙ c.leave_all.ensures.labels) refl c.in_default-close_all.ensures.made c.open_spans.ensures c.finish.ensures.ok c.finish.ensures.err
+    tidied_runs _ _ _ _ (state_at c.args.script stage) _ _ _ _ _ _ _ c.requires.written.workers c.in_default.ensures.made (c.replace-labels.ensures.value ∙ c.leave_all.ensures.labels) refl c.in_default-close_all.ensures.made c.open_spans-left.ensures c.finish.ensures.ok c.finish.ensures.err
