@@ -6,5 +6,4 @@ mod layers;
 mod missed;
 mod on_a_ring;
 mod rows;
-mod strangers;
 mod workers;

@@ -33,8 +33,8 @@ pub(crate) struct Ending<'a> {
     pub(crate) lines: &'a str,
 }
 
-/// A registry of these limits and layers ends so after these calls, whether its outlet keeps the lines or is a ring.
-pub(crate) fn ends<R: Threads + Wait + Abort + Sync>(
+// A registry of these limits and layers ends so after these calls, whether its outlet keeps the lines or is a ring.
+fn ends<R: Threads + Wait + Abort + Sync>(
     rt: &R,
     alloc: Global,
     limits: Limits,
