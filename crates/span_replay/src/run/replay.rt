@@ -22,10 +22,10 @@ use std::io::{Read, Write};
 ///
 /// The input is read to its end first. Each layer takes one of the hooks, in their order. Where the result is `Ok`,
 /// what was written is the notes and the answer of each line, those of the tidying, and then how many spans are left
-/// open, which is the result, and which is 0. What the run kept is then freed or left, as `remains` says. After a fault of the script the text of the lines before it stands.
-/// After `Memory` and `Device` a front of the text went out, and nothing where it was the reader that failed. The
-/// output is flushed by one call, which is the last: where memory is refused or a device fails before it, there is
-/// none.
+/// open, which is the result, and which is 0. What the run kept is then freed or left, as `remains` says. After a fault
+/// of the script the text of the lines before it stands. After `Memory` and `Device` a front of the text went out, and
+/// nothing where it was the reader that failed. The output is flushed by one call, which is the last: where memory is
+/// refused or a device fails before it, there is none.
 pub fn replay<R: Read, W: Write>(
     alloc: Global,
     input: &mut Counted<R>,
