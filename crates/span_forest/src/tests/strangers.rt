@@ -34,11 +34,20 @@ fn forest_with_a_past(rt: &impl Abort, alloc: Global) -> Result<Forest, Fail> {
     Ok(forest)
 }
 
-// All that can be seen of the forest.
-fn seen(alloc: Global, forest: &Forest) -> Result<String, Fail> {
-    let (open, total, handles) = (forest.len(), forest.total(), forest.handles());
-    let (next, span) = (forest.next_id(), forest.find(Id::pack(1, 1)));
-    Ok(format!(in alloc; "{open} {total} {handles} {next:?} {span:?}")?)
+// What can be counted of the forest, and of the span that is open.
+fn counts(forest: &Forest) -> [u64; 6] {
+    let (handles, entries, fields) = match forest.find(Id::pack(1, 1)) {
+        Some(span) => (span.handles, span.entries, span.fields.len()),
+        None => (0, 0, 0),
+    };
+    [
+        u64::from(forest.len()),
+        forest.total(),
+        forest.handles(),
+        u64::from(handles),
+        u64::from(entries),
+        fields as u64,
+    ]
 }
 
 // Whether each call on a span finds none.
@@ -60,7 +69,7 @@ fn holds_nothing(forest: &mut Forest, stranger: Id, holder: Holder) -> bool {
 fn strangers_ids_find_nothing_and_change_nothing(rt: HostRuntime) -> Result<(), Fail> {
     let mut forest = forest_with_a_past(&rt, rt.alloc())?;
     let meta = named(rt.alloc(), "f")?;
-    let before = seen(rt.alloc(), &forest)?;
+    let before = counts(&forest);
     for number in STRANGERS {
         let stranger = id(&rt, number);
         let refused = finds_nothing(&mut forest, stranger)
@@ -70,8 +79,8 @@ fn strangers_ids_find_nothing_and_change_nothing(rt: HostRuntime) -> Result<(), 
                 == Err(Fault::Unknown);
         assert!(rt; refused, "{number}");
     }
-    assert_eq!(rt; seen(rt.alloc(), &forest)?.as_str(), before.as_str());
-    assert_eq!(rt; (forest.len(), forest.total()), (1, 1));
+    assert!(rt; counts(&forest) == before);
+    assert!(rt; before == [1, 1, 1, 1, 0, 0]);
     assert_eq!(rt; forest.next_id(), Id::from_u64(16777219));
     Ok(())
 }
