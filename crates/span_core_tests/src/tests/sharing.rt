@@ -4,11 +4,12 @@ ghost use Rattle.std.specs.Prelude.{◌≡◌, []};
 use crate::tests::acts::{Act, child, new, play, played};
 use crate::tests::layers::{EVERYTHING, layers};
 use span_core::Core;
-use span_id::{Fields, Level, Limits};
+use span_id::{Level, Limits};
 use span_layers::{Filters, FmtSpan, Form, Note, Say};
-use span_outlet::{Batch, Call, Kept, ParentOf};
+use span_outlet::{Call, Kept, ParentOf};
 use std::alloc::Global;
 use std::process::Abort;
+use std::sync::ArcStr;
 use std::test::Fail;
 
 const LIMITS: Limits = Limits {
@@ -19,47 +20,19 @@ const LIMITS: Limits = Limits {
     ring: 1,
 };
 
-// Whether two lists of fields are one.
-fn are_one(left: &Fields, right: &Fields) -> bool {
-    left.as_slice().as_ptr() == right.as_slice().as_ptr()
-}
-
-// How many notes share the text of the path with the note before them.
-fn paths_shared(notes: &[Note]) -> u32 {
-    let mut shared = 0u32;
-    for pair in notes.windows(2) {
-        if pair[0].path.as_str().as_ptr() == pair[1].path.as_str().as_ptr() {
-            shared = shared.saturating_add(1);
-        }
+// How many notes share the text of the first one's path.
+fn path_owners(notes: &[Note]) -> usize {
+    match notes.first() {
+        Some(note) => ArcStr::strong_count(&note.path),
+        None => 0,
     }
-    shared
 }
 
-// Whether each note has this very list of fields.
-fn have_fields(notes: &[Note], fields: &Fields) -> bool {
-    notes.iter().all(|note| are_one(&note.fields, fields))
-}
-
-// Whether each note has this very message.
-fn have_message(notes: &[Note], message: &str) -> bool {
-    notes.iter().all(|note| match &note.tail {
-        Some((_, text)) => text.as_str().as_ptr() == message.as_ptr(),
-        None => false,
-    })
-}
-
-// Whether all notes of a batch have the fields and the message of its call.
-fn share_with_the_call(batch: &Batch) -> bool {
-    let notes = batch.notes.as_slice();
-    match &batch.call {
-        Call::NewSpan { fields, .. } => have_fields(notes, fields),
-        Call::RecordFields { fields, .. } => have_fields(notes, fields),
-        Call::Event {
-            message,
-            fields,
-            ..
-        } => have_fields(notes, fields) && have_message(notes, message.as_str()),
-        _ => true,
+// How many owners the message of an event has.
+fn message_owners(call: &Call) -> usize {
+    match call {
+        Call::Event { message, .. } => ArcStr::strong_count(message),
+        _ => 0,
     }
 }
 
@@ -102,14 +75,17 @@ fn a_call_shares<V: Say>(
         (0, Act::Close(3)),
     ];
     play(alloc, &mut core, LIMITS.workers, &acts)?;
-    // Of four layers the third doesn't admit `b`, so it sees another path below, and so does not share.
-    let want = [3, 3, 3, 2, 3, 1, 3, 0, 0, 6];
+    // Of four layers the third doesn't admit `b`, so it sees another path below. A path is shared with the layer before.
+    let paths = [4, 4, 4, 3, 4, 2, 4, 0, 0, 2];
+    // The event's message belongs to its call and to four notes.
+    let messages = [0, 0, 0, 0, 5, 0, 0, 0, 0, 0];
     let batches = core.outlet().batches();
-    assert_eq!(rt; batches.len(), want.len());
-    for (batch, want) in batches.iter().zip(want) {
-        assert_eq!(rt; paths_shared(batch.notes.as_slice()), want);
-        assert!(rt; share_with_the_call(batch));
-        assert_eq!(rt; batch.notes.len(), batch.notes.capacity());
+    assert!(rt; batches.len() == paths.len());
+    for (batch, (path, message)) in batches.iter().zip(paths.into_iter().zip(messages)) {
+        let owners = path_owners(batch.notes.as_slice());
+        assert!(rt; owners == path, "{owners} of a path");
+        assert!(rt; message_owners(&batch.call) == message);
+        assert!(rt; batch.notes.len() == batch.notes.capacity());
     }
     Ok(())
 }
