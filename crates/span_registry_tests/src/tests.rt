@@ -13,5 +13,4 @@ mod on_core;
 mod on_registry;
 mod scripts;
 mod steps;
-mod strangers;
 mod threads;
