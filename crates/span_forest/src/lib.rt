@@ -10,8 +10,6 @@ mod forest;
 mod holders;
 mod path_text;
 mod span;
-#[cfg(test)]
-mod tests;
 mod writing;
 
 pub use forest::{Forest, laws};

@@ -13,8 +13,6 @@ mod room;
 mod rule;
 mod style;
 mod tellers;
-#[cfg(test)]
-mod tests;
 
 pub use filters::{Admit, Admitters, Filters, MAX_LAYERS, Rules};
 pub use form::{Form, text};

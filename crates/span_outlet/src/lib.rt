@@ -10,8 +10,6 @@ mod line;
 mod line_reader;
 mod outlet;
 mod ring;
-#[cfg(test)]
-mod tests;
 mod told;
 
 pub use batch::{Batch, Call, ParentOf, Reply};

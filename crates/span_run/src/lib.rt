@@ -3,8 +3,6 @@
 
 mod counted;
 mod fault;
-#[cfg(test)]
-mod tests;
 mod transfer;
 
 pub use counted::Counted;

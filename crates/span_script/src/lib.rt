@@ -14,8 +14,6 @@ mod reading;
 mod reason;
 mod rules;
 mod stop;
-#[cfg(test)]
-mod tests;
 
 pub use key::Key;
 pub use lines::{cut_line, is_skipped};

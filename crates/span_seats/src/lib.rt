@@ -6,8 +6,6 @@ pub mod laws;
 mod root;
 mod rule;
 mod table;
-#[cfg(test)]
-mod tests;
 mod view;
 
 pub use handle::HandleSeat;

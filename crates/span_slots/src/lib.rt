@@ -14,8 +14,6 @@ ghost use Rattle.span_slots.specs.Change.{Insert, Remove, after};
 
 mod cells;
 pub mod laws;
-#[cfg(test)]
-mod tests;
 
 use cells::Cell;
 use span_id::{Checked, Fault, Id};

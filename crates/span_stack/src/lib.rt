@@ -7,8 +7,6 @@
 mod entry;
 pub mod laws;
 mod stack;
-#[cfg(test)]
-mod tests;
 mod walk;
 
 pub use stack::{IN_PLACE, SpanStack};

@@ -1,0 +1,4 @@
+use Rattle.span_parts_tests.proofs.tests.seats.gives_a_slot_again.Given as goal
+
+abbrev pub ghosts-steps : goal.ghosts-steps
+ghosts-steps g a = record { table = a.table }

@@ -1,0 +1,32 @@
+//! Hooks and what is made of them go from thread to thread.
+
+use crate::tests::layers::fixtures::{add, layer, same};
+use span_id::Level;
+use span_layers::{FmtSpan, Form, Layer, Layers, Style};
+
+fn crosses_threads<T: Send>(value: T) -> T {
+    value
+}
+
+fn with_crossed_hooks(layer: Layer) -> Layer {
+    Layer {
+        hooks: crosses_threads(layer.hooks),
+        style: layer.style,
+        rule: layer.rule,
+    }
+}
+
+#[test]
+fn hooks_cross_threads(rt: HostRuntime) {
+    let alloc = rt.alloc();
+    let style = Style {
+        form: Form::Json,
+        spans: FmtSpan::FULL,
+    };
+    let layer = layer(&rt, alloc, style, "", Level::Trace);
+    let mut layers = Layers::new(alloc);
+    add(&rt, &mut layers, with_crossed_hooks(layer));
+    let (filters, tellers) = layers.split();
+    same(&rt, crosses_threads(filters).len(), 1, "the filters");
+    same(&rt, crosses_threads(tellers).len(), 1, "the tellers");
+}

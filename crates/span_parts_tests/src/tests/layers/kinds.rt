@@ -1,0 +1,46 @@
+//! Which kinds of notes a layer wants.
+
+use crate::tests::layers::fixtures::{add, layer, same};
+use bitflags::Flags;
+use span_id::Level;
+use span_layers::{Filters, FmtSpan, Form, Kind, Layers, Style};
+use std::alloc::Global;
+use std::process::Abort;
+
+#[test]
+fn every_set_of_kinds(rt: HostRuntime) {
+    let alloc = rt.alloc();
+    let mut layers = Layers::new(alloc);
+    for bits in 0..16u8 {
+        add_with(&rt, alloc, &mut layers, bits);
+    }
+    let (filters, _) = layers.split();
+    for layer in 0..16u32 {
+        wants(&rt, &filters, layer);
+    }
+    assert!(rt; FmtSpan::from_bits(16).is_none());
+}
+
+fn add_with(rt: &impl Abort, alloc: Global, layers: &mut Layers, bits: u8) {
+    let style = Style {
+        form: Form::Compact,
+        spans: FmtSpan::from_bits(bits).expect(rt, "a set of the four bits"),
+    };
+    add(rt, layers, layer(rt, alloc, style, "", Level::Trace));
+}
+
+// The layer of each number has the set of that number.
+fn wants(rt: &impl Abort, filters: &Filters, layer: u32) {
+    assert!(rt; (layer as usize) < filters.len());
+    let cases = [
+        (Kind::OnNew, layer % 2 == 1),
+        (Kind::OnEnter, layer / 2 % 2 == 1),
+        (Kind::OnExit, layer / 4 % 2 == 1),
+        (Kind::OnClose, layer / 8 == 1),
+        (Kind::OnRecord, true),
+        (Kind::OnEvent, true),
+    ];
+    for (kind, want) in cases {
+        same(rt, (kind, filters.want(layer, kind)), (kind, want), layer);
+    }
+}

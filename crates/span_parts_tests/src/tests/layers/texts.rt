@@ -1,0 +1,261 @@
+//! Texts of notes, in both forms.
+
+use crate::tests::layers::fixtures::{fields, same};
+use span_id::{Fault, Level};
+use span_layers::{Form, Kind, Note, text};
+use std::alloc::{AllocError, Global};
+use std::process::Abort;
+use std::sync::ArcStr;
+
+/// What a note tells, and its text in either form. Without a level it tells no message.
+#[derive(Clone, Copy)]
+struct Case<'a> {
+    kind: Kind,
+    id: u64,
+    path: &'a str,
+    fields: &'a [(&'a str, &'a str)],
+    level: Option<Level>,
+    message: &'a str,
+    compact: &'a str,
+    json: &'a str,
+}
+
+fn note(alloc: Global, case: &Case<'_>) -> Result<Note, Fault> {
+    Ok(Note {
+        layer: 0,
+        kind: case.kind,
+        worker: 0,
+        id: case.id,
+        path: ArcStr::from_str(alloc, case.path)?,
+        fields: fields(alloc, case.fields)?,
+        tail: tail(alloc, case.level, case.message)?,
+    })
+}
+
+fn tail(
+    alloc: Global,
+    level: Option<Level>,
+    message: &str,
+) -> Result<Option<(Level, ArcStr)>, AllocError> {
+    match level {
+        Some(level) => Ok(Some((level, ArcStr::from_str(alloc, message)?))),
+        None => Ok(None),
+    }
+}
+
+fn are_written(rt: &impl Abort, alloc: Global, cases: &[Case<'_>]) {
+    for case in cases {
+        let note = note(alloc, case).expect(rt, "memory");
+        is_written(rt, alloc, &note, case.compact, case.json);
+    }
+}
+
+// Whether the note is written so in either form.
+fn is_written(rt: &impl Abort, alloc: Global, note: &Note, compact: &str, json: &str) {
+    for (form, want) in [(Form::Compact, compact), (Form::Json, json)] {
+        let text = text(alloc, form, note).expect(rt, "memory");
+        same(rt, text.as_slice(), want.as_bytes(), want);
+    }
+}
+
+#[test]
+fn new_and_record(rt: HostRuntime) {
+    let cases = [
+        Case {
+            kind: Kind::OnNew,
+            id: 1,
+            path: "a",
+            fields: &[("k", "1")],
+            level: None,
+            message: "",
+            compact: "new 1 w0 a k=1",
+            json: r#"{"fields":[["k","1"]],"id":1,"kind":"new","path":"a","worker":0}"#,
+        },
+        Case {
+            kind: Kind::OnRecord,
+            id: 1,
+            path: "a",
+            fields: &[("k", "2")],
+            level: None,
+            message: "",
+            compact: "record 1 w0 a k=2",
+            json: r#"{"fields":[["k","2"]],"id":1,"kind":"record","path":"a","worker":0}"#,
+        },
+    ];
+    are_written(&rt, rt.alloc(), &cases);
+}
+
+#[test]
+fn event_and_close(rt: HostRuntime) {
+    let cases = [
+        Case {
+            kind: Kind::OnEvent,
+            id: 0,
+            path: "-",
+            fields: &[],
+            level: Some(Level::Warn),
+            message: "x\ny",
+            compact: r"event 0 w0 - WARN x\ny",
+            json: r#"{"fields":[],"id":0,"kind":"event","level":"WARN","message":"x\ny","path":"-","worker":0}"#,
+        },
+        Case {
+            kind: Kind::OnClose,
+            id: 1,
+            path: "a",
+            fields: &[("k", "1"), ("k", "2")],
+            level: None,
+            message: "",
+            compact: "close 1 w0 a k=1 k=2",
+            json: r#"{"fields":[["k","1"],["k","2"]],"id":1,"kind":"close","path":"a","worker":0}"#,
+        },
+    ];
+    are_written(&rt, rt.alloc(), &cases);
+}
+
+#[test]
+fn enter_and_exit(rt: HostRuntime) {
+    let cases = [
+        Case {
+            kind: Kind::OnEnter,
+            id: 72057594037927936,
+            path: "a:b:c",
+            fields: &[],
+            level: None,
+            message: "",
+            compact: "enter 72057594037927936 w0 a:b:c",
+            json: r#"{"fields":[],"id":72057594037927936,"kind":"enter","path":"a:b:c","worker":0}"#,
+        },
+        Case {
+            kind: Kind::OnExit,
+            id: 18446744073709551615,
+            path: "a",
+            fields: &[],
+            level: Some(Level::Error),
+            message: "not shown",
+            compact: "exit 18446744073709551615 w0 a",
+            json: r#"{"fields":[],"id":18446744073709551615,"kind":"exit","path":"a","worker":0}"#,
+        },
+    ];
+    are_written(&rt, rt.alloc(), &cases);
+}
+
+#[test]
+fn event_inside(rt: HostRuntime) {
+    let case = Case {
+        kind: Kind::OnEvent,
+        id: 2,
+        path: "a:q",
+        fields: &[("k", "v")],
+        level: Some(Level::Info),
+        message: "hi",
+        compact: "event 2 w0 a:q INFO hi k=v",
+        json: r#"{"fields":[["k","v"]],"id":2,"kind":"event","level":"INFO","message":"hi","path":"a:q","worker":0}"#,
+    };
+    are_written(&rt, rt.alloc(), &[case]);
+}
+
+#[test]
+fn events_outside(rt: HostRuntime) {
+    let cases = [
+        Case {
+            kind: Kind::OnEvent,
+            id: 0,
+            path: "-",
+            fields: &[("k", "")],
+            level: Some(Level::Debug),
+            message: "",
+            compact: "event 0 w0 - DEBUG  k=",
+            json: r#"{"fields":[["k",""]],"id":0,"kind":"event","level":"DEBUG","message":"","path":"-","worker":0}"#,
+        },
+        Case {
+            kind: Kind::OnEvent,
+            id: 0,
+            path: "-",
+            fields: &[],
+            level: None,
+            message: "",
+            compact: "event 0 w0 -",
+            json: r#"{"fields":[],"id":0,"kind":"event","path":"-","worker":0}"#,
+        },
+    ];
+    are_written(&rt, rt.alloc(), &cases);
+}
+
+#[test]
+fn escapes_in_messages(rt: HostRuntime) {
+    let case = Case {
+        kind: Kind::OnEvent,
+        id: 1,
+        path: "a",
+        fields: &[("k", "\n \\"), ("crlf", "\r\n")],
+        level: Some(Level::Trace),
+        message: "back\\slash \"quoted\"\tand\r",
+        compact: "event 1 w0 a TRACE back\\\\slash \"quoted\"\tand\\r k=\\n \\\\ crlf=\\r\\n",
+        json: r#"{"fields":[["k","\n \\"],["crlf","\r\n"]],"id":1,"kind":"event","level":"TRACE","message":"back\\slash \"quoted\"\tand\r","path":"a","worker":0}"#,
+    };
+    are_written(&rt, rt.alloc(), &[case]);
+}
+
+#[test]
+fn escapes_in_values(rt: HostRuntime) {
+    let case = Case {
+        kind: Kind::OnRecord,
+        id: 1,
+        path: "a",
+        fields: &[
+            ("control", "\u{8}\u{c}\u{0}\u{1f}\u{7f}/"),
+            ("text", "\u{e9}\u{65e5}\u{1f980}"),
+        ],
+        level: None,
+        message: "",
+        compact: "record 1 w0 a control=\u{8}\u{c}\u{0}\u{1f}\u{7f}/ text=\u{e9}\u{65e5}\u{1f980}",
+        json: "{\"fields\":[[\"control\",\"\\b\\f\\u0000\\u001f\u{7f}/\"],[\"text\",\"\u{e9}\u{65e5}\u{1f980}\"]],\"id\":1,\"kind\":\"record\",\"path\":\"a\",\"worker\":0}",
+    };
+    are_written(&rt, rt.alloc(), &[case]);
+}
+
+// The texts one behind the other, each as often as its number says.
+fn joined(alloc: Global, parts: &[(&str, u32)]) -> Result<String, AllocError> {
+    let mut made = String::new(alloc);
+    for (text, times) in parts {
+        for _ in 0..*times {
+            made.push_str(text)?;
+        }
+    }
+    Ok(made)
+}
+
+// A note of 1000 lines and 300 fields.
+fn long_note(alloc: Global) -> Result<Note, Fault> {
+    let message = joined(alloc, &[("line\n", 1000)])?;
+    Ok(Note {
+        layer: 0,
+        kind: Kind::OnEvent,
+        worker: 0,
+        id: 0,
+        path: ArcStr::from_str(alloc, "-")?,
+        fields: fields(alloc, &[("key", "value"); 300])?,
+        tail: Some((Level::Warn, ArcStr::from_string(message)?)),
+    })
+}
+
+#[test]
+fn long_texts_and_many_fields(rt: HostRuntime) {
+    let alloc = rt.alloc();
+    let note = long_note(alloc).expect(&rt, "memory");
+    let compact = [
+        ("event 0 w0 - WARN ", 1),
+        ("line\\n", 1000),
+        (" key=value", 300),
+    ];
+    let json = [
+        (r#"{"fields":[["key","value"]"#, 1),
+        (r#",["key","value"]"#, 299),
+        (r#"],"id":0,"kind":"event","level":"WARN","message":""#, 1),
+        ("line\\n", 1000),
+        (r#"","path":"-","worker":0}"#, 1),
+    ];
+    let compact = joined(alloc, &compact).expect(&rt, "memory");
+    let json = joined(alloc, &json).expect(&rt, "memory");
+    is_written(&rt, alloc, &note, compact.as_str(), json.as_str());
+}

@@ -1,2 +1,0 @@
-//! What no clause says: how lines are read, and the texts of their faults.
-mod reading;
