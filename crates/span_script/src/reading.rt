@@ -1,8 +1,9 @@
 //! Reading a line: from its bytes to the operation that it asks for.
 ghost use Rattle.std.specs.Prelude.{◌≡◌, ◌<◌, ℕ, IfOk, Result};
+ghost use Rattle.std.specs.Option.{option_map};
 ghost use Rattle.serde_json.specs.View.{view};
 ghost use Rattle.span_script.specs.Reason.{Answers, AnswersOrStops};
-ghost use Rattle.span_script.specs.Operation.{json_of, limits_of, layer_of, new_of, on_span_of, record_of, event_of, find_of, find_old_of, op_of, is_setup, operation_of};
+ghost use Rattle.span_script.specs.Operation.{json_of, limits_of, layer_of, new_of, on_span_of, record_of, event_of, find_of, find_old_of, op_named, op_of, is_setup, operation_of};
 ghost use Rattle.span_script.specs.Views.{operation_seen, op_seen, stage_seen, NamesWorker};
 
 use crate::fields::fields;
@@ -104,18 +105,28 @@ pub fn operation<'v>(
 pub fn op_in(line: &Value) -> Result<Op, Reason>
     ensures { Answers op_seen result (op_of (view line.now)) }
 {
-    match line.get("op").and_then(Value::as_str) {
-        Some("limits") => Ok(Op::Limits),
-        Some("layer") => Ok(Op::Layer),
-        Some("new") => Ok(Op::New),
-        Some("clone") => Ok(Op::OnSpan(SpanCall::Clone)),
-        Some("close") => Ok(Op::OnSpan(SpanCall::Close)),
-        Some("enter") => Ok(Op::OnSpan(SpanCall::Enter)),
-        Some("exit") => Ok(Op::OnSpan(SpanCall::Exit)),
-        Some("record") => Ok(Op::Record),
-        Some("event") => Ok(Op::Event),
-        Some("find") => Ok(Op::Find),
-        _ => Err(Reason::NoSuchOp),
+    match line.get("op").and_then(Value::as_str).and_then(op_named) {
+        Some(op) => Ok(op),
+        None => Err(Reason::NoSuchOp),
+    }
+}
+
+/// The op of this name.
+fn op_named(name: &str) -> Option<Op>
+    ensures { option_map op_seen result ≡ op_named name.now }
+{
+    match name {
+        "limits" => Some(Op::Limits),
+        "layer" => Some(Op::Layer),
+        "new" => Some(Op::New),
+        "clone" => Some(Op::OnSpan(SpanCall::Clone)),
+        "close" => Some(Op::OnSpan(SpanCall::Close)),
+        "enter" => Some(Op::OnSpan(SpanCall::Enter)),
+        "exit" => Some(Op::OnSpan(SpanCall::Exit)),
+        "record" => Some(Op::Record),
+        "event" => Some(Op::Event),
+        "find" => Some(Op::Find),
+        _ => None,
     }
 }
 
