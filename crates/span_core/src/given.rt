@@ -31,8 +31,8 @@ pub(crate) enum GivenText<'a> {
 
 impl<'a> GivenMeta<'a> {
     // The meta, to be read.
-    pub(crate) fn read(self) -> &'a Meta
-        ensures { plain_meta result.now ≡ meta_given self }
+    pub(crate) fn read(&self) -> &'a Meta
+        ensures { plain_meta result.now ≡ meta_given self.now }
     {
         match self {
             GivenMeta::Lent(meta) => meta,
@@ -41,8 +41,8 @@ impl<'a> GivenMeta<'a> {
     }
 
     // The meta, to be kept.
-    pub(crate) fn keep(self, alloc: Global) -> Result<SharedMeta, Fault>
-        ensures meta { IfOk result (λ kept. kept ≡ meta_given self) }
+    pub(crate) fn keep(&self, alloc: Global) -> Result<SharedMeta, Fault>
+        ensures meta { IfOk result (λ kept. kept ≡ meta_given self.now) }
         ensures memory { IfErr result (λ fault. fault ≡ Fault.Memory) }
     {
         match self {
@@ -54,8 +54,8 @@ impl<'a> GivenMeta<'a> {
 
 impl<'a> GivenFields<'a> {
     // The fields, to be read.
-    pub(crate) fn read(self) -> &'a [Field]
-        ensures { plain_fields result.now ≡ fields_given self }
+    pub(crate) fn read(&self) -> &'a [Field]
+        ensures { plain_fields result.now ≡ fields_given self.now }
     {
         match self {
             GivenFields::Lent(fields) => fields,
@@ -64,8 +64,8 @@ impl<'a> GivenFields<'a> {
     }
 
     // The fields, to be kept.
-    pub(crate) fn keep(self, alloc: Global) -> Result<Fields, Fault>
-        ensures fields { IfOk result (λ kept. kept ≡ fields_given self) }
+    pub(crate) fn keep(&self, alloc: Global) -> Result<Fields, Fault>
+        ensures fields { IfOk result (λ kept. kept ≡ fields_given self.now) }
         ensures memory { IfErr result (λ fault. fault ≡ Fault.Memory) }
     {
         match self {
@@ -77,13 +77,13 @@ impl<'a> GivenFields<'a> {
 
 impl<'a> GivenText<'a> {
     // The text, to be kept.
-    pub(crate) fn keep(self, alloc: Global) -> Result<ArcStr, Fault>
-        ensures text { IfOk result (λ kept. arc_str_bytes kept ≡ text_given self) }
+    pub(crate) fn keep(&self, alloc: Global) -> Result<ArcStr, Fault>
+        ensures text { IfOk result (λ kept. arc_str_bytes kept ≡ text_given self.now) }
         ensures memory { IfErr result (λ fault. fault ≡ Fault.Memory) }
     {
         match self {
             GivenText::Lent(text) => Ok(ArcStr::from_str(alloc, text)?),
-            GivenText::Shared(text) => Ok(text.clone()?),
+            GivenText::Shared(text) => Ok((**text).clone()?),
         }
     }
 }

@@ -35,8 +35,8 @@ impl<O: Outlet, A: Admit> Core<O, A> {
         ensures refused { IfErr result (λ fault. IsRefused self.old
             (event worker (plain_meta meta.now) message.now (plain_fields fields.now)) fault self.new) }
     {
-        let (meta, fields) = (GivenMeta::Lent(meta), GivenFields::Lent(fields));
-        self.event_given(worker, meta, GivenText::Lent(message), fields)
+        let (meta, message) = (GivenMeta::Lent(meta), GivenText::Lent(message));
+        self.event_given(worker, &meta, &message, &GivenFields::Lent(fields))
     }
 
     /// Tells an event as `event` does, with the same refusals. The batch shares the meta, the message and the fields
@@ -54,23 +54,23 @@ impl<O: Outlet, A: Admit> Core<O, A> {
         ensures refused { IfErr result (λ fault. IsRefused self.old
             (event worker meta.now (arc_str_bytes message.now) fields.now) fault self.new) }
     {
-        let (meta, fields) = (GivenMeta::Shared(meta), GivenFields::Shared(fields));
-        self.event_given(worker, meta, GivenText::Shared(message), fields)
+        let (meta, message) = (GivenMeta::Shared(meta), GivenText::Shared(message));
+        self.event_given(worker, &meta, &message, &GivenFields::Shared(fields))
     }
 
     // Tells an event of what is lent or shared.
     fn event_given(
         &mut self,
         worker: u32,
-        meta: GivenMeta<'_>,
-        message: GivenText<'_>,
-        fields: GivenFields<'_>,
+        meta: &GivenMeta<'_>,
+        message: &GivenText<'_>,
+        fields: &GivenFields<'_>,
     ) -> Result<(), Fault>
         requires { worker < self.old.limits.workers }
         ensures accepted { OnOk result (IsAccepted self.old
-            (event worker (meta_given meta) (text_given message) (fields_given fields)) told self.new) }
+            (event worker (meta_given meta.now) (text_given message.now) (fields_given fields.now)) told self.new) }
         ensures refused { IfErr result (λ fault. IsRefused self.old
-            (event worker (meta_given meta) (text_given message) (fields_given fields)) fault self.new) }
+            (event worker (meta_given meta.now) (text_given message.now) (fields_given fields.now)) fault self.new) }
     {
         if !(meta.read().fit() && are_keys(fields.read())) {
             return Err(Fault::BadName);
@@ -82,9 +82,9 @@ impl<O: Outlet, A: Admit> Core<O, A> {
         let event = Event {
             worker,
             bits: self.rules.bits(&self.admitters, meta.read()),
-            meta,
-            message,
-            fields,
+            meta: *meta,
+            message: *message,
+            fields: *fields,
         };
         let stacks = self.stacks.as_slice();
         let told = event_told(self.alloc, &self.rules, &self.forest, stacks, &event)?;

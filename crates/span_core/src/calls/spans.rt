@@ -66,8 +66,8 @@ impl<O: Outlet, A: Admit> Core<O, A> {
     {
         self.new_span_given(
             worker,
-            GivenMeta::Lent(meta),
-            GivenFields::Lent(fields),
+            &GivenMeta::Lent(meta),
+            &GivenFields::Lent(fields),
             parent,
         )
     }
@@ -96,8 +96,8 @@ impl<O: Outlet, A: Admit> Core<O, A> {
     {
         self.new_span_given(
             worker,
-            GivenMeta::Shared(meta),
-            GivenFields::Shared(fields),
+            &GivenMeta::Shared(meta),
+            &GivenFields::Shared(fields),
             parent,
         )
     }
@@ -106,21 +106,21 @@ impl<O: Outlet, A: Admit> Core<O, A> {
     fn new_span_given(
         &mut self,
         worker: u32,
-        meta: GivenMeta<'_>,
-        fields: GivenFields<'_>,
+        meta: &GivenMeta<'_>,
+        fields: &GivenFields<'_>,
         parent: ParentOf,
     ) -> Result<Option<Id>, Fault>
         requires { worker < self.old.limits.workers }
         ensures made { IfOk result (λ made_id. IfSome made_id (λ id.
-            IsAccepted self.old (new_span worker (meta_given meta) (fields_given fields)
+            IsAccepted self.old (new_span worker (meta_given meta.now) (fields_given fields.now)
             (parent_found self.old.world worker parent)) (made id) self.new)) }
         ensures next { IfOk result (λ made_id. IfSome made_id (λ id.
             next_id self.old.limits.slots self.old.limits.last_generation self.old.sent ≡ Some id)) }
         ensures not_wanted { IfOk result (λ made_id. IfNone made_id (
-            IsNotWanted self.old (new_span worker (meta_given meta) (fields_given fields)
+            IsNotWanted self.old (new_span worker (meta_given meta.now) (fields_given fields.now)
             (parent_found self.old.world worker parent)) self.new)) }
         ensures refused { IfErr result (λ fault.
-            IsRefused self.old (new_span worker (meta_given meta) (fields_given fields)
+            IsRefused self.old (new_span worker (meta_given meta.now) (fields_given fields.now)
             (parent_found self.old.world worker parent)) fault self.new) }
     {
         if !(meta.read().fit() && are_keys(fields.read())) {
@@ -145,8 +145,8 @@ impl<O: Outlet, A: Admit> Core<O, A> {
             id,
             bits,
             parent,
-            meta,
-            fields,
+            meta: *meta,
+            fields: *fields,
         })?;
         Ok(Some(id))
     }
