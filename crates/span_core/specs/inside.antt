@@ -1,5 +1,6 @@
 -- What only the proofs of this crate need: no public clause cites it.
 pub mod Sound
 pub mod Lent
+pub mod Given
 pub mod ClosingPaths
 pub mod Telling

@@ -12,6 +12,7 @@ ghost use Rattle.span_core.specs.History.{issued, IsLegal};
 ghost use Rattle.span_core.specs.ClosedSpans.{closed_in};
 
 mod calls;
+mod given;
 pub mod laws;
 mod notes;
 mod stacks;

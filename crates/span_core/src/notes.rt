@@ -3,7 +3,6 @@ ghost use Rattle.std.specs.Prelude.{◌≡◌, ◌<◌, ◌++◌, ◌∷◌, [],
 ghost use Rattle.std.specs.Arc.{arc_str_bytes};
 ghost use Rattle.span_layers.specs.declared.note.Kind.TheVariants.{OnExit};
 ghost use Rattle.span_layers.specs.Note.{plain_note, told_of};
-ghost use Rattle.span_id.specs.Meta.{plain_fields};
 ghost use Rattle.span_outlet.specs.Request.{record_fields, request_of};
 ghost use Rattle.span_core.specs.Happening.{at_span, close_of, bits_in, notes_of, notes_of_all, path_at};
 ghost use Rattle.span_core.specs.inside.ClosingPaths.{IsChain};
@@ -20,7 +19,7 @@ use events::contextual_span;
 use layers::{told_count, told_layers};
 use paths::{LastPath, new_text, seen_text};
 use span_forest::Forest;
-use span_id::{Bits, Fault, Field, Fields, Id, Level};
+use span_id::{Bits, Fault, Fields, Id, Level};
 use span_layers::{Kind, Note, Rules};
 use span_outlet::Call;
 use span_stack::SpanStack;
@@ -220,24 +219,24 @@ pub(crate) fn push_notes(
     push_told(alloc, notes, rules, forest, &what)
 }
 
-// The call that appends fields to those of a span, and its notes, which share the copies of the fields.
+// The call that appends fields to those of a span, and its notes: they share the fields.
 pub(crate) fn record_told(
     alloc: Global,
     rules: &Rules,
     forest: &Forest,
     what: &Happening,
-    fields: &[Field],
+    fields: &Fields,
 ) -> Result<Announced, Fault>
     requires bits { what.now.bits.0 ≡ bits_in forest.now.spans what.now.id }
     ensures call { IfOk result (λ told. request_of told.call
-        ≡ record_fields what.now.worker what.now.id (plain_fields fields.now)) }
+        ≡ record_fields what.now.worker what.now.id fields.now) }
     ensures notes { IfOk result (λ told. map plain_note told.notes.items ≡ notes_of rules.now what.now.worker
-        (at_span forest.now.spans what.now.kind what.now.id (plain_fields fields.now))) }
+        (at_span forest.now.spans what.now.kind what.now.id fields.now)) }
     ensures memory { IfErr result (λ fault. fault ≡ Fault.Memory) }
 {
-    let fields = Fields::copy_of(alloc, fields)?;
     let mut notes = Vec::new(alloc);
-    push_notes(alloc, &mut notes, rules, forest, what, &fields)?;
+    push_notes(alloc, &mut notes, rules, forest, what, fields)?;
+    let fields = fields.share()?;
     Ok(Announced {
         call: Call::RecordFields {
             worker: what.worker,

@@ -6,4 +6,5 @@ mod layers;
 mod missed;
 mod on_a_ring;
 mod rows;
+mod shared;
 mod workers;

@@ -273,6 +273,25 @@ impl Forest {
         if !is_open(&self.slots, id) {
             return Err(Fault::Unknown);
         }
+        let fields = Fields::copy_of(self.alloc, fields)?;
+        self.share_fields(id, &fields)
+    }
+
+    /// Does what `write_fields` does with fields that are shared: a span that has none yet shares their list, and
+    /// nothing is copied; else they are copied to the end of the span's own.
+    ///
+    /// Refused in this order: `Unknown` where the span isn't open, `Memory`.
+    pub fn share_fields(&mut self, id: Id, fields: &Fields) -> Result<(), Fault>
+        ensures found { OnOk result (IsOpen self.old.spans id) }
+        ensures forest { OnOk result (self.new ≡ record self.old {
+          spans = with_change (with_fields fields.now) self.old.spans id;
+        }) }
+        ensures refused { IfErr result (λ fault. WhyNotFound self.old.spans id fault) }
+        ensures unchanged { OnErr result (self.new ≡ self.old) }
+    {
+        if !is_open(&self.slots, id) {
+            return Err(Fault::Unknown);
+        }
         append_fields(&mut self.slots, self.alloc, id, fields)
     }
 

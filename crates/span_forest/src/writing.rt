@@ -1,6 +1,5 @@
 ghost use Rattle.std.specs.Prelude.{◌≡◌, ◌++◌, Some, IsSome, IfOk, IfErr, OnOk, OnErr, map, string_bytes};
 ghost use Rattle.span_slots.specs.Table.{value_at};
-ghost use Rattle.span_id.specs.Meta.{plain_fields};
 ghost use Rattle.span_forest.specs.Node.{node_of, with_fields};
 ghost use Rattle.span_forest.specs.Spans.{nodes_of, with_change, IsOpen};
 ghost use Rattle.span_forest.specs.Path.{name_for, path};
@@ -8,21 +7,22 @@ ghost use Rattle.span_forest.specs.Forest.{IsForest};
 ghost use Rattle.span_forest.specs.inside.Invariant.{IsSettled};
 
 use crate::span::Span;
-use span_id::{Fault, Field, Id};
+use span_id::{Fault, Fields, Id};
 use span_slots::Slots;
 use std::alloc::{AllocError, Global};
 
-// Appends these fields to those of a span. Where memory is refused the span stays as it was.
+// Appends these fields to those of a span, which shares their list where it has none. Where memory is refused the span
+// stays as it was.
 pub(crate) fn append_fields(
     slots: &mut Slots<Span>,
     alloc: Global,
     id: Id,
-    fields: &[Field],
+    fields: &Fields,
 ) -> Result<(), Fault>
     requires settled { IsSettled slots.old.entries }
     ensures settled { IsSettled slots.new.entries }
     ensures written { OnOk result
-        (nodes_of slots.new.entries ≡ with_change (with_fields (plain_fields fields.now))
+        (nodes_of slots.new.entries ≡ with_change (with_fields fields.now)
         (nodes_of slots.old.entries) id) }
     ensures refused { OnErr result (nodes_of slots.new.entries ≡ nodes_of slots.old.entries) }
     ensures memory { IfErr result (λ fault. fault ≡ Fault.Memory) }
@@ -30,7 +30,7 @@ pub(crate) fn append_fields(
 {
     match slots.get_mut(id) {
         None => Ok(()),
-        Some(span) => span.fields.extend(alloc, fields),
+        Some(span) => span.fields.extend_shared(alloc, fields),
     }
 }
 

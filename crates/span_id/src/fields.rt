@@ -11,7 +11,7 @@ use std::hash::{Hash, Hasher};
 use std::marker::Model;
 use std::sync::Arc;
 
-/// Fields that are copied once, and then shared by whoever keeps them, in any threads.
+/// Fields that are copied or moved in once, and then shared by whoever keeps them, in any threads.
 ///
 /// Contracts see the keys and the values, in order. No fields take no memory.
 #[derive(Drop)]
@@ -40,19 +40,30 @@ impl Fields {
         Fields { shared: None }
     }
 
+    /// These fields: the list is moved in as it is, with the room that it has, and nothing is copied. An empty list is
+    /// dropped.
+    ///
+    /// The only error is `Memory`, where the list can get no count of owners; it is dropped then.
+    pub fn new(alloc: Global, list: Vec<Field>) -> Result<Fields, Fault>
+        ensures fields { IfOk result (λ fields. fields ≡ plain_fields list.items) }
+        ensures memory { IfErr result (λ fault. fault ≡ Fault.Memory) }
+    {
+        if list.is_empty() {
+            return Ok(Fields::none());
+        }
+        let shared = Arc::new(alloc, list)?;
+        Ok(Fields {
+            shared: Some(shared),
+        })
+    }
+
     /// Equal fields of their own, in the same order. The only error is `Memory`.
     pub fn copy_of(alloc: Global, fields: &[Field]) -> Result<Fields, Fault>
         ensures fields { IfOk result (λ copies. copies ≡ plain_fields fields.now) }
         ensures memory { IfErr result (λ fault. fault ≡ Fault.Memory) }
     {
-        if fields.is_empty() {
-            return Ok(Fields::none());
-        }
         let copies = copy_fields(alloc, fields)?;
-        let shared = Arc::new(alloc, copies)?;
-        Ok(Fields {
-            shared: Some(shared),
-        })
+        Fields::new(alloc, copies)
     }
 
     /// One more owner of the same list: nothing is copied. The only error is `Memory`, where one more can't be counted.
@@ -115,6 +126,21 @@ impl Fields {
         list.append(&mut copies)?;
         self.shared = Some(Arc::new(alloc, list)?);
         Ok(())
+    }
+
+    /// Appends these fields, as `extend` does; where there are none yet, it shares their list and copies nothing.
+    ///
+    /// The only error is `Memory`, after which the fields are as before.
+    pub fn extend_shared(&mut self, alloc: Global, more: &Fields) -> Result<(), Fault>
+        ensures fields { OnOk result (self.new ≡ self.old ++ more.now) }
+        ensures unchanged { OnErr result (self.new ≡ self.old) }
+        ensures memory { IfErr result (λ fault. fault ≡ Fault.Memory) }
+    {
+        if self.is_empty() {
+            *self = more.share()?;
+            return Ok(());
+        }
+        self.extend(alloc, more.as_slice())
     }
 }
 

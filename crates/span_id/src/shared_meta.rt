@@ -9,7 +9,7 @@ use std::fmt::{self, Debug, Formatter, Write};
 use std::marker::Model;
 use std::sync::Arc;
 
-/// A meta that is copied once, and then shared by whoever keeps it, in any threads.
+/// A meta that is copied or moved in once, and then shared by whoever keeps it, in any threads.
 ///
 /// Contracts see its name, its target and its level.
 #[derive(Drop)]
@@ -27,14 +27,24 @@ impl Model for SharedMeta {
 }
 
 impl SharedMeta {
+    /// This meta, which is moved in: nothing is copied.
+    ///
+    /// The only error is `Memory`, where it can get no count of owners; it is dropped then.
+    pub fn new(alloc: Global, meta: Meta) -> Result<SharedMeta, Fault>
+        ensures meta { IfOk result (λ shared. shared ≡ plain_meta meta) }
+        ensures memory { IfErr result (λ fault. fault ≡ Fault.Memory) }
+    {
+        let shared = Arc::new(alloc, meta)?;
+        Ok(SharedMeta { shared })
+    }
+
     /// An equal meta of its own. The only error is `Memory`.
     pub fn copy_of(alloc: Global, meta: &Meta) -> Result<SharedMeta, Fault>
         ensures meta { IfOk result (λ copy. copy ≡ plain_meta meta.now) }
         ensures memory { IfErr result (λ fault. fault ≡ Fault.Memory) }
     {
         let copy = meta.copy(alloc)?;
-        let shared = Arc::new(alloc, copy)?;
-        Ok(SharedMeta { shared })
+        SharedMeta::new(alloc, copy)
     }
 
     /// One more owner of the same meta: nothing is copied. The only error is `Memory`, where one more can't be counted.

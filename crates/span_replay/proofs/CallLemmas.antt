@@ -48,15 +48,15 @@ found_parent world worker None result is = ap (parent_found world worker) is
 found_parent world worker (Some id) result is = ap (parent_found world worker) is
 
 -- the call that is made is the one that is meant
-pub same_new : (world : World) (worker number : ℕ) (meta : PlainMeta) (fields others : List KeyValue) (parent : Option ℕ) (result : ParentOf)
-    → number ≡ worker → fields ≡ others → MatchOption parent (result ≡ Root) (λ id. result ≡ Of id)
-    → call.new_span worker meta fields (parent_found world worker result) ≡ call.new_span number meta others parent
-same_new world worker number meta fields others parent result same fields_are is =
-    λ i. call.new_span (sym same i) meta (fields_are i) (found_parent world worker parent result is i)
+pub same_new : (world : World) (worker number : ℕ) (meta : PlainMeta) (fields : List KeyValue) (parent : Option ℕ) (result : ParentOf)
+    → number ≡ worker → MatchOption parent (result ≡ Root) (λ id. result ≡ Of id)
+    → call.new_span worker meta fields (parent_found world worker result) ≡ call.new_span number meta fields parent
+same_new world worker number meta fields parent result same is =
+    λ i. call.new_span (sym same i) meta fields (found_parent world worker parent result is i)
 
-pub same_event : (worker number : ℕ) (meta : PlainMeta) (message : List ℕ) (fields others : List KeyValue) → number ≡ worker → fields ≡ others
-    → call.event worker meta message fields ≡ call.event number meta message others
-same_event worker number meta message fields others same fields_are = λ i. call.event (sym same i) meta message (fields_are i)
+pub same_event : (worker number : ℕ) (meta : PlainMeta) (message : List ℕ) (fields : List KeyValue) → number ≡ worker
+    → call.event worker meta message fields ≡ call.event number meta message fields
+same_event worker number meta message fields same = λ i. call.event (sym same i) meta message fields
 
 pub made_some : (result : Option ℕ) (id : ℕ) (old : CoreView) (request : call.Request) (new : CoreView) → result ≡ Some id
     → IfSome result (λ id. IsAccepted old request (call.made id) new) → IfSome result (λ id. TakesNextId old (call.made id))

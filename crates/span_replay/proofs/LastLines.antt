@@ -12,7 +12,8 @@ use Rattle.span_replay.specs.inside.Turns.{AreMade, Sent, TextFails}
 use Rattle.span_replay.specs.Written.{Written, closes, each_written, exits}
 use Rattle.span_run.specs.declared.fault.RunFault.{RunFault}
 use Rattle.span_run.specs.declared.fault.RunFault.TheVariants.{Script, Memory, Device, Refused, Held}
-use Rattle.span_replay.proofs.Written.{Known, front_more, fails_after, runs_after}
+use Rattle.span_run.proofs.Fronts.{Known, front_more}
+use Rattle.span_replay.proofs.Written.{fails_after, runs_after}
 
 -- where a text fails that the whole begins with, the whole fails
 text_fails : (a b : Known) (t : Transcript) (text more : List ℕ) (e : RunFault) → t.text ≡ text ++ more → TextFails text a b e → Fails t a b e

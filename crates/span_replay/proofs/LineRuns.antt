@@ -9,7 +9,7 @@ use Rattle.span_script.specs.declared.reason.Reason.{Reason}
 use Rattle.span_run.specs.declared.fault.RunFault.{RunFault}
 use Rattle.span_run.specs.declared.fault.RunFault.TheVariants.{Device}
 use Rattle.span_run.specs.declared.fault.Side.TheVariants.{Write}
-use Rattle.span_replay.proofs.Written.{Known}
+use Rattle.span_run.proofs.Fronts.{Known}
 use Rattle.span_replay.proofs.LineTurns.{turn_begun}
 
 -- the text of a line was not written to its end

@@ -17,7 +17,7 @@ use Rattle.span_run.specs.declared.fault.RunFault.TheVariants.{Device}
 use Rattle.span_run.specs.declared.fault.Side.{Side}
 use Rattle.span_script.specs.declared.stop.Stop.{Stop}
 use Rattle.span_script.specs.declared.stop.Stop.TheVariants.{Memory, Refused}
-use Rattle.span_replay.proofs.Written.{Known}
+use Rattle.span_run.proofs.Fronts.{Known}
 
 pub read_line : (hooks : ℕ) (state : State) (line : List ℕ) (value : Data) → is_skipped line ≡ false → json_of line ≡ Ok value → line_turn hooks state line ≡ value_turn hooks state value
 unfolding read_turn

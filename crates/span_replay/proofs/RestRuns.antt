@@ -18,7 +18,8 @@ use Rattle.span_replay.specs.inside.Turns.{HasTurned, Sent, TurnFails, opened_st
 use Rattle.span_run.specs.declared.fault.RunFault.{RunFault}
 use Rattle.span_replay.proofs.Openings.{when_some}
 use Rattle.span_replay.proofs.Resumed.{staged, value_same}
-use Rattle.span_replay.proofs.Written.{Known, sent_none, sent_trans, fails_after, runs_after, turned_more, turned_fails, loop_ends}
+use Rattle.span_run.proofs.Fronts.{Known}
+use Rattle.span_replay.proofs.Written.{sent_none, sent_trans, fails_after, runs_after, turned_more, turned_fails, loop_ends}
 
 -- no line is left
 pub none_left : {A : Type 0} (seen : A → Data) (hooks number : ℕ) (state : State) (stage : Stage) (value : Option A) (lines : List ℕ) (a : Known) → value ≡ None → lines ≡ []

@@ -18,7 +18,7 @@ use Rattle.span_replay.specs.inside.Turns.{AreMade, ArePartlyMade, TextFails}
 use Rattle.span_replay.specs.Written.{Written, written_after, call_written, calls_written, each_written, exits, closes}
 use Rattle.span_run.specs.declared.fault.RunFault.{RunFault}
 use Rattle.span_run.specs.declared.fault.RunFault.TheVariants.{Script, Memory, Device, Refused, Held}
-use Rattle.span_replay.proofs.Written.{Known, front_after, front_more}
+use Rattle.span_run.proofs.Fronts.{Known, front_after, front_more}
 
 pub part_none : (a : Known) (w : Written) → ArePartlyMade a a w w
 part_none a w = record { text = []; taken = Appends-nil a; is = refl }

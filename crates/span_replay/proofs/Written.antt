@@ -4,6 +4,7 @@ use Rattle.std.specs.Io.KnownBytes.{Appends, Consumes, Keeps}
 use Rattle.std.proofs.KnownBytes.{Appends-nil, Appends-trans, Appends-kept, Keeps-refl}
 use Rattle.std.proofs.lemmas.Bool.{lt-leb}
 use Rattle.span_run.specs.Device.{AppendsFront, ReadFails}
+use Rattle.span_run.proofs.Fronts.{Known, front_none, front_after, front_more}
 use Rattle.span_replay.specs.Meaning.{Turn, Transcript, faulty, after, turn_then, run, meaning, line_turn, last_part}
 use Rattle.span_replay.specs.Replayed.{Fails, Runs, KeepsUnread}
 use Rattle.span_script.specs.Script.{lines_of, most_bytes}
@@ -15,30 +16,6 @@ use Rattle.span_script.specs.declared.reason.Reason.{Reason}
 use Rattle.span_script.specs.declared.reason.Reason.TheVariants.{TooLong}
 use Rattle.span_run.specs.declared.fault.Side.TheVariants.{Read, Write}
 use Rattle.span_run.specs.RunFault.{EndsAsCounted}
-
-abbrev pub Known : Type 0
-Known = Option (List ℕ)
-
--- ---- fronts
-
-pub front_none : (a b : Known) (text : List ℕ) → Keeps a b → AppendsFront a b text
-front_none a b text k = record { front = []; rest = text; whole = refl; taken = Appends-kept a a b [] (Appends-nil a) k }
-
-pub front_after : (a b c : Known) (text more : List ℕ) → Appends a b text → AppendsFront b c more → AppendsFront a c (text ++ more)
-front_after a b c text more p q = record {
-  front = text ++ q.front;
-  rest = q.rest;
-  whole = ap (λ x. text ++ x) q.whole ∙ sym (append_assoc text q.front q.rest);
-  taken = Appends-trans a b c text q.front p q.taken;
-}
-
-pub front_more : (a b : Known) (text more : List ℕ) → AppendsFront a b text → AppendsFront a b (text ++ more)
-front_more a b text more p = record {
-  front = p.front;
-  rest = p.rest ++ more;
-  whole = ap (λ x. x ++ more) p.whole ∙ append_assoc p.front p.rest more;
-  taken = p.taken;
-}
 
 -- ---- what went out before the rest
 

@@ -1,6 +1,6 @@
 -- The code's operations, as the definitions see them.
-use Rattle.std.specs.Prelude.{ℕ, ◌<◌, List, string_bytes}
-use Rattle.span_id.specs.Meta.{plain_fields}
+use Rattle.std.specs.Prelude.{ℕ, ◌<◌}
+use Rattle.std.specs.Arc.{arc_str_bytes}
 use Rattle.span_layers.specs.FmtSpan.{bits_of}
 use Rattle.span_layers.specs.Rule.{pairs_of}
 use Rattle.span_script.specs.Operation as meant
@@ -29,11 +29,11 @@ parent_seen (Named key) = meant.named (key_seen key)
 
 abbrev pub new_seen : NewSpan → meant.NewSpan
 new_seen new = record {
-  name = string_bytes new.meta.name;
-  target = string_bytes new.meta.target;
+  name = new.meta.name;
+  target = new.meta.target;
   level = new.meta.level;
   parent = parent_seen new.parent;
-  fields = plain_fields new.fields.items;
+  fields = new.fields;
   label = new.label.now;
   worker = new.worker;
 }
@@ -43,11 +43,11 @@ layer_seen layer = record { form = layer.style.form; spans = bits_of layer.style
 
 abbrev pub event_seen : NewEvent → meant.NewEvent
 event_seen event = record {
-  name = string_bytes event.meta.name;
-  target = string_bytes event.meta.target;
+  name = event.meta.name;
+  target = event.meta.target;
   level = event.meta.level;
-  message = event.message.now;
-  fields = plain_fields event.fields.items;
+  message = arc_str_bytes event.message;
+  fields = event.fields;
   worker = event.worker;
 }
 
@@ -56,7 +56,7 @@ operation_seen (Limits limits) = meant.set_limits limits
 operation_seen (Layer layer) = meant.add_layer (layer_seen layer)
 operation_seen (New new) = meant.make (new_seen new)
 operation_seen (OnSpan call span worker) = meant.on_span call (key_seen span) worker
-operation_seen (Record span fields worker) = meant.record_fields (key_seen span) (plain_fields fields.items) worker
+operation_seen (Record span fields worker) = meant.record_fields (key_seen span) fields worker
 operation_seen (Event event) = meant.tell (event_seen event)
 operation_seen (Find span) = meant.find (key_seen span)
 

@@ -11,21 +11,21 @@ use crate::pairs::pair;
 use crate::reason::Reason;
 use crate::stop::Stop;
 use serde_json::Value;
-use span_id::Field;
+use span_id::{Field, Fields};
 use std::alloc::{AllocError, Global};
 
 /// The fields that a line gives, none where it has no such key.
-pub fn fields(alloc: Global, line: &Value) -> Result<Vec<Field>, Stop>
-    ensures { AnswersOrStops (λ fields. map key_value fields.items) result
-        (optional Key.Fields fields_in [] (view line.now)) }
+pub fn fields(alloc: Global, line: &Value) -> Result<Fields, Stop>
+    ensures { AnswersOrStops (λ fields. fields) result (optional Key.Fields fields_in [] (view line.now)) }
 {
     let Some(value) = line.get(Key::Fields.text()) else {
-        return Ok(Vec::new(alloc));
+        return Ok(Fields::none());
     };
     let Some(list) = value.as_array() else {
         return Err(Stop::Refused(Reason::BadKey(Key::Fields)));
     };
-    all_fields(alloc, list)
+    let list = all_fields(alloc, list)?;
+    Fields::new(alloc, list).map_err(|_| Stop::Memory)
 }
 
 /// The fields that the values of a list are.

@@ -6,7 +6,8 @@ ghost use Rattle.serde_json.specs.View.{view};
 ghost use Rattle.span_id.specs.declared.level.Level.TheVariants.{Info};
 ghost use Rattle.span_layers.specs.FmtSpan.{bits_of};
 ghost use Rattle.span_layers.specs.declared.form.Form.TheVariants.{Compact};
-ghost use Rattle.span_script.specs.Operation.{required, optional, limit_in, worker_in, level_in, form_in, kinds_in, span_key_in, parent_in, current};
+ghost use Rattle.span_script.specs.Operation.{required, optional, limit_in, worker_in, level_in, form_in, kinds_in};
+ghost use Rattle.span_script.specs.Operation.{span_key_in, parent_in, current};
 ghost use Rattle.span_script.specs.Reason.{Answers};
 ghost use Rattle.span_script.specs.Views.{key_seen, parent_seen};
 

@@ -8,6 +8,7 @@ mod fields;
 mod key;
 mod key_values;
 mod lines;
+mod meta;
 mod operations;
 mod pairs;
 mod reading;

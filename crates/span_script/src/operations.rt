@@ -1,7 +1,8 @@
 //! What a line of a script can ask for.
 
-use span_id::{Field, Id, Limits, Meta};
+use span_id::{Fields, Id, Limits, SharedMeta};
 use span_layers::{Rule, Style};
+use std::sync::ArcStr;
 
 /// How a line names a span.
 #[derive(Clone, Copy, Debug)]
@@ -31,8 +32,8 @@ pub struct NewLayer {
 /// A span to be made.
 #[derive(Debug, Drop)]
 pub struct NewSpan<'v> {
-    pub meta: Meta,
-    pub fields: Vec<Field>,
+    pub meta: SharedMeta,
+    pub fields: Fields,
     pub parent: Parent<'v>,
     /// What later lines call the span.
     pub label: &'v str,
@@ -41,10 +42,10 @@ pub struct NewSpan<'v> {
 
 /// An event to be told.
 #[derive(Debug, Drop)]
-pub struct NewEvent<'v> {
-    pub meta: Meta,
-    pub message: &'v str,
-    pub fields: Vec<Field>,
+pub struct NewEvent {
+    pub meta: SharedMeta,
+    pub message: ArcStr,
+    pub fields: Fields,
     pub worker: usize,
 }
 
@@ -73,9 +74,9 @@ pub enum Operation<'v> {
     /// To add fields to a span.
     Record {
         span: SpanKey<'v>,
-        fields: Vec<Field>,
+        fields: Fields,
         worker: usize,
     },
-    Event(NewEvent<'v>),
+    Event(NewEvent),
     Find(SpanKey<'v>),
 }

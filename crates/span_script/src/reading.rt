@@ -3,20 +3,23 @@ ghost use Rattle.std.specs.Prelude.{◌≡◌, ◌<◌, ℕ, IfOk, Result};
 ghost use Rattle.std.specs.Option.{option_map};
 ghost use Rattle.serde_json.specs.View.{view};
 ghost use Rattle.span_script.specs.Reason.{Answers, AnswersOrStops};
-ghost use Rattle.span_script.specs.Operation.{json_of, limits_of, layer_of, new_of, on_span_of, record_of, event_of, find_of, find_old_of, op_named, op_of, is_setup, operation_of};
+ghost use Rattle.span_script.specs.Operation.{json_of, op_named, op_of, is_setup, operation_of, limits_of, layer_of, new_of};
+ghost use Rattle.span_script.specs.Operation.{on_span_of, record_of, event_of, find_of, find_old_of};
 ghost use Rattle.span_script.specs.Views.{operation_seen, op_seen, stage_seen, NamesWorker};
 
 use crate::fields::fields;
 use crate::key::Key;
 use crate::key_values::{form, kinds, level, limit, parent, required_text, span, text, worker};
+use crate::meta::meta;
 use crate::operations::{NewEvent, NewLayer, NewSpan, Operation, SpanCall, SpanKey};
 use crate::reason::Reason;
 use crate::rules::rule;
 use crate::stop::Stop;
 use serde_json::Value;
-use span_id::{Id, Limits, Meta};
+use span_id::{Id, Limits};
 use span_layers::Style;
 use std::alloc::Global;
+use std::sync::ArcStr;
 
 /// The ops of a line.
 #[derive(Clone, Copy, Debug, PartialEq, Eq)]
@@ -177,14 +180,8 @@ fn new_span<'v>(alloc: Global, line: &'v Value, workers: usize) -> Result<Operat
     let fields = fields(alloc, line)?;
     let label = text(line, Key::Label, name)?;
     let worker = worker(line, workers)?;
-    let name = String::from_str(alloc, name)?;
-    let target = String::from_str(alloc, target)?;
     Ok(Operation::New(NewSpan {
-        meta: Meta {
-            name,
-            target,
-            level,
-        },
+        meta: meta(alloc, name, target, level)?,
         fields,
         parent,
         label,
@@ -228,7 +225,7 @@ fn record<'v>(alloc: Global, line: &'v Value, workers: usize) -> Result<Operatio
 
 /// The event that a line asks for, whose name is `event`.
 #[tactic(auto, unfolding(crate::specs::Operation::event_of))]
-fn event<'v>(alloc: Global, line: &'v Value, workers: usize) -> Result<Operation<'v>, Stop>
+fn event<'v>(alloc: Global, line: &Value, workers: usize) -> Result<Operation<'v>, Stop>
     ensures meant { AnswersOrStops operation_seen result (event_of workers (view line.now)) }
     ensures worker { 0 < workers → IfOk result (λ operation. NamesWorker operation workers) }
 {
@@ -237,15 +234,9 @@ fn event<'v>(alloc: Global, line: &'v Value, workers: usize) -> Result<Operation
     let level = level(line)?;
     let fields = fields(alloc, line)?;
     let worker = worker(line, workers)?;
-    let name = String::from_str(alloc, "event")?;
-    let target = String::from_str(alloc, target)?;
     Ok(Operation::Event(NewEvent {
-        meta: Meta {
-            name,
-            target,
-            level,
-        },
-        message,
+        meta: meta(alloc, "event", target, level)?,
+        message: ArcStr::from_str(alloc, message)?,
         fields,
         worker,
     }))

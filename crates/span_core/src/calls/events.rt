@@ -1,16 +1,20 @@
 //! Events.
 ghost use Rattle.std.specs.Prelude.{◌<◌, OnOk, IfErr};
+ghost use Rattle.std.specs.Arc.{arc_str_bytes};
 ghost use Rattle.span_id.specs.Meta.{plain_meta, plain_fields};
 ghost use Rattle.span_outlet.specs.Request.{event, told};
+ghost use Rattle.span_core.specs.inside.Given.{meta_given, text_given, fields_given};
 ghost use Rattle.span_core.specs.Core.{IsAccepted, IsRefused};
 
 use crate::Core;
 use crate::calls::names::are_keys;
 use crate::calls::room::ask;
+use crate::given::{GivenFields, GivenMeta, GivenText};
 use crate::notes::events::{Event, event_told};
-use span_id::{Fault, Field, Meta};
+use span_id::{Fault, Field, Fields, Meta, SharedMeta};
 use span_layers::Admit;
 use span_outlet::{Batch, Outlet, Reply};
+use std::sync::ArcStr;
 
 impl<O: Outlet, A: Admit> Core<O, A> {
     /// Tells an event. The number of the worker that tells it needs to be below `workers`. The world stays as it is;
@@ -31,7 +35,44 @@ impl<O: Outlet, A: Admit> Core<O, A> {
         ensures refused { IfErr result (λ fault. IsRefused self.old
             (event worker (plain_meta meta.now) message.now (plain_fields fields.now)) fault self.new) }
     {
-        if !(meta.fit() && are_keys(fields)) {
+        let (meta, message) = (GivenMeta::Lent(meta), GivenText::Lent(message));
+        self.event_given(worker, &meta, &message, &GivenFields::Lent(fields))
+    }
+
+    /// Tells an event as `event` does, with the same refusals. The batch shares the meta, the message and the fields
+    /// with the caller: each has one more owner, and nothing is copied.
+    pub fn event_shared(
+        &mut self,
+        worker: u32,
+        meta: &SharedMeta,
+        message: &ArcStr,
+        fields: &Fields,
+    ) -> Result<(), Fault>
+        requires { worker < self.old.limits.workers }
+        ensures accepted { OnOk result (IsAccepted self.old
+            (event worker meta.now (arc_str_bytes message.now) fields.now) told self.new) }
+        ensures refused { IfErr result (λ fault. IsRefused self.old
+            (event worker meta.now (arc_str_bytes message.now) fields.now) fault self.new) }
+    {
+        let (meta, message) = (GivenMeta::Shared(meta), GivenText::Shared(message));
+        self.event_given(worker, &meta, &message, &GivenFields::Shared(fields))
+    }
+
+    // Tells an event of what is lent or shared.
+    fn event_given(
+        &mut self,
+        worker: u32,
+        meta: &GivenMeta<'_>,
+        message: &GivenText<'_>,
+        fields: &GivenFields<'_>,
+    ) -> Result<(), Fault>
+        requires { worker < self.old.limits.workers }
+        ensures accepted { OnOk result (IsAccepted self.old
+            (event worker (meta_given meta.now) (text_given message.now) (fields_given fields.now)) told self.new) }
+        ensures refused { IfErr result (λ fault. IsRefused self.old
+            (event worker (meta_given meta.now) (text_given message.now) (fields_given fields.now)) fault self.new) }
+    {
+        if !(meta.read().fit() && are_keys(fields.read())) {
             return Err(Fault::BadName);
         }
         if self.calls == u64::MAX {
@@ -40,10 +81,10 @@ impl<O: Outlet, A: Admit> Core<O, A> {
         ask(&mut self.outlet)?;
         let event = Event {
             worker,
-            bits: self.rules.bits(&self.admitters, meta),
-            meta,
-            message,
-            fields,
+            bits: self.rules.bits(&self.admitters, meta.read()),
+            meta: *meta,
+            message: *message,
+            fields: *fields,
         };
         let stacks = self.stacks.as_slice();
         let told = event_told(self.alloc, &self.rules, &self.forest, stacks, &event)?;

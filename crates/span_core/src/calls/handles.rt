@@ -5,6 +5,7 @@ ghost use Rattle.span_forest.specs.Spans.{find};
 ghost use Rattle.span_forest.specs.Release.{closing_list};
 ghost use Rattle.span_id.specs.Meta.{plain_fields};
 ghost use Rattle.span_outlet.specs.Request.{clone_span, cloned, record_fields, recorded, try_close, released};
+ghost use Rattle.span_core.specs.inside.Given.{fields_given};
 ghost use Rattle.span_core.specs.Core.{IsDue, IsAccepted, IsRefused};
 ghost use Rattle.span_core.specs.Shown.{MayBeShown, IsShown};
 
@@ -12,11 +13,12 @@ use crate::Core;
 use crate::calls::held::{closing_of, held_span};
 use crate::calls::names::are_keys;
 use crate::calls::room::ask;
+use crate::given::GivenFields;
 use crate::laws::the_named_span_closes_first;
 use crate::notes::closing::push_closes;
 use crate::notes::{Happening, record_told};
 use span_forest::Holder;
-use span_id::{Fault, Field, Id};
+use span_id::{Fault, Field, Fields, Id};
 use span_layers::Kind;
 use span_outlet::{Batch, Call, Outlet, Reply};
 
@@ -61,7 +63,29 @@ impl<O: Outlet, A> Core<O, A> {
         ensures refused { IfErr result (λ fault. IsRefused self.old
             (record_fields worker id (plain_fields fields.now)) fault self.new) }
     {
-        if !are_keys(fields) {
+        self.record_given(worker, id, &GivenFields::Lent(fields))
+    }
+
+    /// Appends fields as `record` does, with the same refusals. The batch shares them with the caller, and so does a
+    /// span that has none yet: nothing is copied. To the end of fields that are there they are copied.
+    pub fn record_shared(&mut self, worker: u32, id: Id, fields: &Fields) -> Result<(), Fault>
+        requires { worker < self.old.limits.workers }
+        ensures accepted { OnOk result (IsAccepted self.old (record_fields worker id fields.now) recorded self.new) }
+        ensures refused { IfErr result (λ fault. IsRefused self.old (record_fields worker id fields.now)
+            fault self.new) }
+    {
+        self.record_given(worker, id, &GivenFields::Shared(fields))
+    }
+
+    // Appends fields that are lent or shared.
+    fn record_given(&mut self, worker: u32, id: Id, fields: &GivenFields<'_>) -> Result<(), Fault>
+        requires { worker < self.old.limits.workers }
+        ensures accepted { OnOk result (IsAccepted self.old (record_fields worker id (fields_given fields.now))
+            recorded self.new) }
+        ensures refused { IfErr result (λ fault. IsRefused self.old
+            (record_fields worker id (fields_given fields.now)) fault self.new) }
+    {
+        if !are_keys(fields.read()) {
             return Err(Fault::BadName);
         }
         let Some(held) = held_span(&self.forest, id) else {
@@ -77,8 +101,9 @@ impl<O: Outlet, A> Core<O, A> {
             id,
             bits: held.bits,
         };
-        let told = record_told(self.alloc, &self.rules, &self.forest, &what, fields)?;
-        let Ok(()) = self.forest.write_fields(id, fields) else {
+        let fields = fields.keep(self.alloc)?;
+        let told = record_told(self.alloc, &self.rules, &self.forest, &what, &fields)?;
+        let Ok(()) = self.forest.share_fields(id, &fields) else {
             return Err(Fault::Memory);
         };
         self.calls += 1;

@@ -1,17 +1,19 @@
 //! New spans.
-ghost use Rattle.std.specs.Prelude.{◌≡◌, ◌<◌, true, false, not, string_bytes, IfOk, OnOk, IfErr, IfSome, IfNone, OnSome, Some, None};
+ghost use Rattle.std.specs.Prelude.{◌≡◌, ◌<◌, true, false, not, IfOk, OnOk, IfErr, IfSome, IfNone, OnSome, Some, None};
 ghost use Rattle.span_layers.specs.Filter.{admission_set};
 ghost use Rattle.span_id.specs.Meta.{plain_meta, plain_fields};
 ghost use Rattle.span_outlet.specs.Request.{new_span, made};
 ghost use Rattle.span_core.specs.Parent.{parent_found};
 ghost use Rattle.span_core.specs.Step.{is_open_parent};
 ghost use Rattle.span_core.specs.NextId.{next_id};
+ghost use Rattle.span_core.specs.inside.Given.{meta_given, fields_given};
 ghost use Rattle.span_core.specs.inside.Lent.{span_request};
 ghost use Rattle.span_core.specs.Core.{is_parent_below_max, IsDue, IsAccepted, IsRefused, IsNotWanted};
 
 use crate::Core;
 use crate::calls::names::are_keys;
 use crate::calls::room::ask;
+use crate::given::{GivenFields, GivenMeta};
 use crate::notes::new_spans::{NewSpan, new_told};
 use span_forest::Forest;
 use span_forest::laws::{each_slot_has_one_open_id, next_id_is_new, open_spans_are_counted};
@@ -41,8 +43,7 @@ impl<O: Outlet, A: Admit> Core<O, A> {
     ///
     /// Refused in this order: `BadName` where the name or a key is no name; then comes the answer `None`; `Unknown`
     /// where the parent isn't open, `CountFull` where the parent's count or the number of accepted calls is at its
-    /// greatest,
-    /// `Full` where no slot is free, `Backlog`, `Memory`.
+    /// greatest, `Full` where no slot is free, `Backlog`, `Memory`.
     pub fn new_span(
         &mut self,
         worker: u32,
@@ -63,11 +64,70 @@ impl<O: Outlet, A: Admit> Core<O, A> {
             IsRefused self.old (new_span worker (plain_meta meta.now) (plain_fields fields.now)
             (parent_found self.old.world worker parent)) fault self.new) }
     {
-        if !(meta.fit() && are_keys(fields)) {
+        self.new_span_given(
+            worker,
+            &GivenMeta::Lent(meta),
+            &GivenFields::Lent(fields),
+            parent,
+        )
+    }
+
+    /// Makes a span as `new_span` does, with the same answers and refusals. The span and the batch share the meta and
+    /// the fields with the caller: each has more owners, and nothing is copied.
+    pub fn new_span_shared(
+        &mut self,
+        worker: u32,
+        meta: &SharedMeta,
+        fields: &Fields,
+        parent: ParentOf,
+    ) -> Result<Option<Id>, Fault>
+        requires { worker < self.old.limits.workers }
+        ensures made { IfOk result (λ made_id. IfSome made_id (λ id.
+            IsAccepted self.old (new_span worker meta.now fields.now
+            (parent_found self.old.world worker parent)) (made id) self.new)) }
+        ensures next { IfOk result (λ made_id. IfSome made_id (λ id.
+            next_id self.old.limits.slots self.old.limits.last_generation self.old.sent ≡ Some id)) }
+        ensures not_wanted { IfOk result (λ made_id. IfNone made_id (
+            IsNotWanted self.old (new_span worker meta.now fields.now
+            (parent_found self.old.world worker parent)) self.new)) }
+        ensures refused { IfErr result (λ fault.
+            IsRefused self.old (new_span worker meta.now fields.now
+            (parent_found self.old.world worker parent)) fault self.new) }
+    {
+        self.new_span_given(
+            worker,
+            &GivenMeta::Shared(meta),
+            &GivenFields::Shared(fields),
+            parent,
+        )
+    }
+
+    // Makes a span of what is lent or shared.
+    fn new_span_given(
+        &mut self,
+        worker: u32,
+        meta: &GivenMeta<'_>,
+        fields: &GivenFields<'_>,
+        parent: ParentOf,
+    ) -> Result<Option<Id>, Fault>
+        requires { worker < self.old.limits.workers }
+        ensures made { IfOk result (λ made_id. IfSome made_id (λ id.
+            IsAccepted self.old (new_span worker (meta_given meta.now) (fields_given fields.now)
+            (parent_found self.old.world worker parent)) (made id) self.new)) }
+        ensures next { IfOk result (λ made_id. IfSome made_id (λ id.
+            next_id self.old.limits.slots self.old.limits.last_generation self.old.sent ≡ Some id)) }
+        ensures not_wanted { IfOk result (λ made_id. IfNone made_id (
+            IsNotWanted self.old (new_span worker (meta_given meta.now) (fields_given fields.now)
+            (parent_found self.old.world worker parent)) self.new)) }
+        ensures refused { IfErr result (λ fault.
+            IsRefused self.old (new_span worker (meta_given meta.now) (fields_given fields.now)
+            (parent_found self.old.world worker parent)) fault self.new) }
+    {
+        if !(meta.read().fit() && are_keys(fields.read())) {
             return Err(Fault::BadName);
         }
         let parent = self.parent(worker, parent);
-        let bits = self.rules.bits(&self.admitters, meta);
+        let bits = self.rules.bits(&self.admitters, meta.read());
         if self.rules.len() > 0 && bits.0 == 0 {
             return Ok(None);
         }
@@ -85,8 +145,8 @@ impl<O: Outlet, A: Admit> Core<O, A> {
             id,
             bits,
             parent,
-            meta,
-            fields,
+            meta: *meta,
+            fields: *fields,
         })?;
         Ok(Some(id))
     }
@@ -95,8 +155,8 @@ impl<O: Outlet, A: Admit> Core<O, A> {
     fn make(&mut self, new: &NewSpan<'_>) -> Result<(), Fault>
         requires within { new.now.worker < self.old.limits.workers }
         requires due { IsDue self.old (span_request new.now) }
-        requires bits { new.now.bits.0 ≡ admission_set self.old.rules (string_bytes new.now.meta.now.target)
-            new.now.meta.now.level }
+        requires bits { new.now.bits.0 ≡ admission_set self.old.rules (meta_given new.now.meta).target
+            (meta_given new.now.meta).level }
         requires next { next_id self.old.limits.slots self.old.limits.last_generation self.old.sent ≡ Some new.now.id }
         ensures made { OnOk result (IsAccepted self.old (span_request new.now) (made new.now.id) self.new) }
         ensures refused { IfErr result (λ fault. IsRefused self.old (span_request new.now) fault self.new) }
@@ -105,8 +165,8 @@ impl<O: Outlet, A: Admit> Core<O, A> {
         next_id_is_new(&self.forest);
         each_slot_has_one_open_id(&self.forest);
         open_spans_are_counted(&self.forest);
-        let meta = SharedMeta::copy_of(self.alloc, new.meta)?;
-        let fields = Fields::copy_of(self.alloc, new.fields)?;
+        let meta = new.meta.keep(self.alloc)?;
+        let fields = new.fields.keep(self.alloc)?;
         let told = new_told(self.alloc, &self.rules, &self.forest, new, &meta, &fields)?;
         let Ok(id) = self.forest.add(meta, fields, new.parent, new.bits) else {
             unreachable!();

@@ -3,33 +3,34 @@ ghost use Rattle.std.specs.Prelude.{◌≡◌, ◌<◌, [], map, length, IfOk, I
 ghost use Rattle.std.specs.Arc.{arc_str_bytes};
 ghost use Rattle.std.specs.List.{find as first_that};
 ghost use Rattle.span_id.specs.Bits.{has_bit};
-ghost use Rattle.span_id.specs.Meta.{plain_fields};
 ghost use Rattle.span_layers.specs.Note.{plain_note};
 ghost use Rattle.span_outlet.specs.Request.{request_of};
 ghost use Rattle.span_stack.specs.Stack.{walk, ids_of_each};
 ghost use Rattle.span_core.specs.Happening.{bits_in, notes_of};
+ghost use Rattle.span_core.specs.inside.Given.{fields_given, text_given};
 ghost use Rattle.span_core.specs.inside.Lent.{event_request, event_seen};
 
+use crate::given::{GivenFields, GivenMeta, GivenText};
 use crate::notes::{Announced, Subject, Telling, told};
 use span_forest::Forest;
-use span_id::{Bits, Fault, Field, Fields, Id, Meta, SharedMeta};
+use span_id::{Bits, Fault, Fields, Id};
 use span_layers::{Kind, Note, Rules};
 use span_outlet::Call;
 use span_stack::SpanStack;
 use std::alloc::Global;
 use std::sync::ArcStr;
 
-/// An event: which worker tells it, the layers that admit it, and what the caller lent.
+/// An event: which worker tells it, the layers that admit it, and what the caller gave.
 #[derive(Clone, Copy)]
 pub(crate) struct Event<'a> {
     pub(crate) worker: u32,
     pub(crate) bits: Bits,
-    pub(crate) meta: &'a Meta,
-    pub(crate) message: &'a str,
-    pub(crate) fields: &'a [Field],
+    pub(crate) meta: GivenMeta<'a>,
+    pub(crate) message: GivenText<'a>,
+    pub(crate) fields: GivenFields<'a>,
 }
 
-// The call that tells an event, and its notes, which share the copies of the message and the fields.
+// The call that tells an event, and its notes, which share its message and its fields.
 pub(crate) fn event_told(
     alloc: Global,
     rules: &Rules,
@@ -44,9 +45,9 @@ pub(crate) fn event_told(
         (event_seen forest.now.spans (slice_index_or (ids_of_each stacks.now) event.now.worker []) event.now)) }
     ensures memory { IfErr result (λ fault. fault ≡ Fault.Memory) }
 {
-    let meta = SharedMeta::copy_of(alloc, event.meta)?;
-    let message = ArcStr::from_str(alloc, event.message)?;
-    let fields = Fields::copy_of(alloc, event.fields)?;
+    let meta = event.meta.keep(alloc)?;
+    let message = event.message.keep(alloc)?;
+    let fields = event.fields.keep(alloc)?;
     let notes = event_notes(alloc, rules, forest, stacks, event, &message, &fields)?;
     Ok(Announced {
         call: Call::Event {
@@ -70,8 +71,8 @@ fn event_notes(
     fields: &Fields,
 ) -> Result<Vec<Note>, Fault>
     requires worker { event.now.worker < length stacks.now }
-    requires message { arc_str_bytes message.now ≡ event.now.message.now }
-    requires fields { fields.now ≡ plain_fields event.now.fields.now }
+    requires message { arc_str_bytes message.now ≡ text_given event.now.message }
+    requires fields { fields.now ≡ fields_given event.now.fields }
     ensures notes { IfOk result (λ notes. map plain_note notes.items
         ≡ notes_of rules.now event.now.worker
         (event_seen forest.now.spans (slice_index_or (ids_of_each stacks.now) event.now.worker []) event.now)) }
@@ -84,7 +85,7 @@ fn event_notes(
         fields,
         subject: Subject::Event {
             stack: &stacks[event.worker as usize],
-            level: event.meta.level,
+            level: event.meta.read().level,
             message,
         },
     };

@@ -2,29 +2,30 @@
 ghost use Rattle.std.specs.Prelude.{◌≡◌, map, filter, length, IfOk, IfErr};
 ghost use Rattle.std.specs.List.{range_with_len};
 ghost use Rattle.span_layers.specs.declared.note.Kind.TheVariants.{OnNew};
-ghost use Rattle.span_id.specs.Meta.{plain_meta, plain_fields};
 ghost use Rattle.span_layers.specs.Note.{plain_note};
 ghost use Rattle.span_outlet.specs.Request.{request_of};
+ghost use Rattle.span_core.specs.inside.Given.{meta_given, fields_given};
 ghost use Rattle.span_core.specs.inside.Sound.{hears};
 ghost use Rattle.span_core.specs.inside.Lent.{first_note_of, span_request};
 
+use crate::given::{GivenFields, GivenMeta};
 use crate::notes::{Announced, Subject, Telling, told};
 use span_forest::Forest;
-use span_id::{Bits, Fault, Field, Fields, Id, Meta, SharedMeta};
+use span_id::{Bits, Fault, Fields, Id, SharedMeta};
 use span_layers::{Kind, Note, Rules};
 use span_outlet::Call;
 use std::alloc::Global;
 
 /// A new span: which worker makes it, the id that it gets, the layers that admit it, its parent, and what the caller
-/// lent.
+/// gave.
 #[derive(Clone, Copy)]
 pub(crate) struct NewSpan<'a> {
     pub(crate) worker: u32,
     pub(crate) id: Id,
     pub(crate) bits: Bits,
     pub(crate) parent: Option<Id>,
-    pub(crate) meta: &'a Meta,
-    pub(crate) fields: &'a [Field],
+    pub(crate) meta: GivenMeta<'a>,
+    pub(crate) fields: GivenFields<'a>,
 }
 
 // The call that makes a span, and its notes: the call shares the meta and the fields, the notes the fields.
@@ -36,8 +37,8 @@ pub(crate) fn new_told(
     meta: &SharedMeta,
     fields: &Fields,
 ) -> Result<Announced, Fault>
-    requires meta { meta.now ≡ plain_meta new.now.meta.now }
-    requires fields { fields.now ≡ plain_fields new.now.fields.now }
+    requires meta { meta.now ≡ meta_given new.now.meta }
+    requires fields { fields.now ≡ fields_given new.now.fields }
     ensures call { IfOk result (λ told. request_of told.call ≡ span_request new.now) }
     ensures notes { IfOk result (λ told. map plain_note told.notes.items
         ≡ map (first_note_of forest.now.spans new.now)
@@ -66,7 +67,7 @@ fn new_notes(
     new: &NewSpan<'_>,
     fields: &Fields,
 ) -> Result<Vec<Note>, Fault>
-    requires fields { fields.now ≡ plain_fields new.now.fields.now }
+    requires fields { fields.now ≡ fields_given new.now.fields }
     ensures notes { IfOk result (λ notes. map plain_note notes.items
         ≡ map (first_note_of forest.now.spans new.now)
         (filter (hears rules.now new.now.bits.0 OnNew) (range_with_len 0 (length rules.now)))) }
@@ -80,7 +81,7 @@ fn new_notes(
         subject: Subject::NewSpan {
             id: new.id,
             parent: new.parent,
-            name: new.meta.name.as_str(),
+            name: new.meta.read().name.as_str(),
         },
     };
     told(alloc, rules, forest, &what)

@@ -154,8 +154,8 @@ fn perform<V: Say>(
     }
 }
 
-// `L<layer> <text>`, on a line each, of the lines from this one on.
-fn push_lines(
+/// `L<layer> <text>`, on a line each, of the lines from this one on.
+pub(crate) fn push_lines(
     alloc: Global,
     text: &mut Vec<u8>,
     lines: &[Line],

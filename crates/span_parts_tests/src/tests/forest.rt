@@ -178,6 +178,29 @@ fn another_owner_keeps_its_fields(rt: HostRuntime) -> Result<(), Fail> {
 }
 
 #[test]
+fn a_span_shares_its_first_fields(rt: HostRuntime) -> Result<(), Fail> {
+    let alloc = rt.alloc();
+    let mut forest = pair(alloc)?;
+    let mut list = Vec::new(alloc);
+    let key = String::from_str(alloc, "k")?;
+    let value = String::from_str(alloc, "1")?;
+    list.push(Field { key, value })?;
+    let fields = Fields::new(alloc, list)?;
+    forest.share_fields(id(&rt, 1), &fields)?;
+    forest.share_fields(id(&rt, 2), &fields)?;
+    forest.share_fields(id(&rt, 2), &fields)?;
+    assert_eq!(rt; fields_of(&forest, id(&rt, 1)), 1);
+    assert_eq!(rt; fields_of(&forest, id(&rt, 2)), 2);
+    assert_eq!(rt; fields.len(), 1);
+    Ok(())
+}
+
+// How many fields a span has; of one that isn't open none.
+fn fields_of(forest: &Forest, id: Id) -> usize {
+    forest.find(id).map_or(0, |span| span.fields.len())
+}
+
+#[test]
 fn a_child_keeps_its_parent_open(rt: HostRuntime) -> Result<(), Fail> {
     let mut forest = pair(rt.alloc())?;
     release(&rt, rt.alloc(), &mut forest, 1, Holder::Handle, "")?;

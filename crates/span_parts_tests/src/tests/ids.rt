@@ -1,4 +1,4 @@
-use span_id::{Bits, Field, Fields, Id, Level, Limits, Meta};
+use span_id::{Bits, Field, Fields, Id, Level, Limits, Meta, SharedMeta};
 use std::alloc::Global;
 use std::test::Fail;
 
@@ -169,6 +169,20 @@ fn fields_are_shared(rt: HostRuntime) -> Result<(), Fail> {
 }
 
 #[test]
+fn what_is_moved_in_is_shared(rt: HostRuntime) -> Result<(), Fail> {
+    let alloc = rt.alloc();
+    let meta = SharedMeta::new(alloc, meta(alloc, "a")?)?.share()?;
+    assert_eq!(rt; meta.as_meta().name.as_str(), "a");
+    let one = Fields::new(alloc, one_field(alloc, "1")?)?;
+    let mut grown = Fields::none();
+    grown.extend_shared(alloc, &one)?;
+    grown.extend_shared(alloc, &one)?;
+    assert_eq!(rt; (one.len(), grown.len()), (1, 2));
+    assert!(rt; Fields::new(alloc, Vec::new(alloc))? == Fields::none());
+    Ok(())
+}
+
+#[test]
 fn reads_bits(rt: HostRuntime) {
     let bits = Bits(1 + (1 << 63));
     for (layer, want) in [
@@ -204,6 +218,12 @@ fn field(alloc: Global, key: &str, value: &str) -> Result<Field, Fail> {
         key: String::from_str(alloc, key)?,
         value: String::from_str(alloc, value)?,
     })
+}
+
+fn one_field(alloc: Global, value: &str) -> Result<Vec<Field>, Fail> {
+    let mut list = Vec::new(alloc);
+    list.push(field(alloc, "k", value)?)?;
+    Ok(list)
 }
 
 // What a thread that takes the value asks of it.

@@ -42,19 +42,23 @@ fn reads_layers(rt: HostRuntime) -> io::Result<()> {
     let rows = [
         (
             "{\"op\":\"layer\"}",
-            "Layer(NewLayer { style: Style { form: Compact, spans: FmtSpan(15) }, rule: Rule { pairs: [(\"\", Trace)] } })",
+            "Layer(NewLayer { style: Style { form: Compact, spans: FmtSpan(15) }, \
+             rule: Rule { pairs: [(\"\", Trace)] } })",
         ),
         (
             "{\"op\":\"layer\",\"form\":\"compact\",\"spans\":0,\"rule\":[],\"w\":null}",
             "Layer(NewLayer { style: Style { form: Compact, spans: FmtSpan(0) }, rule: Rule { pairs: [] } })",
         ),
         (
-            "{\"op\":\"layer\",\"form\":\"json\",\"spans\":15,\"rule\":[[\"a\",\"WARN\"],[\"\",\"ERROR\"],[\"a::b\",\"INFO\"],[\"a\",\"DEBUG\"]],\"w\":4}",
-            "Layer(NewLayer { style: Style { form: Json, spans: FmtSpan(15) }, rule: Rule { pairs: [(\"a\", Warn), (\"\", Error), (\"a::b\", Info), (\"a\", Debug)] } })",
+            "{\"op\":\"layer\",\"form\":\"json\",\"spans\":15,\"rule\":[[\"a\",\"WARN\"],[\"\",\"ERROR\"],\
+             [\"a::b\",\"INFO\"],[\"a\",\"DEBUG\"]],\"w\":4}",
+            "Layer(NewLayer { style: Style { form: Json, spans: FmtSpan(15) }, \
+             rule: Rule { pairs: [(\"a\", Warn), (\"\", Error), (\"a::b\", Info), (\"a\", Debug)] } })",
         ),
         (
             "{\"op\":\"limits\",\"spans\":16,\"op\":\"layer\",\"spans\":7,\"spans\":4,\"form\":7,\"form\":\"json\"}",
-            "Layer(NewLayer { style: Style { form: Json, spans: FmtSpan(4) }, rule: Rule { pairs: [(\"\", Trace)] } })",
+            "Layer(NewLayer { style: Style { form: Json, spans: FmtSpan(4) }, \
+             rule: Rule { pairs: [(\"\", Trace)] } })",
         ),
     ];
     compare(&rt, rt.alloc(), Stage::AtStart, rows.as_slice())?;
@@ -71,7 +75,8 @@ fn reads_records(rt: HostRuntime) -> io::Result<()> {
         ),
         (
             "{\"op\":\"record\",\"span\":1,\"fields\":[[\"k\",\"v\"],[\"\",\"\"],[\"k\",\"w\"]],\"w\":3}",
-            "Record { span: Id(Id { number: 1 }), fields: [Field { key: \"k\", value: \"v\" }, Field { key: \"\", value: \"\" }, Field { key: \"k\", value: \"w\" }], worker: 3 }",
+            "Record { span: Id(Id { number: 1 }), fields: [Field { key: \"k\", value: \"v\" }, \
+             Field { key: \"\", value: \"\" }, Field { key: \"k\", value: \"w\" }], worker: 3 }",
         ),
         (
             "{\"op\":\"record\",\"span\":null,\"span\":\"\",\"fields\":[],\"w\":9,\"w\":1}",
@@ -88,15 +93,19 @@ fn reads_events(rt: HostRuntime) -> io::Result<()> {
     let rows = [
         (
             "{\"op\":\"event\",\"message\":\"\"}",
-            "Event(NewEvent { meta: Meta { name: \"event\", target: \"app\", level: Info }, message: \"\", fields: [], worker: 0 })",
+            "Event(NewEvent { meta: Meta { name: \"event\", target: \"app\", level: Info }, \
+             message: \"\", fields: [], worker: 0 })",
         ),
         (
-            "{\"op\":\"event\",\"w\":2,\"fields\":[[\"k\",\"v\"]],\"level\":\"TRACE\",\"target\":\"a::b\",\"message\":\"x\\ny\",\"name\":7}",
-            "Event(NewEvent { meta: Meta { name: \"event\", target: \"a::b\", level: Trace }, message: \"x\\ny\", fields: [Field { key: \"k\", value: \"v\" }], worker: 2 })",
+            "{\"op\":\"event\",\"w\":2,\"fields\":[[\"k\",\"v\"]],\"level\":\"TRACE\",\
+             \"target\":\"a::b\",\"message\":\"x\\ny\",\"name\":7}",
+            "Event(NewEvent { meta: Meta { name: \"event\", target: \"a::b\", level: Trace }, \
+             message: \"x\\ny\", fields: [Field { key: \"k\", value: \"v\" }], worker: 2 })",
         ),
         (
             "{\"op\":\"event\",\"message\":\"m\",\"level\":\"info\",\"level\":\"ERROR\",\"target\":\"\"}",
-            "Event(NewEvent { meta: Meta { name: \"event\", target: \"\", level: Error }, message: \"m\", fields: [], worker: 0 })",
+            "Event(NewEvent { meta: Meta { name: \"event\", target: \"\", level: Error }, \
+             message: \"m\", fields: [], worker: 0 })",
         ),
     ];
     compare(&rt, rt.alloc(), Stage::AtStart, rows.as_slice())?;

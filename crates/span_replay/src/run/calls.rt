@@ -1,16 +1,15 @@
 //! The calls of a script on the registry, each with the answer that is written for it.
-ghost use Rattle.std.specs.Prelude.{◌≡◌, ◌<◌, IfOk, IfErr, OnOk, map};
+ghost use Rattle.std.specs.Prelude.{◌≡◌, ◌<◌, IfOk, IfErr, OnOk};
 ghost use Rattle.span_id.specs.declared.fault.Fault.TheVariants.{Backlog};
 ghost use Rattle.span_core.specs.Core.{IsLate};
 ghost use Rattle.span_outlet.specs.Request.{record_fields};
 ghost use Rattle.span_replay.specs.inside.Calls.{IsMade};
 ghost use Rattle.span_replay.specs.Requests.{request_of_call, request_of_new, request_of_event};
-ghost use Rattle.span_id.specs.Meta.{key_value};
 ghost use Rattle.span_script.specs.Views.{new_seen, event_seen};
 
 use crate::run::answer::Answer;
 use span_core::Core;
-use span_id::{Fault, Field, Id};
+use span_id::{Fault, Fields, Id};
 use span_layers::Say;
 use span_outlet::{Kept, ParentOf};
 use span_script::{NewEvent, NewSpan, SpanCall, Stop};
@@ -30,7 +29,7 @@ pub fn new_span<V: Say>(
     ensures memory { IfErr result (λ stop. stop ≡ Stop.Memory) }
 {
     let parent = parent.map_or(ParentOf::Root, ParentOf::Of);
-    match core.new_span(worker, &new.meta, &new.fields, parent) {
+    match core.new_span_shared(worker, &new.meta, &new.fields, parent) {
         Ok(Some(id)) => Ok(Answer::Made(id)),
         Ok(None) => Ok(Answer::NotWanted),
         Err(fault) => refusal(core, fault),
@@ -73,14 +72,13 @@ pub fn record<V: Say>(
     core: &mut Core<Kept<V>>,
     worker: u32,
     id: Id,
-    fields: &[Field],
+    fields: &Fields,
 ) -> Result<Answer, Stop>
     requires { worker < core.old.limits.workers }
-    ensures made { IfOk result
-        (λ answer. IsMade core.old (record_fields worker id (map key_value fields.now)) answer core.new) }
+    ensures made { IfOk result (λ answer. IsMade core.old (record_fields worker id fields.now) answer core.new) }
     ensures memory { IfErr result (λ stop. stop ≡ Stop.Memory) }
 {
-    match core.record(worker, id, fields) {
+    match core.record_shared(worker, id, fields) {
         Ok(()) => Ok(Answer::Recorded),
         Err(fault) => refusal(core, fault),
     }
@@ -89,7 +87,7 @@ pub fn record<V: Say>(
 /// Tells an event. The only error is `Memory`.
 pub fn event<V: Say>(
     core: &mut Core<Kept<V>>,
-    event: &NewEvent<'_>,
+    event: &NewEvent,
     worker: u32,
 ) -> Result<Answer, Stop>
     requires worker { worker < core.old.limits.workers }
@@ -97,7 +95,7 @@ pub fn event<V: Say>(
     ensures made { IfOk result (λ answer. IsMade core.old (request_of_event (event_seen event.now)) answer core.new) }
     ensures memory { IfErr result (λ stop. stop ≡ Stop.Memory) }
 {
-    match core.event(worker, &event.meta, event.message, &event.fields) {
+    match core.event_shared(worker, &event.meta, &event.message, &event.fields) {
         Ok(()) => Ok(Answer::Told),
         Err(fault) => refusal(core, fault),
     }

@@ -1,5 +1,6 @@
 //! A script as far as its calls have run: the registry, the labels, and how many lines of notes were written.
-ghost use Rattle.std.specs.Prelude.{◌≡◌, ◌<◌, ◌≤◌, ◌++◌, [], None, ℕ, IfOk, IfErr, OnOk, length, flat_map, drop, map, reverse, string_bytes};
+ghost use Rattle.std.specs.Prelude.{◌≡◌, ◌<◌, ◌≤◌, ◌++◌, [], None, ℕ, IfOk, IfErr, OnOk};
+ghost use Rattle.std.specs.Prelude.{length, flat_map, drop, reverse};
 ghost use Rattle.span_core.specs.Happening.{id_at};
 ghost use Rattle.span_outlet.specs.Lines.{lines_of};
 ghost use Rattle.span_replay.specs.Faults.{id_of_key};
@@ -13,7 +14,7 @@ use crate::run::calls;
 use crate::run::labels::Labels;
 use span_core::Core;
 use span_forest::Span;
-use span_id::{Checked, Fault, Field, Id};
+use span_id::{Checked, Fault, Fields, Id};
 use span_layers::{Filters, Say};
 use span_outlet::Kept;
 use span_script::{NewEvent, NewSpan, Operation, Parent, Reason, SpanCall, SpanKey, Stop};
@@ -45,7 +46,6 @@ impl<V: Say> Script<V> {
     ghost use Rattle.span_replay.specs.Requests.{request_of_call};
     ghost use Rattle.span_script.specs.Operation.{Stage, make, on_span, record_fields, tell, find as look_up};
     ghost use Rattle.span_replay.specs.inside.Running.{core_in, labels_in, state_at, IsWritten, RunsAs, IsWrittenCall};
-    ghost use Rattle.span_id.specs.Meta.{key_value};
     ghost use Rattle.span_script.specs.Views.{parent_seen, new_seen, event_seen, operation_seen, NamesWorker, IsCall};
 
     /// A script of which no call has run.
@@ -210,16 +210,15 @@ impl<V: Say> Script<V> {
     fn record(
         &mut self,
         span: &SpanKey<'_>,
-        fields: &[Field],
+        fields: &Fields,
         worker: usize,
         text: &mut Vec<u8>,
     ) -> Result<(), Stop>
         requires worker { worker < self.old.workers }
         requires written { IsWritten self.old }
         ensures turn { (hooks : ℕ) (stage : Stage) →
-            RunsAs (turn_of hooks (state_at self.old stage)
-            (record_fields (key_seen span.now) (map key_value fields.now) worker)) (state_at self.old stage)
-            text.old.items (state_at self.new stage) text.new.items result }
+            RunsAs (turn_of hooks (state_at self.old stage) (record_fields (key_seen span.now) fields.now worker))
+            (state_at self.old stage) text.old.items (state_at self.new stage) text.new.items result }
         ensures written { OnOk result (IsWritten self.new) }
         ensures workers { self.new.workers ≡ self.old.workers }
     {
@@ -230,7 +229,7 @@ impl<V: Say> Script<V> {
     }
 
     // Tells an event.
-    fn tell(&mut self, event: &NewEvent<'_>, text: &mut Vec<u8>) -> Result<(), Stop>
+    fn tell(&mut self, event: &NewEvent, text: &mut Vec<u8>) -> Result<(), Stop>
         requires worker { event.now.worker < self.old.workers }
         requires written { IsWritten self.old }
         ensures turn { (hooks : ℕ) (stage : Stage) →

@@ -78,21 +78,68 @@ fn runs_so(
     Ok(taken.as_slice() == text.as_bytes() && told(alloc, ended)?.as_str() == end)
 }
 
-const TWO_SPANS: &str =
-    "{\"op\":\"new\",\"name\":\"a\"}\n{\"op\":\"new\",\"name\":\"b\",\"parent\":\"a\"}\n{\"op\":\"close\",\"span\":\"a\"}\n{\"op\":\"close\",\"span\":\"b\"}\n";
+const TWO_SPANS: &str = r#"{"op":"new","name":"a"}
+{"op":"new","name":"b","parent":"a"}
+{"op":"close","span":"a"}
+{"op":"close","span":"b"}
+"#;
 
 const TWO_SPANS_TEXT: &str = "= 1\n= 2\n= open\n= closed\nleft 0\n";
+
+const SECOND_ENTRY: &str = r#"{"op":"new","name":"a"}
+{"op":"new","name":"b"}
+{"op":"enter","span":"a"}
+{"op":"enter","span":"b"}
+{"op":"enter","span":"a"}
+{"op":"new","name":"c"}
+{"op":"find","span":"c"}"#;
+
+const SECOND_ENTRY_TEXT: &str = "\
+= 1
+= 2
+= entered
+= entered
+= again
+= 3
+= c parent 2 handles 1 entries 0 count 1
+= open
+= open
+= open
+= closed
+= open
+= closed
+left 0
+";
 
 const ONE_LAYER: &str =
     "{\"op\":\"layer\"}\n{\"op\":\"new\",\"name\":\"a\"}\n{\"op\":\"close\",\"span\":\"a\"}\n";
 
 const ONE_LAYER_TEXT: &str = "= layer 0\nL0 new 1 w0 a\n= 1\nL0 close 1 w0 a\n= closed\nleft 0\n";
 
-const BOTH_FORMS: &str =
-    "{\"op\":\"layer\",\"form\":\"json\"}\n{\"op\":\"layer\"}\n{\"op\":\"new\",\"name\":\"a\",\"fields\":[[\"k\",\"1\"]]}\n{\"op\":\"record\",\"span\":\"a\",\"fields\":[[\"k\",\"2\"]]}\n{\"op\":\"event\",\"level\":\"WARN\",\"message\":\"x\\ny\"}\n{\"op\":\"close\",\"span\":\"a\"}\n";
+const BOTH_FORMS: &str = r#"{"op":"layer","form":"json"}
+{"op":"layer"}
+{"op":"new","name":"a","fields":[["k","1"]]}
+{"op":"record","span":"a","fields":[["k","2"]]}
+{"op":"event","level":"WARN","message":"x\ny"}
+{"op":"close","span":"a"}
+"#;
 
-const BOTH_FORMS_TEXT: &str =
-    "= layer 0\n= layer 1\nL0 {\"fields\":[[\"k\",\"1\"]],\"id\":1,\"kind\":\"new\",\"path\":\"a\",\"worker\":0}\nL1 new 1 w0 a k=1\n= 1\nL0 {\"fields\":[[\"k\",\"2\"]],\"id\":1,\"kind\":\"record\",\"path\":\"a\",\"worker\":0}\nL1 record 1 w0 a k=2\n= recorded\nL0 {\"fields\":[],\"id\":0,\"kind\":\"event\",\"level\":\"WARN\",\"message\":\"x\\ny\",\"path\":\"-\",\"worker\":0}\nL1 event 0 w0 - WARN x\\ny\n= told\nL0 {\"fields\":[[\"k\",\"1\"],[\"k\",\"2\"]],\"id\":1,\"kind\":\"close\",\"path\":\"a\",\"worker\":0}\nL1 close 1 w0 a k=1 k=2\n= closed\nleft 0\n";
+const BOTH_FORMS_TEXT: &str = r#"= layer 0
+= layer 1
+L0 {"fields":[["k","1"]],"id":1,"kind":"new","path":"a","worker":0}
+L1 new 1 w0 a k=1
+= 1
+L0 {"fields":[["k","2"]],"id":1,"kind":"record","path":"a","worker":0}
+L1 record 1 w0 a k=2
+= recorded
+L0 {"fields":[],"id":0,"kind":"event","level":"WARN","message":"x\ny","path":"-","worker":0}
+L1 event 0 w0 - WARN x\ny
+= told
+L0 {"fields":[["k","1"],["k","2"]],"id":1,"kind":"close","path":"a","worker":0}
+L1 close 1 w0 a k=1 k=2
+= closed
+left 0
+"#;
 
 #[test]
 fn answers_spans(rt: HostRuntime) -> io::Result<()> {
@@ -100,13 +147,11 @@ fn answers_spans(rt: HostRuntime) -> io::Result<()> {
         ("", "left 0\n"),
         (TWO_SPANS, TWO_SPANS_TEXT),
         (
-            "{\"op\":\"new\",\"name\":\"a\"}\n{\"op\":\"clone\",\"span\":\"a\"}\n \t\r\n{\"op\":\"close\",\"span\":\"a\"}\n{\"op\":\"close\",\"span\":\"a\"}",
+            "{\"op\":\"new\",\"name\":\"a\"}\n{\"op\":\"clone\",\"span\":\"a\"}\n \t\r\n\
+             {\"op\":\"close\",\"span\":\"a\"}\n{\"op\":\"close\",\"span\":\"a\"}",
             "= 1\n= cloned\n= open\n= closed\nleft 0\n",
         ),
-        (
-            "{\"op\":\"new\",\"name\":\"a\"}\n{\"op\":\"new\",\"name\":\"b\"}\n{\"op\":\"enter\",\"span\":\"a\"}\n{\"op\":\"enter\",\"span\":\"b\"}\n{\"op\":\"enter\",\"span\":\"a\"}\n{\"op\":\"new\",\"name\":\"c\"}\n{\"op\":\"find\",\"span\":\"c\"}",
-            "= 1\n= 2\n= entered\n= entered\n= again\n= 3\n= c parent 2 handles 1 entries 0 count 1\n= open\n= open\n= open\n= closed\n= open\n= closed\nleft 0\n",
-        ),
+        (SECOND_ENTRY, SECOND_ENTRY_TEXT),
         (
             "{\"op\":\"new\",\"name\":\"b\"}\n{\"op\":\"new\",\"name\":\"a\"}\n{\"op\":\"enter\",\"span\":\"b\",\"w\":1}",
             "= 1\n= 2\n= entered\n= open\n= closed\n= closed\nleft 0\n",

@@ -1,5 +1,5 @@
 use Rattle.std.proofs.Common.{◌≡◌, ◌∙◌, ◌<◌, ◌-◌, ◌^◌, ℕ, Bool, ◌&&◌, true, false, [], ◌∷◌, ◌++◌, map, filter, length, Option, Some, None, ap, sym, refl, subst, inl, inr, arith}
-use Rattle.std.specs.Prelude.{◌⊎◌, string_bytes, IfSome, slice_index}
+use Rattle.std.specs.Prelude.{◌⊎◌, IfSome, slice_index}
 use Rattle.std.proofs.lemmas.Bool.{false≢true, ltb-true}
 use Rattle.std.specs.List.{range_with_len}
 use Rattle.span_id.specs.Id.{IsId, slot_of, generation_of}
@@ -13,13 +13,13 @@ use Rattle.span_forest.specs.Forest.{table_of, next_span_id}
 use Rattle.span_forest.specs.Add.{with_span}
 use Rattle.span_forest.specs.Live.{stands_in}
 use Rattle.span_stack.specs.Stack.{ids_of_each}
-use Rattle.span_id.specs.Meta.{plain_meta, plain_fields}
 use Rattle.span_outlet.specs.Request.{made}
 use Rattle.span_core.specs.Happening.{at_span, notes_of_all}
 use Rattle.span_core.specs.Step.{IsStep, is_wanted, made_node, is_open_parent}
 use Rattle.span_core.specs.History.{issued}
 use Rattle.span_core.specs.inside.Sound.{first_note, hears}
 use Rattle.span_core.specs.NextId.{next_id}
+use Rattle.span_core.specs.inside.Given.{meta_given, fields_given}
 use Rattle.span_core.specs.inside.Lent.{span_request}
 use Rattle.span_core.specs.Core.{CoreView}
 use Rattle.span_core.proofs.Legal.{stands_itself}
@@ -30,14 +30,14 @@ use Rattle.span_core.proofs.Core.make.Goals as goal
 use Rattle.span_core.proofs.Core.make.Goals.{After-put}
 
 -- what holds of the core before the call, said of its parts
-wanted : (g : given.Over) (c : After-put g) → is_wanted c.self.inside.rules (plain_meta c.args.new.now.meta.now) ≡ true
-wanted g c = subst (λ (v : CoreView). is_wanted v.rules (plain_meta c.args.new.now.meta.now) ≡ true) (sym c.self.view_is) c.requires.due.wanted
+wanted : (g : given.Over) (c : After-put g) → is_wanted c.self.inside.rules (meta_given c.args.new.now.meta) ≡ true
+wanted g c = subst (λ (v : CoreView). is_wanted v.rules (meta_given c.args.new.now.meta) ≡ true) (sym c.self.view_is) c.requires.due.wanted
 
 parent_open : (g : given.Over) (c : After-put g) → is_open_parent c.self.inside.forest.spans c.args.new.now.parent ≡ true
 parent_open g c = subst (λ (v : CoreView). is_open_parent v.world.spans c.args.new.now.parent ≡ true) (sym c.self.view_is) c.requires.due.known
 
-bits_are : (g : given.Over) (c : After-put g) → c.args.new.now.bits.0 ≡ admission_set c.self.inside.rules (string_bytes c.args.new.now.meta.now.target) c.args.new.now.meta.now.level
-bits_are g c = subst (λ (v : CoreView). c.args.new.now.bits.0 ≡ admission_set v.rules (string_bytes c.args.new.now.meta.now.target) c.args.new.now.meta.now.level) (sym c.self.view_is) c.requires.bits
+bits_are : (g : given.Over) (c : After-put g) → c.args.new.now.bits.0 ≡ admission_set c.self.inside.rules (meta_given c.args.new.now.meta).target (meta_given c.args.new.now.meta).level
+bits_are g c = subst (λ (v : CoreView). c.args.new.now.bits.0 ≡ admission_set v.rules (meta_given c.args.new.now.meta).target (meta_given c.args.new.now.meta).level) (sym c.self.view_is) c.requires.bits
 
 within : (g : given.Over) (c : After-put g) → c.args.new.now.worker < length (ids_of_each c.self.inside.stacks.items)
 within g c = omega (arith, c.requires.within, ap (λ (v : CoreView). v.limits.workers) c.self.view_is, c.self.invariant.0.stacks_are)
@@ -69,17 +69,17 @@ no_other g c x fits low =
       | inr same ↦ inr (subst (λ (j : ℕ). stands_in x (j ∷ []) ≡ true) (sym same) (stands_itself x))
     ]
 
-forest_is : (g : given.Over) (c : After-put g) → c.add.new.self ≡ with_span c.self.inside.forest c.in-Ok.id (made_node c.self.inside.rules (plain_meta c.args.new.now.meta.now) (plain_fields c.args.new.now.fields.now) c.args.new.now.parent)
+forest_is : (g : given.Over) (c : After-put g) → c.add.new.self ≡ with_span c.self.inside.forest c.in-Ok.id (made_node c.self.inside.rules (meta_given c.args.new.now.meta) (fields_given c.args.new.now.fields) c.args.new.now.parent)
 forest_is g c =
     c.in-Ok.ensures.forest
     ∙ (λ j. with_span c.self.inside.forest c.in-Ok.id (new_node (c.in_ok-meta.ensures.meta j) (c.in_ok-fields.ensures.fields j) c.args.new.now.parent (bits_are g c j)))
 
-told : (g : given.Over) (c : After-put g) → map plain_note c.in_ok-told.told.notes.items ≡ notes_of_all c.self.inside.rules c.args.new.now.worker (at_span c.add.new.self.spans OnNew c.in-Ok.id (plain_fields c.args.new.now.fields.now) ∷ [])
+told : (g : given.Over) (c : After-put g) → map plain_note c.in_ok-told.told.notes.items ≡ notes_of_all c.self.inside.rules c.args.new.now.worker (at_span c.add.new.self.spans OnNew c.in-Ok.id (fields_given c.args.new.now.fields) ∷ [])
 told g c =
-    new_notes c.self.inside.rules c.args.new.now.worker c.in-Ok.id c.self.inside.forest.spans c.add.new.self.spans (made_node c.self.inside.rules (plain_meta c.args.new.now.meta.now) (plain_fields c.args.new.now.fields.now) c.args.new.now.parent) (plain_fields c.args.new.now.fields.now) _
+    new_notes c.self.inside.rules c.args.new.now.worker c.in-Ok.id c.self.inside.forest.spans c.add.new.self.spans (made_node c.self.inside.rules (meta_given c.args.new.now.meta) (fields_given c.args.new.now.fields) c.args.new.now.parent) (fields_given c.args.new.now.fields) _
     (gone g c) c.open_spans_are_counted.ensures.parent (parent_open g c) (ap (λ f. f.spans) (forest_is g c))
     (c.in_ok-told.ensures.notes
-    ∙ (λ j. map (first_note c.self.inside.forest.spans c.args.new.now.worker (same_id g c j) c.args.new.now.parent (string_bytes c.args.new.now.meta.now.name) (plain_fields c.args.new.now.fields.now))
+    ∙ (λ j. map (first_note c.self.inside.forest.spans c.args.new.now.worker (same_id g c j) c.args.new.now.parent (meta_given c.args.new.now.meta).name (fields_given c.args.new.now.fields))
     (filter (hears c.self.inside.rules (bits_are g c j) OnNew) (range_with_len 0 (length c.self.inside.rules)))))
 
 and_second : (p q : Bool) → (p && q) ≡ true → q ≡ true
@@ -95,7 +95,7 @@ overflow_add-self-2 g c =
 
 pub invariant_of-self-2 : goal.invariant_of-self-2
 invariant_of-self-2 g c = (
-  sound_new _ _ _ _ _ _ _ _ _ c.args.new.now.worker c.in-Ok.id (plain_meta c.args.new.now.meta.now) (plain_fields c.args.new.now.fields.now) c.args.new.now.parent _ _
+  sound_new _ _ _ _ _ _ _ _ _ c.args.new.now.worker c.in-Ok.id (meta_given c.args.new.now.meta) (fields_given c.args.new.now.fields) c.args.new.now.parent _ _
       c.self.invariant.0 (within g c) (in_layout g c) c.in-Ok.ensures.never_issued (now_issued g c) (no_other g c) (wanted g c) (parent_open g c) (gone g c) (forest_is g c) (told g c)
       c.in_ok-told.ensures.call c.in_ok-ask.ensures.sent c.put.ensures.sent,
   one_made _ _ _ _ _ _ c.self.invariant.1 refl c.in_ok-ask.ensures.sent c.put.ensures.sent,
@@ -107,7 +107,7 @@ returns-clause-made g c =
     let call_is = c.in_ok-told.ensures.call in
     let sent_is : g.O.Outlet.sent c.ask.new.outlet ≡ c.args.self.now.sent = c.in_ok-ask.ensures.sent ∙ ap (λ (v : CoreView). v.sent) c.self.view_is in
     let step : IsStep c.self.inside.rules (issued (g.O.Outlet.sent c.self.inside.outlet)) (record { spans = c.self.inside.forest.spans; stacks = ids_of_each c.self.inside.stacks.items }) request (made c.in-Ok.id) (map plain_note c.in_ok-told.told.notes.items) (record { spans = c.add.new.self.spans; stacks = ids_of_each c.self.inside.stacks.items }) =
-    step_new c.self.inside.rules (issued (g.O.Outlet.sent c.self.inside.outlet)) c.self.inside.forest.spans c.add.new.self.spans (ids_of_each c.self.inside.stacks.items) c.args.new.now.worker c.in-Ok.id (plain_meta c.args.new.now.meta.now) (plain_fields c.args.new.now.fields.now) c.args.new.now.parent _
+    step_new c.self.inside.rules (issued (g.O.Outlet.sent c.self.inside.outlet)) c.self.inside.forest.spans c.add.new.self.spans (ids_of_each c.self.inside.stacks.items) c.args.new.now.worker c.in-Ok.id (meta_given c.args.new.now.meta) (fields_given c.args.new.now.fields) c.args.new.now.parent _
     (within g c) (in_layout g c) (not_in_history _ _ _ _ _ _ c.in-Ok.id c.self.invariant.0 c.in-Ok.ensures.never_issued) (wanted g c) (parent_open g c) (ap (λ f. f.spans) (forest_is g c)) (told g c) in
     let same = sym (same_id g c) in
     record {

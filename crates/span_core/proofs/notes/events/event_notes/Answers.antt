@@ -1,6 +1,6 @@
 use Rattle.std.proofs.Common.{◌≡◌, ℕ, List, map, subst, sym}
 use Rattle.std.specs.Prelude.{IfOk}
-use Rattle.span_id.specs.Meta.{KeyValue}
+use Rattle.span_id.specs.Meta.{KeyValue, PlainMeta}
 use Rattle.span_layers.specs.Note.{plain_note}
 use Rattle.span_core.specs.Happening.{notes_of, event_at}
 use Rattle.span_core.proofs.StackLists.{ids_at}
@@ -10,6 +10,6 @@ pub returns-clause-notes : goal.returns-clause-notes
 returns-clause-notes c =
     let event = c.args.event.now in
     let ids_are = sym (ids_at c.args.stacks.now event.worker _ c.requires.worker c.index-stacks-event.is) in
-    subst (λ (lent : List ℕ × List ℕ × List KeyValue). IfOk c.told.result (λ notes. map plain_note notes.items
-    ≡ notes_of c.args.rules.now event.worker (event_at c.args.forest.now.spans lent.0 event.bits.0 event.meta.now.level lent.1 lent.2)))
-    (λ j. (ids_are j, c.requires.message j, c.requires.fields j)) c.told.ensures.notes
+    subst (λ (given : List ℕ × PlainMeta × List ℕ × List KeyValue). IfOk c.told.result (λ notes. map plain_note notes.items
+    ≡ notes_of c.args.rules.now event.worker (event_at c.args.forest.now.spans given.0 event.bits.0 given.1.level given.2 given.3)))
+    (λ j. (ids_are j, c.read.ensures j, c.requires.message j, c.requires.fields j)) c.told.ensures.notes

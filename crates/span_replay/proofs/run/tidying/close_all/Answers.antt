@@ -2,7 +2,7 @@ use Rattle.std.proofs.Common.{◌≡◌, ◌∙◌, ℕ, List, replicate, refl, 
 use Rattle.span_core.specs.Core.{CoreView}
 use Rattle.span_replay.specs.inside.Turns.{ArePartlyMade}
 use Rattle.span_replay.specs.Written.{closes, each_written}
-use Rattle.span_replay.proofs.Written.{Known}
+use Rattle.span_run.proofs.Fronts.{Known}
 use Rattle.span_replay.proofs.Tidied.{part_none, each_made, each_fails, each_ends, closes_made, made_as, fails_as}
 use Rattle.span_replay.proofs.run.tidying.close_all.Goals as goal
 

@@ -3,7 +3,7 @@ use Rattle.std.specs.List.{range_with_len}
 use Rattle.span_core.specs.Core.{CoreView}
 use Rattle.span_replay.specs.inside.Turns.{ArePartlyMade}
 use Rattle.span_replay.specs.Written.{exits, each_written}
-use Rattle.span_replay.proofs.Written.{Known}
+use Rattle.span_run.proofs.Fronts.{Known}
 use Rattle.span_replay.proofs.Tidied.{part_none, each_made, each_fails, each_ends, one_worker, no_worker, exits_made, made_as, fails_as}
 use Rattle.span_replay.proofs.run.tidying.leave_all.Goals as goal
 

@@ -1,8 +1,7 @@
-use Rattle.std.proofs.Common.{Ok, ap, map}
+use Rattle.std.proofs.Common.{Ok, ap}
 use Rattle.span_replay.specs.Meaning.{call_turn}
 use Rattle.span_script.specs.Reason.{◌>>=◌}
 use Rattle.span_outlet.specs.Request.{record_fields}
-use Rattle.span_id.specs.Meta.{key_value}
 use Rattle.span_replay.proofs.WrittenCalls.{made_by, made_enough, still_written, turn_made}
 use Rattle.span_replay.proofs.run.script.Script.record.Goals as goal
 
@@ -12,8 +11,8 @@ answer-requires g c = made_enough _ _ _ _ _ c.in_ok-answer.ensures.made c.requir
 pub returns-clause-turn : goal.returns-clause-turn
 returns-clause-turn g c = λ hooks stage.
     turn_made _ _ _ _ _ _ _ _ _ _
-    (ap (λ found. found >>= λ id. Ok (call_turn (record { core = c.args.self.now.core; labels = c.args.self.now.labels; stage = stage }) (record_fields c.args.worker id (map key_value c.args.fields.now)))) c.in_ok-id.ensures)
-    (made_by (λ worker. record_fields worker c.in_ok-id.id (map key_value c.args.fields.now)) _ _ _ _ _ c.worker_number-worker.ensures c.in_ok-answer.ensures.made)
+    (ap (λ found. found >>= λ id. Ok (call_turn (record { core = c.args.self.now.core; labels = c.args.self.now.labels; stage = stage }) (record_fields c.args.worker id c.args.fields.now))) c.in_ok-id.ensures)
+    (made_by (λ worker. record_fields worker c.in_ok-id.id c.args.fields.now) _ _ _ _ _ c.worker_number-worker.ensures c.in_ok-answer.ensures.made)
     c.requires.written.lines
     (λ i. record { core = c.answer.ensures.core i; labels = c.answer.ensures.labels i; stage = stage })
     c.answer.ensures.text c.answer.ensures.memory

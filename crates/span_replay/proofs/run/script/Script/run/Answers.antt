@@ -1,7 +1,5 @@
-use Rattle.std.proofs.Common.{◌∙◌, ap, map, sym}
-use Rattle.span_script.specs.Operation.{record_fields}
-use Rattle.span_id.specs.Meta.{key_value}
-use Rattle.span_script.specs.Views.{key_seen, operation_seen}
+use Rattle.std.proofs.Common.{ap}
+use Rattle.span_script.specs.Views.{operation_seen}
 use Rattle.span_replay.proofs.WrittenCalls.{runs_by}
 use Rattle.span_replay.proofs.run.script.Script.run.Goals as goal
 
@@ -18,5 +16,4 @@ pub returns-in-Find-clause-turn : goal.returns-in-Find-clause-turn
 returns-in-Find-clause-turn g c = λ hooks stage. runs_by _ _ hooks _ _ _ _ _ (ap operation_seen c.in-Find.is) (c.find.ensures.turn hooks stage)
 
 pub returns-in-Record-clause-turn : goal.returns-in-Record-clause-turn
-returns-in-Record-clause-turn g c = λ hooks stage.
-    runs_by _ _ hooks _ _ _ _ _ (ap operation_seen c.in-Record.is ∙ ap (λ fields. record_fields (key_seen c.in-Record.span) (map key_value fields) c.in-Record.worker) (sym c.deref.ensures.value)) (c.record.ensures.turn hooks stage)
+returns-in-Record-clause-turn g c = λ hooks stage. runs_by _ _ hooks _ _ _ _ _ (ap operation_seen c.in-Record.is) (c.record.ensures.turn hooks stage)

@@ -1,0 +1,89 @@
+//! What a caller gives to a call: lent, to be copied, or shared, to get one more owner.
+ghost use Rattle.std.specs.Prelude.{◌≡◌, IfOk, IfErr};
+ghost use Rattle.std.specs.Arc.{arc_str_bytes};
+ghost use Rattle.span_id.specs.Meta.{plain_meta, plain_fields};
+ghost use Rattle.span_core.specs.inside.Given.{meta_given, fields_given, text_given};
+
+use span_id::{Fault, Field, Fields, Meta, SharedMeta};
+use std::alloc::Global;
+use std::sync::ArcStr;
+
+/// A meta.
+#[derive(Clone, Copy)]
+pub(crate) enum GivenMeta<'a> {
+    Lent(&'a Meta),
+    Shared(&'a SharedMeta),
+}
+
+/// Fields.
+#[derive(Clone, Copy)]
+pub(crate) enum GivenFields<'a> {
+    Lent(&'a [Field]),
+    Shared(&'a Fields),
+}
+
+/// An event's message.
+#[derive(Clone, Copy)]
+pub(crate) enum GivenText<'a> {
+    Lent(&'a str),
+    Shared(&'a ArcStr),
+}
+
+impl<'a> GivenMeta<'a> {
+    // The meta, to be read.
+    pub(crate) fn read(&self) -> &'a Meta
+        ensures { plain_meta result.now ≡ meta_given self.now }
+    {
+        match self {
+            GivenMeta::Lent(meta) => meta,
+            GivenMeta::Shared(meta) => meta.as_meta(),
+        }
+    }
+
+    // The meta, to be kept.
+    pub(crate) fn keep(&self, alloc: Global) -> Result<SharedMeta, Fault>
+        ensures meta { IfOk result (λ kept. kept ≡ meta_given self.now) }
+        ensures memory { IfErr result (λ fault. fault ≡ Fault.Memory) }
+    {
+        match self {
+            GivenMeta::Lent(meta) => SharedMeta::copy_of(alloc, meta),
+            GivenMeta::Shared(meta) => meta.share(),
+        }
+    }
+}
+
+impl<'a> GivenFields<'a> {
+    // The fields, to be read.
+    pub(crate) fn read(&self) -> &'a [Field]
+        ensures { plain_fields result.now ≡ fields_given self.now }
+    {
+        match self {
+            GivenFields::Lent(fields) => fields,
+            GivenFields::Shared(fields) => fields.as_slice(),
+        }
+    }
+
+    // The fields, to be kept.
+    pub(crate) fn keep(&self, alloc: Global) -> Result<Fields, Fault>
+        ensures fields { IfOk result (λ kept. kept ≡ fields_given self.now) }
+        ensures memory { IfErr result (λ fault. fault ≡ Fault.Memory) }
+    {
+        match self {
+            GivenFields::Lent(fields) => Fields::copy_of(alloc, fields),
+            GivenFields::Shared(fields) => fields.share(),
+        }
+    }
+}
+
+impl<'a> GivenText<'a> {
+    // The text, to be kept.
+    pub(crate) fn keep(&self, alloc: Global) -> Result<ArcStr, Fault>
+        ensures text { IfOk result (λ kept. arc_str_bytes kept ≡ text_given self.now) }
+        ensures memory { IfErr result (λ fault. fault ≡ Fault.Memory) }
+    {
+        match self {
+            GivenText::Lent(text) => Ok(ArcStr::from_str(alloc, text)?),
+            GivenText::Shared(text) => Ok((**text).clone()?),
+        }
+    }
+}
