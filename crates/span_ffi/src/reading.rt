@@ -1,13 +1,15 @@
 //! The reading of texts that stand one after another. None: the data say nothing, or memory is refused.
 ghost use Rattle.std.specs.Prelude.{◌≡◌, ◌≤◌, ◌↔◌, take, drop, string_bytes, if◌then◌else◌, IsSome, IfSome, OnSome};
-ghost use Rattle.span_id.specs.Meta.{plain_meta, plain_fields, key_value};
+ghost use Rattle.std.specs.Arc.{arc_str_bytes};
+ghost use Rattle.span_id.specs.Meta.{plain_fields, key_value};
 ghost use Rattle.span_ffi.specs.Data.{BeginsWithText, said_level, IsMeta, said_meta, behind_meta, AreFields, said_fields, behind_field};
 
 use crate::data::{SpanField, SpanMeta};
 use crate::status::Status;
-use span_id::{Fault, Field, Level, Meta};
+use span_id::{Fault, Field, Fields, Level, Meta, SharedMeta};
 use std::alloc::Global;
 use std::str;
+use std::sync::ArcStr;
 
 /// Why data were not read: they are bad, or else memory was refused.
 pub(crate) fn unread(are_good: bool) -> Status
@@ -61,27 +63,41 @@ pub(crate) fn read_text(alloc: Global, bytes: &[u8], len: u32) -> Option<(String
     Some((text, behind))
 }
 
-/// The meta, and the bytes behind its texts.
+/// The message of the first `len` bytes, which is copied here and shared from then on, and the bytes behind it.
+pub(crate) fn read_message(alloc: Global, bytes: &[u8], len: u32) -> Option<(ArcStr, &[u8])>
+    ensures begins { OnSome result (BeginsWithText len bytes.now) }
+    ensures text { IfSome result (λ read. arc_str_bytes read.0 ≡ take len bytes.now) }
+    ensures behind { IfSome result (λ read. read.1.now ≡ drop len bytes.now) }
+{
+    let (text, behind) = split_text(bytes, len)?;
+    let Ok(text) = ArcStr::from_str(alloc, text) else {
+        return None;
+    };
+    Some((text, behind))
+}
+
+/// The meta, which is copied here and shared from then on, and the bytes behind its texts.
 pub(crate) fn read_meta<'b>(
     alloc: Global,
     meta: &SpanMeta,
     bytes: &'b [u8],
-) -> Option<(Meta, &'b [u8])>
+) -> Option<(SharedMeta, &'b [u8])>
     ensures is { OnSome result (IsMeta meta.now bytes.now) }
-    ensures meta { IfSome result (λ read. plain_meta read.0 ≡ said_meta meta.now bytes.now) }
+    ensures meta { IfSome result (λ read. read.0 ≡ said_meta meta.now bytes.now) }
     ensures behind { IfSome result (λ read. read.1.now ≡ behind_meta meta.now bytes.now) }
 {
     let level = read_level(meta.level)?;
     let (name, bytes) = read_text(alloc, bytes, meta.name_len)?;
     let (target, bytes) = read_text(alloc, bytes, meta.target_len)?;
-    Some((
-        Meta {
-            name,
-            target,
-            level,
-        },
-        bytes,
-    ))
+    let meta = Meta {
+        name,
+        target,
+        level,
+    };
+    let Ok(meta) = SharedMeta::new(alloc, meta) else {
+        return None;
+    };
+    Some((meta, bytes))
 }
 
 // A field, and the bytes behind its texts.
@@ -97,8 +113,20 @@ fn read_field<'b>(alloc: Global, field: &SpanField, bytes: &'b [u8]) -> Option<(
     Some((Field { key, value }, bytes))
 }
 
-/// The fields whose texts are all the bytes.
-pub(crate) fn read_fields(alloc: Global, fields: &[SpanField], bytes: &[u8]) -> Option<Vec<Field>>
+/// The fields whose texts are all the bytes: they are copied here and shared from then on.
+pub(crate) fn read_fields(alloc: Global, fields: &[SpanField], bytes: &[u8]) -> Option<Fields>
+    ensures are { OnSome result (AreFields fields.now bytes.now) }
+    ensures fields { IfSome result (λ read. read ≡ said_fields fields.now bytes.now) }
+{
+    let list = read_list(alloc, fields, bytes)?;
+    let Ok(fields) = Fields::new(alloc, list) else {
+        return None;
+    };
+    Some(fields)
+}
+
+// The fields whose texts are all the bytes.
+fn read_list(alloc: Global, fields: &[SpanField], bytes: &[u8]) -> Option<Vec<Field>>
     ensures are { OnSome result (AreFields fields.now bytes.now) }
     ensures fields { IfSome result (λ read. plain_fields read.items ≡ said_fields fields.now bytes.now) }
 {

@@ -1,6 +1,7 @@
 //! What a worker tells: more fields of a span, and events.
-ghost use Rattle.std.specs.Prelude.{◌≡◌, if◌then◌else◌, take, drop, string_bytes, IfSome, OnSome};
-ghost use Rattle.span_id.specs.Meta.{plain_meta, plain_fields};
+ghost use Rattle.std.specs.Prelude.{◌≡◌, if◌then◌else◌, take, drop, IfSome, OnSome};
+ghost use Rattle.std.specs.Arc.{arc_str_bytes};
+ghost use Rattle.span_id.specs.Meta.{plain_fields};
 ghost use Rattle.span_core.specs.Core.{are_keys};
 ghost use Rattle.span_ffi.specs.Status.{meaning};
 ghost use Rattle.span_ffi.specs.Ends.{Ends};
@@ -9,13 +10,14 @@ ghost use Rattle.span_ffi.specs.Calls.{Records, Tells};
 
 use crate::data::{SpanField, SpanMeta};
 use crate::exports::callers::{has_worker, id_of};
-use crate::reading::{read_fields, read_meta, read_text, unread};
+use crate::reading::{read_fields, read_message, read_meta, unread};
 use crate::registry::RingCore;
 use crate::registry_handle::SpanRegistry;
 use crate::status::Status;
 use crate::valid::{are_fields, is_event};
-use span_id::{Fault, Field, Meta};
+use span_id::{Fault, Field, Fields, SharedMeta};
 use std::alloc::Global;
+use std::sync::ArcStr;
 
 // Whether all keys are names.
 fn are_keys(fields: &[Field]) -> bool
@@ -54,7 +56,7 @@ fn record(
     let Some(id) = id_of(core, id) else {
         return Status::Refused(fault_of_absent(fields.as_slice()));
     };
-    match core.record(worker, id, fields.as_slice()) {
+    match core.record_shared(worker, id, &fields) {
         Ok(()) => Status::Done,
         Err(fault) => Status::Refused(fault),
     }
@@ -97,7 +99,7 @@ fn event(
     let Some((meta, message, fields)) = read_event(alloc, meta, message_len, fields, texts) else {
         return unread(is_event(meta, message_len, fields, texts));
     };
-    match core.event(worker, &meta, message.as_str(), fields.as_slice()) {
+    match core.event_shared(worker, &meta, &message, &fields) {
         Ok(()) => Status::Done,
         Err(fault) => Status::Refused(fault),
     }
@@ -110,15 +112,16 @@ fn read_event(
     message_len: u32,
     fields: &[SpanField],
     texts: &[u8],
-) -> Option<(Meta, String, Vec<Field>)>
+) -> Option<(SharedMeta, ArcStr, Fields)>
     ensures is { OnSome result (IsEvent meta.now message_len fields.now texts.now) }
-    ensures meta { IfSome result (λ event. plain_meta event.0 ≡ said_meta meta.now texts.now) }
-    ensures message { IfSome result (λ event. string_bytes event.1 ≡ take message_len (behind_meta meta.now texts.now)) }
-    ensures fields { IfSome result (λ event. plain_fields event.2.items
+    ensures meta { IfSome result (λ event. event.0 ≡ said_meta meta.now texts.now) }
+    ensures message { IfSome result (λ event. arc_str_bytes event.1
+        ≡ take message_len (behind_meta meta.now texts.now)) }
+    ensures fields { IfSome result (λ event. event.2
         ≡ said_fields fields.now (drop message_len (behind_meta meta.now texts.now))) }
 {
     let (meta, rest) = read_meta(alloc, meta, texts)?;
-    let (message, rest) = read_text(alloc, rest, message_len)?;
+    let (message, rest) = read_message(alloc, rest, message_len)?;
     let fields = read_fields(alloc, fields, rest)?;
     Some((meta, message, fields))
 }

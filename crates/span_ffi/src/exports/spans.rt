@@ -1,6 +1,5 @@
 //! New spans.
 ghost use Rattle.std.specs.Prelude.{◌≡◌, ◌≤◌, ◌<◌, ◌↔◌, false, Some, IsSome, IfSome, OnSome};
-ghost use Rattle.span_id.specs.Meta.{plain_meta, plain_fields};
 ghost use Rattle.span_outlet.specs.Request.{new_span};
 ghost use Rattle.span_core.specs.Step.{is_open};
 ghost use Rattle.span_core.specs.Parent.{parent_found};
@@ -18,7 +17,7 @@ use crate::registry_handle::SpanRegistry;
 use crate::status::Status;
 use crate::valid::is_span;
 use span_core::laws::each_slot_has_one_open_span;
-use span_id::{Fault, Field, Id, Meta};
+use span_id::{Fault, Fields, Id, SharedMeta};
 use span_outlet::ParentOf;
 use std::alloc::Global;
 
@@ -56,12 +55,11 @@ fn read_span(
     meta: &SpanMeta,
     fields: &[SpanField],
     texts: &[u8],
-) -> Option<(Meta, Vec<Field>)>
+) -> Option<(SharedMeta, Fields)>
     ensures is { OnSome result (IsMeta meta.now texts.now) }
     ensures are { OnSome result (AreFields fields.now (behind_meta meta.now texts.now)) }
-    ensures meta { IfSome result (λ span. plain_meta span.0 ≡ said_meta meta.now texts.now) }
-    ensures fields { IfSome result (λ span. plain_fields span.1.items
-        ≡ said_fields fields.now (behind_meta meta.now texts.now)) }
+    ensures meta { IfSome result (λ span. span.0 ≡ said_meta meta.now texts.now) }
+    ensures fields { IfSome result (λ span. span.1 ≡ said_fields fields.now (behind_meta meta.now texts.now)) }
 {
     let (meta, rest) = read_meta(alloc, meta, texts)?;
     let fields = read_fields(alloc, fields, rest)?;
@@ -72,16 +70,16 @@ fn new_span(
     core: &mut RingCore,
     worker: u32,
     parent: ParentOf,
-    meta: &Meta,
-    fields: &[Field],
+    meta: &SharedMeta,
+    fields: &Fields,
     id: &mut u64,
 ) -> Status
     requires { worker < core.old.limits.workers }
-    ensures made { IsMadeOrRefused (new_span worker (plain_meta meta.now) (plain_fields fields.now)
+    ensures made { IsMadeOrRefused (new_span worker meta.now fields.now
         (parent_found core.old.world worker parent)) id.new core.old result core.new }
     ensures kept { Keeps (Some result) id.old id.new }
 {
-    match core.new_span(worker, meta, fields, parent) {
+    match core.new_span_shared(worker, meta, fields, parent) {
         Ok(Some(made)) => {
             *id = made.get();
             Status::Done
@@ -115,7 +113,7 @@ fn make_span(
         return Status::BadData;
     };
     match read_span(alloc, meta, fields, texts) {
-        Some((meta, fields)) => new_span(core, worker, parent, &meta, fields.as_slice(), id),
+        Some((meta, fields)) => new_span(core, worker, parent, &meta, &fields, id),
         None => unread(is_span(meta, fields, texts)),
     }
 }

@@ -2,7 +2,7 @@ use Rattle.std.proofs.Common.{◌≡◌, ◌++◌, drop}
 use Rattle.std.specs.Prelude.{◌↔◌}
 use Rattle.span_id.specs.Meta.{plain_fields}
 use Rattle.span_ffi.specs.Data.{AreFields, said_fields}
-use Rattle.span_ffi.proofs.reading.read_fields.Given as goal
+use Rattle.span_ffi.proofs.reading.read_list.Given as goal
 
 abbrev pub invariant-loop-item : goal.invariant-loop-item
 invariant-loop-item l = record {
