@@ -6,4 +6,6 @@ mod layers;
 mod missed;
 mod on_a_ring;
 mod rows;
+mod sharing;
+mod strangers;
 mod workers;
