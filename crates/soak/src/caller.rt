@@ -5,75 +5,74 @@ ghost use Rattle.soak.specs.Back.{HasParts};
 use crate::act::{Act, MOST_HANDLES, MOST_INSIDE, choose};
 use crate::dice::Dice;
 use crate::held::Held;
-use crate::task::Task;
+use crate::returned::{Returned, Tally};
+use crate::texts::Texts;
 use span_id::{Fault, Id};
-use span_registry::{ParentOf, Registry, Ring, Setup, Share, Worker};
-use std::alloc::Global;
+use span_registry::{ParentOf, Registry, Ring, Setup, Worker};
 use std::sync::Wait;
-use std::sync::atomic::Ordering;
 use std::sync::ledger::Ledger;
 use std::thread;
 
-/// A worker, its handles, and the spans that it is inside; how many notes its calls have, and how often there was no
-/// place for one.
+/// A worker, its handles, the spans that it is inside, and what its calls were.
 #[derive(Drop)]
 pub struct Caller<H: Ledger, C: Ledger, S: Setup> {
     worker: Worker<H, C>,
     hands: Vec<Held<H, C, S>>,
     inside: Vec<Id>,
-    notes: u64,
-    backlogs: u64,
+    tally: Tally,
 }
 
 /// What a worker does: its random calls, and then it gives all back and leaves.
 pub fn work<H: Ledger, C: Ledger, S: Setup, R: Wait>(
     rt: &R,
-    alloc: Global,
     registry: &Registry<H, C, S, Ring>,
-    task: &Task,
+    texts: &Texts,
     worker: Worker<H, C>,
-) -> Result<Share<H, C>, Fault>
-    ensures { IfOk result (HasParts worker.spare) }
+    rounds: u64,
+    seed: u64,
+) -> Result<Returned<H, C>, Fault>
+    ensures { IfOk result (λ returned. HasParts worker.spare returned.share) }
 {
-    let mut dice = Dice::new(task.seed, worker.number());
+    let alloc = *texts.fields.allocator();
+    let mut dice = Dice::new(seed, worker.number());
     let mut caller: Caller<H, C, S> = Caller {
         worker,
         hands: Vec::with_capacity(alloc, MOST_HANDLES)?,
         inside: Vec::with_capacity(alloc, MOST_INSIDE)?,
-        notes: 0,
-        backlogs: 0,
+        tally: Tally::default(),
     };
-    for _ in 0..task.rounds {
+    for _ in 0..rounds {
         let act = choose(&mut dice, caller.hands.len(), caller.inside.len());
-        caller.make(rt, registry, task, act)?;
+        caller.make(rt, registry, texts, act)?;
     }
-    caller.leave(rt, registry, task)
+    caller.leave(rt, registry, texts)
 }
 
 impl<H: Ledger, C: Ledger, S: Setup> Caller<H, C, S> {
-    // Gives all back, tells the counts, and leaves.
+    // Gives all back, and leaves.
     fn leave<R: Wait>(
         self,
         rt: &R,
         registry: &Registry<H, C, S, Ring>,
-        task: &Task,
-    ) -> Result<Share<H, C>, Fault>
-        ensures { IfOk result (HasParts (self.worker.spare + vec_len self.hands)) }
+        texts: &Texts,
+    ) -> Result<Returned<H, C>, Fault>
+        ensures { IfOk result (λ returned. HasParts (self.worker.spare + vec_len self.hands) returned.share) }
     {
         let mut caller = self;
         for _ in rt.forever() {
             if !caller.inside.is_empty() {
-                caller.make(rt, registry, task, Act::Exit(0))?;
+                caller.make(rt, registry, texts, Act::Exit(0))?;
             } else if !caller.hands.is_empty() {
-                caller.make(rt, registry, task, Act::Close(0))?;
+                caller.make(rt, registry, texts, Act::Close(0))?;
             } else {
                 break;
             }
         }
-        task.notes.fetch_add(caller.notes, Ordering::SeqCst);
-        task.backlogs.fetch_add(caller.backlogs, Ordering::SeqCst);
-        let Caller { worker, .. } = caller;
-        Ok(worker.leave())
+        let Caller { worker, tally, .. } = caller;
+        Ok(Returned {
+            share: worker.leave(),
+            tally,
+        })
     }
 
     // Makes a call until it isn't refused for want of a place.
@@ -81,20 +80,20 @@ impl<H: Ledger, C: Ledger, S: Setup> Caller<H, C, S> {
         &mut self,
         rt: &R,
         registry: &Registry<H, C, S, Ring>,
-        task: &Task,
+        texts: &Texts,
         act: Act,
     ) -> Result<(), Fault>
         ensures parts { self.new.worker.spare + vec_len self.new.hands
             ≡ self.old.worker.spare + vec_len self.old.hands }
     {
         for _ in rt.forever() {
-            match self.call(rt, registry, task, act) {
+            match self.call(rt, registry, texts, act) {
                 Err(Fault::Backlog) => {
-                    self.backlogs = self.backlogs.saturating_add(1);
+                    self.tally.backlogs = self.tally.backlogs.saturating_add(1);
                     thread::yield_now();
                 }
                 ended => {
-                    self.notes = self.notes.saturating_add(act.notes());
+                    self.tally.notes = self.tally.notes.saturating_add(act.notes());
                     return ended;
                 }
             }
@@ -107,26 +106,26 @@ impl<H: Ledger, C: Ledger, S: Setup> Caller<H, C, S> {
         &mut self,
         rt: &R,
         registry: &Registry<H, C, S, Ring>,
-        task: &Task,
+        texts: &Texts,
         act: Act,
     ) -> Result<(), Fault>
         ensures parts { self.new.worker.spare + vec_len self.new.hands
             ≡ self.old.worker.spare + vec_len self.old.hands }
     {
         match act {
-            Act::NewRoot => self.new_span(rt, registry, task, ParentOf::Root),
-            Act::NewCurrent => self.new_span(rt, registry, task, ParentOf::Current),
-            Act::NewUnder(place) => self.new_under(rt, registry, task, place),
+            Act::NewRoot => self.new_span(rt, registry, texts, ParentOf::Root),
+            Act::NewCurrent => self.new_span(rt, registry, texts, ParentOf::Current),
+            Act::NewUnder(place) => self.new_under(rt, registry, texts, place),
             Act::Clone(place) => self.clone_span(rt, registry, place),
             Act::Enter(place) => self.enter(rt, registry, place),
             Act::Exit(place) => self.exit(rt, registry, place),
-            Act::Record(place) => self.record(rt, registry, task, place),
+            Act::Record(place) => self.record(rt, registry, texts, place),
             Act::Event => registry.event(
                 rt,
                 &mut self.worker,
-                &task.meta,
+                &texts.meta,
                 "a message",
-                &task.fields,
+                texts.fields.as_slice(),
             ),
             Act::Close(place) => self.try_close(rt, registry, place),
         }
@@ -137,14 +136,20 @@ impl<H: Ledger, C: Ledger, S: Setup> Caller<H, C, S> {
         &mut self,
         rt: &R,
         registry: &Registry<H, C, S, Ring>,
-        task: &Task,
+        texts: &Texts,
         parent: ParentOf,
     ) -> Result<(), Fault>
         ensures parts { self.new.worker.spare + vec_len self.new.hands
             ≡ self.old.worker.spare + vec_len self.old.hands }
     {
         self.hands.reserve(1)?;
-        let made = registry.new_span(rt, &mut self.worker, &task.meta, &task.fields, parent)?;
+        let made = registry.new_span(
+            rt,
+            &mut self.worker,
+            &texts.meta,
+            texts.fields.as_slice(),
+            parent,
+        )?;
         if let Some(handle) = made {
             self.hands.push_reserved(Held { handle });
         }
@@ -156,7 +161,7 @@ impl<H: Ledger, C: Ledger, S: Setup> Caller<H, C, S> {
         &mut self,
         rt: &R,
         registry: &Registry<H, C, S, Ring>,
-        task: &Task,
+        texts: &Texts,
         place: usize,
     ) -> Result<(), Fault>
         ensures parts { self.new.worker.spare + vec_len self.new.hands
@@ -166,7 +171,7 @@ impl<H: Ledger, C: Ledger, S: Setup> Caller<H, C, S> {
             return Err(Fault::Unknown);
         };
         let parent = held.handle.id();
-        self.new_span(rt, registry, task, ParentOf::Of(parent))
+        self.new_span(rt, registry, texts, ParentOf::Of(parent))
     }
 
     // One more handle, which is kept.
@@ -228,7 +233,7 @@ impl<H: Ledger, C: Ledger, S: Setup> Caller<H, C, S> {
         &mut self,
         rt: &R,
         registry: &Registry<H, C, S, Ring>,
-        task: &Task,
+        texts: &Texts,
         place: usize,
     ) -> Result<(), Fault>
         ensures parts { self.new.worker.spare + vec_len self.new.hands
@@ -237,7 +242,12 @@ impl<H: Ledger, C: Ledger, S: Setup> Caller<H, C, S> {
         let Some(held) = self.hands.get_mut(place) else {
             return Err(Fault::Unknown);
         };
-        registry.record(rt, &mut self.worker, &mut held.handle, &task.fields)
+        registry.record(
+            rt,
+            &mut self.worker,
+            &mut held.handle,
+            texts.fields.as_slice(),
+        )
     }
 
     // Gives a handle back. Where that is refused, the handle that comes back is kept.

@@ -11,8 +11,9 @@ mod draining;
 mod held;
 mod layers;
 mod order;
+mod returned;
 mod run;
-mod task;
+mod texts;
 mod threads;
 
 use crate::layers::soak;
@@ -53,9 +54,9 @@ fn tell(rt: &HostRuntime, ended: Result<Soaked, Fault>) -> io::Result<ExitCode> 
     println!(rt; "left {}", report.left)?;
     println!(rt; "handles {}", report.handles)?;
     println!(rt; "entries {}", report.entries)?;
-    println!(rt; "notes {}", soaked.notes)?;
+    println!(rt; "notes {}", soaked.tally.notes)?;
     println!(rt; "lines {}", report.lines.len())?;
     println!(rt; "missed {}", report.refused)?;
-    eprintln!(rt; "{} times no place", soaked.backlogs)?;
+    eprintln!(rt; "{} times no place", soaked.tally.backlogs)?;
     Ok(ExitCode::SUCCESS)
 }

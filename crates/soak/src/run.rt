@@ -3,7 +3,8 @@ ghost use Rattle.std.specs.Prelude.{◌≡◌, ◌+◌, ◌↔◌, [], Some, IfO
 ghost use Rattle.soak.specs.Order.{IsInRange};
 
 use crate::order::Order;
-use crate::task::Task;
+use crate::returned::Tally;
+use crate::texts::Texts;
 use crate::threads::in_threads;
 use span_id::{Checked, Fault, Limits};
 use span_layers::{Filters, Layers, Say};
@@ -11,18 +12,15 @@ use span_registry::{Drain, HANDLE_PARTS, Registry, Report, Ring, SeatTable, Setu
 use std::alloc::Global;
 use std::marker::Brand;
 use std::sync::Wait;
-use std::sync::atomic::Ordering;
 use std::sync::ledger::{Blank, Ledger};
 use std::thread::Threads;
 use std::time::Clock;
 
-/// How the registry ended, how many notes its layer had to be told, and how often a call was refused since the ring was
-/// full.
+/// How the registry ended, and what the workers counted.
 #[derive(Drop)]
 pub struct Soaked {
     pub report: Report,
-    pub notes: u64,
-    pub backlogs: u64,
+    pub tally: Tally,
 }
 
 /// Has the workers make their calls on one registry with these layers, and ends it.
@@ -46,11 +44,10 @@ pub fn soak_with<R: Threads + Wait + Clock + Sync>(
     let table = SeatTable::new(alloc, checked.limits().slots)?;
     let (ring, tap) = Ring::pair(alloc, &checked)?;
     let (filters, tellers) = layers.split();
-    let task = Task::new(alloc, order.rounds, order.seed)?;
-    let report = run::<Brand, Brand, Brand, _, _>(
+    run::<Brand, Brand, Brand, _, _>(
         rt,
         alloc,
-        &task,
+        order,
         &checked,
         filters,
         ring,
@@ -58,12 +55,7 @@ pub fn soak_with<R: Threads + Wait + Clock + Sync>(
         Blank::new(HANDLE_PARTS),
         Blank::new(u64::from(checked.limits().workers)),
         table,
-    )?;
-    Ok(Soaked {
-        report,
-        notes: task.notes.load(Ordering::SeqCst),
-        backlogs: task.backlogs.load(Ordering::SeqCst),
-    })
+    )
 }
 
 // It is generic in the registry's names, so that its caller picks them.
@@ -76,7 +68,7 @@ fn run<
 >(
     rt: &R,
     alloc: Global,
-    task: &Task,
+    order: &Order,
     checked: &Checked,
     filters: Filters,
     ring: Ring,
@@ -84,19 +76,31 @@ fn run<
     handles: Blank,
     calls: Blank,
     table: SeatTable,
-) -> Result<Report, Fault>
+) -> Result<Soaked, Fault>
     requires setup { (checked.now ≡ S.limits) × (filters.rules ≡ S.rules) × (Some ring.name ≡ S.ring) }
     requires ring { (ring.sent ≡ []) × (Some drain.name ≡ S.ring) }
     requires handles { (handles.name ≡ H.name) × (handles.parts ≡ H.parts) × (H.parts ≡ HANDLE_PARTS) }
     requires calls { (calls.name ≡ C.name) × (calls.parts ≡ C.parts) × (C.parts ≡ checked.now.workers) }
     requires table { (table ≡ S.table) × (table.words ≡ checked.now.slots) }
-    ensures handles { IfOk result (λ report. report.handles ≡ 0) }
-    ensures empty { IfOk result (λ report. (report.left ≡ 0) ↔ (report.entries ≡ 0)) }
-    ensures balance { IfOk result (λ report. report.made ≡ report.closed + report.left) }
+    ensures handles { IfOk result (λ soaked. soaked.report.handles ≡ 0) }
+    ensures empty { IfOk result (λ soaked. (soaked.report.left ≡ 0) ↔ (soaked.report.entries ≡ 0)) }
+    ensures balance { IfOk result (λ soaked. soaked.report.made ≡ soaked.report.closed + soaked.report.left) }
 {
     let (registry, workers) = Registry::<H, C, S, Ring>::new(
         alloc, checked, filters, ring, handles, calls, table,
     )?;
-    let (whole, drain) = in_threads(rt, alloc, &registry, task, workers, drain)?;
-    Ok(registry.finish(whole, drain))
+    let texts = Texts::new(alloc)?;
+    let (whole, drain) = in_threads(
+        rt,
+        &registry,
+        &texts,
+        order.rounds,
+        order.seed,
+        workers,
+        drain,
+    )?;
+    Ok(Soaked {
+        report: registry.finish(whole.share, drain),
+        tally: whole.tally,
+    })
 }

@@ -1,15 +1,14 @@
 //! All threads of a run, and what comes back of them.
 ghost use Rattle.std.specs.Prelude.{◌≡◌, ◌<◌, IfOk, vec_len};
 ghost use Rattle.soak.specs.Back.{HasAll, HasParts};
-ghost use Rattle.span_registry.specs.Share.{joined};
 
 use crate::caller::work;
 use crate::draining::start_drain;
-use crate::task::Task;
+use crate::returned::Returned;
+use crate::texts::Texts;
 use span_id::Fault;
 use span_layers::Say;
-use span_registry::{Drain, Registry, Ring, Setup, Share, Worker};
-use std::alloc::Global;
+use span_registry::{Drain, Registry, Ring, Setup, Worker};
 use std::snapshot::Snapshot;
 use std::sync::Wait;
 use std::sync::atomic::{AtomicBool, Ordering};
@@ -24,11 +23,11 @@ struct Back<H: Ledger, C: Ledger> {
     worker: Snapshot<Worker<H, C>>,
 }
 
-impl<H: Ledger, C: Ledger> Promise<Result<Share<H, C>, Fault>> for Back<H, C> {
+impl<H: Ledger, C: Ledger> Promise<Result<Returned<H, C>, Fault>> for Back<H, C> {
     ghost use Rattle.std.specs.Prelude.{IfOk};
     ghost use Rattle.soak.specs.Back.{HasParts};
 
-    ghost kept_by = { λ back result. IfOk result (HasParts back.worker.value.spare) };
+    ghost kept_by = { λ back result. IfOk result (λ returned. HasParts back.worker.value.spare returned.share) };
 }
 
 /// Runs each worker in a thread of its own, and the drain in one beside them.
@@ -40,14 +39,15 @@ pub fn in_threads<
     R: Threads + Wait + Clock + Sync,
 >(
     rt: &R,
-    alloc: Global,
     registry: &Registry<H, C, S, Ring>,
-    task: &Task,
+    texts: &Texts,
+    rounds: u64,
+    seed: u64,
     workers: Vec<Worker<H, C>>,
     drain: Drain<V>,
-) -> Result<(Share<H, C>, Drain<V>), Fault>
+) -> Result<(Returned<H, C>, Drain<V>), Fault>
     requires some { 0 < vec_len workers }
-    ensures whole { IfOk result (λ back. HasAll workers.items back.0) }
+    ensures whole { IfOk result (λ back. HasAll workers.items back.0.share) }
     ensures drain { IfOk result (λ back. back.1.name ≡ drain.name) }
 {
     let all_back = AtomicBool::new(false);
@@ -55,13 +55,13 @@ pub fn in_threads<
     thread::scope(
         thread::scope_env(),
         rt,
-        move |scope| -> Result<(Share<H, C>, Drain<V>), Fault>
+        move |scope| -> Result<(Returned<H, C>, Drain<V>), Fault>
             requires some { 0 < vec_len workers }
-            ensures whole { IfOk result (λ back. HasAll workers.items back.0) }
+            ensures whole { IfOk result (λ back. HasAll workers.items back.0.share) }
             ensures drain { IfOk result (λ back. back.1.name ≡ drain.name) }
         {
             let draining = start_drain(rt, scope, drain, flag)?;
-            let whole = run_workers(rt, scope, alloc, registry, task, workers);
+            let whole = run_workers(rt, scope, registry, texts, rounds, seed, workers);
             flag.store(true, Ordering::SeqCst);
             let drain = draining.join(rt);
             Ok((whole?, drain))
@@ -80,25 +80,26 @@ fn run_workers<
 >(
     rt: &'s R,
     scope: &Scope<'s, E>,
-    alloc: Global,
     registry: &'s Registry<H, C, S, Ring>,
-    task: &'s Task,
+    texts: &'s Texts,
+    rounds: u64,
+    seed: u64,
     workers: Vec<Worker<H, C>>,
-) -> Result<Share<H, C>, Fault>
+) -> Result<Returned<H, C>, Fault>
     requires some { 0 < vec_len workers }
-    ensures { IfOk result (HasAll workers.items) }
+    ensures { IfOk result (λ whole. HasAll workers.items whole.share) }
 {
     let mut others = workers;
     let Some(last) = others.pop() else {
         unreachable!()
     };
-    let running = start(rt, scope, alloc, registry, task, last)?;
+    let running = start(rt, scope, registry, texts, rounds, seed, last)?;
     if others.is_empty() {
         return running.join(rt);
     }
-    let whole = run_workers(rt, scope, alloc, registry, task, others);
-    let share = running.join(rt);
-    both(whole?, share?)
+    let whole = run_workers(rt, scope, registry, texts, rounds, seed, others);
+    let returned = running.join(rt);
+    whole?.join(returned?)
 }
 
 // Starts the thread of a worker.
@@ -112,11 +113,12 @@ fn start<
 >(
     rt: &'s R,
     scope: &Scope<'s, E>,
-    alloc: Global,
     registry: &'s Registry<H, C, S, Ring>,
-    task: &'s Task,
+    texts: &'s Texts,
+    rounds: u64,
+    seed: u64,
     worker: Worker<H, C>,
-) -> Result<PromisedHandle<Result<Share<H, C>, Fault>, Back<H, C>>, Fault>
+) -> Result<PromisedHandle<Result<Returned<H, C>, Fault>, Back<H, C>>, Fault>
     ensures { IfOk result (λ running. running.promise.worker.value ≡ worker) }
 {
     let promise = Back {
@@ -124,22 +126,11 @@ fn start<
     };
     match scope.spawn_with(
         promise,
-        move || -> Result<Share<H, C>, Fault>
-            ensures { IfOk result (HasParts worker.spare) }
-        { work(rt, alloc, registry, task, worker) },
+        move || -> Result<Returned<H, C>, Fault>
+            ensures { IfOk result (λ returned. HasParts worker.spare returned.share) }
+        { work(rt, registry, texts, worker, rounds, seed) },
     ) {
         Ok(running) => Ok(running),
         Err(_) => Err(Fault::Memory),
     }
-}
-
-// Both shares together. Where their calls are more than a `u64` has room for, that is `CountFull`.
-fn both<H: Ledger, C: Ledger>(one: Share<H, C>, other: Share<H, C>) -> Result<Share<H, C>, Fault>
-    requires { (one.units ≡ 0) × (other.units ≡ 0) }
-    ensures { IfOk result (λ whole. whole ≡ joined one other) }
-{
-    if one.accepted().checked_add(other.accepted()).is_none() {
-        return Err(Fault::CountFull);
-    }
-    Ok(one.join(other))
 }

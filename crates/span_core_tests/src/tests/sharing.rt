@@ -98,11 +98,7 @@ const OWNERS: [(usize, usize); 10] = [
     (2, 0),
 ];
 
-fn calls_are_shared<V: Say>(
-    alloc: Global,
-    filters: Filters,
-    outlet: Kept<V>,
-) -> Result<bool, Fail>
+fn calls_are_shared<V: Say>(alloc: Global, filters: Filters, outlet: Kept<V>) -> Result<bool, Fail>
     requires { outlet.sent ≡ [] }
 {
     let mut core = Core::new(alloc, &LIMITS.check()?, filters, outlet)?;

@@ -5,7 +5,9 @@ use crate::tests::held::{Held, Part, close, finished};
 use crate::tests::layers::{EVERYTHING, layers, meta_of};
 use span_id::{Checked, Fault, Id, Level, Limits, Meta};
 use span_layers::{Filters, Say};
-use span_registry::{HANDLE_PARTS, Kept, Outlet, ParentOf, Registry, Report, SeatTable, Setup, Worker};
+use span_registry::{
+    HANDLE_PARTS, Kept, Outlet, ParentOf, Registry, Report, SeatTable, Setup, Worker,
+};
 use std::alloc::Global;
 use std::marker::Brand;
 use std::sync::Wait;
