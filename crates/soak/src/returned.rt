@@ -36,10 +36,8 @@ impl<H: Ledger, C: Ledger> Returned<H, C> {
         requires { (self.share.units ≡ 0) × (other.share.units ≡ 0) }
         ensures { IfOk result (λ whole. whole.share ≡ joined self.share other.share) }
     {
-        if (self.share.accepted())
-            .checked_add(other.share.accepted())
-            .is_none()
-        {
+        let (one, another) = (self.share.accepted(), other.share.accepted());
+        if one.checked_add(another).is_none() {
             return Err(Fault::CountFull);
         }
         Ok(Returned {
