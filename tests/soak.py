@@ -21,8 +21,11 @@ from storms import ends_well, start
 
 SOAK = os.path.join(TOP, "crates", "soak", "out", "soak")
 WORKERS, PLACES = 8, 4
-SHORT_ROUNDS = 20000
+SHORT_ROUNDS = 200000
 MARGIN = 512
+# With an arena for each thread, the C library spreads over them what one thread takes and another gives back, and the
+# resident size goes on growing slowly though nothing is kept.
+ONE_ARENA = {"MALLOC_ARENA_MAX": "1"}
 NAMES = ["calls", "made", "closed", "left", "handles", "entries", "notes", "lines", "missed"]
 
 
@@ -42,7 +45,9 @@ class Run:
     def __init__(self, program, rounds, seed, every):
         words = [program, str(WORKERS), str(PLACES), str(rounds), str(seed)]
         began = time.monotonic()
-        running = subprocess.Popen(words, stdin=subprocess.DEVNULL, stdout=subprocess.PIPE, stderr=subprocess.PIPE)
+        running = subprocess.Popen(
+            words, stdin=subprocess.DEVNULL, stdout=subprocess.PIPE, stderr=subprocess.PIPE, env=os.environ | ONE_ARENA
+        )
         self.samples = []
         try:
             while running.poll() is None:
@@ -66,6 +71,13 @@ class Run:
         """How often a call was refused for want of a place."""
         found = re.fullmatch(r"(\d+) times no place\n", self.error)
         return int(found[1]) if found else None
+
+    def by_minute(self):
+        """The greatest memory of each minute."""
+        peaks = {}
+        for at, memory in self.samples:
+            peaks[int(at / 60)] = max(peaks.get(int(at / 60), 0), memory)
+        return [peaks[minute] for minute in sorted(peaks)]
 
     def peaks(self):
         """The greatest memory in the first minute and in the last one, or in the two halves."""
@@ -91,7 +103,7 @@ def faults(run, rounds):
 
 def is_level(run):
     first, last = run.peaks()
-    print(f"memory: at most {first} kB at first, {last} kB at last")
+    print(f"memory: at most {first} kB at first, {last} kB at last; in each minute {run.by_minute()}")
     return 0 < first and 0 < last <= first + MARGIN
 
 
@@ -112,7 +124,7 @@ def soaked(program, minutes, seed):
     numbers = run.numbers()
     if numbers:
         calls = numbers["calls"]
-        print(f"{run.seconds / 60:.1f} minutes, {calls} calls, {calls / run.seconds:.0f} a second, "
+        print(f"{run.seconds / 60:.1f} minutes, {rounds} rounds, {calls} calls, {calls / run.seconds:.0f} a second, "
               f"{numbers['made']} spans, {numbers['notes']} notes, {run.refused()} times no place")
 
 
