@@ -46,7 +46,7 @@ class Run:
         words = [program, str(WORKERS), str(PLACES), str(rounds), str(seed)]
         began = time.monotonic()
         running = subprocess.Popen(
-            words, stdin=subprocess.DEVNULL, stdout=subprocess.PIPE, stderr=subprocess.PIPE, env=os.environ | ONE_ARENA
+            words, stdin=subprocess.DEVNULL, stdout=subprocess.PIPE, stderr=subprocess.PIPE, env=dict(os.environ, **ONE_ARENA)
         )
         self.samples = []
         try:

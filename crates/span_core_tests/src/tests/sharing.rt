@@ -35,7 +35,8 @@ fn message_owners(call: &Call) -> usize {
     }
 }
 
-// Whether so many notes share the first one's path and so many owners an event's message, in a list with no room to grow.
+// Whether so many notes share the first one's path, and so many owners an event's message; the list of notes has no
+// room to grow.
 fn is_shared(batch: &Batch, paths: usize, messages: usize) -> bool {
     (path_owners(batch.notes.as_slice()) == paths)
         & (message_owners(&batch.call) == messages)
@@ -83,8 +84,8 @@ fn acts<'a>() -> [(u32, Act<'a>); 10] {
     ]
 }
 
-// Of four layers the third doesn't admit `b`, so it sees another path below. A path is shared with the layer before. The
-// event's message belongs to its call and to four notes.
+// Of four layers the third doesn't admit `b`, so it sees another path below. A path is shared with the layer before.
+// The event's message belongs to its call and to four notes.
 const OWNERS: [(usize, usize); 10] = [
     (4, 0),
     (4, 0),
