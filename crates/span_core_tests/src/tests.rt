@@ -7,4 +7,6 @@ mod missed;
 mod on_a_ring;
 mod rows;
 mod shared;
+mod sharing;
+mod strangers;
 mod workers;

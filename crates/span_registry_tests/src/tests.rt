@@ -13,4 +13,5 @@ mod on_core;
 mod on_registry;
 mod scripts;
 mod steps;
+mod strangers;
 mod threads;

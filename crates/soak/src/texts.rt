@@ -1,0 +1,30 @@
+//! What spans and events are called, and their fields.
+
+use span_id::{Fault, Field, Level, Meta, copy_text};
+use std::alloc::Global;
+
+/// What each call passes, made once.
+#[derive(Debug, Drop)]
+pub struct Texts {
+    pub meta: Meta,
+    pub fields: Vec<Field>,
+}
+
+impl Texts {
+    /// The only error is `Memory`.
+    pub fn new(alloc: Global) -> Result<Texts, Fault> {
+        let mut fields = Vec::with_capacity(alloc, 1)?;
+        fields.push_reserved(Field {
+            key: copy_text(alloc, "key")?,
+            value: copy_text(alloc, "a value")?,
+        });
+        Ok(Texts {
+            meta: Meta {
+                name: copy_text(alloc, "request")?,
+                target: copy_text(alloc, "app")?,
+                level: Level::Info,
+            },
+            fields,
+        })
+    }
+}

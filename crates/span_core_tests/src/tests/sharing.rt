@@ -1,0 +1,139 @@
+//! What the notes of a call share, by how many owners it has.
+ghost use Rattle.std.specs.Prelude.{◌≡◌, []};
+
+use crate::tests::acts::{Act, Fields, child, new, play, played};
+use crate::tests::layers::{EVERYTHING, layers};
+use span_core::Core;
+use span_id::{Level, Limits};
+use span_layers::{Filters, FmtSpan, Form, Note, Say};
+use span_outlet::{Batch, Call, Kept, ParentOf};
+use std::alloc::Global;
+use std::sync::ArcStr;
+use std::test::Fail;
+
+const LIMITS: Limits = Limits {
+    slots: 8,
+    last_generation: 1,
+    max_count: 8,
+    workers: 1,
+    ring: 1,
+};
+
+// How many notes share the text of the first one's path.
+fn path_owners(notes: &[Note]) -> usize {
+    match notes.first() {
+        Some(note) => ArcStr::strong_count(&note.path),
+        None => 0,
+    }
+}
+
+// How many owners the message of an event has.
+fn message_owners(call: &Call) -> usize {
+    match call {
+        Call::Event { message, .. } => ArcStr::strong_count(message),
+        _ => 0,
+    }
+}
+
+// Whether so many notes share the first one's path, and so many owners an event's message; the list of notes has no
+// room to grow.
+fn is_shared(batch: &Batch, paths: usize, messages: usize) -> bool {
+    (path_owners(batch.notes.as_slice()) == paths)
+        & (message_owners(&batch.call) == messages)
+        & (batch.notes.len() == batch.notes.capacity())
+}
+
+// Whether each batch is shared so.
+fn are_shared(batches: &[Batch], owners: &[(usize, usize)]) -> bool {
+    let mut right = batches.len() == owners.len();
+    for (batch, (paths, messages)) in batches.iter().zip(owners) {
+        right = right & is_shared(batch, *paths, *messages);
+    }
+    right
+}
+
+// A new span of another target, under the current one.
+fn elsewhere<'a>(name: &'a str, fields: Fields<'a>) -> Act<'a> {
+    Act::New {
+        name,
+        target: "lib",
+        level: Level::Info,
+        parent: ParentOf::Current,
+        fields,
+    }
+}
+
+fn acts<'a>() -> [(u32, Act<'a>); 10] {
+    let event = Act::Event {
+        target: "app",
+        level: Level::Info,
+        message: "hi",
+        fields: &[("k", "3")],
+    };
+    [
+        (0, new("a")),
+        (0, Act::Record(1, &[("k", "1")])),
+        (0, Act::Enter(1)),
+        (0, elsewhere("b", &[("k", "2")])),
+        (0, event),
+        (0, child("c", 2)),
+        (0, Act::Exit(1)),
+        (0, Act::Close(1)),
+        (0, Act::Close(2)),
+        (0, Act::Close(3)),
+    ]
+}
+
+// Of four layers the third doesn't admit `b`, so it sees another path below. A path is shared with the layer before.
+// The event's message belongs to its call and to four notes.
+const OWNERS: [(usize, usize); 10] = [
+    (4, 0),
+    (4, 0),
+    (4, 0),
+    (3, 0),
+    (4, 5),
+    (2, 0),
+    (4, 0),
+    (0, 0),
+    (0, 0),
+    (2, 0),
+];
+
+fn calls_are_shared<V: Say>(alloc: Global, filters: Filters, outlet: Kept<V>) -> Result<bool, Fail>
+    requires { outlet.sent ≡ [] }
+{
+    let mut core = Core::new(alloc, &LIMITS.check()?, filters, outlet)?;
+    play(alloc, &mut core, LIMITS.workers, &acts())?;
+    Ok(are_shared(core.outlet().batches(), &OWNERS))
+}
+
+fn with_four_layers(alloc: Global) -> Result<bool, Fail> {
+    let app = (Form::Compact, FmtSpan::FULL, "app", Level::Trace);
+    let (filters, tellers) = layers(alloc, &[EVERYTHING, EVERYTHING, app, EVERYTHING])?;
+    calls_are_shared(alloc, filters, Kept::new(alloc, tellers))
+}
+
+#[test]
+fn notes_share_with_the_call(rt: HostRuntime) -> Result<(), Fail> {
+    let shared = with_four_layers(rt.alloc())?;
+    assert!(&rt; shared);
+    Ok(())
+}
+
+#[test]
+fn a_name_may_be_a_dash(rt: HostRuntime) -> Result<(), Fail> {
+    let acts = [
+        (0, new("-")),
+        (0, Act::Enter(1)),
+        (0, elsewhere("x", &[])),
+        (0, Act::Exit(1)),
+        (0, Act::Close(1)),
+        (0, Act::Close(2)),
+    ];
+    let lib = (Form::Compact, FmtSpan::FULL, "lib", Level::Trace);
+    let text = played(&rt, rt.alloc(), LIMITS, &[EVERYTHING, lib], &acts)?;
+    let expected =
+        "L0 new 1 w0 -\n= 1\nL0 enter 1 w0 -\n= entered\nL0 new 2 w0 -:x\nL1 new 2 w0 x\n= 2\nL0 exit 1 w0 -\n= open\n= open\nL0 close 2 w0 -:x\nL1 close 2 w0 x\nL0 close 1 w0 -\n= closed\n";
+    assert_eq!(&rt; text.as_str(), expected);
+    Ok(())
+}

@@ -1,0 +1,150 @@
+#!/usr/bin/env python3
+"""A long run: storms one after the other, and then random calls by 8 threads on one registry, beside a slow drain
+behind a ring of 4 places, where a call that is refused for want of a place is made again. No part of ./check.
+
+usage: soak.py [--minutes M] [--storms N] [--program FILE] [--soak FILE] [--seed S]
+FILE is tracerun for the storms, and the program of the crate `soak` for the calls. How many calls make a run of so many
+minutes is found by a short run first. The numbers at the end have to agree, and the greatest memory in the last minute
+may be MARGIN kB more than in the first (in halves, where a run has less than two minutes). The last line is
+'N passed, M failed'; the status is 0 where nothing failed.
+"""
+import argparse
+import os
+import re
+import subprocess
+import sys
+import time
+
+from random_scripts import is_built
+from run_cases import PROGRAM, TOP
+from storms import ends_well, start
+
+SOAK = os.path.join(TOP, "crates", "soak", "out", "soak")
+WORKERS, PLACES = 8, 4
+SHORT_ROUNDS = 200000
+MARGIN = 512
+# With an arena for each thread, the C library spreads over them what one thread takes and another gives back, and the
+# resident size goes on growing slowly though nothing is kept.
+ONE_ARENA = {"MALLOC_ARENA_MAX": "1"}
+NAMES = ["calls", "made", "closed", "left", "handles", "entries", "notes", "lines", "missed"]
+
+
+def resident(pid):
+    """The memory of a process in kB; None where it has ended."""
+    try:
+        with open(f"/proc/{pid}/status", encoding="ascii") as file:
+            found = re.search(r"^VmRSS:\s+(\d+) kB$", file.read(), re.MULTILINE)
+    except OSError:
+        return None
+    return int(found[1]) if found else None
+
+
+class Run:
+    """One run of the program: its seconds, its memory at each second or so, its status and what it wrote."""
+
+    def __init__(self, program, rounds, seed, every):
+        words = [program, str(WORKERS), str(PLACES), str(rounds), str(seed)]
+        began = time.monotonic()
+        running = subprocess.Popen(
+            words, stdin=subprocess.DEVNULL, stdout=subprocess.PIPE, stderr=subprocess.PIPE, env=dict(os.environ, **ONE_ARENA)
+        )
+        self.samples = []
+        try:
+            while running.poll() is None:
+                memory = resident(running.pid)
+                if memory is not None:
+                    self.samples.append((time.monotonic() - began, memory))
+                time.sleep(every)
+        finally:
+            running.kill()
+        self.seconds = time.monotonic() - began
+        self.output, self.error = (text.decode() for text in running.communicate())
+        self.status = running.returncode
+
+    def numbers(self):
+        """The numbers by name; none where the text isn't the one that is wanted."""
+        wanted = "".join(rf"{name} (\d+)\n" for name in NAMES)
+        found = re.fullmatch(wanted, self.output)
+        return dict(zip(NAMES, map(int, found.groups()))) if found else {}
+
+    def refused(self):
+        """How often a call was refused for want of a place."""
+        found = re.fullmatch(r"(\d+) times no place\n", self.error)
+        return int(found[1]) if found else None
+
+    def by_minute(self):
+        """The greatest memory of each minute."""
+        peaks = {}
+        for at, memory in self.samples:
+            peaks[int(at / 60)] = max(peaks.get(int(at / 60), 0), memory)
+        return [peaks[minute] for minute in sorted(peaks)]
+
+    def peaks(self):
+        """The greatest memory in the first minute and in the last one, or in the two halves."""
+        part = min(60, self.seconds / 2)
+        first = [memory for at, memory in self.samples if at < part]
+        last = [memory for at, memory in self.samples if at >= self.seconds - part]
+        return max(first, default=0), max(last, default=0)
+
+
+def faults(run, rounds):
+    """What is wrong with the end of a run: nothing may be lost, left or held."""
+    numbers = run.numbers()
+    if run.status != 0 or not numbers or run.refused() is None:
+        yield f"status {run.status}, standard output\n{run.output}standard error\n{run.error}"
+        return
+    wanted = {"closed": numbers["made"], "left": 0, "handles": 0, "entries": 0, "lines": 0, "missed": numbers["notes"]}
+    for name, number in wanted.items():
+        if numbers[name] != number:
+            yield f"{name} is {numbers[name]} and not {number}"
+    if numbers["calls"] < WORKERS * rounds:
+        yield f"{numbers['calls']} calls of {WORKERS} workers, which made {rounds} and gave all back"
+
+
+def is_level(run):
+    first, last = run.peaks()
+    print(f"memory: at most {first} kB at first, {last} kB at last; in each minute {run.by_minute()}")
+    return 0 < first and 0 < last <= first + MARGIN
+
+
+def told(name, found):
+    for fault in found:
+        print(f"FAILED {name}: {fault}")
+    return not found
+
+
+def soaked(program, minutes, seed):
+    """Whether each part of the long run went well."""
+    short = Run(program, SHORT_ROUNDS, seed, 0.01)
+    yield told("the short run", list(faults(short, SHORT_ROUNDS)))
+    rounds = max(SHORT_ROUNDS, int(SHORT_ROUNDS * minutes * 60 / short.seconds))
+    run = Run(program, rounds, seed, 1)
+    yield told("the long run", list(faults(run, rounds)))
+    yield told("the long run", [] if is_level(run) else ["its memory grew"])
+    numbers = run.numbers()
+    if numbers:
+        calls = numbers["calls"]
+        print(f"{run.seconds / 60:.1f} minutes, {rounds} rounds, {calls} calls, {calls / run.seconds:.0f} a second, "
+              f"{numbers['made']} spans, {numbers['notes']} notes, {run.refused()} times no place")
+
+
+def main():
+    parser = argparse.ArgumentParser(description="A long run of storms and random calls.")
+    parser.add_argument("--minutes", type=float, default=1)
+    parser.add_argument("--storms", type=int, default=20)
+    parser.add_argument("--program", default=PROGRAM)
+    parser.add_argument("--soak", default=SOAK)
+    parser.add_argument("--seed", type=int, default=1)
+    given = parser.parse_args()
+    if not os.access(given.soak, os.X_OK) or (given.storms and not is_built(given.program)):
+        print("the programs are not built: cd crates/soak && rt run")
+        print("0 passed, 1 failed")
+        return 1
+    ended = [ends_well(start(given.program), f"storm {number}") for number in range(given.storms)]
+    ended += soaked(given.soak, given.minutes, given.seed)
+    print(f"{sum(ended)} passed, {len(ended) - sum(ended)} failed")
+    return 0 if all(ended) else 1
+
+
+if __name__ == "__main__":
+    sys.exit(main())
