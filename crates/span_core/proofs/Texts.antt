@@ -1,7 +1,6 @@
 -- The texts of paths, one name longer and one name shorter.
-use Rattle.std.proofs.Common.{◌≡◌, ℕ, suc, ◌+◌, ◌-◌, ◌<◌, Bool, cond, nat_eq, List, [], ◌∷◌, ◌++◌, length, take, codes, refl, sym, ap, ◌∙◌, append_assoc, arith}
+use Rattle.std.proofs.Common.{◌≡◌, ℕ, suc, ◌+◌, ◌-◌, ◌<◌, List, [], ◌∷◌, ◌++◌, length, take, codes, refl, sym, ap, ◌∙◌, append_assoc, arith}
 use Rattle.std.proofs.lemmas.List.{length-append}
-use Rattle.std.proofs.Math.Dec.{eqb-suc-zero}
 use Rattle.std.proofs.Math.Seq.{take-append_seam}
 use Rattle.span_forest.specs.Path.{path_text}
 
@@ -28,9 +27,3 @@ above_is (first ∷ others) name above sum there =
     ap (λ n. take n (path_text ((first ∷ others) ++ name ∷ []))) cut
     ∙ ap (take (length (path_text (first ∷ others)))) (text_more first others name)
     ∙ take-append_seam (path_text (first ∷ others)) (58 ∷ name)
-
--- the text of a path with one name more, by the text of the path
-pub text_below : (path : List (List ℕ)) (none : Bool) (above name : List ℕ) → above ≡ path_text path → none ≡ nat_eq (length path) 0
-    → path_text (path ++ name ∷ []) ≡ cond none name (above ++ 58 ∷ name)
-text_below [] none above name is there = rw there refl
-text_below (first ∷ others) none above name is there = rw there (text_more first others name ∙ ap (λ text. text ++ 58 ∷ name) (sym is) ∙ ap (λ b. cond b name (above ++ 58 ∷ name)) (sym (eqb-suc-zero (length others))))

@@ -1,4 +1,4 @@
-ghost use Rattle.std.specs.Prelude.{◌≡◌, ℕ, ◌<◌, Some, None, IfSome, IfNone, IfOk, IfErr, OnOk, OnErr, IsTrue, ◌↔◌, ◌⊎◌, length, [], map, string_bytes};
+ghost use Rattle.std.specs.Prelude.{◌≡◌, ℕ, ◌<◌, Some, None, IfSome, IfNone, IfOk, IfErr, OnOk, OnErr, IsTrue, ◌↔◌, ◌⊎◌, ◌++◌, ◌∷◌, length, [], map, string_bytes};
 ghost use Rattle.span_id.specs.Id.{IsId};
 ghost use Rattle.span_id.specs.Bits.{has_bit};
 ghost use Rattle.span_slots.specs.Table.{IsIssued};
@@ -18,7 +18,7 @@ pub mod laws;
 use crate::adding::{checked_parent, place};
 use crate::closing::{chain, let_go};
 use crate::holders::{count_of, handles_in, is_held, is_open, raise_holder};
-use crate::path_text::{PathText, path_text_of};
+use crate::path_text::{PathText, path_text_below_of, path_text_of};
 use crate::span::{Holder, Span};
 use crate::writing::{append_fields, names_of};
 use span_id::{Bits, Checked, Fault, Field, Fields, Id, SharedMeta};
@@ -28,9 +28,10 @@ use std::marker::Model;
 
 /// The open spans, each under its id, with what holds them.
 ///
-/// No call costs more than its work: `release` and `closing` go along the spans that close, `path` and `path_text`
-/// along the walk to the root, `write_fields` over what it copies. All others cost the same however many spans are
-/// open. What a forest promises beside its calls' contracts is said by the functions of [`laws`].
+/// No call costs more than its work: `release` and `closing` go along the spans that close, `path`, `path_text` and
+/// `path_text_below` along the walk to the root, `write_fields` and `share_fields` over what they copy. All others cost
+/// the same however many spans are open. What a forest promises beside its calls' contracts is said by the functions of
+/// [`laws`].
 #[derive(Debug, Drop)]
 pub struct Forest {
     slots: Slots<Span>,
@@ -325,5 +326,23 @@ impl Forest {
             return Err(Fault::Unknown);
         }
         Ok(path_text_of(&self.slots, self.alloc, layer, id)?)
+    }
+
+    /// The text that `path_text` would give with one more name at the end of the path, as that of a new child.
+    ///
+    /// Refused in this order: `Unknown` where the span isn't open, `Memory`.
+    pub fn path_text_below(&self, layer: u32, id: Id, name: &str) -> Result<PathText, Fault>
+        ensures found { OnOk result (IsOpen self.now.spans id) }
+        ensures text { IfOk result (λ seen. string_bytes seen.text
+            ≡ path_text (path layer self.now.spans id ++ name.now ∷ [])) }
+        ensures same { IfOk result (λ seen. (other : ℕ) → IsTrue (has_bit seen.same.0 other) →
+            path other self.now.spans id ≡ path layer self.now.spans id) }
+        ensures own { IfOk result (λ seen. layer < 64 → IsTrue (has_bit seen.same.0 layer)) }
+        ensures refused { IfErr result (λ fault. WhyNotFound self.now.spans id fault) }
+    {
+        if !is_open(&self.slots, id) {
+            return Err(Fault::Unknown);
+        }
+        Ok(path_text_below_of(&self.slots, self.alloc, layer, id, name)?)
     }
 }

@@ -1,4 +1,4 @@
-ghost use Rattle.std.specs.Prelude.{◌≡◌, ◌++◌, ◌<◌, ◌↔◌, ℕ, Some, IsTrue, IfOk, OnOk, map, string_bytes};
+ghost use Rattle.std.specs.Prelude.{◌≡◌, ◌++◌, ◌∷◌, [], ◌<◌, ◌↔◌, ℕ, Some, IsTrue, IfOk, OnOk, map, string_bytes};
 ghost use Rattle.span_id.specs.Bits.{has_bit};
 ghost use Rattle.span_forest.specs.Node.{node_of};
 ghost use Rattle.span_forest.specs.Spans.{nodes_of, IsOpen};
@@ -43,13 +43,49 @@ pub(crate) fn path_text_of(
         path other (nodes_of slots.now.entries) id ≡ path layer (nodes_of slots.now.entries) id) }
     ensures own { IfOk result (λ seen. layer < 64 → IsTrue (has_bit seen.same.0 layer)) }
 {
+    let seen = path_seen(slots, alloc, layer, id)?;
+    seen.told(alloc)
+}
+
+// The same of the path with one more name at its end.
+pub(crate) fn path_text_below_of<'a>(
+    slots: &'a Slots<Span>,
+    alloc: Global,
+    layer: u32,
+    id: Id,
+    name: &'a str,
+) -> Result<PathText, AllocError>
+    requires forest { IsForest (nodes_of slots.now.entries) }
+    requires open { IsOpen (nodes_of slots.now.entries) id }
+    ensures text { IfOk result (λ seen. string_bytes seen.text
+        ≡ path_text (path layer (nodes_of slots.now.entries) id ++ name.now ∷ [])) }
+    ensures same { IfOk result (λ seen. (other : ℕ) → IsTrue (has_bit seen.same.0 other) →
+        path other (nodes_of slots.now.entries) id ≡ path layer (nodes_of slots.now.entries) id) }
+    ensures own { IfOk result (λ seen. layer < 64 → IsTrue (has_bit seen.same.0 layer)) }
+{
+    let mut seen = path_seen(slots, alloc, layer, id)?;
+    seen.names.push(name)?;
+    seen.told(alloc)
+}
+
+// The layer's path at a span.
+fn path_seen<'a>(
+    slots: &'a Slots<Span>,
+    alloc: Global,
+    layer: u32,
+    id: Id,
+) -> Result<Seen<'a>, AllocError>
+    requires forest { IsForest (nodes_of slots.now.entries) }
+    requires open { IsOpen (nodes_of slots.now.entries) id }
+    ensures names { IfOk result (λ seen. map (λ name. name.now) seen.names.items
+        ≡ path layer (nodes_of slots.now.entries) id) }
+    ensures same { IfOk result (λ seen. (other : ℕ) → IsTrue (has_bit seen.same.0 other) →
+        path other (nodes_of slots.now.entries) id ≡ path layer (nodes_of slots.now.entries) id) }
+    ensures own { IfOk result (λ seen. layer < 64 → IsTrue (has_bit seen.same.0 layer)) }
+{
     let mut seen = seen_on_walk(slots, alloc, layer, id)?;
     seen.names.reverse();
-    let text = joined(alloc, seen.names.as_slice())?;
-    Ok(PathText {
-        text,
-        same: seen.same,
-    })
+    Ok(seen)
 }
 
 // What the layer sees from a span up to its root, the span's own name first.
@@ -99,6 +135,19 @@ impl<'a> Seen<'a> {
             self.same = self.same.without(span.bits);
         }
         Ok(())
+    }
+
+    // The text of the names, as they stand.
+    fn told(&self, alloc: Global) -> Result<PathText, AllocError>
+        ensures text { IfOk result (λ seen. string_bytes seen.text
+            ≡ path_text (map (λ name. name.now) self.now.names.items)) }
+        ensures same { IfOk result (λ seen. seen.same ≡ self.now.same) }
+    {
+        let text = joined(alloc, self.names.as_slice())?;
+        Ok(PathText {
+            text,
+            same: self.same,
+        })
     }
 }
 

@@ -1,5 +1,5 @@
 //! The texts of the paths that layers are told, each made once for the layers that see the same.
-ghost use Rattle.std.specs.Prelude.{◌≡◌, ◌++◌, ◌∷◌, [], ℕ, List, length, nat_eq, string_bytes, IsTrue, IfOk, IfErr, OnOk, IfSome, IsSomeAnd};
+ghost use Rattle.std.specs.Prelude.{◌≡◌, ◌++◌, ◌∷◌, [], ℕ, List, string_bytes, IsTrue, IfOk, IfErr, OnOk, IfSome, IsSomeAnd};
 ghost use Rattle.std.specs.Arc.{arc_str_bytes};
 ghost use Rattle.span_id.specs.Bits.{has_bit};
 ghost use Rattle.span_forest.specs.Spans.{Spans};
@@ -58,10 +58,8 @@ pub(crate) fn new_text(
     if let Some(text) = known_text(last, layer, place) {
         return Ok(text.clone()?);
     }
-    let seen = text_at(alloc, forest, layer, place)?;
-    let text = text_below(alloc, forest, layer, place, seen.text.as_str(), name)?;
-    let same = seen.same;
-    tell(last, place, PathText { text, same })
+    let seen = text_below(alloc, forest, layer, place, name)?;
+    tell(last, place, seen)
 }
 
 // This text: the one that was told last, where it is the same.
@@ -139,54 +137,27 @@ fn text_at(
     }
 }
 
-// The text of a path, which is told so, with one more name.
-#[tactic(auto, using(crate::proofs::Texts::text_below))]
+// The same with one more name, as that of a new child.
 fn text_below(
     alloc: Global,
     forest: &Forest,
     layer: u32,
     place: &Option<Id>,
-    above: &str,
     name: &str,
-) -> Result<String, Fault>
-    requires above { above.now ≡ path_text (path_at layer forest.now.spans place.now) }
-    ensures text { IfOk result (λ text. string_bytes text
+) -> Result<PathText, Fault>
+    ensures text { IfOk result (λ seen. string_bytes seen.text
         ≡ path_text (path_at layer forest.now.spans place.now ++ name.now ∷ [])) }
+    ensures same { IfOk result (λ seen. (other : ℕ) → IsTrue (has_bit seen.same.0 other) →
+        path_at other forest.now.spans place.now ≡ path_at layer forest.now.spans place.now) }
     ensures memory { IfErr result (λ fault. fault ≡ Fault.Memory) }
 {
-    if is_nameless(forest, layer, place, above)? {
-        return copy_text(alloc, name);
-    }
-    joined(alloc, above, name)
-}
-
-// Whether the path, which is told so, has no names. A name may be `-` too.
-fn is_nameless(forest: &Forest, layer: u32, place: &Option<Id>, text: &str) -> Result<bool, Fault>
-    requires text { text.now ≡ path_text (path_at layer forest.now.spans place.now) }
-    ensures none { IfOk result (λ none. none ≡ nat_eq (length (path_at layer forest.now.spans place.now)) 0) }
-    ensures memory { IfErr result (λ fault. fault ≡ Fault.Memory) }
-{
-    if text != "-" {
-        return Ok(false);
-    }
     let Some(id) = place else {
-        return Ok(true);
+        let text = copy_text(alloc, name)?;
+        let same = Bits::all();
+        return Ok(PathText { text, same });
     };
-    match forest.path(layer, *id) {
-        Ok(names) => Ok(names.is_empty()),
+    match forest.path_text_below(layer, *id, name) {
+        Ok(seen) => Ok(seen),
         Err(_) => Err(Fault::Memory),
     }
-}
-
-// Two texts with `:` between them.
-fn joined(alloc: Global, above: &str, name: &str) -> Result<String, Fault>
-    ensures text { IfOk result (λ text. string_bytes text ≡ above.now ++ 58 ∷ name.now) }
-    ensures memory { IfErr result (λ fault. fault ≡ Fault.Memory) }
-{
-    let room = above.len().saturating_add(1).saturating_add(name.len());
-    let mut text = String::with_capacity(alloc, room)?;
-    text.push_str(above)?;
-    text.push_str(":")?;
-    text.push_str(name)?;
-    Ok(text)
 }

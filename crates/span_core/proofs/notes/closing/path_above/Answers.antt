@@ -1,7 +1,5 @@
-use Rattle.std.proofs.Common.{◌≡◌, ◌∙◌, ℕ, ◌+◌, ◌-◌, ◌<◌, List, [], ◌∷◌, ◌++◌, length, take, ap, sym, arith}
-use Rattle.span_layers.specs.Note.{plain_note}
+use Rattle.std.proofs.Common.{◌≡◌, ◌∙◌, ◌-◌, [], ◌∷◌, ◌++◌, length, take, ap, sym, arith}
 use Rattle.span_forest.specs.Path.{path_text}
-use Rattle.span_core.specs.inside.ClosingPaths.{TellsBelow}
 use Rattle.span_core.proofs.Texts.{nothing_above, above_is}
 use Rattle.span_core.proofs.notes.closing.path_above.Goals as goal
 
