@@ -94,22 +94,9 @@ const SECOND_ENTRY: &str = r#"{"op":"new","name":"a"}
 {"op":"new","name":"c"}
 {"op":"find","span":"c"}"#;
 
-const SECOND_ENTRY_TEXT: &str = "\
-= 1
-= 2
-= entered
-= entered
-= again
-= 3
-= c parent 2 handles 1 entries 0 count 1
-= open
-= open
-= open
-= closed
-= open
-= closed
-left 0
-";
+const SECOND_ENTRY_TEXT: &str =
+    "= 1\n= 2\n= entered\n= entered\n= again\n= 3\n= c parent 2 handles 1 entries 0 count 1\n\
+     = open\n= open\n= open\n= closed\n= open\n= closed\nleft 0\n";
 
 const ONE_LAYER: &str =
     "{\"op\":\"layer\"}\n{\"op\":\"new\",\"name\":\"a\"}\n{\"op\":\"close\",\"span\":\"a\"}\n";
