@@ -4,29 +4,45 @@ behind a ring of 4 places, where a call that is refused for want of a place is m
 
 usage: soak.py [--minutes M] [--storms N] [--program FILE] [--soak FILE] [--seed S]
 FILE is tracerun for the storms, and the program of the crate `soak` for the calls. How many calls make a run of so many
-minutes is found by a short run first. The numbers at the end have to agree, and the greatest memory in the last minute
-may be MARGIN kB more than in the first (in halves, where a run has less than two minutes). The last line is
-'N passed, M failed'; the status is 0 where nothing failed.
+minutes is found by a short run first. The numbers at the end have to agree, and the most bytes that the program had taken
+and not given back may be MARGIN more in the whole run than in its first minute (its first half, where it has less than
+two minutes): `count_memory.c`, loaded before the C library, counts them. The resident size of each minute is shown and
+not judged, as the C library keeps what was given back. The last line is 'N passed, M failed'; the status is 0 where
+nothing failed.
 """
 import argparse
 import os
 import re
+import struct
 import subprocess
 import sys
+import tempfile
 import time
 
 from random_scripts import is_built
+from refused_memory import compiler
 from run_cases import PROGRAM, TOP
 from storms import ends_well, start
 
 SOAK = os.path.join(TOP, "crates", "soak", "out", "soak")
 WORKERS, PLACES = 8, 4
 SHORT_ROUNDS = 200000
-MARGIN = 512
-# With an arena for each thread, the C library spreads over them what one thread takes and another gives back, and the
-# resident size goes on growing slowly though nothing is kept.
-ONE_ARENA = {"MALLOC_ARENA_MAX": "1"}
+MARGIN = 65536
+COUNTS = struct.Struct("qq")
 NAMES = ["calls", "made", "closed", "left", "handles", "entries", "notes", "lines", "missed"]
+
+
+def counting(folder):
+    """What counts a program's memory, made in a folder."""
+    shim, source = os.path.join(folder, "count_memory.so"), os.path.join(TOP, "tests", "count_memory.c")
+    subprocess.run([compiler(), "-O1", "-shared", "-fPIC", "-nostdlib", "-o", shim, source], check=True)
+    return shim
+
+
+def taken(counts):
+    """The most bytes that a program had taken so far and not given back."""
+    with open(counts, "rb") as file:
+        return COUNTS.unpack(file.read(COUNTS.size))[1]
 
 
 def resident(pid):
@@ -44,20 +60,25 @@ class Run:
 
     def __init__(self, program, rounds, seed, every):
         words = [program, str(WORKERS), str(PLACES), str(rounds), str(seed)]
-        began = time.monotonic()
-        running = subprocess.Popen(
-            words, stdin=subprocess.DEVNULL, stdout=subprocess.PIPE, stderr=subprocess.PIPE, env=dict(os.environ, **ONE_ARENA)
-        )
-        self.samples = []
-        try:
-            while running.poll() is None:
-                memory = resident(running.pid)
-                if memory is not None:
-                    self.samples.append((time.monotonic() - began, memory))
-                time.sleep(every)
-        finally:
-            running.kill()
-        self.seconds = time.monotonic() - began
+        with tempfile.TemporaryDirectory() as folder:
+            counts = os.path.join(folder, "counts")
+            given = dict(os.environ, LD_PRELOAD=counting(folder), COUNTS=counts)
+            with open(counts, "wb") as file:
+                file.write(bytes(COUNTS.size))
+            began = time.monotonic()
+            running = subprocess.Popen(
+                words, stdin=subprocess.DEVNULL, stdout=subprocess.PIPE, stderr=subprocess.PIPE, env=given
+            )
+            # Of each: the second, the most bytes taken until then, and the resident size in kB.
+            self.samples = []
+            try:
+                while running.poll() is None:
+                    self.samples.append((time.monotonic() - began, taken(counts), resident(running.pid) or 0))
+                    time.sleep(every)
+            finally:
+                running.kill()
+            self.seconds = time.monotonic() - began
+            self.most = taken(counts)
         self.output, self.error = (text.decode() for text in running.communicate())
         self.status = running.returncode
 
@@ -73,18 +94,16 @@ class Run:
         return int(found[1]) if found else None
 
     def by_minute(self):
-        """The greatest memory of each minute."""
+        """The greatest resident size of each minute."""
         peaks = {}
-        for at, memory in self.samples:
-            peaks[int(at / 60)] = max(peaks.get(int(at / 60), 0), memory)
+        for at, _, size in self.samples:
+            peaks[int(at / 60)] = max(peaks.get(int(at / 60), 0), size)
         return [peaks[minute] for minute in sorted(peaks)]
 
-    def peaks(self):
-        """The greatest memory in the first minute and in the last one, or in the two halves."""
+    def most_at_first(self):
+        """The most bytes taken in the first minute, or in the first half."""
         part = min(60, self.seconds / 2)
-        first = [memory for at, memory in self.samples if at < part]
-        last = [memory for at, memory in self.samples if at >= self.seconds - part]
-        return max(first, default=0), max(last, default=0)
+        return max((most for at, most, _ in self.samples if at < part), default=0)
 
 
 def faults(run, rounds):
@@ -102,9 +121,9 @@ def faults(run, rounds):
 
 
 def is_level(run):
-    first, last = run.peaks()
-    print(f"memory: at most {first} kB at first, {last} kB at last; in each minute {run.by_minute()}")
-    return 0 < first and 0 < last <= first + MARGIN
+    first = run.most_at_first()
+    print(f"memory: at most {first} bytes at first, {run.most} in all; resident by minute, kB: {run.by_minute()}")
+    return 0 < first and run.most <= first + MARGIN
 
 
 def told(name, found):
