@@ -17,14 +17,19 @@ const ABOUT_REPLAY: &str =
 const ABOUT_STORM: &str =
     "Has workers call one registry at the same time, and writes to standard output how it ended.";
 
-const AFTER_HELP: &str =
-    "docs/FORMATS.md describes scripts, what is written, and the statuses.\n\nExamples:\n  tracerun replay < examples/first.jsonl\n  tracerun storm --workers 4 --rounds 100";
+const AFTER_HELP: &str = "docs/FORMATS.md describes scripts, what is written, and the statuses.\n\n\
+    Examples:\n  \
+    tracerun replay < examples/first.jsonl\n  \
+    tracerun storm --workers 4 --rounds 100";
 
 const AFTER_STORM_HELP: &str =
-    "Each worker has a thread of its own and makes nine calls a round. docs/FORMATS.md describes them, what is written, and the statuses.\n\nExample:\n  tracerun storm --workers 4 --rounds 100";
+    "Each worker has a thread of its own and makes nine calls a round. docs/FORMATS.md describes them, what is written, \
+    and the statuses.\n\n\
+    Example:\n  tracerun storm --workers 4 --rounds 100";
 
 const AFTER_REPLAY_HELP: &str =
-    "A script has a JSON object on each line. docs/FORMATS.md describes scripts, what is written, and the statuses.\n\nExample:\n  tracerun replay < examples/first.jsonl";
+    "A script has a JSON object on each line. docs/FORMATS.md describes scripts, what is written, and the statuses.\n\n\
+    Example:\n  tracerun replay < examples/first.jsonl";
 
 /// The program's command line.
 fn command<'a>(alloc: Global) -> Result<Command<'a>, AllocError> {
