@@ -65,3 +65,12 @@ pub event_notes : (rules : List Filter) (worker : ℕ) (spans : Spans) (stack se
 event_notes rules worker spans stack seen bits admitted meta message fields notes same bits_are are =
     one_happening rules worker (event_at spans stack admitted meta.level message fields) [] notes refl
     (are ∙ (λ j. notes_of rules worker (event_at spans (same j) (bits_are j) meta.level message fields)))
+
+-- where there are no layers, nothing is told
+pub no_layers : (rules : List Filter) (worker : ℕ) (whats : List Happening) (notes : List PlainNote) → length rules ≡ 0 → notes ≡ notes ++ flat_map (notes_of rules worker) whats
+no_layers [] worker whats notes none = sym (append-nil notes) ∙ ap (λ xs. notes ++ xs) (sym (quiet whats))
+  where
+    quiet : (whats : List Happening) → flat_map (notes_of [] worker) whats ≡ []
+    quiet [] = refl
+    quiet (what ∷ whats) = quiet whats
+no_layers (filter ∷ rules) worker whats notes none = cc

@@ -110,8 +110,6 @@ pub(crate) fn push_closes(
             span,
         };
         push_close(alloc, notes, &mut places, paths, rules, forest, &what)?;
-        // The next span has another path.
-        paths.clear();
     }
     Ok(())
 }
@@ -139,7 +137,8 @@ fn no_places(alloc: Global, layers: usize) -> Result<Vec<Option<Place>>, Fault>
     Ok(places)
 }
 
-// Appends the notes of a span that closes, with all its fields, and writes down where they stand.
+// Appends the notes of a span that closes, with all its fields, and writes down where they stand. The next span has
+// other paths, so those of this one are forgotten.
 fn push_close(
     alloc: Global,
     notes: &mut Vec<Note>,
@@ -166,6 +165,7 @@ fn push_close(
     for layer in told_layers(rules, what.span.bits, Kind::OnClose) {
         push_close_note(alloc, notes, places, paths, forest, what, layer)?;
     }
+    paths.clear();
     Ok(())
 }
 
