@@ -173,7 +173,11 @@ fn push_told(
     ensures known { OnOk result (Knows (text_told what.now.subject) forest.now.spans paths.new) }
     ensures memory { IfErr result (λ fault. fault ≡ Fault.Memory) }
 {
-    notes.reserve_exact(told_count(rules, what.bits, what.kind))?;
+    let count = told_count(rules, what.bits, what.kind);
+    if count == 0 {
+        return Ok(());
+    }
+    notes.reserve_exact(count)?;
     for layer in told_layers(rules, what.bits, what.kind) {
         let note = note(alloc, forest, what, paths, layer)?;
         notes.push(note)?;

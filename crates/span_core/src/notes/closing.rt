@@ -12,7 +12,7 @@ ghost use Rattle.span_core.specs.Happening.{close_of, note_of, notes_of};
 ghost use Rattle.span_core.specs.inside.ClosingPaths.{IsChain, TellsBelow, IsBelow, place_in, AreBelow};
 ghost use Rattle.span_core.specs.inside.Telling.{Knows};
 
-use crate::notes::layers::{told_count, told_layers};
+use crate::notes::layers::{is_wanted, told_count, told_layers};
 use crate::notes::paths::{ToldPaths, same_text, seen_text};
 use span_forest::laws::{
     closing_list_begins_the_walk, held_ids_are_open, open_spans_are_counted, walks_end,
@@ -95,7 +95,7 @@ pub(crate) fn push_closes(
     if closed.is_empty() {
         return Ok(());
     }
-    if rules.is_empty() {
+    if !is_wanted(rules, Kind::OnClose) {
         return Ok(());
     }
     notes.reserve_exact(closes_count(rules, forest, closed))?;

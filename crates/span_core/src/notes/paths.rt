@@ -194,11 +194,7 @@ pub(crate) fn new_text(
 }
 
 // This text: the one that was told, where it is the same.
-pub(crate) fn same_text(
-    alloc: Global,
-    paths: &mut ToldPaths,
-    text: &str,
-) -> Result<ArcStr, Fault>
+pub(crate) fn same_text(alloc: Global, paths: &mut ToldPaths, text: &str) -> Result<ArcStr, Fault>
     ensures text { IfOk result (λ told. arc_str_bytes told ≡ text.now) }
     ensures known { OnOk result ((told : List (List ℕ) → List ℕ) (spans : Spans) →
         Knows told spans paths.old → Knows told spans paths.new) }
