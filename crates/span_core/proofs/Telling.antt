@@ -1,15 +1,17 @@
 -- The notes of the layers, one after another.
-use Rattle.std.proofs.Common.{◌≡◌, ℕ, suc, ◌+◌, ◌-◌, ◌<◌, true, false, cond, List, [], ◌∷◌, ◌++◌, length, map, filter, refl, sym, ap, ◌∙◌, arith, append_assoc, append-nil}
+use Rattle.std.proofs.Common.{◌≡◌, ℕ, suc, ◌+◌, ◌-◌, ◌<◌, Bool, zero, true, false, cond, ◌&&◌, List, [], ◌∷◌, ◌++◌, length, map, filter, refl, sym, ap, ◌∙◌, arith, append_assoc, append-nil}
 use Rattle.std.specs.Prelude.{flat_map}
 use Rattle.std.specs.List.{range_with_len}
 use Rattle.span_id.specs.Meta.{KeyValue, PlainMeta}
+use Rattle.span_id.specs.Bits.{has_bit}
 use Rattle.span_layers.specs.declared.note.Kind.{Kind}
+use Rattle.span_layers.specs.declared.note.Kind.TheVariants.{OnClose}
 use Rattle.span_layers.specs.Note.{PlainNote}
-use Rattle.span_layers.specs.Filter.{Filter}
+use Rattle.span_layers.specs.Filter.{Filter, layer_wants}
 use Rattle.span_forest.specs.Spans.{Spans}
 use Rattle.span_core.specs.inside.Sound.{hears}
 use Rattle.span_core.specs.inside.Telling.{told_from}
-use Rattle.span_core.specs.Happening.{Happening, notes_of, notes_of_all, close_of, event_at}
+use Rattle.span_core.specs.Happening.{Happening, bits_in, is_told, note_of, notes_of, notes_of_all, close_of, event_at}
 
 -- the layers from a number on: first itself, if it is told
 told_here : (rules : List Filter) (bits : ℕ) (kind : Kind) (from : ℕ) → from < length rules
@@ -65,3 +67,26 @@ pub event_notes : (rules : List Filter) (worker : ℕ) (spans : Spans) (stack se
 event_notes rules worker spans stack seen bits admitted meta message fields notes same bits_are are =
     one_happening rules worker (event_at spans stack admitted meta.level message fields) [] notes refl
     (are ∙ (λ j. notes_of rules worker (event_at spans (same j) (bits_are j) meta.level message fields)))
+
+-- where no number of a range passes a test, none is left
+none_passes : (test : ℕ → Bool) (from n : ℕ) → ((k : ℕ) → k < from + n → test k ≡ false) → filter test (range_with_len from n) ≡ []
+none_passes test from zero fails = refl
+none_passes test from (suc n) fails =
+    let rest = filter test (range_with_len (from + 1) n) in
+    ap (λ b. cond b (from ∷ rest) rest) (fails from (omega arith)) ∙ none_passes test (from + 1) n (λ k lt. fails k (omega (arith, lt)))
+
+never : (a b : Bool) → b ≡ false → (a && b) ≡ false
+never true b fails = fails
+never false b fails = refl
+
+-- where no layer wants closes, nothing is told of spans that close
+pub unwanted_closes : (rules : List Filter) (worker : ℕ) (spans : Spans) (closed : List ℕ) (notes : List PlainNote)
+    → ((layer : ℕ) → layer < length rules → layer_wants rules layer OnClose ≡ false) → notes ≡ notes ++ flat_map (notes_of rules worker) (map (close_of spans) closed)
+unwanted_closes rules worker spans closed notes unwanted = sym (append-nil notes) ∙ ap (λ xs. notes ++ xs) (sym (quiet closed))
+  where
+    quiet : (ids : List ℕ) → flat_map (notes_of rules worker) (map (close_of spans) ids) ≡ []
+    quiet [] = refl
+    quiet (id ∷ ids) =
+        ap (λ layers. map (note_of worker (close_of spans id)) layers ++ flat_map (notes_of rules worker) (map (close_of spans) ids))
+        (none_passes (is_told rules (close_of spans id)) 0 (length rules) (λ k lt. never (has_bit (bits_in spans id) k) (layer_wants rules k OnClose) (unwanted k (omega (arith, lt)))))
+        ∙ quiet ids

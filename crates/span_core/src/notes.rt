@@ -3,6 +3,7 @@ ghost use Rattle.std.specs.Prelude.{◌≡◌, ◌<◌, ◌++◌, ◌∷◌, [],
 ghost use Rattle.std.specs.Arc.{arc_str_bytes};
 ghost use Rattle.span_layers.specs.declared.note.Kind.TheVariants.{OnExit};
 ghost use Rattle.span_layers.specs.Note.{plain_note, told_of};
+ghost use Rattle.span_forest.specs.Path.{path_text};
 ghost use Rattle.span_outlet.specs.Request.{record_fields, request_of};
 ghost use Rattle.span_core.specs.Happening.{at_span, close_of, bits_in, notes_of, notes_of_all, path_at};
 ghost use Rattle.span_core.specs.inside.ClosingPaths.{IsChain};
@@ -17,7 +18,7 @@ pub(crate) mod paths;
 use closing::push_closes;
 use events::contextual_span;
 use layers::{told_count, told_layers};
-use paths::{LastPath, new_text, seen_text};
+use paths::{ToldPaths, new_text, seen_text};
 use span_forest::Forest;
 use span_id::{Bits, Fault, Fields, Id, Level};
 use span_layers::{Kind, Note, Rules};
@@ -98,20 +99,20 @@ fn path_of(
     alloc: Global,
     forest: &Forest,
     subject: &Subject<'_>,
-    last: &mut Option<LastPath>,
+    paths: &mut ToldPaths,
     layer: u32,
     place: &Option<Id>,
 ) -> Result<ArcStr, Fault>
-    requires known { Knows (text_told subject.now) forest.now.spans last.old }
+    requires known { Knows (text_told subject.now) forest.now.spans paths.old }
     ensures text { IfOk result (λ text. arc_str_bytes text
         ≡ text_told subject.now (path_at layer forest.now.spans place.now)) }
-    ensures known { OnOk result (Knows (text_told subject.now) forest.now.spans last.new) }
+    ensures known { OnOk result (Knows (text_told subject.now) forest.now.spans paths.new) }
     ensures memory { IfErr result (λ fault. fault ≡ Fault.Memory) }
 {
     match subject {
-        Subject::NewSpan { name, .. } => new_text(alloc, forest, last, layer, place, name),
-        Subject::Span(_) => seen_text(alloc, forest, last, layer, place),
-        Subject::Event { .. } => seen_text(alloc, forest, last, layer, place),
+        Subject::NewSpan { name, .. } => new_text(alloc, forest, paths, layer, place, name),
+        Subject::Span(_) => seen_text(alloc, forest, paths, layer, place),
+        Subject::Event { .. } => seen_text(alloc, forest, paths, layer, place),
     }
 }
 
@@ -129,21 +130,21 @@ fn tail(subject: &Subject<'_>) -> Result<Option<(Level, ArcStr)>, Fault>
     }
 }
 
-// The note that a layer is told. It shares the path that was told last, where the layer sees the same.
+// The note that a layer is told. It shares a path that was told, where the layer sees the same.
 fn note(
     alloc: Global,
     forest: &Forest,
     what: &Telling<'_>,
-    last: &mut Option<LastPath>,
+    paths: &mut ToldPaths,
     layer: u32,
 ) -> Result<Note, Fault>
-    requires known { Knows (text_told what.now.subject) forest.now.spans last.old }
+    requires known { Knows (text_told what.now.subject) forest.now.spans paths.old }
     ensures note { IfOk result (λ note. plain_note note ≡ told_to forest.now.spans what.now layer) }
-    ensures known { OnOk result (Knows (text_told what.now.subject) forest.now.spans last.new) }
+    ensures known { OnOk result (Knows (text_told what.now.subject) forest.now.spans paths.new) }
     ensures memory { IfErr result (λ fault. fault ≡ Fault.Memory) }
 {
     let place = place_of(forest, &what.subject, layer);
-    let path = path_of(alloc, forest, &what.subject, last, layer, &place)?;
+    let path = path_of(alloc, forest, &what.subject, paths, layer, &place)?;
     let fields = what.fields.share()?;
     let tail = tail(&what.subject)?;
     Ok(Note {
@@ -161,18 +162,24 @@ fn note(
 fn push_told(
     alloc: Global,
     notes: &mut Vec<Note>,
+    paths: &mut ToldPaths,
     rules: &Rules,
     forest: &Forest,
     what: &Telling<'_>,
 ) -> Result<(), Fault>
+    requires known { Knows (text_told what.now.subject) forest.now.spans paths.old }
     ensures notes { OnOk result (map plain_note notes.new.items ≡ map plain_note notes.old.items
         ++ notes_told rules.now forest.now.spans what.now) }
+    ensures known { OnOk result (Knows (text_told what.now.subject) forest.now.spans paths.new) }
     ensures memory { IfErr result (λ fault. fault ≡ Fault.Memory) }
 {
-    notes.reserve_exact(told_count(rules, what.bits, what.kind))?;
-    let mut last = None;
+    let count = told_count(rules, what.bits, what.kind);
+    if count == 0 {
+        return Ok(());
+    }
+    notes.reserve_exact(count)?;
     for layer in told_layers(rules, what.bits, what.kind) {
-        let note = note(alloc, forest, what, &mut last, layer)?;
+        let note = note(alloc, forest, what, paths, layer)?;
         notes.push(note)?;
     }
     Ok(())
@@ -190,23 +197,46 @@ fn told(
     ensures memory { IfErr result (λ fault. fault ≡ Fault.Memory) }
 {
     let mut notes = Vec::new(alloc);
-    push_told(alloc, &mut notes, rules, forest, what)?;
+    let mut paths = ToldPaths::none(alloc);
+    push_told(alloc, &mut notes, &mut paths, rules, forest, what)?;
     Ok(notes)
 }
 
-// Appends the notes of what happened to a span: one for each layer that admits the span and wants the kind.
-pub(crate) fn push_notes(
+// The notes of what happened to a span: one for each layer that admits the span and wants the kind.
+pub(crate) fn span_notes(
+    alloc: Global,
+    rules: &Rules,
+    forest: &Forest,
+    what: &Happening,
+    fields: &Fields,
+) -> Result<Vec<Note>, Fault>
+    requires bits { what.now.bits.0 ≡ bits_in forest.now.spans what.now.id }
+    ensures notes { IfOk result (λ notes. map plain_note notes.items ≡ notes_of rules.now what.now.worker
+        (at_span forest.now.spans what.now.kind what.now.id fields.now)) }
+    ensures memory { IfErr result (λ fault. fault ≡ Fault.Memory) }
+{
+    let mut notes = Vec::new(alloc);
+    let mut paths = ToldPaths::none(alloc);
+    push_notes(alloc, &mut notes, &mut paths, rules, forest, what, fields)?;
+    Ok(notes)
+}
+
+// Appends these notes.
+fn push_notes(
     alloc: Global,
     notes: &mut Vec<Note>,
+    paths: &mut ToldPaths,
     rules: &Rules,
     forest: &Forest,
     what: &Happening,
     fields: &Fields,
 ) -> Result<(), Fault>
     requires bits { what.now.bits.0 ≡ bits_in forest.now.spans what.now.id }
+    requires known { Knows path_text forest.now.spans paths.old }
     ensures notes { OnOk result (map plain_note notes.new.items ≡ map plain_note notes.old.items
         ++ notes_of rules.now what.now.worker
         (at_span forest.now.spans what.now.kind what.now.id fields.now)) }
+    ensures known { OnOk result (Knows path_text forest.now.spans paths.new) }
     ensures memory { IfErr result (λ fault. fault ≡ Fault.Memory) }
 {
     let what = Telling {
@@ -216,7 +246,7 @@ pub(crate) fn push_notes(
         fields,
         subject: Subject::Span(what.id),
     };
-    push_told(alloc, notes, rules, forest, &what)
+    push_told(alloc, notes, paths, rules, forest, &what)
 }
 
 // The call that appends fields to those of a span, and its notes: they share the fields.
@@ -234,8 +264,7 @@ pub(crate) fn record_told(
         (at_span forest.now.spans what.now.kind what.now.id fields.now)) }
     ensures memory { IfErr result (λ fault. fault ≡ Fault.Memory) }
 {
-    let mut notes = Vec::new(alloc);
-    push_notes(alloc, &mut notes, rules, forest, what, fields)?;
+    let notes = span_notes(alloc, rules, forest, what, fields)?;
     let fields = fields.share()?;
     Ok(Announced {
         call: Call::RecordFields {
@@ -247,7 +276,7 @@ pub(crate) fn record_told(
     })
 }
 
-// The notes of an exit: those of the exit itself, then those of the spans that it closes.
+// The notes of an exit: those of the exit itself, then those of the spans that it closes. They share their paths.
 pub(crate) fn exit_notes(
     alloc: Global,
     rules: &Rules,
@@ -264,7 +293,24 @@ pub(crate) fn exit_notes(
     ensures memory { IfErr result (λ fault. fault ≡ Fault.Memory) }
 {
     let mut notes = Vec::new(alloc);
-    push_notes(alloc, &mut notes, rules, forest, exit, &Fields::none())?;
-    push_closes(alloc, &mut notes, rules, forest, exit.worker, closing)?;
+    let mut paths = ToldPaths::none(alloc);
+    push_notes(
+        alloc,
+        &mut notes,
+        &mut paths,
+        rules,
+        forest,
+        exit,
+        &Fields::none(),
+    )?;
+    push_closes(
+        alloc,
+        &mut notes,
+        &mut paths,
+        rules,
+        forest,
+        exit.worker,
+        closing,
+    )?;
     Ok(notes)
 }

@@ -1,6 +1,6 @@
 -- What the layers are told, as it can be said before the call is done, for the functions inside this
 -- crate: no public clause cites it.
-use Rattle.std.specs.Prelude.{◌≡◌, ℕ, ◌-◌, List, [], ◌∷◌, ◌++◌, length, map, filter, Option, Some, None, IsTrue}
+use Rattle.std.specs.Prelude.{◌≡◌, ℕ, ◌-◌, List, [], ◌∷◌, ◌++◌, length, map, filter, Option, Some, None, IsTrue, IfSome, All}
 use Rattle.std.specs.Arc.{arc_str_bytes}
 use Rattle.std.specs.List.{range_with_len}
 use Rattle.span_id.specs.Bits.{has_bit}
@@ -10,7 +10,8 @@ use Rattle.span_layers.specs.Filter.{Filter}
 use Rattle.span_forest.specs.Spans.{Spans}
 use Rattle.span_forest.specs.Path.{path_text}
 use Rattle.span_core.specs.declared.notes.Telling.{Telling}
-use Rattle.span_core.specs.declared.notes.paths.LastPath.{LastPath}
+use Rattle.span_core.specs.declared.notes.paths.ToldPath.{ToldPath}
+use Rattle.span_core.specs.declared.notes.paths.ToldPaths.{ToldPaths}
 use Rattle.span_core.specs.declared.notes.Subject.{Subject}
 use Rattle.span_core.specs.declared.notes.Subject.TheVariants.{Span, NewSpan, Event}
 use Rattle.span_core.specs.inside.Sound.{hears}
@@ -34,11 +35,15 @@ text_told (Span id) path = path_text path
 text_told (NewSpan id parent name) path = path_text (path ++ name.now ∷ [])
 text_told (Event stack level message) path = path_text path
 
--- what is known of the text that was told last: these layers read it at its place
-abbrev pub Knows : (List (List ℕ) → List ℕ) → Spans → Option LastPath → Type 0
-Knows told spans None = Unit {0}
-Knows told spans (Some last) =
-    (layer : ℕ) → IsTrue (has_bit last.same.0 layer) → arc_str_bytes last.text ≡ told (path_at layer spans last.place)
+-- what is known of a text that was told: these layers read it at its place
+abbrev pub KnowsPath : (List (List ℕ) → List ℕ) → Spans → ToldPath → Type 0
+KnowsPath told spans path =
+    (layer : ℕ) → IsTrue (has_bit path.same.0 layer) → arc_str_bytes path.text ≡ told (path_at layer spans path.place)
+
+-- the same of each text that a call has told so far
+pub record Knows (told : List (List ℕ) → List ℕ) (spans : Spans) (paths : ToldPaths) : Type 0 where
+  pub first : IfSome paths.first (KnowsPath told spans)
+  pub further : All (KnowsPath told spans) paths.further.items
 
 -- the level and the message that it is told
 abbrev pub tail_told : Subject → Option Told

@@ -16,7 +16,7 @@ use crate::Core;
 use crate::calls::held::{closing_of, held_span, open_bits};
 use crate::calls::room::ask;
 use crate::laws::the_named_span_closes_first;
-use crate::notes::{Happening, exit_notes, push_notes};
+use crate::notes::{Happening, exit_notes, span_notes};
 use crate::stacks::{is_outside, pop_at, push_at, stays_inside};
 use span_forest::{Forest, Holder};
 use span_id::{Fault, Fields, Id};
@@ -50,10 +50,8 @@ impl<O: Outlet, A> Core<O, A> {
             id,
             bits: held.bits,
         };
-        let mut notes = Vec::new(self.alloc);
-        push_notes(
+        let notes = span_notes(
             self.alloc,
-            &mut notes,
             &self.rules,
             &self.forest,
             &what,

@@ -15,7 +15,7 @@ use crate::calls::names::are_keys;
 use crate::calls::room::ask;
 use crate::given::GivenFields;
 use crate::laws::the_named_span_closes_first;
-use crate::notes::closing::push_closes;
+use crate::notes::closing::close_notes;
 use crate::notes::{Happening, record_told};
 use span_forest::Holder;
 use span_id::{Fault, Field, Fields, Id};
@@ -165,10 +165,8 @@ impl<O: Outlet, A> Core<O, A> {
         }
         ask(&mut self.outlet)?;
         let closing = closing_of(&self.forest, id, Holder::Handle)?;
-        let mut notes = Vec::new(self.alloc);
-        push_closes(
+        let notes = close_notes(
             self.alloc,
-            &mut notes,
             &self.rules,
             &self.forest,
             worker,

@@ -12,8 +12,8 @@ ghost use Rattle.span_core.specs.Happening.{close_of, note_of, notes_of};
 ghost use Rattle.span_core.specs.inside.ClosingPaths.{IsChain, TellsBelow, IsBelow, place_in, AreBelow};
 ghost use Rattle.span_core.specs.inside.Telling.{Knows};
 
-use crate::notes::layers::{told_count, told_layers};
-use crate::notes::paths::{LastPath, same_text, seen_text};
+use crate::notes::layers::{is_wanted, told_count, told_layers};
+use crate::notes::paths::{ToldPaths, same_text, seen_text};
 use span_forest::laws::{
     closing_list_begins_the_walk, held_ids_are_open, open_spans_are_counted, walks_end,
 };
@@ -56,17 +56,38 @@ pub(crate) fn closing_lists_are_chains(forest: &Forest)
     closing_list_begins_the_walk(forest);
 }
 
+// The notes of a chain of spans that close.
+pub(crate) fn close_notes(
+    alloc: Global,
+    rules: &Rules,
+    forest: &Forest,
+    worker: u32,
+    closed: &[Id],
+) -> Result<Vec<Note>, Fault>
+    requires chain { IsChain forest.now.spans closed.now }
+    ensures notes { IfOk result (λ notes. map plain_note notes.items
+        ≡ flat_map (notes_of rules.now worker) (map (close_of forest.now.spans) closed.now)) }
+    ensures memory { IfErr result (λ fault. fault ≡ Fault.Memory) }
+{
+    let mut notes = Vec::new(alloc);
+    let mut paths = ToldPaths::none(alloc);
+    push_closes(alloc, &mut notes, &mut paths, rules, forest, worker, closed)?;
+    Ok(notes)
+}
+
 // Appends the notes of a chain of spans that close, one span after the other. A layer's path is had by a walk once,
 // at the first span that the layer is told of, and at each further one from the note before.
 pub(crate) fn push_closes(
     alloc: Global,
     notes: &mut Vec<Note>,
+    paths: &mut ToldPaths,
     rules: &Rules,
     forest: &Forest,
     worker: u32,
     closed: &[Id],
 ) -> Result<(), Fault>
     requires chain { IsChain forest.now.spans closed.now }
+    requires known { Knows path_text forest.now.spans paths.old }
     ensures notes { OnOk result (map plain_note notes.new.items ≡ map plain_note notes.old.items
         ++ flat_map (notes_of rules.now worker) (map (close_of forest.now.spans) closed.now)) }
     ensures memory { IfErr result (λ fault. fault ≡ Fault.Memory) }
@@ -74,9 +95,11 @@ pub(crate) fn push_closes(
     if closed.is_empty() {
         return Ok(());
     }
+    if !is_wanted(rules, Kind::OnClose) {
+        return Ok(());
+    }
     notes.reserve_exact(closes_count(rules, forest, closed))?;
     let mut places = no_places(alloc, rules.len())?;
-    let mut last = None;
     for id in closed {
         let Some(span) = forest.find(*id) else {
             unreachable!()
@@ -86,7 +109,7 @@ pub(crate) fn push_closes(
             id: *id,
             span,
         };
-        push_close(alloc, notes, &mut places, &mut last, rules, forest, &what)?;
+        push_close(alloc, notes, &mut places, paths, rules, forest, &what)?;
     }
     Ok(())
 }
@@ -114,12 +137,13 @@ fn no_places(alloc: Global, layers: usize) -> Result<Vec<Option<Place>>, Fault>
     Ok(places)
 }
 
-// Appends the notes of a span that closes, with all its fields, and writes down where they stand.
+// Appends the notes of a span that closes, with all its fields, and writes down where they stand. The next span has
+// other paths, so those of this one are forgotten.
 fn push_close(
     alloc: Global,
     notes: &mut Vec<Note>,
     places: &mut Vec<Option<Place>>,
-    last: &mut Option<LastPath>,
+    paths: &mut ToldPaths,
     rules: &Rules,
     forest: &Forest,
     what: &Closing<'_>,
@@ -128,19 +152,20 @@ fn push_close(
     requires found { find forest.now.spans what.now.id ≡ Some (node_of what.now.span.now) }
     requires below { AreBelow rules.now forest.now.spans (map plain_note notes.old.items)
         (λ layer. Some what.now.id) places.old.items }
-    requires known { Knows path_text forest.now.spans last.old }
+    requires known { Knows path_text forest.now.spans paths.old }
     ensures length { OnOk result (length places.new.items ≡ length rules.now) }
     ensures notes { OnOk result (map plain_note notes.new.items ≡ map plain_note notes.old.items
         ++ notes_of rules.now what.now.worker (close_of forest.now.spans what.now.id)) }
     ensures below { OnOk result (AreBelow rules.now forest.now.spans (map plain_note notes.new.items)
         (λ layer. parent_of forest.now.spans what.now.id) places.new.items) }
-    ensures known { OnOk result (Knows path_text forest.now.spans last.new) }
+    ensures known { OnOk result (Knows path_text forest.now.spans paths.new) }
     ensures memory { IfErr result (λ fault. fault ≡ Fault.Memory) }
 {
     walks_end(forest);
     for layer in told_layers(rules, what.span.bits, Kind::OnClose) {
-        push_close_note(alloc, notes, places, last, forest, what, layer)?;
+        push_close_note(alloc, notes, places, paths, forest, what, layer)?;
     }
+    paths.clear();
     Ok(())
 }
 
@@ -149,7 +174,7 @@ fn push_close_note(
     alloc: Global,
     notes: &mut Vec<Note>,
     places: &mut Vec<Option<Place>>,
-    last: &mut Option<LastPath>,
+    paths: &mut ToldPaths,
     forest: &Forest,
     what: &Closing<'_>,
     layer: u32,
@@ -158,7 +183,7 @@ fn push_close_note(
     requires found { find forest.now.spans what.now.id ≡ Some (node_of what.now.span.now) }
     requires below { IsBelow forest.now.spans (map plain_note notes.old.items) layer
         (Some what.now.id) (place_in places.old.items layer) }
-    requires known { Knows path_text forest.now.spans last.old }
+    requires known { Knows path_text forest.now.spans paths.old }
     ensures notes { OnOk result (map plain_note notes.new.items ≡ map plain_note notes.old.items
         ++ note_of what.now.worker (close_of forest.now.spans what.now.id) layer ∷ []) }
     ensures places { OnOk result (places.new.items
@@ -166,7 +191,7 @@ fn push_close_note(
           at = length notes.old.items;
           name = length what.now.span.now.meta.name;
         }))) }
-    ensures known { OnOk result (Knows path_text forest.now.spans last.new) }
+    ensures known { OnOk result (Knows path_text forest.now.spans paths.new) }
     ensures memory { IfErr result (λ fault. fault ≡ Fault.Memory) }
 {
     let place = Place {
@@ -174,7 +199,7 @@ fn push_close_note(
         name: what.span.meta.as_meta().name.len(),
     };
     let before = note_at(notes.as_slice(), places[layer as usize]);
-    let note = close_note(alloc, forest, before, what, last, layer)?;
+    let note = close_note(alloc, forest, before, what, paths, layer)?;
     notes.push(note)?;
     places[layer as usize] = Some(place);
     Ok(())
@@ -200,19 +225,19 @@ fn close_note(
     forest: &Forest,
     before: Option<Below<'_>>,
     what: &Closing<'_>,
-    last: &mut Option<LastPath>,
+    paths: &mut ToldPaths,
     layer: u32,
 ) -> Result<Note, Fault>
     requires found { find forest.now.spans what.now.id ≡ Some (node_of what.now.span.now) }
     requires below { IfSome before (λ below.
         TellsBelow (path layer forest.now.spans what.now.id) below.name (plain_note below.note.now)) }
-    requires known { Knows path_text forest.now.spans last.old }
+    requires known { Knows path_text forest.now.spans paths.old }
     ensures note { IfOk result (λ note. plain_note note
         ≡ note_of what.now.worker (close_of forest.now.spans what.now.id) layer) }
-    ensures known { OnOk result (Knows path_text forest.now.spans last.new) }
+    ensures known { OnOk result (Knows path_text forest.now.spans paths.new) }
     ensures memory { IfErr result (λ fault. fault ≡ Fault.Memory) }
 {
-    let path = close_path(alloc, forest, before, last, layer, what.id)?;
+    let path = close_path(alloc, forest, before, paths, layer, what.id)?;
     let fields = what.span.fields.share()?;
     Ok(Note {
         layer,
@@ -230,23 +255,23 @@ fn close_path(
     alloc: Global,
     forest: &Forest,
     before: Option<Below<'_>>,
-    last: &mut Option<LastPath>,
+    paths: &mut ToldPaths,
     layer: u32,
     id: Id,
 ) -> Result<ArcStr, Fault>
     requires below { IfSome before (λ below.
         TellsBelow (path layer forest.now.spans id) below.name (plain_note below.note.now)) }
-    requires known { Knows path_text forest.now.spans last.old }
+    requires known { Knows path_text forest.now.spans paths.old }
     ensures path { IfOk result (λ text. arc_str_bytes text ≡ path_text (path layer forest.now.spans id)) }
-    ensures known { OnOk result (Knows path_text forest.now.spans last.new) }
+    ensures known { OnOk result (Knows path_text forest.now.spans paths.new) }
     ensures memory { IfErr result (λ fault. fault ≡ Fault.Memory) }
 {
     if let Some(below) = before {
         if let Some(text) = path_above(below.note, below.name) {
-            return same_text(alloc, last, text);
+            return same_text(alloc, paths, text);
         }
     }
-    seen_text(alloc, forest, last, layer, &Some(id))
+    seen_text(alloc, forest, paths, layer, &Some(id))
 }
 
 // The path of a note without its last name, which has so many bytes.

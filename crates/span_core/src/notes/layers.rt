@@ -1,7 +1,8 @@
 //! The layers that are told of what happens.
-ghost use Rattle.std.specs.Prelude.{◌≡◌, ◌<◌, filter, length};
+ghost use Rattle.std.specs.Prelude.{◌≡◌, ◌<◌, ℕ, false, [], filter, length};
 ghost use Rattle.std.specs.List.{range_with_len};
 ghost use Rattle.std.specs.Iterator.{YieldsFirst, item_count};
+ghost use Rattle.span_layers.specs.Filter.{layer_wants};
 ghost use Rattle.span_core.specs.inside.Sound.{hears};
 
 use span_id::Bits;
@@ -61,12 +62,26 @@ pub(crate) fn told_layers(rules: &Rules, bits: Bits, kind: Kind) -> ToldLayers<'
 }
 
 // How many layers are told.
-pub(crate) fn told_count(rules: &Rules, bits: Bits, kind: Kind) -> usize {
+pub(crate) fn told_count(rules: &Rules, bits: Bits, kind: Kind) -> usize
+    ensures { result ≡ 0 → filter (hears rules.now bits.0 kind) (range_with_len 0 (length rules.now)) ≡ [] }
+{
     let mut count = 0usize;
     for _ in told_layers(rules, bits, kind) {
         count = count.saturating_add(1);
     }
     count
+}
+
+// Whether any layer wants notes of this kind.
+pub(crate) fn is_wanted(rules: &Rules, kind: Kind) -> bool
+    ensures { result ≡ false → (layer : ℕ) → layer < length rules.now → layer_wants rules.now layer kind ≡ false }
+{
+    for layer in 0..rules.len() {
+        if rules.want(layer as u32, kind) {
+            return true;
+        }
+    }
+    false
 }
 
 // Whether a layer is told: it admits what happened, and wants the kind.

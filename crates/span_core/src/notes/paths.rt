@@ -1,116 +1,215 @@
-//! The texts of the paths that layers are told, each made once for the layers that see the same.
-ghost use Rattle.std.specs.Prelude.{◌≡◌, ◌++◌, ◌∷◌, [], ℕ, List, string_bytes, IsTrue, IfOk, IfErr, OnOk, IfSome, IsSomeAnd};
+//! The texts of the paths that a call tells its layers, each made once for all that see it.
+ghost use Rattle.std.specs.Prelude.{◌≡◌, ◌++◌, ◌∷◌, [], ℕ, List, string_bytes, IsTrue, IfOk, IfErr, OnOk, IfSome};
 ghost use Rattle.std.specs.Arc.{arc_str_bytes};
 ghost use Rattle.span_id.specs.Bits.{has_bit};
 ghost use Rattle.span_forest.specs.Spans.{Spans};
 ghost use Rattle.span_forest.specs.Path.{path_text};
 ghost use Rattle.span_core.specs.Happening.{path_at};
-ghost use Rattle.span_core.specs.inside.Telling.{Knows};
+ghost use Rattle.span_core.specs.inside.Telling.{Knows, KnowsPath};
 
 use span_forest::{Forest, PathText};
 use span_id::{Bits, Fault, Id, copy_text};
 use std::alloc::Global;
 use std::sync::ArcStr;
 
-/// The text that was told last: where its path was read, and layers that see it there.
+/// A path that was told: where it was read, layers that see it there, and its text.
 #[derive(Drop)]
-pub(crate) struct LastPath {
+pub(crate) struct ToldPath {
     place: Option<Id>,
     same: Bits,
     text: ArcStr,
 }
 
-// The path of a layer at a place: the text that was told last, where the layer sees the same, else a new one.
+/// The paths that a call has told so far.
+#[derive(Drop)]
+pub(crate) struct ToldPaths {
+    // Most calls tell one path, and take no list for it.
+    first: Option<ToldPath>,
+    further: Vec<ToldPath>,
+}
+
+impl ToldPath {
+    // The text, if the layer is among those of which it is known that they see it at this place.
+    fn seen(&self, layer: u32, place: &Option<Id>) -> Option<&ArcStr>
+        ensures { IfSome result (λ text. (told : List (List ℕ) → List ℕ) (spans : Spans) →
+            KnowsPath told spans self.now → arc_str_bytes text.now ≡ told (path_at layer spans place.now)) }
+    {
+        if self.place == *place && self.same.has(layer) {
+            Some(&self.text)
+        } else {
+            None
+        }
+    }
+
+    // The text, if it is this one.
+    fn same(&self, text: &str) -> Option<&ArcStr>
+        ensures { IfSome result (λ same. arc_str_bytes same.now ≡ text.now) }
+    {
+        if self.text.as_str() == text {
+            Some(&self.text)
+        } else {
+            None
+        }
+    }
+}
+
+impl ToldPaths {
+    // None yet.
+    pub(crate) fn none(alloc: Global) -> ToldPaths
+        ensures { (told : List (List ℕ) → List ℕ) (spans : Spans) → Knows told spans result }
+    {
+        ToldPaths {
+            first: None,
+            further: Vec::new(alloc),
+        }
+    }
+
+    // Forgets all of them.
+    pub(crate) fn clear(&mut self)
+        ensures { (told : List (List ℕ) → List ℕ) (spans : Spans) → Knows told spans self.new }
+    {
+        self.first = None;
+        self.further.clear();
+    }
+
+    // The text that was told, if the layer is known to see it at this place.
+    fn seen(&self, layer: u32, place: &Option<Id>) -> Option<&ArcStr>
+        ensures { IfSome result (λ text. (told : List (List ℕ) → List ℕ) (spans : Spans) →
+            Knows told spans self.now → arc_str_bytes text.now ≡ told (path_at layer spans place.now)) }
+    {
+        let first = self.first.as_ref()?;
+        if let Some(text) = first.seen(layer, place) {
+            return Some(text);
+        }
+        for path in &self.further {
+            if let Some(text) = path.seen(layer, place) {
+                return Some(text);
+            }
+        }
+        None
+    }
+
+    // The text that was told, if it is this one.
+    fn same(&self, text: &str) -> Option<&ArcStr>
+        ensures { IfSome result (λ same. arc_str_bytes same.now ≡ text.now) }
+    {
+        let first = self.first.as_ref()?;
+        if let Some(same) = first.same(text) {
+            return Some(same);
+        }
+        for path in &self.further {
+            if let Some(same) = path.same(text) {
+                return Some(same);
+            }
+        }
+        None
+    }
+
+    // One more.
+    fn push(&mut self, path: ToldPath) -> Result<(), Fault>
+        ensures known { OnOk result ((told : List (List ℕ) → List ℕ) (spans : Spans) →
+            KnowsPath told spans path → Knows told spans self.old → Knows told spans self.new) }
+        ensures memory { IfErr result (λ fault. fault ≡ Fault.Memory) }
+    {
+        if self.first.is_some() {
+            self.further.push(path)?;
+        } else {
+            self.first = Some(path);
+        }
+        Ok(())
+    }
+
+    // Tells what was read at a place: by the text that was told, where it is the same, else by a new one.
+    fn tell(&mut self, place: &Option<Id>, seen: PathText) -> Result<ArcStr, Fault>
+        ensures text { IfOk result (λ told. arc_str_bytes told ≡ string_bytes seen.text) }
+        ensures known { OnOk result ((told : List (List ℕ) → List ℕ) (spans : Spans) →
+            ((layer : ℕ) → IsTrue (has_bit seen.same.0 layer) →
+            string_bytes seen.text ≡ told (path_at layer spans place.now)) →
+            Knows told spans self.old → Knows told spans self.new) }
+        ensures memory { IfErr result (λ fault. fault ≡ Fault.Memory) }
+    {
+        let PathText { text, same } = seen;
+        let text = self.shared(text)?;
+        let told = text.clone()?;
+        self.push(ToldPath {
+            place: *place,
+            same,
+            text,
+        })?;
+        Ok(told)
+    }
+
+    // A text to be shared: the one that was told, where it is the same.
+    fn shared(&self, text: String) -> Result<ArcStr, Fault>
+        ensures text { IfOk result (λ shared. arc_str_bytes shared ≡ string_bytes text) }
+        ensures memory { IfErr result (λ fault. fault ≡ Fault.Memory) }
+    {
+        if let Some(same) = self.same(text.as_str()) {
+            return Ok(same.clone()?);
+        }
+        Ok(ArcStr::from_string(text)?)
+    }
+}
+
+// The path of a layer at a place: the text that was told, where the layer sees the same, else a new one.
 pub(crate) fn seen_text(
     alloc: Global,
     forest: &Forest,
-    last: &mut Option<LastPath>,
+    paths: &mut ToldPaths,
     layer: u32,
     place: &Option<Id>,
 ) -> Result<ArcStr, Fault>
-    requires known { Knows path_text forest.now.spans last.old }
+    requires known { Knows path_text forest.now.spans paths.old }
     ensures text { IfOk result (λ text. arc_str_bytes text ≡ path_text (path_at layer forest.now.spans place.now)) }
-    ensures known { OnOk result (Knows path_text forest.now.spans last.new) }
+    ensures known { OnOk result (Knows path_text forest.now.spans paths.new) }
     ensures memory { IfErr result (λ fault. fault ≡ Fault.Memory) }
 {
-    if let Some(text) = known_text(last, layer, place) {
+    if let Some(text) = paths.seen(layer, place) {
         return Ok(text.clone()?);
     }
     let seen = text_at(alloc, forest, layer, place)?;
-    tell(last, place, seen)
+    paths.tell(place, seen)
 }
 
 // The same of a path that has one name more.
 pub(crate) fn new_text(
     alloc: Global,
     forest: &Forest,
-    last: &mut Option<LastPath>,
+    paths: &mut ToldPaths,
     layer: u32,
     place: &Option<Id>,
     name: &str,
 ) -> Result<ArcStr, Fault>
-    requires known { Knows (λ path. path_text (path ++ name.now ∷ [])) forest.now.spans last.old }
+    requires known { Knows (λ path. path_text (path ++ name.now ∷ [])) forest.now.spans paths.old }
     ensures text { IfOk result (λ text. arc_str_bytes text
         ≡ path_text (path_at layer forest.now.spans place.now ++ name.now ∷ [])) }
-    ensures known { OnOk result (Knows (λ path. path_text (path ++ name.now ∷ [])) forest.now.spans last.new) }
+    ensures known { OnOk result (Knows (λ path. path_text (path ++ name.now ∷ [])) forest.now.spans paths.new) }
     ensures memory { IfErr result (λ fault. fault ≡ Fault.Memory) }
 {
-    if let Some(text) = known_text(last, layer, place) {
+    if let Some(text) = paths.seen(layer, place) {
         return Ok(text.clone()?);
     }
     let seen = text_below(alloc, forest, layer, place, name)?;
-    tell(last, place, seen)
+    paths.tell(place, seen)
 }
 
-// This text: the one that was told last, where it is the same.
-pub(crate) fn same_text(
-    alloc: Global,
-    last: &mut Option<LastPath>,
-    text: &str,
-) -> Result<ArcStr, Fault>
+// This text: the one that was told, where it is the same.
+pub(crate) fn same_text(alloc: Global, paths: &mut ToldPaths, text: &str) -> Result<ArcStr, Fault>
     ensures text { IfOk result (λ told. arc_str_bytes told ≡ text.now) }
     ensures known { OnOk result ((told : List (List ℕ) → List ℕ) (spans : Spans) →
-        Knows told spans last.old → Knows told spans last.new) }
+        Knows told spans paths.old → Knows told spans paths.new) }
     ensures memory { IfErr result (λ fault. fault ≡ Fault.Memory) }
 {
-    if let Some(last) = last {
-        if last.text.as_str() == text {
-            return Ok(last.text.clone()?);
-        }
+    if let Some(same) = paths.same(text) {
+        return Ok(same.clone()?);
     }
-    let text = copy_text(alloc, text)?;
-    let same = Bits(0);
-    tell(last, &None, PathText { text, same })
-}
-
-// The text that was told last, if the layer is among those of which it is known that they see it at this place.
-fn known_text<'a>(last: &'a Option<LastPath>, layer: u32, place: &Option<Id>) -> Option<&'a ArcStr>
-    ensures { IfSome result (λ text. IsSomeAnd last.now (λ last.
-        (last.text ≡ text.now) × (last.place ≡ place.now) × IsTrue (has_bit last.same.0 layer))) }
-{
-    let last = last.as_ref()?;
-    if last.place == *place && last.same.has(layer) {
-        Some(&last.text)
-    } else {
-        None
-    }
-}
-
-// A new text, which from now on is the one that was told last.
-fn tell(last: &mut Option<LastPath>, place: &Option<Id>, seen: PathText) -> Result<ArcStr, Fault>
-    ensures text { IfOk result (λ told. arc_str_bytes told ≡ string_bytes seen.text) }
-    ensures last { OnOk result (IsSomeAnd last.new (λ last.
-        (arc_str_bytes last.text ≡ string_bytes seen.text) × (last.place ≡ place.now) × (last.same ≡ seen.same))) }
-    ensures memory { IfErr result (λ fault. fault ≡ Fault.Memory) }
-{
-    let PathText { text, same } = seen;
-    let text = ArcStr::from_string(text)?;
+    let text = ArcStr::from_str(alloc, text)?;
     let told = text.clone()?;
-    *last = Some(LastPath {
-        place: *place,
-        same,
+    paths.push(ToldPath {
+        place: None,
+        same: Bits(0),
         text,
-    });
+    })?;
     Ok(told)
 }
 

@@ -84,38 +84,85 @@ fn acts<'a>() -> [(u32, Act<'a>); 10] {
     ]
 }
 
-// Of four layers the third doesn't admit `b`, so it sees another path below. A path is shared with the layer before.
-// The event's message belongs to its call and to four notes.
+// Of four layers the third doesn't admit `b`, so it sees another path below. The others share one, the last of them
+// too. The event's message belongs to its call and to four notes.
 const OWNERS: [(usize, usize); 10] = [
     (4, 0),
     (4, 0),
     (4, 0),
     (3, 0),
     (4, 5),
-    (2, 0),
+    (3, 0),
     (4, 0),
     (0, 0),
     (0, 0),
-    (2, 0),
+    (3, 0),
 ];
 
-fn calls_are_shared<V: Say>(alloc: Global, filters: Filters, outlet: Kept<V>) -> Result<bool, Fail>
+fn closing_acts<'a>() -> [(u32, Act<'a>); 8] {
+    [
+        (0, new("a")),
+        (0, Act::Enter(1)),
+        (0, elsewhere("b", &[])),
+        (0, Act::Enter(2)),
+        (0, new("c")),
+        (0, Act::Enter(3)),
+        (0, Act::Close(3)),
+        (0, Act::Exit(3)),
+    ]
+}
+
+// Of three layers the second doesn't admit `b`, and the first and the third share the path of `c` below it. The last
+// call closes `c`: both layers share one path for its exit and its close.
+const CLOSING_OWNERS: [(usize, usize); 8] = [
+    (3, 0),
+    (3, 0),
+    (2, 0),
+    (2, 0),
+    (2, 0),
+    (2, 0),
+    (0, 0),
+    (4, 0),
+];
+
+fn calls_are_shared<V: Say>(
+    alloc: Global,
+    filters: Filters,
+    outlet: Kept<V>,
+    acts: &[(u32, Act<'_>)],
+    owners: &[(usize, usize)],
+) -> Result<bool, Fail>
     requires { outlet.sent ≡ [] }
 {
     let mut core = Core::new(alloc, &LIMITS.check()?, filters, outlet)?;
-    play(alloc, &mut core, LIMITS.workers, &acts())?;
-    Ok(are_shared(core.outlet().batches(), &OWNERS))
+    play(alloc, &mut core, LIMITS.workers, acts)?;
+    Ok(are_shared(core.outlet().batches(), owners))
 }
 
 fn with_four_layers(alloc: Global) -> Result<bool, Fail> {
     let app = (Form::Compact, FmtSpan::FULL, "app", Level::Trace);
     let (filters, tellers) = layers(alloc, &[EVERYTHING, EVERYTHING, app, EVERYTHING])?;
-    calls_are_shared(alloc, filters, Kept::new(alloc, tellers))
+    let outlet = Kept::new(alloc, tellers);
+    calls_are_shared(alloc, filters, outlet, &acts(), &OWNERS)
+}
+
+fn with_three_layers(alloc: Global) -> Result<bool, Fail> {
+    let app = (Form::Compact, FmtSpan::FULL, "app", Level::Trace);
+    let (filters, tellers) = layers(alloc, &[EVERYTHING, app, EVERYTHING])?;
+    let outlet = Kept::new(alloc, tellers);
+    calls_are_shared(alloc, filters, outlet, &closing_acts(), &CLOSING_OWNERS)
 }
 
 #[test]
 fn notes_share_with_the_call(rt: HostRuntime) -> Result<(), Fail> {
     let shared = with_four_layers(rt.alloc())?;
+    assert!(&rt; shared);
+    Ok(())
+}
+
+#[test]
+fn an_exit_shares_with_its_closes(rt: HostRuntime) -> Result<(), Fail> {
+    let shared = with_three_layers(rt.alloc())?;
     assert!(&rt; shared);
     Ok(())
 }

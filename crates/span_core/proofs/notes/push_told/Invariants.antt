@@ -8,5 +8,5 @@ abbrev pub invariant-loop-layer : goal.invariant-loop-layer
 invariant-loop-layer l = record {
   told : map plain_note l.notes.items ++ map (told_to l.forest.spans l.what) l.layer-iterator
       ≡ map plain_note l.initial.notes.items ++ map (told_to l.forest.spans l.what) l.initial.layer-iterator;
-  known : Knows (text_told l.what.subject) l.forest.spans l.last;
+  known : Knows (text_told l.what.subject) l.forest.spans l.paths;
 }

@@ -3,6 +3,7 @@ use Rattle.std.specs.Prelude.{is_some}
 use Rattle.std.specs.List.{range_with_len}
 use Rattle.std.proofs.lemmas.List.{length-map, length-set}
 use Rattle.span_layers.specs.Note.{plain_note}
+use Rattle.span_forest.specs.Path.{path_text}
 use Rattle.span_core.specs.Happening.{close_of, is_told, note_of}
 use Rattle.span_core.proofs.Telling.{layer_more, layers_end}
 use Rattle.span_core.proofs.ClosingPaths.{below_start, below_turn, below_end, left_start, left_turn, left_there, left_below, told_closes}
@@ -63,3 +64,6 @@ returns-clause-notes c =
 
 pub returns-clause-below : goal.returns-clause-below
 returns-clause-below c = below_end c.args.rules.now c.args.forest.now.spans c.args.what.now.id _ _ _ c.in-None.ensures.steps.0 c.loop-layer.invariant.below
+
+pub returns-clause-known : goal.returns-clause-known
+returns-clause-known c = c.clear.ensures path_text c.args.forest.now.spans

@@ -15,5 +15,5 @@ invariant-loop-layer l = record {
   left : AreAscending (is_told l.rules (close_of l.forest.spans l.what.id)) 0 (length l.rules) l.layer-iterator;
   length : length l.places.items ≡ length l.rules;
   below : AreBelow l.rules l.forest.spans (map plain_note l.notes.items) (with_left l.forest.spans l.what.id l.layer-iterator) l.places.items;
-  known : Knows path_text l.forest.spans l.last;
+  known : Knows path_text l.forest.spans l.paths;
 }

@@ -15,5 +15,5 @@ invariant-loop-id l = record {
   length : length l.places.items ≡ length l.rules;
   chain : IsChain l.forest.spans (drop l.id-index l.closed);
   below : AreBelowFirst l.rules l.forest.spans (map plain_note l.notes.items) (drop l.id-index l.closed) l.places.items;
-  known : Knows path_text l.forest.spans l.last;
+  known : Knows path_text l.forest.spans l.paths;
 }
