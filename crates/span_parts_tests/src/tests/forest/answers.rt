@@ -1,6 +1,8 @@
 //! Paths of layers, and what closes with what.
 use crate::tests::compare::{holds, same};
-use crate::tests::forest::fixtures::{add, has_path, id, pair, release, sizes, wide};
+use crate::tests::forest::fixtures::{
+    add, has_path, id, keep, next_number, pair, release, sizes, wide,
+};
 use span_forest::{Forest, Holder};
 use span_id::{Bits, Fault, Id};
 use std::process::Abort;
@@ -52,15 +54,13 @@ fn a_child_keeps_its_parent_open(rt: HostRuntime) {
     let alloc = rt.alloc();
     let mut forest = pair(&rt, alloc);
     release(&rt, alloc, &mut forest, (1, Holder::Handle), "");
-    let kept = forest.keep(id(&rt, 1), Holder::Handle);
-    same(&rt, kept, Err(Fault::Unknown), "a span without a handle");
+    keep(&rt, &mut forest, (1, Holder::Handle), Err(Fault::Unknown));
     same(&rt, sizes(&forest).1, 1, "the holders");
     release(&rt, alloc, &mut forest, (2, Holder::Handle), "2,1");
     same(&rt, sizes(&forest), (0, 0), "open, and holders");
     is_closed(&rt, &mut forest, id(&rt, 2));
     // The root's slot was freed last.
-    let next = forest.next_id();
-    same(&rt, next, Id::from_u64(16777217), "the next id");
+    same(&rt, next_number(&forest), 16777217, "the next id");
 }
 
 #[test]

@@ -1,7 +1,7 @@
 //! Forests, and what is asked of each.
 use crate::tests::compare::{holds, same};
 use span_forest::{Forest, Holder};
-use span_id::{Bits, Fields, Id, Level, Limits, Meta, SharedMeta};
+use span_id::{Bits, Fault, Fields, Id, Level, Limits, Meta, SharedMeta};
 use std::alloc::{AllocError, Global};
 use std::process::Abort;
 
@@ -127,6 +127,25 @@ fn are_gone(rt: &impl Abort, forest: &Forest, gone: &[Id], open: u64) {
     }
     let left = u64::from(forest.len());
     same(rt, left.checked_add(gone.len() as u64), Some(open), "left");
+}
+
+/// What a call that keeps a span open answers.
+pub(crate) fn keep(
+    rt: &impl Abort,
+    forest: &mut Forest,
+    (number, holder): (u64, Holder),
+    want: Result<(), Fault>,
+) {
+    let kept = forest.keep(id(rt, number), holder);
+    same(rt, kept, want, number);
+}
+
+/// The number of the next id; 0 where no slot is free.
+pub(crate) fn next_number(forest: &Forest) -> u64 {
+    match forest.next_id() {
+        Some(id) => id.get(),
+        None => 0,
+    }
 }
 
 /// How many spans are open, and how many holders there are.

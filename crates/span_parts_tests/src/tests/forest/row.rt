@@ -1,6 +1,8 @@
 //! Three spans below each other, with each answer of each call.
 use crate::tests::compare::same;
-use crate::tests::forest::fixtures::{add, are_listed, has_path, held, id, release, wide};
+use crate::tests::forest::fixtures::{
+    add, are_listed, has_path, held, id, keep, next_number, release, wide,
+};
 use span_forest::{Forest, Holder};
 use span_id::{Fault, Id};
 use std::alloc::Global;
@@ -13,7 +15,7 @@ type Counts = (u32, u64, u64, u64);
 type Spans = [Option<(u32, u32, u32)>; 3];
 
 fn state(rt: &impl Abort, forest: &Forest) -> (Counts, Spans) {
-    let next = forest.next_id().expect(rt, "a slot is free").get();
+    let next = next_number(forest);
     let (open, held_by, handles) = (forest.len(), forest.total(), forest.handles());
     let spans = [
         held(rt, forest, 1),
@@ -68,8 +70,7 @@ fn takes(rt: &impl Abort, forest: &mut Forest, alloc: Global, step: Step) {
     let (number, holder, closed, counts, spans) = step;
     release(rt, alloc, forest, (number, holder), closed);
     same(rt, state(rt, forest), (counts, spans), number);
-    let kept = forest.keep(id(rt, 4), holder);
-    same(rt, kept, Err(Fault::Unknown), "a span that never was");
+    keep(rt, forest, (4, holder), Err(Fault::Unknown));
 }
 
 // A root `a` that layer 0 admits, `b` below it that layer 1 admits, and `c` below `b` that both admit.
@@ -79,10 +80,6 @@ fn three(rt: &impl Abort, alloc: Global) -> Forest {
     add(rt, alloc, &mut forest, "b", Id::from_u64(1), 2);
     add(rt, alloc, &mut forest, "c", Id::from_u64(2), 3);
     forest
-}
-
-fn keep(rt: &impl Abort, forest: &mut Forest, number: u64, holder: Holder) {
-    forest.keep(id(rt, number), holder).expect(rt, "a handle");
 }
 
 #[test]
@@ -95,11 +92,19 @@ fn three_spans_with_each_answer(rt: HostRuntime) {
     for (layer, path) in [(0, "a:c:"), (1, "b:c:"), (2, "")] {
         has_path(&rt, alloc, &forest, (layer, 3), path);
     }
-    keep(&rt, &mut forest, 2, Holder::Entry);
-    keep(&rt, &mut forest, 3, Holder::Handle);
+    keep(&rt, &mut forest, (2, Holder::Entry), Ok(()));
+    keep(&rt, &mut forest, (3, Holder::Handle), Ok(()));
     for step in STEPS {
         takes(&rt, &mut forest, alloc, step);
     }
+}
+
+// The handle of a span is given back with the list of what closes.
+fn closes_as_told(rt: &impl Abort, alloc: Global, forest: &mut Forest, number: u64, want: &str) {
+    let span = id(rt, number);
+    let told = forest.closing(span, Holder::Handle).expect(rt, "a handle");
+    forest.release_closing(span, Holder::Handle, told.as_slice());
+    are_listed(rt, alloc, told.as_slice(), want, number);
 }
 
 #[test]
@@ -107,10 +112,7 @@ fn a_list_that_was_told_is_closed(rt: HostRuntime) {
     let alloc = rt.alloc();
     let mut forest = three(&rt, alloc);
     release(&rt, alloc, &mut forest, (2, Holder::Handle), "");
-    let c = id(&rt, 3);
-    let told = forest.closing(c, Holder::Handle).expect(&rt, "a handle");
-    forest.release_closing(c, Holder::Handle, told.as_slice());
-    are_listed(&rt, alloc, told.as_slice(), "3,2", 3);
+    closes_as_told(&rt, alloc, &mut forest, 3, "3,2");
     let left = ((1, 1, 1, 16777218), [Some((1, 0, 1)), None, None]);
     same(&rt, state(&rt, &forest), left, "what is left");
 }

@@ -1,7 +1,7 @@
 //! What a line reader gives out.
 ghost use Rattle.std.specs.Prelude.{◌≡◌, []};
 
-use crate::tests::compare::{holds, same};
+use crate::tests::compare::same;
 use crate::tests::outlet::batches::{pair, push_line, sends, tellers};
 use span_layers::{
     ByForm, ByRule, FmtSpan, Form, Formatters, Hooks, Kind, Layer, Layers, Rule, Say, Style,
@@ -57,9 +57,15 @@ fn given<V>(reader: &mut LineReader<V>) -> Option<(u64, u32)> {
     reader.next().map(|line| (line.batch, line.place))
 }
 
+// Whether a line waits once the reader was filled.
+fn fills<V: Say>(rt: &impl Abort, reader: &mut LineReader<V>, want: bool) {
+    let filled = reader.fill();
+    same(rt, filled, want, "a line waits");
+}
+
 // No line waits, so many batches were taken, and so many notes missed.
 fn stands_at<V: Say>(rt: &impl Abort, reader: &mut LineReader<V>, taken: u64, refused: u64) {
-    same(rt, reader.fill(), false, "whether a line waits");
+    fills(rt, reader, false);
     same(rt, peeked(reader), None, "the line that waits");
     same(rt, given(reader), None, "the line that is given out");
     same(rt, counts(reader), (taken, refused), "taken and refused");
@@ -99,8 +105,8 @@ fn a_line_that_waits_is_looked_at_and_given_out(rt: HostRuntime) {
 
 // The line at this place of the first batch waits, however often the reader is filled, and then it's given out.
 fn waits<V: Say>(rt: &impl Abort, reader: &mut LineReader<V>, place: u32) {
-    let filled = (reader.fill(), reader.fill());
-    same(rt, filled, (true, true), place);
+    fills(rt, reader, true);
+    fills(rt, reader, true);
     same(rt, counts(reader).0, 1, place);
     same(rt, peeked(reader), Some(place), place);
     same(rt, given(reader), Some((0, place)), place);
@@ -113,7 +119,7 @@ fn batches_whose_texts_are_refused_memory(rt: HostRuntime) {
     sends(&rt, alloc, &mut ring, (Kind::OnNew, &[0]), true);
     sends(&rt, alloc, &mut ring, (Kind::OnNew, &[0, 0]), true);
     sends(&rt, alloc, &mut ring, (Kind::OnClose, &[0, 7]), true);
-    holds(&rt, reader.fill(), "a line waits");
+    fills(&rt, &mut reader, true);
     same(&rt, counts(&reader), (3, 4), "taken and refused");
     reads(&rt, alloc, &mut reader, "2 0 0 close 1 w0 a\n");
     stands_at(&rt, &mut reader, 3, 4);
