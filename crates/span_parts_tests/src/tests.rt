@@ -1,4 +1,5 @@
 //! What no clause says: worked values from outside the crates, and each call once.
+mod compare;
 mod faults;
 mod forest;
 mod ids;

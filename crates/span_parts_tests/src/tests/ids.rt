@@ -1,17 +1,25 @@
+//! Ids in both layouts, limits, names, and shared fields.
+use crate::tests::compare::{holds, same};
 use span_id::{Bits, Field, Fields, Id, Level, Limits, Meta, SharedMeta};
 use std::alloc::Global;
-use std::test::Fail;
+use std::fmt::Display;
+use std::process::Abort;
+
+// An id has this number, slot and generation.
+fn consists_of(rt: &impl Abort, id: Id, number: u64, slot: u32, generation: u32) {
+    let parts = (id.get(), id.slot(), id.generation());
+    same(rt, parts, (number, slot, generation), number);
+}
 
 #[test]
 fn packs_slot_and_generation(rt: HostRuntime) {
-    assert_eq!(rt; Id::pack(0, 0).get(), 1);
+    same(&rt, Id::pack(0, 0).get(), 1, "the first id");
     let last = Id::pack(16777215, 4294967295);
-    assert_eq!(rt; last.get(), 72057594037927936);
-    assert_eq!(rt; last.slot(), 16777215);
-    assert_eq!(rt; last.generation(), 4294967295);
-    assert_eq!(rt; Id::from_u64(72057594037927936), Some(last));
+    consists_of(&rt, last, 72057594037927936, 16777215, 4294967295);
+    let read = Id::from_u64(72057594037927936);
+    same(&rt, read, Some(last), "the last id");
     let again = Id::from_u64(16777217).expect(&rt, "in the layout");
-    assert_eq!(rt; (again.slot(), again.generation()), (0, 1));
+    consists_of(&rt, again, 16777217, 0, 1);
 }
 
 #[test]
@@ -24,7 +32,7 @@ fn reads_the_older_layout(rt: HostRuntime) {
     ];
     for (number, want) in cases {
         let id = Id::from_v1(number).map(Id::get);
-        assert_eq!(rt; id, want, "of {number}");
+        same(&rt, id, want, number);
     }
 }
 
@@ -33,33 +41,27 @@ fn numbers_beyond_the_layout_are_no_ids(rt: HostRuntime) {
     let none_old = [0, 4294967297, 72057594037927936, u64::MAX];
     let none = [0, 72057594037927937, 1 << 63, u64::MAX];
     for (number, old) in none.into_iter().zip(none_old) {
-        assert!(rt; Id::from_u64(number).is_none(), "{number}");
-        assert!(rt; Id::from_v1(old).is_none(), "{old}");
+        holds(&rt, Id::from_u64(number).is_none(), number);
+        holds(&rt, Id::from_v1(old).is_none(), old);
     }
 }
 
+fn is_printed<T: Display + Copy>(rt: &impl Abort, alloc: Global, value: T, want: &str) {
+    let text = format!(in alloc; "{value}").expect(rt, "memory");
+    same(rt, text.as_str(), want, want);
+}
+
 #[test]
-fn prints_ids_levels_and_faults(rt: HostRuntime) -> Result<(), Fail> {
-    let alloc = rt.alloc();
-    assert_eq!(rt;
-        format!(in alloc; "{}", Id::pack(0, 1))?.as_str(),
-        "16777217"
-    );
-    assert_eq!(rt;
-        format!(in alloc; "{} {}", Level::Error, Level::Trace)?.as_str(),
-        "ERROR TRACE"
-    );
-    let fault = Limits {
+fn prints_ids_levels_and_faults(rt: HostRuntime) {
+    is_printed(&rt, rt.alloc(), Id::pack(0, 1), "16777217");
+    is_printed(&rt, rt.alloc(), Level::Error, "ERROR");
+    is_printed(&rt, rt.alloc(), Level::Trace, "TRACE");
+    let none = Limits {
         slots: 0,
         ..Limits::default()
-    }
-    .check()
-    .err();
-    assert_eq!(rt;
-        format!(in alloc; "{}", fault.expect(&rt, "slots 0"))?.as_str(),
-        "bad limits"
-    );
-    Ok(())
+    };
+    let fault = none.check().err().expect(&rt, "slots 0");
+    is_printed(&rt, rt.alloc(), fault, "bad limits");
 }
 
 #[test]
@@ -72,7 +74,7 @@ fn orders_levels_by_verbosity(rt: HostRuntime) {
         Level::Trace,
     ];
     for pair in levels.windows(2) {
-        assert!(rt; pair[0] < pair[1]);
+        holds(&rt, pair[0] < pair[1], "the levels in their order");
     }
 }
 
@@ -99,20 +101,26 @@ fn checks_each_limit(rt: HostRuntime) {
             workers,
             ring,
         };
-        assert_eq!(rt; limits.check().is_ok(), want, "{limits:?}");
+        same(
+            &rt,
+            (limits, limits.check().is_ok()),
+            (limits, want),
+            "limits",
+        );
     }
 }
 
+fn fits(rt: &impl Abort, alloc: Global, name: &str, want: bool) {
+    let field = field(rt, alloc, name, "");
+    let fit = (meta(rt, alloc, name).fit(), field.fit());
+    same(rt, fit, (want, want), name);
+}
+
 #[test]
-fn knows_names(rt: HostRuntime) -> Result<(), Fail> {
-    let alloc = rt.alloc();
-    let longest = "x".repeat(alloc, 64)?;
-    let too_long = "x".repeat(alloc, 65)?;
+fn knows_names(rt: HostRuntime) {
     let cases = [
         ("a", true),
         ("Az09_.-", true),
-        (longest.as_str(), true),
-        (too_long.as_str(), false),
         ("", false),
         ("a b", false),
         ("a:b", false),
@@ -120,66 +128,90 @@ fn knows_names(rt: HostRuntime) -> Result<(), Fail> {
         ("\u{e9}", false),
     ];
     for (name, want) in cases {
-        let meta = meta(alloc, name)?;
-        assert_eq!(rt; meta.fit(), want, "{name}");
-        let field = Field {
-            key: String::from_str(alloc, name)?,
-            value: String::new(alloc),
-        };
-        assert_eq!(rt; field.fit(), want, "{name}");
+        fits(&rt, rt.alloc(), name, want);
     }
-    Ok(())
+    for (length, want) in [(64, true), (65, false)] {
+        let name = "x".repeat(rt.alloc(), length).expect(&rt, "memory");
+        fits(&rt, rt.alloc(), name.as_str(), want);
+    }
+}
+
+fn field_has_a_copy(rt: &impl Abort, alloc: Global, key: &str, value: &str) {
+    let field = field(rt, alloc, key, value);
+    let copy = field.copy(alloc).expect(rt, "memory");
+    holds(rt, copy == field, value);
 }
 
 #[test]
-fn copies_are_equal(rt: HostRuntime) -> Result<(), Fail> {
-    let alloc = rt.alloc();
-    let meta = meta(alloc, "a")?;
-    assert!(rt; meta.copy(alloc)? == meta);
+fn copies_are_equal(rt: HostRuntime) {
+    let meta = meta(&rt, rt.alloc(), "a");
+    let copy = meta.copy(rt.alloc()).expect(&rt, "memory");
+    holds(&rt, copy == meta, "a meta's copy");
     for (key, value) in [("k", "1"), ("k", "2"), ("path", "x\ny")] {
-        let field = Field {
-            key: String::from_str(alloc, key)?,
-            value: String::from_str(alloc, value)?,
-        };
-        assert!(rt; field.copy(alloc)? == field);
+        field_has_a_copy(&rt, rt.alloc(), key, value);
     }
-    Ok(())
+}
+
+// Fields with the key `k`, and these values.
+fn copied(rt: &impl Abort, alloc: Global, values: &[&str]) -> Fields {
+    let list = list(rt, alloc, values);
+    Fields::copy_of(alloc, list.as_slice()).expect(rt, "memory")
+}
+
+// Adds a field with the key `k`.
+fn extend(rt: &impl Abort, alloc: Global, fields: &mut Fields, value: &str) {
+    let more = [field(rt, alloc, "k", value)];
+    fields.extend(alloc, &more).expect(rt, "memory");
+}
+
+fn are(rt: &impl Abort, fields: &Fields, values: &[&str]) {
+    same(rt, fields.len(), values.len(), "how many fields");
+    for (field, value) in fields.as_slice().iter().zip(values) {
+        let pair = (field.key.as_str(), field.value.as_str());
+        same(rt, pair, ("k", *value), *value);
+    }
 }
 
 #[test]
-fn fields_are_shared(rt: HostRuntime) -> Result<(), Fail> {
-    let alloc = rt.alloc();
-    let list = [field(alloc, "k", "1")?, field(alloc, "k", "2")?];
-    let more = [field(alloc, "k", "3")?];
-    let mut grown = Fields::copy_of(alloc, &list)?;
-    let kept = grown.share()?;
-    assert!(rt; kept == grown);
-    grown.extend(alloc, &more)?;
-    assert!(rt; kept != grown);
-    assert_eq!(rt; (kept.len(), grown.len()), (2, 3));
+fn fields_are_shared(rt: HostRuntime) {
+    let mut grown = copied(&rt, rt.alloc(), &["1", "2"]);
+    let kept = grown.share().expect(&rt, "memory");
+    holds(&rt, kept == grown, "what is shared is equal");
+    extend(&rt, rt.alloc(), &mut grown, "3");
+    holds(&rt, kept != grown, "the other one has grown");
+    same(&rt, (kept.len(), grown.len()), (2, 3), "the lengths");
     hand_on(kept);
-    grown.extend(alloc, &more)?;
-    assert_eq!(rt; grown.len(), 4);
-    for (field, value) in grown.as_slice().iter().zip(["1", "2", "3", "3"]) {
-        assert_eq!(rt; (field.key.as_str(), field.value.as_str()), ("k", value));
-    }
-    assert!(rt; Fields::none().is_empty() && Fields::copy_of(alloc, &[])? == Fields::none());
-    assert!(rt; !grown.is_empty());
-    Ok(())
+    extend(&rt, rt.alloc(), &mut grown, "3");
+    are(&rt, &grown, &["1", "2", "3", "3"]);
+    holds(&rt, !grown.is_empty(), "four are not empty");
 }
 
 #[test]
-fn what_is_moved_in_is_shared(rt: HostRuntime) -> Result<(), Fail> {
+fn no_fields_are_empty(rt: HostRuntime) {
+    let (none, copied) = (Fields::none(), copied(&rt, rt.alloc(), &[]));
+    holds(&rt, none.is_empty(), "none are empty");
+    holds(&rt, copied == none, "a copy of none is none");
+    let moved = Fields::new(rt.alloc(), Vec::new(rt.alloc()));
+    let moved = moved.expect(&rt, "memory");
+    holds(&rt, moved == none, "no fields that are moved in are none");
+}
+
+#[test]
+fn a_meta_that_is_moved_in_is_shared(rt: HostRuntime) {
+    let meta = meta(&rt, rt.alloc(), "a");
+    let moved = SharedMeta::new(rt.alloc(), meta).expect(&rt, "memory");
+    let shared = moved.share().expect(&rt, "memory");
+    same(&rt, shared.as_meta().name.as_str(), "a", "the name");
+}
+
+#[test]
+fn fields_that_are_moved_in_are_shared(rt: HostRuntime) {
     let alloc = rt.alloc();
-    let meta = SharedMeta::new(alloc, meta(alloc, "a")?)?.share()?;
-    assert_eq!(rt; meta.as_meta().name.as_str(), "a");
-    let one = Fields::new(alloc, one_field(alloc, "1")?)?;
+    let one = Fields::new(alloc, list(&rt, alloc, &["1"])).expect(&rt, "memory");
     let mut grown = Fields::none();
-    grown.extend_shared(alloc, &one)?;
-    grown.extend_shared(alloc, &one)?;
-    assert_eq!(rt; (one.len(), grown.len()), (1, 2));
-    assert!(rt; Fields::new(alloc, Vec::new(alloc))? == Fields::none());
-    Ok(())
+    grown.extend_shared(alloc, &one).expect(&rt, "memory");
+    grown.extend_shared(alloc, &one).expect(&rt, "memory");
+    same(&rt, (one.len(), grown.len()), (1, 2), "the lengths");
 }
 
 #[test]
@@ -193,37 +225,44 @@ fn reads_bits(rt: HostRuntime) {
         (64, false),
         (u32::MAX, false),
     ] {
-        assert_eq!(rt; bits.has(layer), want, "layer {layer}");
+        same(&rt, bits.has(layer), want, layer);
     }
 }
 
 #[test]
 fn makes_sets_of_others(rt: HostRuntime) {
     let high = 1 << 63;
-    assert_eq!(rt; Bits(5 + high).and(Bits(6 + high)), Bits(4 + high));
-    assert_eq!(rt; Bits(5 + high).without(Bits(6)), Bits(1 + high));
-    assert_eq!(rt; Bits::all().without(Bits(high)), Bits(high - 1));
+    let sets = [
+        Bits(5 + high).and(Bits(6 + high)),
+        Bits(5 + high).without(Bits(6)),
+        Bits::all().without(Bits(high)),
+    ];
+    let want = [Bits(4 + high), Bits(1 + high), Bits(high - 1)];
+    same(&rt, sets, want, "sets");
 }
 
-fn meta(alloc: Global, name: &str) -> Result<Meta, Fail> {
-    Ok(Meta {
-        name: String::from_str(alloc, name)?,
-        target: String::from_str(alloc, "app::db")?,
+fn meta(rt: &impl Abort, alloc: Global, name: &str) -> Meta {
+    Meta {
+        name: String::from_str(alloc, name).expect(rt, "memory"),
+        target: String::from_str(alloc, "app::db").expect(rt, "memory"),
         level: Level::Info,
-    })
+    }
 }
 
-fn field(alloc: Global, key: &str, value: &str) -> Result<Field, Fail> {
-    Ok(Field {
-        key: String::from_str(alloc, key)?,
-        value: String::from_str(alloc, value)?,
-    })
+fn field(rt: &impl Abort, alloc: Global, key: &str, value: &str) -> Field {
+    Field {
+        key: String::from_str(alloc, key).expect(rt, "memory"),
+        value: String::from_str(alloc, value).expect(rt, "memory"),
+    }
 }
 
-fn one_field(alloc: Global, value: &str) -> Result<Vec<Field>, Fail> {
+// Fields with the key `k`, and these values.
+fn list(rt: &impl Abort, alloc: Global, values: &[&str]) -> Vec<Field> {
     let mut list = Vec::new(alloc);
-    list.push(field(alloc, "k", value)?)?;
-    Ok(list)
+    for value in values {
+        list.push(field(rt, alloc, "k", value)).expect(rt, "memory");
+    }
+    list
 }
 
 // What a thread that takes the value asks of it.

@@ -1,6 +1,7 @@
+//! Rows of lines and what they ask for, or their faults.
+use crate::tests::compare::same;
 use span_script::{Stage, Stop, is_setup, json_value, operation};
 use std::alloc::{AllocError, Global};
-use std::io;
 use std::process::Abort;
 
 /// What a line asks for where there are four workers, or the reason of its fault, as text.
@@ -23,22 +24,26 @@ fn told(alloc: Global, stop: Stop) -> Result<String, AllocError> {
     }
 }
 
-/// Reads each line at a stage and compares what it asks for.
-fn compare(
-    rt: &impl Abort,
-    alloc: Global,
-    stage: Stage,
-    rows: &[(&str, &str)],
-) -> Result<(), AllocError> {
-    for (line, wanted) in rows.iter().copied() {
-        let asked = read(alloc, line, stage)?;
-        assert_eq!(rt; asked.as_str(), wanted, "at {line}");
+/// A line, and what it asks for or the reason of its fault.
+type Row = (&'static str, &'static str);
+
+/// Whether a line asks for this at a stage.
+fn asks(rt: &impl Abort, alloc: Global, stage: Stage, line: &str, wanted: &str) {
+    let asked = read(alloc, line, stage).expect(rt, "memory");
+    same(rt, asked.as_str(), wanted, line);
+}
+
+/// Reads each line at each stage and compares what it asks for.
+fn compare(rt: &impl Abort, alloc: Global, stages: &[Stage], rows: &[Row]) {
+    for stage in stages {
+        for (line, wanted) in rows {
+            asks(rt, alloc, *stage, line, wanted);
+        }
     }
-    Ok(())
 }
 
 #[test]
-fn reads_layers(rt: HostRuntime) -> io::Result<()> {
+fn reads_layers(rt: HostRuntime) {
     let rows = [
         (
             "{\"op\":\"layer\"}",
@@ -61,13 +66,11 @@ fn reads_layers(rt: HostRuntime) -> io::Result<()> {
              rule: Rule { pairs: [(\"\", Trace)] } })",
         ),
     ];
-    compare(&rt, rt.alloc(), Stage::AtStart, rows.as_slice())?;
-    compare(&rt, rt.alloc(), Stage::InSetup, rows.as_slice())?;
-    Ok(())
+    compare(&rt, rt.alloc(), &[Stage::AtStart, Stage::InSetup], &rows);
 }
 
 #[test]
-fn reads_records(rt: HostRuntime) -> io::Result<()> {
+fn reads_records(rt: HostRuntime) {
     let rows = [
         (
             "{\"op\":\"record\",\"span\":\"a\"}",
@@ -83,13 +86,11 @@ fn reads_records(rt: HostRuntime) -> io::Result<()> {
             "Record { span: Label(\"\"), fields: [], worker: 1 }",
         ),
     ];
-    compare(&rt, rt.alloc(), Stage::AtStart, rows.as_slice())?;
-    compare(&rt, rt.alloc(), Stage::Running, rows.as_slice())?;
-    Ok(())
+    compare(&rt, rt.alloc(), &[Stage::AtStart, Stage::Running], &rows);
 }
 
 #[test]
-fn reads_events(rt: HostRuntime) -> io::Result<()> {
+fn reads_events(rt: HostRuntime) {
     let rows = [
         (
             "{\"op\":\"event\",\"message\":\"\"}",
@@ -108,151 +109,127 @@ fn reads_events(rt: HostRuntime) -> io::Result<()> {
              message: \"m\", fields: [], worker: 0 })",
         ),
     ];
-    compare(&rt, rt.alloc(), Stage::AtStart, rows.as_slice())?;
-    compare(&rt, rt.alloc(), Stage::Running, rows.as_slice())?;
-    Ok(())
+    compare(&rt, rt.alloc(), &[Stage::AtStart, Stage::Running], &rows);
 }
+
+/// The key at fault and the keys of a line, of each row.
+const LAYER_KEYS: &str = r#"
+    form="form":null
+    form="form":"JSON"
+    form="form":""
+    form="form":0
+    spans="spans":null
+    spans="spans":16
+    spans="spans":-0
+    spans="spans":1.0
+    spans="spans":"1"
+    spans="spans":256
+    spans="spans":18446744073709551616
+    rule="rule":null
+    rule="rule":{}
+    rule="rule":[null]
+    rule="rule":["a","WARN"]
+    rule="rule":[["a"]]
+    rule="rule":[["a","WARN","WARN"]]
+    rule="rule":[["a","warn"]]
+    rule="rule":[["a",null]]
+    rule="rule":[[1,"WARN"]]
+    rule="rule":[["","WARN"],[]]
+    form="rule":7,"spans":7,"form":7
+    spans="rule":7,"spans":16
+    rule="spans":16,"spans":15,"rule":[],"rule":7
+"#;
 
 #[test]
-fn tells_bad_keys_of_layers(rt: HostRuntime) -> io::Result<()> {
-    let rows = [
-        ("\"form\":null", "bad key form"),
-        ("\"form\":\"JSON\"", "bad key form"),
-        ("\"form\":\"\"", "bad key form"),
-        ("\"form\":0", "bad key form"),
-        ("\"spans\":null", "bad key spans"),
-        ("\"spans\":16", "bad key spans"),
-        ("\"spans\":-0", "bad key spans"),
-        ("\"spans\":1.0", "bad key spans"),
-        ("\"spans\":\"1\"", "bad key spans"),
-        ("\"spans\":256", "bad key spans"),
-        ("\"spans\":18446744073709551616", "bad key spans"),
-        ("\"rule\":null", "bad key rule"),
-        ("\"rule\":{}", "bad key rule"),
-        ("\"rule\":[null]", "bad key rule"),
-        ("\"rule\":[\"a\",\"WARN\"]", "bad key rule"),
-        ("\"rule\":[[\"a\"]]", "bad key rule"),
-        ("\"rule\":[[\"a\",\"WARN\",\"WARN\"]]", "bad key rule"),
-        ("\"rule\":[[\"a\",\"warn\"]]", "bad key rule"),
-        ("\"rule\":[[\"a\",null]]", "bad key rule"),
-        ("\"rule\":[[1,\"WARN\"]]", "bad key rule"),
-        ("\"rule\":[[\"\",\"WARN\"],[]]", "bad key rule"),
-        ("\"rule\":7,\"spans\":7,\"form\":7", "bad key form"),
-        ("\"rule\":7,\"spans\":16", "bad key spans"),
-        (
-            "\"spans\":16,\"spans\":15,\"rule\":[],\"rule\":7",
-            "bad key rule",
-        ),
-    ];
-    compare_keys(&rt, rt.alloc(), "layer", rows.as_slice())
+fn tells_bad_keys_of_layers(rt: HostRuntime) {
+    compare_keys(&rt, rt.alloc(), "layer", LAYER_KEYS);
 }
+
+const RECORD_KEYS: &str = r#"
+    span="name":"a"
+    span="span":null
+    span="span":0
+    span="span":72057594037927937
+    span="span":[1]
+    fields="span":"a","fields":null
+    fields="span":"a","fields":"k"
+    fields="span":"a","fields":["k","v"]
+    fields="span":"a","fields":[["k",1]]
+    fields="span":"a","fields":[["k","v","w"]]
+    w="span":"a","w":null
+    w="span":"a","w":4
+    w="span":"a","w":"0"
+    span="w":4,"fields":7
+    fields="span":"a","w":4,"fields":7
+"#;
 
 #[test]
-fn tells_bad_keys_of_records(rt: HostRuntime) -> io::Result<()> {
-    let rows = [
-        ("\"name\":\"a\"", "bad key span"),
-        ("\"span\":null", "bad key span"),
-        ("\"span\":0", "bad key span"),
-        ("\"span\":72057594037927937", "bad key span"),
-        ("\"span\":[1]", "bad key span"),
-        ("\"span\":\"a\",\"fields\":null", "bad key fields"),
-        ("\"span\":\"a\",\"fields\":\"k\"", "bad key fields"),
-        ("\"span\":\"a\",\"fields\":[\"k\",\"v\"]", "bad key fields"),
-        ("\"span\":\"a\",\"fields\":[[\"k\",1]]", "bad key fields"),
-        (
-            "\"span\":\"a\",\"fields\":[[\"k\",\"v\",\"w\"]]",
-            "bad key fields",
-        ),
-        ("\"span\":\"a\",\"w\":null", "bad key w"),
-        ("\"span\":\"a\",\"w\":4", "bad key w"),
-        ("\"span\":\"a\",\"w\":\"0\"", "bad key w"),
-        ("\"w\":4,\"fields\":7", "bad key span"),
-        ("\"span\":\"a\",\"w\":4,\"fields\":7", "bad key fields"),
-    ];
-    compare_keys(&rt, rt.alloc(), "record", rows.as_slice())
+fn tells_bad_keys_of_records(rt: HostRuntime) {
+    compare_keys(&rt, rt.alloc(), "record", RECORD_KEYS);
 }
+
+const EVENT_KEYS: &str = r#"
+    message="name":"a"
+    message="message":null
+    message="message":1
+    target="message":"m","target":null
+    target="message":"m","target":[]
+    level="message":"m","level":null
+    level="message":"m","level":"info"
+    level="message":"m","level":2
+    fields="message":"m","fields":null
+    fields="message":"m","fields":[[]]
+    w="message":"m","w":null
+    w="message":"m","w":1e0
+    w="message":"m","w":4
+    message="w":4,"fields":7,"level":7,"target":7
+    target="message":"m","w":4,"fields":7,"level":7,"target":7
+    level="message":"m","w":4,"fields":7,"level":7
+    fields="message":"m","w":4,"fields":7
+"#;
 
 #[test]
-fn tells_bad_keys_of_events(rt: HostRuntime) -> io::Result<()> {
-    let rows = [
-        ("\"name\":\"a\"", "bad key message"),
-        ("\"message\":null", "bad key message"),
-        ("\"message\":1", "bad key message"),
-        ("\"message\":\"m\",\"target\":null", "bad key target"),
-        ("\"message\":\"m\",\"target\":[]", "bad key target"),
-        ("\"message\":\"m\",\"level\":null", "bad key level"),
-        ("\"message\":\"m\",\"level\":\"info\"", "bad key level"),
-        ("\"message\":\"m\",\"level\":2", "bad key level"),
-        ("\"message\":\"m\",\"fields\":null", "bad key fields"),
-        ("\"message\":\"m\",\"fields\":[[]]", "bad key fields"),
-        ("\"message\":\"m\",\"w\":null", "bad key w"),
-        ("\"message\":\"m\",\"w\":1e0", "bad key w"),
-        ("\"message\":\"m\",\"w\":4", "bad key w"),
-        (
-            "\"w\":4,\"fields\":7,\"level\":7,\"target\":7",
-            "bad key message",
-        ),
-        (
-            "\"message\":\"m\",\"w\":4,\"fields\":7,\"level\":7,\"target\":7",
-            "bad key target",
-        ),
-        (
-            "\"message\":\"m\",\"w\":4,\"fields\":7,\"level\":7",
-            "bad key level",
-        ),
-        ("\"message\":\"m\",\"w\":4,\"fields\":7", "bad key fields"),
-    ];
-    compare_keys(&rt, rt.alloc(), "event", rows.as_slice())
+fn tells_bad_keys_of_events(rt: HostRuntime) {
+    compare_keys(&rt, rt.alloc(), "event", EVENT_KEYS);
 }
 
-/// Reads a line of this op with each of these keys and compares its fault.
-fn compare_keys(rt: &impl Abort, alloc: Global, op: &str, rows: &[(&str, &str)]) -> io::Result<()> {
-    for (keys, wanted) in rows.iter().copied() {
-        let line = format!(in alloc; "{{\"op\":\"{op}\",{keys}}}")?;
-        compare(
-            rt,
-            alloc,
-            Stage::AtStart,
-            [(line.as_str(), wanted)].as_slice(),
-        )?;
+/// Reads a line of this op with the keys of each row and compares which key is at fault.
+fn compare_keys(rt: &impl Abort, alloc: Global, op: &str, rows: &str) {
+    for row in rows.split_whitespace() {
+        let (key, keys) = row.split_once('=').expect(rt, "a row");
+        has_bad_key(rt, alloc, op, keys, key);
     }
-    Ok(())
+}
+
+fn has_bad_key(rt: &impl Abort, alloc: Global, op: &str, keys: &str, key: &str) {
+    let line = format!(in alloc; "{{\"op\":\"{op}\",{keys}}}").expect(rt, "memory");
+    let wanted = format!(in alloc; "bad key {key}").expect(rt, "memory");
+    asks(rt, alloc, Stage::AtStart, line.as_str(), wanted.as_str());
 }
 
 #[test]
-fn tells_late_lines(rt: HostRuntime) -> io::Result<()> {
-    compare(
-        &rt,
-        rt.alloc(),
-        Stage::InSetup,
-        [
-            ("{\"op\":\"limits\"}", "late line"),
-            ("{\"op\":\"limits\",\"slots\":null}", "late line"),
-            ("{\"op\":\"layers\"}", "no such op"),
-            ("{\"op\":\"layer\",\"form\":7}", "bad key form"),
-            ("{\"op\":\"close\",\"span\":1,\"w\":4}", "bad key w"),
-        ]
-        .as_slice(),
-    )?;
-    compare(
-        &rt,
-        rt.alloc(),
-        Stage::Running,
-        [
-            ("{\"op\":\"limits\"}", "late line"),
-            ("{\"op\":\"layer\"}", "late line"),
-            ("{\"op\":\"layer\",\"form\":7}", "late line"),
-            ("{\"op\":\"layer\",\"op\":\"layers\"}", "no such op"),
-            ("[{\"op\":\"layer\"}]", "not an object"),
-            ("{\"op\":\"layer\"", "not JSON"),
-        ]
-        .as_slice(),
-    )?;
-    Ok(())
+fn tells_late_lines(rt: HostRuntime) {
+    let rows = [
+        ("{\"op\":\"limits\"}", "late line"),
+        ("{\"op\":\"limits\",\"slots\":null}", "late line"),
+        ("{\"op\":\"layers\"}", "no such op"),
+        ("{\"op\":\"layer\",\"form\":7}", "bad key form"),
+        ("{\"op\":\"close\",\"span\":1,\"w\":4}", "bad key w"),
+    ];
+    compare(&rt, rt.alloc(), &[Stage::InSetup], &rows);
+    let rows = [
+        ("{\"op\":\"limits\"}", "late line"),
+        ("{\"op\":\"layer\"}", "late line"),
+        ("{\"op\":\"layer\",\"form\":7}", "late line"),
+        ("{\"op\":\"layer\",\"op\":\"layers\"}", "no such op"),
+        ("[{\"op\":\"layer\"}]", "not an object"),
+        ("{\"op\":\"layer\"", "not JSON"),
+    ];
+    compare(&rt, rt.alloc(), &[Stage::Running], &rows);
 }
 
 #[test]
-fn knows_the_lines_of_the_setup(rt: HostRuntime) -> io::Result<()> {
+fn knows_the_lines_of_the_setup(rt: HostRuntime) {
     let rows = [
         ("{\"op\":\"limits\",\"slots\":null}", true),
         ("{\"op\":\"layer\",\"form\":null}", true),
@@ -266,10 +243,11 @@ fn knows_the_lines_of_the_setup(rt: HostRuntime) -> io::Result<()> {
         ("\"layer\"", false),
     ];
     for (line, wanted) in rows {
-        match json_value(rt.alloc(), line.as_bytes()) {
-            Ok(value) => assert_eq!(rt; is_setup(&value), wanted, "at {line}"),
-            Err(_) => assert!(rt; false, "at {line}"),
-        }
+        is_of_setup(&rt, rt.alloc(), line, wanted);
     }
-    Ok(())
+}
+
+fn is_of_setup(rt: &impl Abort, alloc: Global, line: &str, wanted: bool) {
+    let value = json_value(alloc, line.as_bytes()).ok().expect(rt, "JSON");
+    same(rt, is_setup(&value), wanted, line);
 }

@@ -1,11 +1,11 @@
 //! Steps in a table of two slots.
 ghost use Rattle.std.specs.Prelude.{◌≡◌, [], ◌∷◌};
 
+use crate::tests::compare::same;
 use span_id::Id;
 use span_seats::laws::two_handles_have_two_numbers;
 use span_seats::{HandleSeat, RootSeat, SeatTable, TableName};
 use std::marker::Brand;
-use std::test::Fail;
 
 fn is_send<T: Send>(_value: &T) {}
 
@@ -73,9 +73,8 @@ fn two_handles<T: TableName>(root: &mut RootSeat<T>, first: HandleSeat<T>)
 }
 
 #[test]
-fn gives_a_slot_again(rt: HostRuntime) -> Result<(), Fail> {
-    let table = SeatTable::new(rt.alloc(), 2)?;
-    assert_eq!(rt; table.slots(), 2);
+fn gives_a_slot_again(rt: HostRuntime) {
+    let table = SeatTable::new(rt.alloc(), 2).expect(&rt, "memory");
+    same(&rt, table.slots(), 2, "the slots");
     steps::<Brand>(table);
-    Ok(())
 }

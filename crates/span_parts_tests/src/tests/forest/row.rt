@@ -1,95 +1,118 @@
 //! Three spans below each other, with each answer of each call.
-use super::{add, checked, id, listed, path, release};
+use crate::tests::compare::same;
+use crate::tests::forest::fixtures::{
+    add, are_listed, has_path, held, id, keep, next_number, release, wide,
+};
 use span_forest::{Forest, Holder};
 use span_id::{Fault, Id};
 use std::alloc::Global;
 use std::process::Abort;
-use std::test::Fail;
 
-// How many spans are open, the holders, the handles, the next id, and then each span's handles, entries and
-// count, as `1 open, 1 held, 1 handles, next 2: 1/0/1 - -`.
-fn state(alloc: Global, forest: &Forest) -> Result<String, Fail> {
-    let (open, held, handles) = (forest.len(), forest.total(), forest.handles());
-    let next = forest.next_id().map_or(0, |id| id.get());
-    let mut text = format!(in alloc; "{open} open, {held} held, {handles} handles, next {next}:")?;
-    for number in 1..4 {
-        let found = Id::from_u64(number).and_then(|id| forest.find(id));
-        match found {
-            None => text.push_str(" -")?,
-            Some(span) => {
-                let (handles, entries, count) = (span.handles, span.entries, span.count);
-                let held = format!(in alloc; " {handles}/{entries}/{count}")?;
-                text.push_str(held.as_str())?;
-            }
-        }
-    }
-    Ok(text)
+/// How many spans are open, the holders, the handles, and the next id's number.
+type Counts = (u32, u64, u64, u64);
+
+/// The handles, entries and count of each of the three spans; of one that isn't open none.
+type Spans = [Option<(u32, u32, u32)>; 3];
+
+fn state(rt: &impl Abort, forest: &Forest) -> (Counts, Spans) {
+    let next = next_number(forest);
+    let (open, held_by, handles) = (forest.len(), forest.total(), forest.handles());
+    let spans = [
+        held(rt, forest, 1),
+        held(rt, forest, 2),
+        held(rt, forest, 3),
+    ];
+    ((open, held_by, handles, next), spans)
 }
 
-// Gives a holder back, and tells what it leaves.
-fn step(
-    rt: &impl Abort,
-    forest: &mut Forest,
-    alloc: Global,
-    number: u64,
-    holder: Holder,
-    closed: &str,
-    left: &str,
-) -> Result<(), Fail> {
-    release(rt, alloc, forest, number, holder, closed)?;
-    assert_eq!(rt; state(alloc, forest)?.as_str(), left);
-    assert_eq!(rt; forest.keep(id(rt, 4), holder), Err(Fault::Unknown));
-    Ok(())
+/// Who gives back which holder, what closes with it, and what it leaves.
+type Step = (u64, Holder, &'static str, Counts, Spans);
+
+const STEPS: [Step; 5] = [
+    (
+        1,
+        Holder::Handle,
+        "",
+        (3, 4, 3, 4),
+        [Some((0, 0, 1)), Some((1, 1, 3)), Some((2, 0, 2))],
+    ),
+    (
+        2,
+        Holder::Handle,
+        "",
+        (3, 3, 2, 4),
+        [Some((0, 0, 1)), Some((0, 1, 2)), Some((2, 0, 2))],
+    ),
+    (
+        3,
+        Holder::Handle,
+        "",
+        (3, 2, 1, 4),
+        [Some((0, 0, 1)), Some((0, 1, 2)), Some((1, 0, 1))],
+    ),
+    (
+        3,
+        Holder::Handle,
+        "3",
+        (2, 1, 0, 16777219),
+        [Some((0, 0, 1)), Some((0, 1, 1)), None],
+    ),
+    (
+        2,
+        Holder::Entry,
+        "2,1",
+        (0, 0, 0, 16777217),
+        [None, None, None],
+    ),
+];
+
+fn takes(rt: &impl Abort, forest: &mut Forest, alloc: Global, step: Step) {
+    let (number, holder, closed, counts, spans) = step;
+    release(rt, alloc, forest, (number, holder), closed);
+    same(rt, state(rt, forest), (counts, spans), number);
+    keep(rt, forest, (4, holder), Err(Fault::Unknown));
 }
 
 // A root `a` that layer 0 admits, `b` below it that layer 1 admits, and `c` below `b` that both admit.
-fn three(alloc: Global) -> Result<Forest, Fail> {
-    let mut forest = Forest::new(alloc, &checked(1024, 4294967295, 4294967295)?)?;
-    add(alloc, &mut forest, "a", None, 1)?;
-    add(alloc, &mut forest, "b", Id::from_u64(1), 2)?;
-    add(alloc, &mut forest, "c", Id::from_u64(2), 3)?;
-    Ok(forest)
+fn three(rt: &impl Abort, alloc: Global) -> Forest {
+    let mut forest = wide(rt, alloc);
+    add(rt, alloc, &mut forest, "a", None, 1);
+    add(rt, alloc, &mut forest, "b", Id::from_u64(1), 2);
+    add(rt, alloc, &mut forest, "c", Id::from_u64(2), 3);
+    forest
 }
 
 #[test]
-fn three_spans_with_each_answer(rt: HostRuntime) -> Result<(), Fail> {
+fn three_spans_with_each_answer(rt: HostRuntime) {
     let alloc = rt.alloc();
-    let mut forest = three(alloc)?;
-    let text = state(alloc, &forest)?;
-    assert_eq!(rt;
-        text.as_str(),
-        "3 open, 3 held, 3 handles, next 4: 1/0/2 1/0/2 1/0/1"
-    );
-    assert_eq!(rt; path(alloc, &forest, 0, id(&rt, 3))?.as_str(), "a:c:");
-    assert_eq!(rt; path(alloc, &forest, 1, id(&rt, 3))?.as_str(), "b:c:");
-    assert_eq!(rt; path(alloc, &forest, 2, id(&rt, 3))?.as_str(), "");
-    forest.keep(id(&rt, 2), Holder::Entry)?;
-    forest.keep(id(&rt, 3), Holder::Handle)?;
-    let (handle, entry) = (Holder::Handle, Holder::Entry);
-    let left = "3 open, 4 held, 3 handles, next 4: 0/0/1 1/1/3 2/0/2";
-    step(&rt, &mut forest, alloc, 1, handle, "", left)?;
-    let left = "3 open, 3 held, 2 handles, next 4: 0/0/1 0/1/2 2/0/2";
-    step(&rt, &mut forest, alloc, 2, handle, "", left)?;
-    let left = "3 open, 2 held, 1 handles, next 4: 0/0/1 0/1/2 1/0/1";
-    step(&rt, &mut forest, alloc, 3, handle, "", left)?;
-    let left = "2 open, 1 held, 0 handles, next 16777219: 0/0/1 0/1/1 -";
-    step(&rt, &mut forest, alloc, 3, handle, "3", left)?;
-    let left = "0 open, 0 held, 0 handles, next 16777217: - - -";
-    step(&rt, &mut forest, alloc, 2, entry, "2,1", left)
+    let mut forest = three(&rt, alloc);
+    let spans = [Some((1, 0, 2)), Some((1, 0, 2)), Some((1, 0, 1))];
+    let made = state(&rt, &forest);
+    same(&rt, made, ((3, 3, 3, 4), spans), "three spans");
+    for (layer, path) in [(0, "a:c:"), (1, "b:c:"), (2, "")] {
+        has_path(&rt, alloc, &forest, (layer, 3), path);
+    }
+    keep(&rt, &mut forest, (2, Holder::Entry), Ok(()));
+    keep(&rt, &mut forest, (3, Holder::Handle), Ok(()));
+    for step in STEPS {
+        takes(&rt, &mut forest, alloc, step);
+    }
+}
+
+// The handle of a span is given back with the list of what closes.
+fn closes_as_told(rt: &impl Abort, alloc: Global, forest: &mut Forest, number: u64, want: &str) {
+    let span = id(rt, number);
+    let told = forest.closing(span, Holder::Handle).expect(rt, "a handle");
+    forest.release_closing(span, Holder::Handle, told.as_slice());
+    are_listed(rt, alloc, told.as_slice(), want, number);
 }
 
 #[test]
-fn a_list_that_was_told_is_closed(rt: HostRuntime) -> Result<(), Fail> {
-    let mut forest = three(rt.alloc())?;
-    release(&rt, rt.alloc(), &mut forest, 2, Holder::Handle, "")?;
-    let c = id(&rt, 3);
-    let told = forest.closing(c, Holder::Handle)?;
-    forest.release_closing(c, Holder::Handle, told.as_slice());
-    assert_eq!(rt; listed(rt.alloc(), told.as_slice())?.as_str(), "3,2");
-    let text = state(rt.alloc(), &forest)?;
-    assert_eq!(rt;
-        text.as_str(),
-        "1 open, 1 held, 1 handles, next 16777218: 1/0/1 - -"
-    );
-    Ok(())
+fn a_list_that_was_told_is_closed(rt: HostRuntime) {
+    let alloc = rt.alloc();
+    let mut forest = three(&rt, alloc);
+    release(&rt, alloc, &mut forest, (2, Holder::Handle), "");
+    closes_as_told(&rt, alloc, &mut forest, 3, "3,2");
+    let left = ((1, 1, 1, 16777218), [Some((1, 0, 1)), None, None]);
+    same(&rt, state(&rt, &forest), left, "what is left");
 }

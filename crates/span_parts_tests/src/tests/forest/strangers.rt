@@ -1,7 +1,12 @@
 //! Strangers' ids: ids of every kind that no span has.
-use super::*;
+use crate::tests::compare::same;
+use crate::tests::forest::fixtures::{add, forest, id, named};
+use span_forest::{Forest, Holder};
+use span_id::{Bits, Fault, Fields, Id};
+use std::alloc::Global;
+use std::process::Abort;
 
-const LIMITS: [u32; 3] = [4, 1, 9];
+const LIMITS: (u32, u32, u32) = (4, 1, 9);
 
 // The closed ids of the retired slot, and one generation more of it; the closed id of the open span's slot, and one
 // generation more than the open one's; the closed id of the free slot, and the id that it will give; the slot never
@@ -20,18 +25,28 @@ const STRANGERS: [u64; 11] = [
     72057594037927936,
 ];
 
+// Adds a span of this number and closes it again.
+fn add_and_close(rt: &impl Abort, alloc: Global, forest: &mut Forest, number: u64) {
+    add(rt, alloc, forest, "a", None, 1);
+    close(rt, forest, number);
+}
+
+fn close(rt: &impl Abort, forest: &mut Forest, number: u64) {
+    let _closed = forest
+        .release(id(rt, number), Holder::Handle)
+        .expect(rt, "a handle");
+}
+
 // Slot 0 is retired, slot 1 has its second span, which is open, slot 2 is free again, slot 3 was never used.
-fn forest_with_a_past(rt: &impl Abort, alloc: Global) -> Result<Forest, Fail> {
-    let [slots, last_generation, max_count] = LIMITS;
-    let mut forest = Forest::new(alloc, &checked(slots, last_generation, max_count)?)?;
+fn forest_with_a_past(rt: &impl Abort, alloc: Global) -> Forest {
+    let mut forest = forest(rt, alloc, LIMITS);
     for number in [1, 16777217, 2] {
-        add(alloc, &mut forest, "a", None, 1)?;
-        forest.release(id(rt, number), Holder::Handle)?;
+        add_and_close(rt, alloc, &mut forest, number);
     }
-    add(alloc, &mut forest, "d", None, 1)?;
-    add(alloc, &mut forest, "e", None, 1)?;
-    forest.release(id(rt, 3), Holder::Handle)?;
-    Ok(forest)
+    add(rt, alloc, &mut forest, "d", None, 1);
+    add(rt, alloc, &mut forest, "e", None, 1);
+    close(rt, &mut forest, 3);
+    forest
 }
 
 // What can be counted of the forest, and of the span that is open.
@@ -50,37 +65,54 @@ fn counts(forest: &Forest) -> [u64; 6] {
     ]
 }
 
-// Whether each call on a span finds none.
-fn finds_nothing(forest: &mut Forest, stranger: Id) -> bool {
-    forest.find(stranger).is_none()
-        && forest.write_fields(stranger, &[]) == Err(Fault::Unknown)
-        && forest.path(0, stranger).err() == Some(Fault::Unknown)
-        && forest.path_text(0, stranger).err() == Some(Fault::Unknown)
+// What each call on a span answers.
+fn found(forest: &mut Forest, stranger: Id) -> [Option<Fault>; 4] {
+    let open = forest.find(stranger).is_some();
+    [
+        if open { None } else { Some(Fault::Unknown) },
+        forest.write_fields(stranger, &[]).err(),
+        forest.path(0, stranger).err(),
+        forest.path_text(0, stranger).err(),
+    ]
 }
 
-// Whether each call on a holder finds none.
-fn holds_nothing(forest: &mut Forest, stranger: Id, holder: Holder) -> bool {
-    forest.keep(stranger, holder) == Err(Fault::Unknown)
-        && forest.closing(stranger, holder).err() == Some(Fault::Unknown)
-        && forest.release(stranger, holder).err() == Some(Fault::Unknown)
+// What each call on a holder answers.
+fn held(forest: &mut Forest, stranger: Id, holder: Holder) -> [Option<Fault>; 3] {
+    [
+        forest.keep(stranger, holder).err(),
+        forest.closing(stranger, holder).err(),
+        forest.release(stranger, holder).err(),
+    ]
+}
+
+// Each call with the id of a stranger is refused.
+fn is_unknown(rt: &impl Abort, alloc: Global, forest: &mut Forest, number: u64) {
+    let stranger = id(rt, number);
+    same(
+        rt,
+        found(forest, stranger),
+        [Some(Fault::Unknown); 4],
+        number,
+    );
+    for holder in [Holder::Handle, Holder::Entry] {
+        let held = held(forest, stranger, holder);
+        same(rt, held, [Some(Fault::Unknown); 3], number);
+    }
+    let meta = named(rt, alloc, "f");
+    let added = forest.add(meta, Fields::none(), Some(stranger), Bits(1));
+    same(rt, added, Err(Fault::Unknown), number);
 }
 
 #[test]
-fn strangers_ids_find_nothing_and_change_nothing(rt: HostRuntime) -> Result<(), Fail> {
-    let mut forest = forest_with_a_past(&rt, rt.alloc())?;
-    let meta = named(rt.alloc(), "f")?;
+fn strangers_ids_find_nothing_and_change_nothing(rt: HostRuntime) {
+    let alloc = rt.alloc();
+    let mut forest = forest_with_a_past(&rt, alloc);
     let before = counts(&forest);
+    same(&rt, before, [1, 1, 1, 1, 0, 0], "before");
     for number in STRANGERS {
-        let stranger = id(&rt, number);
-        let refused = finds_nothing(&mut forest, stranger)
-            && holds_nothing(&mut forest, stranger, Holder::Handle)
-            && holds_nothing(&mut forest, stranger, Holder::Entry)
-            && forest.add(meta.share()?, Fields::none(), Some(stranger), Bits(1))
-                == Err(Fault::Unknown);
-        assert!(rt; refused, "{number}");
+        is_unknown(&rt, alloc, &mut forest, number);
     }
-    assert!(rt; counts(&forest) == before);
-    assert!(rt; before == [1, 1, 1, 1, 0, 0]);
-    assert_eq!(rt; forest.next_id(), Id::from_u64(16777219));
-    Ok(())
+    same(&rt, counts(&forest), before, "after");
+    let next = forest.next_id();
+    same(&rt, next, Id::from_u64(16777219), "the next id");
 }

@@ -1,110 +1,88 @@
 //! A tree of thirty spans, taken down in three orders. Each closing list was written out by hand.
-use super::{add, checked, id, release};
+use crate::tests::compare::{holds, same};
+use crate::tests::forest::fixtures::{add, forest, held, keep, next_number, release, sizes};
 use span_forest::{Forest, Holder};
 use span_id::Id;
 use std::alloc::Global;
 use std::process::Abort;
-use std::test::Fail;
 
 // The parent of each span by its number, from 1; 0 stands for none.
 const PARENTS: &str = "0 1 1 1 2 2 3 4 4 4 5 5 6 7 7 8 11 13 14 16 20 21 22 10 24 24 0 27 28 28";
 
+// A span below the one of this number, or a root.
+fn add_below(rt: &impl Abort, alloc: Global, forest: &mut Forest, parent: &str) {
+    let parent: u64 = parent.parse().ok().expect(rt, "a number");
+    add(rt, alloc, forest, "s", Id::from_u64(parent), 1);
+}
+
 // Each span has a handle. Span 17 has one more, spans 4 and 21 have an entry, span 28 has two.
-fn grown(rt: &impl Abort, alloc: Global) -> Result<Forest, Fail> {
-    let mut forest = Forest::new(alloc, &checked(32, 0, 100)?)?;
+fn grown(rt: &impl Abort, alloc: Global) -> Forest {
+    let mut forest = forest(rt, alloc, (32, 0, 100));
     for parent in PARENTS.split_whitespace() {
-        let parent: u64 = parent.parse().ok().expect(rt, "a number");
-        add(alloc, &mut forest, "s", Id::from_u64(parent), 1)?;
+        add_below(rt, alloc, &mut forest, parent);
     }
-    assert_eq!(rt; forest.next_id(), Some(id(rt, 31)));
-    forest.keep(id(rt, 17), Holder::Handle)?;
+    same(rt, next_number(&forest), 31, "the next id");
+    keep(rt, &mut forest, (17, Holder::Handle), Ok(()));
     for number in [4, 21, 28, 28] {
-        forest.keep(id(rt, number), Holder::Entry)?;
+        keep(rt, &mut forest, (number, Holder::Entry), Ok(()));
     }
-    assert_eq!(rt; forest.len(), 30);
-    assert_eq!(rt; forest.total(), 35);
-    let fourth = forest.find(id(rt, 4)).expect(rt, "4 is open");
-    assert_eq!(rt; (fourth.handles, fourth.entries, fourth.count), (1, 1, 5));
-    Ok(forest)
+    same(rt, sizes(&forest), (30, 35), "open, and holders");
+    let fourth = held(rt, &forest, 4);
+    same(rt, fourth, Some((1, 1, 5)), "the fourth span");
+    forest
 }
 
 // Gives back one handle of each span in turn: `18:18,13,6` says that the handle of span 18 closes these
 // three, `4:` that the handle of span 4 closes nothing.
-fn release_handles(
-    rt: &impl Abort,
-    alloc: Global,
-    forest: &mut Forest,
-    steps: &str,
-) -> Result<(), Fail> {
+fn release_handles(rt: &impl Abort, alloc: Global, forest: &mut Forest, steps: &str) {
     for step in steps.split_whitespace() {
         let (number, closed) = step.split_once(':').expect(rt, "a step");
         let number: u64 = number.parse().ok().expect(rt, "a number");
-        release(rt, alloc, forest, number, Holder::Handle, closed)?;
+        release(rt, alloc, forest, (number, Holder::Handle), closed);
     }
-    Ok(())
+}
+
+// Gives back an entry of each span in turn, with what each closes.
+fn release_entries(rt: &impl Abort, alloc: Global, forest: &mut Forest, entries: &[(u64, &str)]) {
+    for (number, closed) in entries {
+        release(rt, alloc, forest, (*number, Holder::Entry), closed);
+    }
 }
 
 #[test]
-fn parents_first(rt: HostRuntime) -> Result<(), Fail> {
-    let mut forest = grown(&rt, rt.alloc())?;
+fn parents_first(rt: HostRuntime) {
+    let mut forest = grown(&rt, rt.alloc());
     let steps =
         "1: 2: 3: 4: 5: 6: 7: 8: 9:9 10: 11: 12:12 13: 14: 15:15 16: 17: 18:18,13,6 19:19,14,7,3
         20: 21: 22: 23:23,22 24: 25:25 26:26,24,10 27: 28: 29:29 30:30 17:17,11,5,2";
-    release_handles(&rt, rt.alloc(), &mut forest, steps)?;
-    release(
-        &rt,
-        rt.alloc(),
-        &mut forest,
-        21,
-        Holder::Entry,
-        "21,20,16,8",
-    )?;
-    release(&rt, rt.alloc(), &mut forest, 4, Holder::Entry, "4,1")?;
-    release(&rt, rt.alloc(), &mut forest, 28, Holder::Entry, "")?;
-    release(&rt, rt.alloc(), &mut forest, 28, Holder::Entry, "28,27")?;
-    assert!(rt; forest.is_empty());
-    Ok(())
+    release_handles(&rt, rt.alloc(), &mut forest, steps);
+    let entries = [(21, "21,20,16,8"), (4, "4,1"), (28, ""), (28, "28,27")];
+    release_entries(&rt, rt.alloc(), &mut forest, &entries);
+    holds(&rt, forest.is_empty(), "no span is open");
 }
 
 #[test]
-fn children_first(rt: HostRuntime) -> Result<(), Fail> {
-    let mut forest = grown(&rt, rt.alloc())?;
+fn children_first(rt: HostRuntime) {
+    let mut forest = grown(&rt, rt.alloc());
     let steps = "30:30 29:29 28: 27: 26:26 25:25 24:24 23:23 22:22 21: 20: 19:19 18:18 17: 16: 15:15
         14:14 13:13 12:12 11: 10:10 9:9 8: 7:7 6:6 5: 4: 3:3 2: 1:";
-    release_handles(&rt, rt.alloc(), &mut forest, steps)?;
-    release(&rt, rt.alloc(), &mut forest, 4, Holder::Entry, "")?;
-    release(
-        &rt,
-        rt.alloc(),
-        &mut forest,
-        21,
-        Holder::Entry,
-        "21,20,16,8,4",
-    )?;
-    release(
-        &rt,
-        rt.alloc(),
-        &mut forest,
-        17,
-        Holder::Handle,
-        "17,11,5,2,1",
-    )?;
-    release(&rt, rt.alloc(), &mut forest, 28, Holder::Entry, "")?;
-    release(&rt, rt.alloc(), &mut forest, 28, Holder::Entry, "28,27")?;
-    assert!(rt; forest.is_empty());
-    Ok(())
+    release_handles(&rt, rt.alloc(), &mut forest, steps);
+    let entries = [(4, ""), (21, "21,20,16,8,4")];
+    release_entries(&rt, rt.alloc(), &mut forest, &entries);
+    release_handles(&rt, rt.alloc(), &mut forest, "17:17,11,5,2,1");
+    let entries = [(28, ""), (28, "28,27")];
+    release_entries(&rt, rt.alloc(), &mut forest, &entries);
+    holds(&rt, forest.is_empty(), "no span is open");
 }
 
 #[test]
-fn entries_first_then_every_other_span(rt: HostRuntime) -> Result<(), Fail> {
-    let mut forest = grown(&rt, rt.alloc())?;
-    for number in [4, 21, 28, 28] {
-        release(&rt, rt.alloc(), &mut forest, number, Holder::Entry, "")?;
-    }
+fn entries_first_then_every_other_span(rt: HostRuntime) {
+    let mut forest = grown(&rt, rt.alloc());
+    let entries = [(4, ""), (21, ""), (28, ""), (28, "")];
+    release_entries(&rt, rt.alloc(), &mut forest, &entries);
     let steps = "2: 4: 6: 8: 10: 12:12 14: 16: 18:18 20: 22: 24: 26:26 28: 30:30 1: 3: 5: 7: 9:9 11:
         13:13,6 15:15 17: 19:19,14,7,3 21: 23:23,22,21,20,16,8 25:25,24,10,4 27: 29:29,28,27
         17:17,11,5,2,1";
-    release_handles(&rt, rt.alloc(), &mut forest, steps)?;
-    assert!(rt; forest.is_empty());
-    Ok(())
+    release_handles(&rt, rt.alloc(), &mut forest, steps);
+    holds(&rt, forest.is_empty(), "no span is open");
 }

@@ -5,7 +5,8 @@ ghost use Rattle.span_layers.specs.Note.{plain_note};
 ghost use Rattle.span_layers.specs.Rule.{pairs_of, is_admitted};
 ghost use Rattle.span_layers.specs.Text.{text_of};
 
-use crate::tests::layers::fixtures::{add, admission, rule, same, tells};
+use crate::tests::compare::same;
+use crate::tests::layers::fixtures::{add, admission, rule, tells};
 use span_id::{Level, Meta};
 use span_layers::{
     Filters, FmtSpan, Form, Hooks, Layer, Layers, Note, Rule, Style, Tellers, admits, text,

@@ -1,6 +1,7 @@
 //! Hooks and what is made of them go from thread to thread.
 
-use crate::tests::layers::fixtures::{add, layer, same};
+use crate::tests::compare::same;
+use crate::tests::layers::fixtures::{add, layer};
 use span_id::Level;
 use span_layers::{FmtSpan, Form, Layer, Layers, Style};
 

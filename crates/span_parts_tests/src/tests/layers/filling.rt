@@ -1,6 +1,7 @@
 //! As many layers as there may be, and one more.
 
-use crate::tests::layers::fixtures::{admission, layer, same};
+use crate::tests::compare::same;
+use crate::tests::layers::fixtures::{admission, layer};
 use span_id::{Fault, Level};
 use span_layers::{FmtSpan, Form, Layer, Layers, MAX_LAYERS, Style};
 use std::alloc::Global;

@@ -1,30 +1,18 @@
 //! What the tests have in common: layers, metas and notes, and what is asked of the parts of layers.
-//!
-//! An assertion with a message takes the proof a second or two, and a call of `same` a tenth of that.
 ghost use Rattle.std.specs.Prelude.{◌≡◌, string_bytes};
 ghost use Rattle.std.specs.Result.{ForOk};
 ghost use Rattle.span_layers.specs.Note.{plain_note};
 ghost use Rattle.span_layers.specs.Rule.{pairs_of, is_admitted};
 ghost use Rattle.span_layers.specs.Text.{text_of};
 
+use crate::tests::compare::{holds, same};
 use span_id::{Bits, Fault, Field, Fields, Level, Meta};
 use span_layers::{
     Filters, FmtSpan, Form, Hooks, Kind, Layer, Layers, Note, Rule, Style, Tellers, admits, text,
 };
 use std::alloc::{AllocError, Global};
-use std::fmt::{Debug, Display};
 use std::process::Abort;
 use std::sync::ArcStr;
-
-/// Whether the answer is the one that is wanted; `of` tells the case.
-pub(crate) fn same<T: PartialEq + Debug + Copy, D: Display + Copy>(
-    rt: &impl Abort,
-    answer: T,
-    want: T,
-    of: D,
-) {
-    assert_eq!(rt; answer, want, "of {of}");
-}
 
 /// Hooks that answer as `admits` and `text` do. They are handed out, so the closures state what they answer.
 fn hooks(alloc: Global) -> Result<Hooks, AllocError> {
@@ -71,7 +59,7 @@ pub(crate) fn layer(
 
 /// Adds a layer where there is room for it.
 pub(crate) fn add(rt: &impl Abort, layers: &mut Layers, layer: Layer) {
-    assert!(rt; layers.add(layer).is_ok());
+    holds(rt, layers.add(layer).is_ok(), "there is room for a layer");
 }
 
 pub(crate) fn meta(alloc: Global, target: &str, level: Level) -> Result<Meta, AllocError> {

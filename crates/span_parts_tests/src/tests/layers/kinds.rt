@@ -1,6 +1,7 @@
 //! Which kinds of notes a layer wants.
 
-use crate::tests::layers::fixtures::{add, layer, same};
+use crate::tests::compare::same;
+use crate::tests::layers::fixtures::{add, layer};
 use bitflags::Flags;
 use span_id::Level;
 use span_layers::{Filters, FmtSpan, Form, Kind, Layers, Style};

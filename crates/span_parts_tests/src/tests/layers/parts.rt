@@ -1,6 +1,7 @@
 //! The two parts of three layers.
 
-use crate::tests::layers::fixtures::{add, admission, layer, note, same, tells};
+use crate::tests::compare::same;
+use crate::tests::layers::fixtures::{add, admission, layer, note, tells};
 use span_id::Level;
 use span_layers::{Filters, FmtSpan, Form, Forms, Kind, Layers, Rules, Say, Style};
 use std::alloc::Global;

@@ -1,6 +1,7 @@
 //! Layers with no closures answer as those whose closures call `admits` and `text`.
 
-use crate::tests::layers::fixtures::{add, admission, layer, meta, note, rule, same, tells};
+use crate::tests::compare::same;
+use crate::tests::layers::fixtures::{add, admission, layer, meta, note, rule, tells};
 use span_id::{Bits, Level};
 use span_layers::{
     Admit, ByForm, ByRule, Filters, FmtSpan, Form, Hooks, Layer, Layers, Say, Style, Tellers,

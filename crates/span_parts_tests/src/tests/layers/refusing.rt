@@ -5,7 +5,8 @@ ghost use Rattle.span_layers.specs.Note.{plain_note};
 ghost use Rattle.span_layers.specs.Rule.{pairs_of, is_admitted};
 ghost use Rattle.span_layers.specs.Text.{text_of};
 
-use crate::tests::layers::fixtures::{add, note, rule, same};
+use crate::tests::compare::same;
+use crate::tests::layers::fixtures::{add, note, rule};
 use span_id::{Fault, Level, Meta};
 use span_layers::{FmtSpan, Form, Hooks, Layer, Layers, Note, Rule, Style, admits};
 use std::alloc::{AllocError, Global};

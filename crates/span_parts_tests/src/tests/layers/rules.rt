@@ -1,6 +1,7 @@
 //! Which targets and levels a rule admits.
 
-use crate::tests::layers::fixtures::{meta, rule, same};
+use crate::tests::compare::same;
+use crate::tests::layers::fixtures::{meta, rule};
 use span_id::Level;
 use span_layers::admits;
 use std::alloc::Global;

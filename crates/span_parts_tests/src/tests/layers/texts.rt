@@ -1,6 +1,7 @@
 //! Texts of notes, in both forms.
 
-use crate::tests::layers::fixtures::{fields, same};
+use crate::tests::compare::same;
+use crate::tests::layers::fixtures::fields;
 use span_id::{Fault, Level};
 use span_layers::{Form, Kind, Note, text};
 use std::alloc::{AllocError, Global};

@@ -1,18 +1,19 @@
 //! Layers, and batches of few notes.
-ghost use Rattle.std.specs.Prelude.{◌≡◌, ◌+◌, ◌-◌, ◌^◌, ◌<◌, ◌≤◌, [], IfOk, length, string_bytes};
+ghost use Rattle.std.specs.Prelude.{◌≡◌, ◌+◌, ◌-◌, ◌^◌, ◌<◌, ◌≤◌, [], length, string_bytes};
 ghost use Rattle.std.specs.Result.{ForOk};
 ghost use Rattle.span_layers.specs.Note.{plain_note};
 ghost use Rattle.span_layers.specs.Rule.{pairs_of, is_admitted};
 ghost use Rattle.span_layers.specs.Text.{text_of};
 
+use crate::tests::compare::same;
 use span_id::{Fields, Id, Limits, Meta};
 use span_layers::{
     FmtSpan, Form, Hooks, Kind, Layer, Layers, Note, Rule, Style, Tellers, admits, text,
 };
 use span_outlet::{Batch, Call, Drain, Line, Outlet, Reply, Ring, Tap};
 use std::alloc::{AllocError, Global};
+use std::process::Abort;
 use std::sync::ArcStr;
-use std::test::Fail;
 
 // Hooks whose text of a new span is refused memory.
 fn hooks(alloc: Global) -> Result<Hooks, AllocError> {
@@ -39,7 +40,7 @@ fn hooks(alloc: Global) -> Result<Hooks, AllocError> {
 }
 
 /// Tellers of layers with these forms. Notes of new spans are refused memory.
-pub(crate) fn tellers(alloc: Global, forms: &[Form]) -> Result<Tellers, Fail> {
+pub(crate) fn tellers(rt: &impl Abort, alloc: Global, forms: &[Form]) -> Tellers {
     let mut layers = Layers::new(alloc);
     for form in forms {
         let layer = Layer {
@@ -50,92 +51,122 @@ pub(crate) fn tellers(alloc: Global, forms: &[Form]) -> Result<Tellers, Fail> {
             rule: Rule {
                 pairs: Vec::new(alloc),
             },
-            hooks: hooks(alloc)?,
+            hooks: hooks(alloc).expect(rt, "memory"),
         };
-        if layers.add(layer).is_err() {
-            return Err(Fail::new("a layer too many, or no memory"));
-        }
+        let _number = layers.add(layer).ok().expect(rt, "a layer");
     }
-    let (_, tellers) = layers.split();
-    Ok(tellers)
+    layers.split().1
 }
 
 /// Both ends of a ring of so many places.
-pub(crate) fn pair(alloc: Global, places: u32) -> Result<(Ring, Tap), Fail>
-    ensures new { IfOk result (λ ends. ends.0.sent ≡ []) }
-    ensures pair { IfOk result (λ ends. ends.0.name ≡ ends.1) }
+pub(crate) fn pair(rt: &impl Abort, alloc: Global, places: u32) -> (Ring, Tap)
+    ensures new { result.0.sent ≡ [] }
+    ensures pair { result.0.name ≡ result.1 }
 {
     let limits = Limits {
         ring: places,
         ..Limits::default()
     };
-    Ok(Ring::pair(alloc, &limits.check()?)?)
+    let checked = limits.check().expect(rt, "limits");
+    Ring::pair(alloc, &checked).expect(rt, "memory")
 }
 
 /// A ring of so many places, and a drain of it that writes in these forms.
-pub(crate) fn opened(alloc: Global, places: u32, forms: &[Form]) -> Result<(Ring, Drain), Fail>
-    ensures new { IfOk result (λ ends. ends.0.sent ≡ []) }
-    ensures pair { IfOk result (λ ends. ends.0.name ≡ ends.1.name) }
+pub(crate) fn opened(rt: &impl Abort, alloc: Global, places: u32, forms: &[Form]) -> (Ring, Drain)
+    ensures new { result.0.sent ≡ [] }
+    ensures pair { result.0.name ≡ result.1.name }
 {
-    let tellers = tellers(alloc, forms)?;
-    let (ring, tap) = pair(alloc, places)?;
-    Ok((ring, Drain::new(alloc, tap, tellers)))
+    let (ring, tap) = pair(rt, alloc, places);
+    (ring, Drain::new(alloc, tap, tellers(rt, alloc, forms)))
 }
 
 /// Sends a batch where there is room, and answers whether there was.
-pub(crate) fn send<O: Outlet>(outlet: &mut O, batch: Batch) -> Result<bool, AllocError>
+fn send<O: Outlet>(rt: &impl Abort, outlet: &mut O, batch: Batch) -> bool
     requires { length (O.sent outlet.old) < 2 ^ 64 - 1 }
     ensures sent { length (O.sent outlet.new) ≤ length (O.sent outlet.old) + 1 }
     ensures name { O.name outlet.new ≡ O.name outlet.old }
 {
-    let room = outlet.room()?;
+    let room = outlet.room().expect(rt, "memory");
     if room {
         outlet.put(batch);
     }
-    Ok(room)
+    room
 }
 
-/// A call whose layers are told of a span with the name `a`, each in the order in which they stand here.
-pub(crate) fn batch(alloc: Global, kind: Kind, layers: &[u32]) -> Result<Batch, Fail> {
-    let Some(id) = Id::from_u64(1) else {
-        return Err(Fail::new("no id"));
-    };
-    let path = ArcStr::from_str(alloc, "a")?;
+/// Sends a call whose layers are told of a span with the name `a`, each in the order in which they stand here. Whether
+/// there was room for its batch is what is wanted.
+pub(crate) fn sends<O: Outlet>(
+    rt: &impl Abort,
+    alloc: Global,
+    outlet: &mut O,
+    call: (Kind, &[u32]),
+    want: bool,
+)
+    requires { length (O.sent outlet.old) < 2 ^ 64 - 1 }
+    ensures sent { length (O.sent outlet.new) ≤ length (O.sent outlet.old) + 1 }
+    ensures name { O.name outlet.new ≡ O.name outlet.old }
+{
+    let (kind, layers) = call;
+    let sent = send(rt, outlet, batch(rt, alloc, kind, layers));
+    same(rt, (kind, sent), (kind, want), "room for a batch");
+}
+
+fn batch(rt: &impl Abort, alloc: Global, kind: Kind, layers: &[u32]) -> Batch {
+    let id = Id::from_u64(1).expect(rt, "an id");
     let mut notes = Vec::new(alloc);
     for layer in layers {
-        notes.push(Note {
-            layer: *layer,
-            kind,
-            worker: 0,
-            id: 1,
-            path: path.clone()?,
-            fields: Fields::none(),
-            tail: None,
-        })?;
+        notes
+            .push(note(rt, alloc, kind, *layer))
+            .expect(rt, "memory");
     }
-    Ok(Batch {
+    Batch {
         call: Call::CloneSpan { worker: 0, id },
         reply: Reply::Cloned,
         notes,
-    })
+    }
+}
+
+fn note(rt: &impl Abort, alloc: Global, kind: Kind, layer: u32) -> Note {
+    Note {
+        layer,
+        kind,
+        worker: 0,
+        id: 1,
+        path: ArcStr::from_str(alloc, "a").expect(rt, "memory"),
+        fields: Fields::none(),
+        tail: None,
+    }
 }
 
 /// The number of the batch, the place, the layer and the text of each line.
-pub(crate) fn shown(alloc: Global, lines: &[Line]) -> Result<String, Fail> {
+pub(crate) fn shown(rt: &impl Abort, alloc: Global, lines: &[Line]) -> String {
     let mut all = Vec::new(alloc);
     for line in lines {
-        push_line(alloc, &mut all, line)?;
+        push_line(alloc, &mut all, line).expect(rt, "memory");
     }
-    Ok(String::from_utf8(all)?)
+    String::from_utf8(all).ok().expect(rt, "a text")
+}
+
+/// The lines of a drain, each with its numbers.
+pub(crate) fn are_lines<V>(rt: &impl Abort, alloc: Global, drain: &Drain<V>, want: &str) {
+    let lines = shown(rt, alloc, drain.all());
+    same(rt, lines.as_str(), want, "all lines");
 }
 
 /// The same of the lines of one layer.
-pub(crate) fn shown_of<V>(alloc: Global, drain: &Drain<V>, layer: u32) -> Result<String, Fail> {
+pub(crate) fn are_lines_of<V>(
+    rt: &impl Abort,
+    alloc: Global,
+    drain: &Drain<V>,
+    layer: u32,
+    want: &str,
+) {
     let mut all = Vec::new(alloc);
     for line in drain.lines(layer) {
-        push_line(alloc, &mut all, line)?;
+        push_line(alloc, &mut all, line).expect(rt, "memory");
     }
-    Ok(String::from_utf8(all)?)
+    let lines = String::from_utf8(all).ok().expect(rt, "a text");
+    same(rt, lines.as_str(), want, layer);
 }
 
 /// Writes the numbers and the text of a line, and a newline.

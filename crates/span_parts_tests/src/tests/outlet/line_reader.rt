@@ -1,7 +1,8 @@
 //! What a line reader gives out.
-ghost use Rattle.std.specs.Prelude.{◌≡◌, [], IfOk};
+ghost use Rattle.std.specs.Prelude.{◌≡◌, []};
 
-use crate::tests::outlet::batches::{batch, pair, push_line, send, tellers};
+use crate::tests::compare::same;
+use crate::tests::outlet::batches::{pair, push_line, sends, tellers};
 use span_layers::{
     ByForm, ByRule, FmtSpan, Form, Formatters, Hooks, Kind, Layer, Layers, Rule, Say, Style,
     Tellers,
@@ -9,146 +10,181 @@ use span_layers::{
 use span_outlet::{LineReader, Ring};
 use std::alloc::Global;
 use std::process::Abort;
-use std::test::Fail;
 
 const FORMS: [Form; 2] = [Form::Json, Form::Compact];
 
 // A ring of so many places, and a reader of it that writes in these forms.
-fn opened(alloc: Global, places: u32, forms: &[Form]) -> Result<(Ring, LineReader), Fail>
-    ensures new { IfOk result (λ ends. ends.0.sent ≡ []) }
-    ensures pair { IfOk result (λ ends. ends.0.name ≡ ends.1.name) }
+fn opened(rt: &impl Abort, alloc: Global, places: u32, forms: &[Form]) -> (Ring, LineReader)
+    ensures new { result.0.sent ≡ [] }
+    ensures pair { result.0.name ≡ result.1.name }
 {
-    let tellers = tellers(alloc, forms)?;
-    let (ring, tap) = pair(alloc, places)?;
-    Ok((ring, LineReader::new(alloc, tap, tellers)))
+    let (ring, tap) = pair(rt, alloc, places);
+    let reader = LineReader::new(alloc, tap, tellers(rt, alloc, forms));
+    (ring, reader)
 }
 
 // What is read until no line waits, but at most so many lines.
-fn read<V: Say>(alloc: Global, reader: &mut LineReader<V>, most: usize) -> Result<String, Fail> {
+fn read<V: Say>(rt: &impl Abort, alloc: Global, reader: &mut LineReader<V>, most: usize) -> String {
     let mut all = Vec::new(alloc);
     for _ in 0..most {
         if !reader.fill() {
             break;
         }
-        let Some(line) = reader.next() else {
-            return Err(Fail::new("the line that waits is lost"));
-        };
-        push_line(alloc, &mut all, &line)?;
+        let line = reader.next().expect(rt, "the line that waits is lost");
+        push_line(alloc, &mut all, &line).expect(rt, "memory");
     }
-    Ok(String::from_utf8(all)?)
+    String::from_utf8(all).ok().expect(rt, "a text")
+}
+
+// The reader gives out these lines, of which there are less than nine.
+fn reads<V: Say>(rt: &impl Abort, alloc: Global, reader: &mut LineReader<V>, want: &str) {
+    let lines = read(rt, alloc, reader, 9);
+    same(rt, lines.as_str(), want, "what is read");
+}
+
+// How many batches were taken, and how many notes missed.
+fn counts<V>(reader: &LineReader<V>) -> (u64, u64) {
+    (reader.taken(), reader.refused())
+}
+
+// The place of the line that waits.
+fn peeked<V>(reader: &LineReader<V>) -> Option<u32> {
+    reader.peek().map(|line| line.place)
+}
+
+// The batch and the place of the line that is given out.
+fn given<V>(reader: &mut LineReader<V>) -> Option<(u64, u32)> {
+    reader.next().map(|line| (line.batch, line.place))
+}
+
+// Whether a line waits once the reader was filled.
+fn fills<V: Say>(rt: &impl Abort, reader: &mut LineReader<V>, want: bool) {
+    let filled = reader.fill();
+    same(rt, filled, want, "a line waits");
 }
 
 // No line waits, so many batches were taken, and so many notes missed.
 fn stands_at<V: Say>(rt: &impl Abort, reader: &mut LineReader<V>, taken: u64, refused: u64) {
-    assert!(rt; !reader.fill());
-    assert!(rt; reader.peek().is_none());
-    assert!(rt; reader.next().is_none());
-    assert_eq!(rt; reader.taken(), taken);
-    assert_eq!(rt; reader.refused(), refused);
+    fills(rt, reader, false);
+    same(rt, peeked(reader), None, "the line that waits");
+    same(rt, given(reader), None, "the line that is given out");
+    same(rt, counts(reader), (taken, refused), "taken and refused");
 }
 
 #[test]
-fn lines_of_three_batches(rt: HostRuntime) -> Result<(), Fail> {
+fn lines_of_three_batches(rt: HostRuntime) {
     let alloc = rt.alloc();
-    let (mut ring, mut reader) = opened(alloc, 8, &FORMS)?;
+    let (mut ring, mut reader) = opened(&rt, alloc, 8, &FORMS);
     stands_at(&rt, &mut reader, 0, 0);
-    assert!(rt; send(&mut ring, batch(alloc, Kind::OnEnter, &[0, 1])?)?);
-    assert!(rt; send(&mut ring, batch(alloc, Kind::OnEnter, &[])?)?);
-    assert!(rt; send(&mut ring, batch(alloc, Kind::OnExit, &[1, 0])?)?);
+    sends(&rt, alloc, &mut ring, (Kind::OnEnter, &[0, 1]), true);
+    sends(&rt, alloc, &mut ring, (Kind::OnEnter, &[]), true);
+    sends(&rt, alloc, &mut ring, (Kind::OnExit, &[1, 0]), true);
     let lines = r#"0 0 0 {"fields":[],"id":1,"kind":"enter","path":"a","worker":0}
 0 1 1 enter 1 w0 a
 2 0 1 exit 1 w0 a
 2 1 0 {"fields":[],"id":1,"kind":"exit","path":"a","worker":0}
 "#;
-    assert_eq!(rt; read(alloc, &mut reader, 9)?.as_str(), lines);
+    reads(&rt, alloc, &mut reader, lines);
     stands_at(&rt, &mut reader, 3, 0);
-    Ok(())
 }
 
 #[test]
-fn a_line_that_waits_is_looked_at_and_given_out(rt: HostRuntime) -> Result<(), Fail> {
+fn a_line_that_waits_is_looked_at_and_given_out(rt: HostRuntime) {
     let alloc = rt.alloc();
-    let (mut ring, mut reader) = opened(alloc, 8, &[Form::Compact])?;
-    assert!(rt; send(&mut ring, batch(alloc, Kind::OnEnter, &[0, 0])?)?);
-    assert!(rt; send(&mut ring, batch(alloc, Kind::OnExit, &[0])?)?);
+    let (mut ring, mut reader) = opened(&rt, alloc, 8, &[Form::Compact]);
+    sends(&rt, alloc, &mut ring, (Kind::OnEnter, &[0, 0]), true);
+    sends(&rt, alloc, &mut ring, (Kind::OnExit, &[0]), true);
     for place in 0..2 {
         waits(&rt, &mut reader, place);
     }
-    assert!(rt; reader.peek().is_none());
-    assert_eq!(rt; reader.taken(), 1);
-    assert_eq!(rt;
-        read(alloc, &mut reader, 9)?.as_str(),
-        "1 0 0 exit 1 w0 a\n"
-    );
+    same(&rt, peeked(&reader), None, "the line that waits");
+    same(&rt, counts(&reader).0, 1, "taken");
+    reads(&rt, alloc, &mut reader, "1 0 0 exit 1 w0 a\n");
     stands_at(&rt, &mut reader, 2, 0);
-    Ok(())
 }
 
 // The line at this place of the first batch waits, however often the reader is filled, and then it's given out.
 fn waits<V: Say>(rt: &impl Abort, reader: &mut LineReader<V>, place: u32) {
-    assert!(rt; reader.fill());
-    assert!(rt; reader.fill());
-    assert_eq!(rt; reader.taken(), 1);
-    assert_eq!(rt; reader.peek().map(|line| line.place), Some(place));
-    assert_eq!(rt; reader.next().map(|line| line.place), Some(place));
+    fills(rt, reader, true);
+    fills(rt, reader, true);
+    same(rt, counts(reader).0, 1, place);
+    same(rt, peeked(reader), Some(place), place);
+    same(rt, given(reader), Some((0, place)), place);
 }
 
 #[test]
-fn batches_whose_texts_are_refused_memory(rt: HostRuntime) -> Result<(), Fail> {
+fn batches_whose_texts_are_refused_memory(rt: HostRuntime) {
     let alloc = rt.alloc();
-    let (mut ring, mut reader) = opened(alloc, 8, &[Form::Compact])?;
-    assert!(rt; send(&mut ring, batch(alloc, Kind::OnNew, &[0])?)?);
-    assert!(rt; send(&mut ring, batch(alloc, Kind::OnNew, &[0, 0])?)?);
-    assert!(rt; send(&mut ring, batch(alloc, Kind::OnClose, &[0, 7])?)?);
-    assert!(rt; reader.fill());
-    assert_eq!(rt; reader.taken(), 3);
-    assert_eq!(rt; reader.refused(), 4);
-    assert_eq!(rt;
-        read(alloc, &mut reader, 9)?.as_str(),
-        "2 0 0 close 1 w0 a\n"
-    );
+    let (mut ring, mut reader) = opened(&rt, alloc, 8, &[Form::Compact]);
+    sends(&rt, alloc, &mut ring, (Kind::OnNew, &[0]), true);
+    sends(&rt, alloc, &mut ring, (Kind::OnNew, &[0, 0]), true);
+    sends(&rt, alloc, &mut ring, (Kind::OnClose, &[0, 7]), true);
+    fills(&rt, &mut reader, true);
+    same(&rt, counts(&reader), (3, 4), "taken and refused");
+    reads(&rt, alloc, &mut reader, "2 0 0 close 1 w0 a\n");
     stands_at(&rt, &mut reader, 3, 4);
-    Ok(())
 }
 
 #[test]
-fn a_place_that_is_used_again(rt: HostRuntime) -> Result<(), Fail> {
+fn a_place_that_is_used_again(rt: HostRuntime) {
     let alloc = rt.alloc();
-    let (mut ring, mut reader) = opened(alloc, 1, &[Form::Compact])?;
-    assert!(rt; send(&mut ring, batch(alloc, Kind::OnEnter, &[0])?)?);
-    assert!(rt; !send(&mut ring, batch(alloc, Kind::OnExit, &[0])?)?);
-    assert_eq!(rt;
-        read(alloc, &mut reader, 9)?.as_str(),
-        "0 0 0 enter 1 w0 a\n"
-    );
-    assert!(rt; send(&mut ring, batch(alloc, Kind::OnExit, &[0])?)?);
-    assert_eq!(rt;
-        read(alloc, &mut reader, 9)?.as_str(),
-        "1 0 0 exit 1 w0 a\n"
-    );
+    let (mut ring, mut reader) = opened(&rt, alloc, 1, &[Form::Compact]);
+    sends(&rt, alloc, &mut ring, (Kind::OnEnter, &[0]), true);
+    sends(&rt, alloc, &mut ring, (Kind::OnExit, &[0]), false);
+    reads(&rt, alloc, &mut reader, "0 0 0 enter 1 w0 a\n");
+    sends(&rt, alloc, &mut ring, (Kind::OnExit, &[0]), true);
+    reads(&rt, alloc, &mut reader, "1 0 0 exit 1 w0 a\n");
     stands_at(&rt, &mut reader, 2, 0);
-    Ok(())
+}
+
+// Whether a line waits once the reader was filled beside the ring.
+fn fills_beside(rt: &impl Abort, reader: &mut LineReader, ring: &mut Ring, want: bool)
+    requires pair { ring.old.name ≡ reader.old.name }
+    ensures sent { ring.new.sent ≡ ring.old.sent }
+    ensures name { ring.new.name ≡ ring.old.name }
+    ensures reader { reader.new.name ≡ reader.old.name }
+{
+    let filled = reader.fill_beside(ring);
+    same(rt, filled, want, "a line waits");
+}
+
+// How many batches the reader is behind.
+fn is_behind(rt: &impl Abort, reader: &mut LineReader, ring: &mut Ring, want: usize)
+    requires pair { ring.old.name ≡ reader.old.name }
+    ensures sent { ring.new.sent ≡ ring.old.sent }
+    ensures name { ring.new.name ≡ ring.old.name }
+    ensures reader { reader.new.name ≡ reader.old.name }
+{
+    let behind = reader.behind(ring);
+    same(rt, behind, want, "batches behind");
+}
+
+// The line of this batch is given out.
+fn gives(rt: &impl Abort, reader: &mut LineReader, batch: u64)
+    ensures reader { reader.new.name ≡ reader.old.name }
+{
+    let line = reader.next().map(|line| line.batch);
+    same(rt, line, Some(batch), "the line's batch");
 }
 
 #[test]
-fn both_ends_in_one_thread(rt: HostRuntime) -> Result<(), Fail> {
+fn both_ends_in_one_thread(rt: HostRuntime) {
     let alloc = rt.alloc();
-    let (mut ring, mut reader) = opened(alloc, 2, &[Form::Compact])?;
-    assert!(rt; !reader.fill_beside(&mut ring));
-    assert!(rt; send(&mut ring, batch(alloc, Kind::OnNew, &[0])?)?);
-    assert!(rt; send(&mut ring, batch(alloc, Kind::OnExit, &[0])?)?);
-    assert_eq!(rt; reader.behind(&mut ring), 2);
-    assert!(rt; reader.fill_beside(&mut ring));
-    assert_eq!(rt; reader.behind(&mut ring), 0);
-    assert_eq!(rt; reader.next().map(|line| line.batch), Some(1));
-    assert!(rt; !reader.fill_beside(&mut ring));
-    assert_eq!(rt; reader.looks(), 3);
+    let (mut ring, mut reader) = opened(&rt, alloc, 2, &[Form::Compact]);
+    fills_beside(&rt, &mut reader, &mut ring, false);
+    sends(&rt, alloc, &mut ring, (Kind::OnNew, &[0]), true);
+    sends(&rt, alloc, &mut ring, (Kind::OnExit, &[0]), true);
+    is_behind(&rt, &mut reader, &mut ring, 2);
+    fills_beside(&rt, &mut reader, &mut ring, true);
+    is_behind(&rt, &mut reader, &mut ring, 0);
+    gives(&rt, &mut reader, 1);
+    fills_beside(&rt, &mut reader, &mut ring, false);
+    same(&rt, reader.looks(), 3, "looks");
     stands_at(&rt, &mut reader, 2, 1);
-    Ok(())
 }
 
 // Tellers of layers with these forms, and with no closures.
-fn plain_tellers(alloc: Global, forms: &[Form]) -> Result<Tellers<ByForm>, Fail> {
+fn plain_tellers(rt: &impl Abort, alloc: Global, forms: &[Form]) -> Tellers<ByForm> {
     let mut layers: Layers<ByRule, ByForm> = Layers::new(alloc);
     for form in forms {
         let layer = Layer {
@@ -161,26 +197,32 @@ fn plain_tellers(alloc: Global, forms: &[Form]) -> Result<Tellers<ByForm>, Fail>
             },
             hooks: Hooks::by_rule_and_form(),
         };
-        if layers.add(layer).is_err() {
-            return Err(Fail::new("a layer too many, or no memory"));
-        }
+        let _number = layers.add(layer).ok().expect(rt, "a layer");
     }
-    let (_, tellers) = layers.split();
-    Ok(tellers)
+    layers.split().1
+}
+
+type PlainReader = LineReader<Formatters<ByForm>>;
+
+// A ring of so many places, and a reader of it whose layers have no closures.
+fn plain(rt: &impl Abort, alloc: Global, places: u32) -> (Ring, PlainReader)
+    ensures new { result.0.sent ≡ [] }
+{
+    let (ring, tap) = pair(rt, alloc, places);
+    let reader = LineReader::new(alloc, tap, plain_tellers(rt, alloc, &FORMS));
+    (ring, reader)
 }
 
 #[test]
-fn lines_of_layers_without_closures(rt: HostRuntime) -> Result<(), Fail> {
+fn lines_of_layers_without_closures(rt: HostRuntime) {
     let alloc = rt.alloc();
-    let (mut ring, tap) = pair(alloc, 2)?;
-    let mut reader = LineReader::new(alloc, tap, plain_tellers(alloc, &FORMS)?);
-    assert!(rt; send(&mut ring, batch(alloc, Kind::OnNew, &[1, 0])?)?);
+    let (mut ring, mut reader) = plain(&rt, alloc, 2);
+    sends(&rt, alloc, &mut ring, (Kind::OnNew, &[1, 0]), true);
     let lines = r#"0 0 1 new 1 w0 a
 0 1 0 {"fields":[],"id":1,"kind":"new","path":"a","worker":0}
 "#;
-    assert_eq!(rt; read(alloc, &mut reader, 9)?.as_str(), lines);
+    reads(&rt, alloc, &mut reader, lines);
     stands_at(&rt, &mut reader, 1, 0);
-    Ok(())
 }
 
 // What it is given may go to another thread.
@@ -189,17 +231,15 @@ fn crosses_threads<T: Send>(value: T) -> T {
 }
 
 #[test]
-fn a_reader_crosses_threads(rt: HostRuntime) -> Result<(), Fail> {
-    let alloc = rt.alloc();
-    let (_ring, reader) = opened(alloc, 1, &FORMS)?;
+fn a_reader_crosses_threads(rt: HostRuntime) {
+    let (_ring, reader) = opened(&rt, rt.alloc(), 1, &FORMS);
     let mut reader: LineReader = crosses_threads(reader);
     stands_at(&rt, &mut reader, 0, 0);
-    let (_ring, tap) = pair(alloc, 1)?;
-    let plain: LineReader<Formatters<ByForm>> = crosses_threads(LineReader::new(
-        alloc,
-        tap,
-        plain_tellers(alloc, &FORMS)?,
-    ));
-    assert_eq!(rt; plain.taken(), 0);
-    Ok(())
+}
+
+#[test]
+fn a_reader_without_closures_crosses_threads(rt: HostRuntime) {
+    let (_ring, reader) = plain(&rt, rt.alloc(), 1);
+    let reader: PlainReader = crosses_threads(reader);
+    same(&rt, counts(&reader).0, 0, "taken");
 }

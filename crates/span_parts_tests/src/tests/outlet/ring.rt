@@ -1,32 +1,30 @@
 //! Whether a ring has room.
-use crate::tests::outlet::batches::{batch, opened, send};
+use crate::tests::compare::{holds, same};
+use crate::tests::outlet::batches::{opened, sends};
 use span_layers::{Form, Kind};
 use span_outlet::{Drain, Ring};
-use std::test::Fail;
 
 #[test]
-fn a_ring_of_one_place(rt: HostRuntime) -> Result<(), Fail> {
+fn a_ring_of_one_place(rt: HostRuntime) {
     let alloc = rt.alloc();
-    let (mut ring, mut drain) = opened(alloc, 1, &[Form::Compact])?;
-    assert!(rt; send(&mut ring, batch(alloc, Kind::OnEnter, &[0])?)?);
-    assert!(rt; !send(&mut ring, batch(alloc, Kind::OnExit, &[0])?)?);
-    assert!(rt; !send(&mut ring, batch(alloc, Kind::OnExit, &[0])?)?);
-    assert_eq!(rt; ring.times_full(), 2);
-    assert!(rt; drain.step().is_some());
-    assert!(rt; send(&mut ring, batch(alloc, Kind::OnExit, &[0])?)?);
-    assert_eq!(rt; ring.times_full(), 2);
-    Ok(())
+    let (mut ring, mut drain) = opened(&rt, alloc, 1, &[Form::Compact]);
+    sends(&rt, alloc, &mut ring, (Kind::OnEnter, &[0]), true);
+    sends(&rt, alloc, &mut ring, (Kind::OnExit, &[0]), false);
+    sends(&rt, alloc, &mut ring, (Kind::OnExit, &[0]), false);
+    same(&rt, ring.times_full(), 2, "times full");
+    holds(&rt, drain.step().is_some(), "a batch is taken");
+    sends(&rt, alloc, &mut ring, (Kind::OnExit, &[0]), true);
+    same(&rt, ring.times_full(), 2, "times full");
 }
 
 #[test]
-fn a_ring_of_two_places(rt: HostRuntime) -> Result<(), Fail> {
+fn a_ring_of_two_places(rt: HostRuntime) {
     let alloc = rt.alloc();
-    let (mut ring, _drain) = opened(alloc, 2, &[Form::Compact])?;
-    assert!(rt; send(&mut ring, batch(alloc, Kind::OnEnter, &[0])?)?);
-    assert!(rt; send(&mut ring, batch(alloc, Kind::OnExit, &[0])?)?);
-    assert!(rt; !send(&mut ring, batch(alloc, Kind::OnExit, &[0])?)?);
-    assert_eq!(rt; ring.times_full(), 1);
-    Ok(())
+    let (mut ring, _drain) = opened(&rt, alloc, 2, &[Form::Compact]);
+    sends(&rt, alloc, &mut ring, (Kind::OnEnter, &[0]), true);
+    sends(&rt, alloc, &mut ring, (Kind::OnExit, &[0]), true);
+    sends(&rt, alloc, &mut ring, (Kind::OnExit, &[0]), false);
+    same(&rt, ring.times_full(), 1, "times full");
 }
 
 // What it is given may go to another thread.
@@ -35,12 +33,10 @@ fn crosses_threads<T: Send>(value: T) -> T {
 }
 
 #[test]
-fn the_ends_cross_threads(rt: HostRuntime) -> Result<(), Fail> {
-    let alloc = rt.alloc();
-    let (ring, drain) = opened(alloc, 1, &[Form::Compact])?;
+fn the_ends_cross_threads(rt: HostRuntime) {
+    let (ring, drain) = opened(&rt, rt.alloc(), 1, &[Form::Compact]);
     let ring: Ring = crosses_threads(ring);
     let drain: Drain = crosses_threads(drain);
-    assert_eq!(rt; ring.times_full(), 0);
-    assert_eq!(rt; drain.taken(), 0);
-    Ok(())
+    let counts = (ring.times_full(), drain.taken());
+    same(&rt, counts, (0, 0), "times full, and taken");
 }

@@ -1,0 +1,162 @@
+//! Forests, and what is asked of each.
+use crate::tests::compare::{holds, same};
+use span_forest::{Forest, Holder};
+use span_id::{Bits, Fault, Fields, Id, Level, Limits, Meta, SharedMeta};
+use std::alloc::{AllocError, Global};
+use std::process::Abort;
+
+/// A forest with these limits.
+pub(crate) fn forest(
+    rt: &impl Abort,
+    alloc: Global,
+    (slots, last_generation, max_count): (u32, u32, u32),
+) -> Forest {
+    let limits = Limits {
+        slots,
+        last_generation,
+        max_count,
+        workers: 1,
+        ring: 1,
+    };
+    let checked = limits.check().expect(rt, "limits");
+    Forest::new(alloc, &checked).expect(rt, "memory")
+}
+
+/// A forest that these tests don't fill.
+pub(crate) fn wide(rt: &impl Abort, alloc: Global) -> Forest {
+    forest(rt, alloc, (1024, 4294967295, 4294967295))
+}
+
+/// A root `a` and its child `b`, which layer 0 admits.
+pub(crate) fn pair(rt: &impl Abort, alloc: Global) -> Forest {
+    let mut forest = wide(rt, alloc);
+    add(rt, alloc, &mut forest, "a", None, 1);
+    add(rt, alloc, &mut forest, "b", Id::from_u64(1), 1);
+    forest
+}
+
+/// What a span of this name is made with.
+pub(crate) fn named(rt: &impl Abort, alloc: Global, name: &str) -> SharedMeta {
+    let meta = Meta {
+        name: String::from_str(alloc, name).expect(rt, "memory"),
+        target: String::from_str(alloc, "app").expect(rt, "memory"),
+        level: Level::Info,
+    };
+    SharedMeta::copy_of(alloc, &meta).expect(rt, "memory")
+}
+
+/// Adds a span that the layers of these bits admit, and answers its id.
+pub(crate) fn add(
+    rt: &impl Abort,
+    alloc: Global,
+    forest: &mut Forest,
+    name: &str,
+    parent: Option<Id>,
+    bits: u64,
+) -> Id {
+    let meta = named(rt, alloc, name);
+    let added = forest.add(meta, Fields::none(), parent, Bits(bits));
+    added.expect(rt, "a span")
+}
+
+/// The id of this number.
+pub(crate) fn id(rt: &impl Abort, number: u64) -> Id {
+    Id::from_u64(number).expect(rt, "an id")
+}
+
+// The ids as text, as `2,1`.
+fn listed(alloc: Global, ids: &[Id]) -> Result<String, AllocError> {
+    let mut text = String::new(alloc);
+    for id in ids {
+        if !text.is_empty() {
+            text.push(',')?;
+        }
+        let number = format!(in alloc; "{id}")?;
+        text.push_str(number.as_str())?;
+    }
+    Ok(text)
+}
+
+/// Whether these are the ids of a list, as `2,1`; `of` is the span with which they close.
+pub(crate) fn are_listed(rt: &impl Abort, alloc: Global, ids: &[Id], want: &str, of: u64) {
+    let text = listed(alloc, ids).expect(rt, "memory");
+    same(rt, text.as_str(), want, of);
+}
+
+/// Whether these are the names of a layer's path, each with a colon after it.
+pub(crate) fn has_path(
+    rt: &impl Abort,
+    alloc: Global,
+    forest: &Forest,
+    (layer, number): (u32, u64),
+    want: &str,
+) {
+    let names = forest
+        .path(layer, id(rt, number))
+        .expect(rt, "an open span");
+    let mut joined = String::new(alloc);
+    for name in &names {
+        joined.push_str(name.as_str()).expect(rt, "memory");
+        joined.push(':').expect(rt, "memory");
+    }
+    same(rt, joined.as_str(), want, layer);
+}
+
+/// Gives a holder back. What closes is first told and then done, and finds nothing afterwards.
+pub(crate) fn release(
+    rt: &impl Abort,
+    alloc: Global,
+    forest: &mut Forest,
+    (number, holder): (u64, Holder),
+    closed: &str,
+) {
+    let span = id(rt, number);
+    let open = u64::from(forest.len());
+    let told = forest.closing(span, holder).expect(rt, "a holder");
+    are_listed(rt, alloc, told.as_slice(), closed, number);
+    same(rt, u64::from(forest.len()), open, "open after it is told");
+    let gone = forest.release(span, holder).expect(rt, "a holder");
+    are_listed(rt, alloc, gone.as_slice(), closed, number);
+    are_gone(rt, forest, gone.as_slice(), open);
+}
+
+// Each of the spans finds nothing, and no other is gone of so many.
+fn are_gone(rt: &impl Abort, forest: &Forest, gone: &[Id], open: u64) {
+    for id in gone {
+        holds(rt, forest.find(*id).is_none(), "a closed span is found");
+    }
+    let left = u64::from(forest.len());
+    same(rt, left.checked_add(gone.len() as u64), Some(open), "left");
+}
+
+/// What a call that keeps a span open answers.
+pub(crate) fn keep(
+    rt: &impl Abort,
+    forest: &mut Forest,
+    (number, holder): (u64, Holder),
+    want: Result<(), Fault>,
+) {
+    let kept = forest.keep(id(rt, number), holder);
+    same(rt, kept, want, number);
+}
+
+/// The number of the next id; 0 where no slot is free.
+pub(crate) fn next_number(forest: &Forest) -> u64 {
+    match forest.next_id() {
+        Some(id) => id.get(),
+        None => 0,
+    }
+}
+
+/// How many spans are open, and how many holders there are.
+pub(crate) fn sizes(forest: &Forest) -> (u32, u64) {
+    (forest.len(), forest.total())
+}
+
+/// The handles, entries and count of a span; of one that isn't open none.
+pub(crate) fn held(rt: &impl Abort, forest: &Forest, number: u64) -> Option<(u32, u32, u32)> {
+    match forest.find(id(rt, number)) {
+        Some(span) => Some((span.handles, span.entries, span.count)),
+        None => None,
+    }
+}

@@ -1,0 +1,136 @@
+//! Refusals by limits, a long chain, and as many roots as there are slots.
+use crate::tests::compare::{holds, same};
+use crate::tests::forest::fixtures::{add, forest, held, id, named, release, sizes};
+use span_forest::{Forest, Holder};
+use span_id::{Bits, Fault, Fields, Id, SharedMeta};
+use std::alloc::Global;
+use std::process::Abort;
+
+// Adds a span of this meta.
+fn add_of(
+    rt: &impl Abort,
+    forest: &mut Forest,
+    meta: &SharedMeta,
+    parent: Option<Id>,
+    bits: Bits,
+) -> Result<Id, Fault> {
+    let shared = meta.share().expect(rt, "memory");
+    forest.add(shared, Fields::none(), parent, bits)
+}
+
+// A span is refused.
+fn refuses(
+    rt: &impl Abort,
+    alloc: Global,
+    forest: &mut Forest,
+    parent: Option<Id>,
+    bits: Bits,
+    fault: Fault,
+) {
+    let meta = named(rt, alloc, "b");
+    let added = forest.add(meta, Fields::none(), parent, bits);
+    same(rt, added, Err(fault), "a span that is refused");
+}
+
+#[test]
+fn a_slot_that_gave_its_last_id_gives_no_more(rt: HostRuntime) {
+    let alloc = rt.alloc();
+    let mut forest = forest(&rt, alloc, (1, 0, 1));
+    add(&rt, alloc, &mut forest, "a", None, 1);
+    release(&rt, alloc, &mut forest, (1, Holder::Handle), "1");
+    same(&rt, forest.next_id(), None, "the next id");
+    refuses(&rt, alloc, &mut forest, None, Bits(0), Fault::Full);
+}
+
+#[test]
+fn refusals_in_their_order(rt: HostRuntime) {
+    let alloc = rt.alloc();
+    let mut forest = forest(&rt, alloc, (1, 9, 1));
+    add(&rt, alloc, &mut forest, "a", None, 1);
+    for (parent, fault) in [
+        (Id::from_u64(2), Fault::Unknown),
+        (Id::from_u64(1), Fault::CountFull),
+        (None, Fault::Full),
+    ] {
+        refuses(&rt, alloc, &mut forest, parent, Bits(1), fault);
+    }
+    let kept = forest.keep(id(&rt, 1), Holder::Entry);
+    same(&rt, kept, Err(Fault::CountFull), "an entry");
+    let counts = held(&rt, &forest, 1);
+    same(&rt, counts, Some((1, 0, 1)), "the span");
+}
+
+// Adds a child with this number and gives its parent's handle back.
+fn add_below(rt: &impl Abort, forest: &mut Forest, meta: &SharedMeta, last: Id, number: u64) -> Id {
+    let next = add_of(rt, forest, meta, Some(last), Bits(1));
+    let next = next.expect(rt, "a child");
+    same(rt, next.get(), number, "a child");
+    let gone = forest.release(last, Holder::Handle);
+    let gone = gone.expect(rt, "a handle");
+    holds(rt, gone.is_empty(), "the parent stays open");
+    next
+}
+
+// A chain of 65536 spans, and the last of them.
+fn add_chain(rt: &impl Abort, alloc: Global, forest: &mut Forest) -> Id {
+    let meta = named(rt, alloc, "p");
+    let root = add_of(rt, forest, &meta, None, Bits(1));
+    let mut last = root.expect(rt, "a root");
+    for number in 2..=65536 {
+        last = add_below(rt, forest, &meta, last, number);
+    }
+    last
+}
+
+// Each of the 65536 names of the path is `p`.
+fn has_long_path(rt: &impl Abort, forest: &Forest, last: Id) {
+    let names = forest.path(0, last).expect(rt, "an open span");
+    same(rt, names.len(), 65536, "the path");
+    for name in &names {
+        same(rt, name.as_str(), "p", "a name");
+    }
+}
+
+// All of the 65536 spans close with the last one, child first.
+fn closes_all(rt: &impl Abort, forest: &mut Forest, last: Id) {
+    let closed = forest.release(last, Holder::Handle);
+    let closed = closed.expect(rt, "a handle");
+    same(rt, closed.len(), 65536, "the closing list");
+    for (id, number) in closed.iter().zip((1..65537).rev()) {
+        same(rt, id.get(), number, "a span that closes");
+    }
+}
+
+#[test]
+fn a_chain_of_65536_spans(rt: HostRuntime) {
+    let mut forest = forest(&rt, rt.alloc(), (65536, 0, 2));
+    let last = add_chain(&rt, rt.alloc(), &mut forest);
+    has_long_path(&rt, &forest, last);
+    closes_all(&rt, &mut forest, last);
+    holds(&rt, forest.is_empty(), "no span is open");
+    same(&rt, sizes(&forest).1, 0, "the holders");
+}
+
+// Adds 65537 roots.
+fn add_roots(rt: &impl Abort, alloc: Global, forest: &mut Forest) {
+    let meta = named(rt, alloc, "r");
+    for number in 1..=65537 {
+        let root = add_of(rt, forest, &meta, None, Bits(0));
+        let root = root.expect(rt, "a root");
+        same(rt, root.get(), number, "a root");
+    }
+}
+
+#[test]
+fn more_roots_than_the_older_layout_had_slots(rt: HostRuntime) {
+    let mut forest = forest(&rt, rt.alloc(), (65537, 0, 1));
+    add_roots(&rt, rt.alloc(), &mut forest);
+    same(&rt, forest.len(), 65537, "the roots");
+    same(&rt, forest.next_id(), None, "the next id");
+    let last = forest.find(id(&rt, 65537)).is_some();
+    // In the older layout this number was the first slot at its second generation.
+    let old = Id::from_v1(65537).expect(&rt, "an id of the older layout");
+    same(&rt, old.get(), 16777217, "the number's id");
+    let other = forest.find(old).is_some();
+    same(&rt, (last, other), (true, false), "the last, and the other");
+}
