@@ -6,6 +6,7 @@ mod layers;
 mod missed;
 mod on_a_ring;
 mod rows;
+mod same;
 mod shared;
 mod sharing;
 mod strangers;

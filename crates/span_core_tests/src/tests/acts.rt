@@ -2,8 +2,9 @@
 ghost use Rattle.std.specs.Prelude.{◌≡◌, ◌<◌, []};
 
 use crate::tests::layers::{Plan, fields_of, layers, meta_of};
+use crate::tests::same::same;
 use span_core::Core;
-use span_id::{Fault, Id, Level, Limits};
+use span_id::{Checked, Fault, Id, Level, Limits};
 use span_layers::{Filters, Say};
 use span_outlet::{Kept, Line, ParentOf};
 use std::alloc::{AllocError, Global};
@@ -211,22 +212,51 @@ pub(crate) fn play<V: Say>(
     Ok(String::from_utf8(text)?)
 }
 
-// The same for a new core. In the end no span is open and no note was missed.
+/// A core answers so to these calls.
+pub(crate) fn says<V: Say>(
+    rt: &impl Abort,
+    alloc: Global,
+    core: &mut Core<Kept<V>>,
+    workers: u32,
+    acts: &[(u32, Act)],
+    expected: &str,
+) -> Result<(), Fail>
+    requires { workers ≡ core.old.limits.workers }
+    ensures limits { core.new.limits ≡ core.old.limits }
+{
+    let text = play(alloc, core, workers, acts)?;
+    same(rt, text.as_str(), expected);
+    Ok(())
+}
+
+// What a core answers to these calls. In the end no span is open and no note was missed.
+fn play_to_end<V: Say>(
+    rt: &impl Abort,
+    alloc: Global,
+    core: &mut Core<Kept<V>>,
+    workers: u32,
+    acts: &[(u32, Act)],
+) -> Result<String, Fail>
+    requires { workers ≡ core.old.limits.workers }
+{
+    let text = play(alloc, core, workers, acts)?;
+    same(rt, (core.len(), core.outlet().refused()), (0, 0));
+    Ok(text)
+}
+
+// The same for a new core.
 fn answered<V: Say>(
     rt: &impl Abort,
     alloc: Global,
-    limits: Limits,
+    checked: &Checked,
     filters: Filters,
     outlet: Kept<V>,
     acts: &[(u32, Act)],
 ) -> Result<String, Fail>
     requires { outlet.sent ≡ [] }
 {
-    let mut core = Core::new(alloc, &limits.check()?, filters, outlet)?;
-    let text = play(alloc, &mut core, limits.workers, acts)?;
-    assert_eq!(rt; core.len(), 0);
-    assert_eq!(rt; core.outlet().refused(), 0);
-    Ok(text)
+    let mut core = Core::new(alloc, checked, filters, outlet)?;
+    play_to_end(rt, alloc, &mut core, checked.limits().workers, acts)
 }
 
 /// What a new core with these layers answers to the calls, and the lines; in the end no span is open.
@@ -237,6 +267,22 @@ pub(crate) fn played(
     plans: &[Plan],
     acts: &[(u32, Act)],
 ) -> Result<String, Fail> {
+    let checked = limits.check()?;
     let (filters, tellers) = layers(alloc, plans)?;
-    answered(rt, alloc, limits, filters, Kept::new(alloc, tellers), acts)
+    let outlet = Kept::new(alloc, tellers);
+    answered(rt, alloc, &checked, filters, outlet, acts)
+}
+
+/// A new core with these layers answers so to the calls, with these lines; in the end no span is open.
+pub(crate) fn plays(
+    rt: &impl Abort,
+    alloc: Global,
+    limits: Limits,
+    plans: &[Plan],
+    acts: &[(u32, Act)],
+    expected: &str,
+) -> Result<(), Fail> {
+    let text = played(rt, alloc, limits, plans, acts)?;
+    same(rt, text.as_str(), expected);
+    Ok(())
 }

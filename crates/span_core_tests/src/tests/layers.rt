@@ -51,14 +51,24 @@ pub(crate) fn layer(alloc: Global, plan: &Plan, hooks: Hooks) -> Result<Layer, A
     })
 }
 
+/// Adds a layer.
+pub(crate) fn add(layers: &mut Layers, layer: Layer) -> Result<(), Fail> {
+    match layers.add(layer) {
+        Ok(_) => Ok(()),
+        Err(_) => Err(Fail::new("a layer too many, or no memory")),
+    }
+}
+
+// Adds a layer of this plan.
+fn add_plan(alloc: Global, layers: &mut Layers, plan: &Plan) -> Result<(), Fail> {
+    add(layers, layer(alloc, plan, hooks(alloc)?)?)
+}
+
 /// The two parts of layers of these plans.
 pub(crate) fn layers(alloc: Global, plans: &[Plan]) -> Result<(Filters, Tellers), Fail> {
     let mut layers = Layers::new(alloc);
     for plan in plans {
-        let layer = layer(alloc, plan, hooks(alloc)?)?;
-        if layers.add(layer).is_err() {
-            return Err(Fail::new("a layer too many, or no memory"));
-        }
+        add_plan(alloc, &mut layers, plan)?;
     }
     Ok(layers.split())
 }

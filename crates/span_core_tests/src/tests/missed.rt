@@ -6,10 +6,11 @@ ghost use Rattle.span_layers.specs.Rule.{pairs_of, is_admitted};
 ghost use Rattle.span_layers.specs.Text.{text_of};
 
 use crate::tests::acts::{Act, new, play};
-use crate::tests::layers::{EVERYTHING, hooks, layer, layers};
+use crate::tests::layers::{EVERYTHING, add, hooks, layer, layers};
+use crate::tests::same::same;
 use span_core::Core;
-use span_id::{Limits, Meta};
-use span_layers::{Filters, Form, Hooks, Kind, Layers, Note, Rule, Say, admits, text};
+use span_id::{Checked, Limits, Meta};
+use span_layers::{Filters, Form, Hooks, Kind, Layers, Note, Rule, Say, Tellers, admits, text};
 use span_outlet::{Kept, Line};
 use std::alloc::{AllocError, Global};
 use std::process::Abort;
@@ -48,8 +49,8 @@ pub(crate) fn refused_at(alloc: Global, kind: Kind) -> Result<Hooks, AllocError>
     ))
 }
 
-/// The number of the batch, the place, the layer and the text of each line.
-pub(crate) fn numbered(alloc: Global, lines: &[Line]) -> Result<String, Fail> {
+// The number of the batch, the place, the layer and the text of each line.
+fn numbered(alloc: Global, lines: &[Line]) -> Result<String, Fail> {
     let mut text = Vec::new(alloc);
     for line in lines {
         let numbers = format!(in alloc; "{} {} {} ", line.batch, line.place, line.layer)?;
@@ -60,46 +61,92 @@ pub(crate) fn numbered(alloc: Global, lines: &[Line]) -> Result<String, Fail> {
     Ok(String::from_utf8(text)?)
 }
 
-// The lines of a span that is entered and left, and how many notes were missed. The lines that are moved out are those
-// that were looked at.
-fn entered_and_left<V: Say>(
+/// The numbers and the texts of these lines.
+pub(crate) fn are_lines(
     rt: &impl Abort,
     alloc: Global,
-    filters: Filters,
-    outlet: Kept<V>,
-) -> Result<(String, u64), Fail>
-    requires { outlet.sent ≡ [] }
+    lines: &[Line],
+    expected: &str,
+) -> Result<(), Fail> {
+    let text = numbered(alloc, lines)?;
+    same(rt, text.as_str(), expected);
+    Ok(())
+}
+
+fn enter_and_leave<V: Say>(alloc: Global, core: &mut Core<Kept<V>>) -> Result<(), Fail>
+    requires { 1 ≡ core.old.limits.workers }
 {
-    let mut core = Core::new(alloc, &LIMITS.check()?, filters, outlet)?;
     let acts = [
         (0, new("a")),
         (0, Act::Enter(1)),
         (0, Act::Close(1)),
         (0, Act::Exit(1)),
     ];
-    play(alloc, &mut core, LIMITS.workers, &acts)?;
-    let kept = core.into_outlet();
-    let (lines, missed) = (numbered(alloc, kept.all())?, kept.refused());
-    let moved = numbered(alloc, kept.into_lines().as_slice())?;
-    assert_eq!(rt; moved.as_str(), lines.as_str());
-    Ok((lines, missed))
+    play(alloc, core, 1, &acts)?;
+    Ok(())
+}
+
+// What a new core kept of a span that is entered and left.
+fn entered_and_left<V: Say>(
+    alloc: Global,
+    checked: &Checked,
+    filters: Filters,
+    outlet: Kept<V>,
+) -> Result<Kept<V>, Fail>
+    requires sent { outlet.sent ≡ [] }
+    requires workers { checked.now.workers ≡ 1 }
+{
+    let mut core = Core::new(alloc, checked, filters, outlet)?;
+    enter_and_leave(alloc, &mut core)?;
+    Ok(core.into_outlet())
+}
+
+// These lines are kept of it, and so many notes were missed. The lines that are moved out are those that were looked
+// at.
+fn keeps<V: Say>(
+    rt: &impl Abort,
+    alloc: Global,
+    kept: Kept<V>,
+    expected: &str,
+    missed: u64,
+) -> Result<(), Fail> {
+    same(rt, kept.refused(), missed);
+    are_lines(rt, alloc, kept.all(), expected)?;
+    let moved = kept.into_lines();
+    are_lines(rt, alloc, moved.as_slice(), expected)
+}
+
+fn ends<V: Say>(
+    rt: &impl Abort,
+    alloc: Global,
+    filters: Filters,
+    outlet: Kept<V>,
+    expected: &str,
+    missed: u64,
+) -> Result<(), Fail>
+    requires { outlet.sent ≡ [] }
+{
+    let kept = entered_and_left(alloc, &LIMITS.check()?, filters, outlet)?;
+    keeps(rt, alloc, kept, expected, missed)
+}
+
+// Two layers that let everything in, of which the first is refused memory for the text of an entry.
+fn first_refused(alloc: Global) -> Result<(Filters, Tellers), Fail> {
+    let mut both = Layers::new(alloc);
+    let first = layer(alloc, &EVERYTHING, refused_at(alloc, Kind::OnEnter)?)?;
+    add(&mut both, first)?;
+    let second = layer(alloc, &EVERYTHING, hooks(alloc)?)?;
+    add(&mut both, second)?;
+    Ok(both.split())
 }
 
 #[test]
 fn a_note_whose_text_is_refused_memory(rt: HostRuntime) -> Result<(), Fail> {
     let alloc = rt.alloc();
-    let mut both = Layers::new(alloc);
-    let first = both.add(layer(alloc, &EVERYTHING, refused_at(alloc, Kind::OnEnter)?)?);
-    assert!(&rt; first.is_ok());
-    let second = both.add(layer(alloc, &EVERYTHING, hooks(alloc)?)?);
-    assert!(&rt; second.is_ok());
-    let (filters, tellers) = both.split();
-    let (lines, missed) = entered_and_left(&rt, alloc, filters, Kept::new(alloc, tellers))?;
+    let (filters, tellers) = first_refused(alloc)?;
     let expected =
         "0 0 0 new 1 w0 a\n0 1 1 new 1 w0 a\n1 1 1 enter 1 w0 a\n3 0 0 exit 1 w0 a\n3 1 1 exit 1 w0 a\n3 2 0 close 1 w0 a\n3 3 1 close 1 w0 a\n";
-    assert_eq!(&rt; lines.as_str(), expected);
-    assert_eq!(&rt; missed, 1);
-    Ok(())
+    ends(&rt, alloc, filters, Kept::new(alloc, tellers), expected, 1)
 }
 
 #[test]
@@ -107,9 +154,6 @@ fn notes_of_a_layer_without_a_form(rt: HostRuntime) -> Result<(), Fail> {
     let alloc = rt.alloc();
     let (filters, _) = layers(alloc, &[EVERYTHING, EVERYTHING])?;
     let (_, tellers) = layers(alloc, &[EVERYTHING])?;
-    let (lines, missed) = entered_and_left(&rt, alloc, filters, Kept::new(alloc, tellers))?;
     let expected = "0 0 0 new 1 w0 a\n1 0 0 enter 1 w0 a\n3 0 0 exit 1 w0 a\n3 2 0 close 1 w0 a\n";
-    assert_eq!(&rt; lines.as_str(), expected);
-    assert_eq!(&rt; missed, 4);
-    Ok(())
+    ends(&rt, alloc, filters, Kept::new(alloc, tellers), expected, 4)
 }

@@ -1,13 +1,15 @@
 //! A core whose outlet is a ring: a full ring refuses, and a drain tells.
 ghost use Rattle.std.specs.Prelude.{◌≡◌, [], IfOk};
 
-use crate::tests::layers::{EVERYTHING, layer, meta_of};
-use crate::tests::missed::{numbered, refused_at};
+use crate::tests::layers::{EVERYTHING, add, layer, meta_of};
+use crate::tests::missed::{are_lines, refused_at};
+use crate::tests::same::same;
 use span_core::Core;
 use span_id::{Fault, Id, Level, Limits};
 use span_layers::{Filters, Kind, Layers, Tellers};
 use span_outlet::{Drain, ParentOf, Ring, Step};
 use std::alloc::Global;
+use std::process::Abort;
 use std::test::Fail;
 
 // A core with one worker over a ring of so many places, and the ring's drain.
@@ -39,53 +41,67 @@ fn root(alloc: Global, core: &mut Core<Ring>) -> Result<Id, Fail>
     Ok(made.ok_or("the span isn't wanted")?)
 }
 
+// Of a ring of one place, which the new span takes, the next two calls are refused, until the drain takes a batch.
+fn is_full<R: Abort>(
+    rt: &R,
+    alloc: Global,
+    core: &mut Core<Ring>,
+    drain: &mut Drain,
+) -> Result<(), Fail>
+    requires { core.old.limits.workers ≡ 1 }
+{
+    let a = root(alloc, core)?;
+    same(rt, core.clone_span(0, a), Err(Fault::Backlog));
+    same(rt, core.try_close(0, a), Err(Fault::Backlog));
+    same(rt, core.find(a).map(|span| span.count), Some(1));
+    steps(rt, drain, 0, 0);
+    same(rt, drain.step(), None);
+    same(rt, core.try_close(0, a), Ok(true));
+    same(rt, core.calls(), 2);
+    Ok(())
+}
+
+// The drain takes a batch, and so many of its notes are told and refused.
+fn steps<R: Abort>(rt: &R, drain: &mut Drain, told: usize, refused: usize) {
+    same(rt, drain.step(), Some(Step { told, refused }));
+}
+
 #[test]
 fn a_full_ring_refuses(rt: HostRuntime) -> Result<(), Fail> {
     let alloc = rt.alloc();
     let (mut core, mut drain) = opened(alloc, 1, Layers::new(alloc).split())?;
-    let a = root(alloc, &mut core)?;
-    assert_eq!(&rt; core.clone_span(0, a), Err(Fault::Backlog));
-    assert_eq!(&rt; core.try_close(0, a), Err(Fault::Backlog));
-    assert_eq!(&rt; core.find(a).map(|span| span.count), Some(1));
-    assert_eq!(&rt;
-        drain.step(),
-        Some(Step {
-            told: 0,
-            refused: 0
-        })
-    );
-    assert_eq!(&rt; drain.step(), None);
-    assert_eq!(&rt; core.try_close(0, a), Ok(true));
-    assert_eq!(&rt; core.calls(), 2);
-    Ok(())
+    is_full(&rt, alloc, &mut core, &mut drain)
+}
+
+// The text of the new span is refused memory, and that of its close isn't.
+fn misses_the_first<R: Abort>(
+    rt: &R,
+    alloc: Global,
+    core: &mut Core<Ring>,
+    drain: &mut Drain,
+) -> Result<(), Fail>
+    requires { core.old.limits.workers ≡ 1 }
+{
+    let a = root(alloc, core)?;
+    same(rt, core.try_close(0, a), Ok(true));
+    steps(rt, drain, 0, 1);
+    steps(rt, drain, 1, 0);
+    same(rt, drain.step(), None);
+    same(rt, (drain.taken(), drain.refused()), (2, 1));
+    are_lines(rt, alloc, drain.all(), "1 0 0 close 1 w0 a\n")
+}
+
+// A layer that lets everything in, and is refused memory for the text of a new span.
+fn new_refused(alloc: Global) -> Result<(Filters, Tellers), Fail> {
+    let mut layers = Layers::new(alloc);
+    let refused = layer(alloc, &EVERYTHING, refused_at(alloc, Kind::OnNew)?)?;
+    add(&mut layers, refused)?;
+    Ok(layers.split())
 }
 
 #[test]
 fn a_text_that_is_refused_memory_in_the_drain(rt: HostRuntime) -> Result<(), Fail> {
     let alloc = rt.alloc();
-    let mut layers = Layers::new(alloc);
-    let added = layers.add(layer(alloc, &EVERYTHING, refused_at(alloc, Kind::OnNew)?)?);
-    assert!(&rt; added.is_ok());
-    let (mut core, mut drain) = opened(alloc, 8, layers.split())?;
-    let a = root(alloc, &mut core)?;
-    assert_eq!(&rt; core.try_close(0, a), Ok(true));
-    assert_eq!(&rt;
-        drain.step(),
-        Some(Step {
-            told: 0,
-            refused: 1
-        })
-    );
-    assert_eq!(&rt;
-        drain.step(),
-        Some(Step {
-            told: 1,
-            refused: 0
-        })
-    );
-    assert_eq!(&rt; drain.step(), None);
-    assert_eq!(&rt; (drain.taken(), drain.refused()), (2, 1));
-    let lines = numbered(alloc, drain.all())?;
-    assert_eq!(&rt; lines.as_str(), "1 0 0 close 1 w0 a\n");
-    Ok(())
+    let (mut core, mut drain) = opened(alloc, 8, new_refused(alloc)?)?;
+    misses_the_first(&rt, alloc, &mut core, &mut drain)
 }

@@ -1,5 +1,5 @@
 //! Scripts of calls, with what is answered and which lines are told.
-use crate::tests::acts::{Act, child, new, played};
+use crate::tests::acts::{Act, child, new, plays};
 use crate::tests::layers::EVERYTHING;
 use span_id::{Level, Limits};
 use span_layers::{FmtSpan, Form};
@@ -17,10 +17,8 @@ const ROOMY: Limits = Limits {
 #[test]
 fn a_span_is_made_and_closed(rt: HostRuntime) -> Result<(), Fail> {
     let acts = [(0, new("a")), (0, Act::Close(1))];
-    let text = played(&rt, rt.alloc(), ROOMY, &[EVERYTHING], &acts)?;
     let expected = "L0 new 1 w0 a\n= 1\nL0 close 1 w0 a\n= closed\n";
-    assert_eq!(&rt; text.as_str(), expected);
-    Ok(())
+    plays(&rt, rt.alloc(), ROOMY, &[EVERYTHING], &acts, expected)
 }
 
 #[test]
@@ -31,11 +29,9 @@ fn closes_come_child_first(rt: HostRuntime) -> Result<(), Fail> {
         (0, Act::Close(1)),
         (0, Act::Close(2)),
     ];
-    let text = played(&rt, rt.alloc(), ROOMY, &[EVERYTHING], &acts)?;
     let expected =
         "L0 new 1 w0 a\n= 1\nL0 new 2 w0 a:b\n= 2\n= open\nL0 close 2 w0 a:b\nL0 close 1 w0 a\n= closed\n";
-    assert_eq!(&rt; text.as_str(), expected);
-    Ok(())
+    plays(&rt, rt.alloc(), ROOMY, &[EVERYTHING], &acts, expected)
 }
 
 #[test]
@@ -49,11 +45,9 @@ fn closes_alone(rt: HostRuntime) -> Result<(), Fail> {
         (0, Act::Close(3)),
     ];
     let plan = (Form::Compact, FmtSpan::CLOSE, "", Level::Trace);
-    let text = played(&rt, rt.alloc(), ROOMY, &[plan], &acts)?;
     let expected =
         "= 1\n= 2\n= 3\n= open\n= open\nL0 close 3 w0 a:b:c\nL0 close 2 w0 a:b\nL0 close 1 w0 a\n= closed\n";
-    assert_eq!(&rt; text.as_str(), expected);
-    Ok(())
+    plays(&rt, rt.alloc(), ROOMY, &[plan], &acts, expected)
 }
 
 #[test]
@@ -66,11 +60,9 @@ fn enters_twice_and_leaves(rt: HostRuntime) -> Result<(), Fail> {
         (0, Act::Exit(1)),
         (0, Act::Exit(1)),
     ];
-    let text = played(&rt, rt.alloc(), ROOMY, &[EVERYTHING], &acts)?;
     let expected =
         "L0 new 1 w0 a\n= 1\nL0 enter 1 w0 a\n= entered\nL0 enter 1 w0 a\n= again\n= open\nL0 exit 1 w0 a\n= open\nL0 exit 1 w0 a\nL0 close 1 w0 a\n= closed\n";
-    assert_eq!(&rt; text.as_str(), expected);
-    Ok(())
+    plays(&rt, rt.alloc(), ROOMY, &[EVERYTHING], &acts, expected)
 }
 
 #[test]
@@ -109,11 +101,9 @@ fn each_layer_has_its_own_path(rt: HostRuntime) -> Result<(), Fail> {
         (Form::Compact, FmtSpan::NEW, "", Level::Trace),
         (Form::Compact, FmtSpan::NEW, "app", Level::Info),
     ];
-    let text = played(&rt, rt.alloc(), ROOMY, &plans, &acts)?;
     let expected =
         "L0 new 1 w0 a\nL1 new 1 w0 a\n= 1\n= entered\nL0 new 2 w0 a:q\n= 2\n= entered\nL0 new 3 w0 a:q:c\nL1 new 3 w0 a:c\n= 3\nL0 event 2 w0 a:q INFO hi k=v\nL1 event 1 w0 a INFO hi k=v\n= told\n= open\n= open\n= open\n= closed\n= closed\n";
-    assert_eq!(&rt; text.as_str(), expected);
-    Ok(())
+    plays(&rt, rt.alloc(), ROOMY, &plans, &acts, expected)
 }
 
 #[test]
@@ -133,10 +123,8 @@ fn unwanted_spans_are_not_made(rt: HostRuntime) -> Result<(), Fail> {
         (0, Act::Close(1)),
     ];
     let plan = (Form::Compact, FmtSpan::FULL, "app", Level::Warn);
-    let text = played(&rt, rt.alloc(), ROOMY, &[plan], &acts)?;
     let expected = "= not wanted\nL0 new 1 w0 b\n= 1\nL0 close 1 w0 b\n= closed\n";
-    assert_eq!(&rt; text.as_str(), expected);
-    Ok(())
+    plays(&rt, rt.alloc(), ROOMY, &[plan], &acts, expected)
 }
 
 #[test]
@@ -155,11 +143,9 @@ fn notes_name_the_worker_that_calls(rt: HostRuntime) -> Result<(), Fail> {
         "",
         Level::Trace,
     );
-    let text = played(&rt, rt.alloc(), ROOMY, &[plan], &acts)?;
     let expected =
         "= 1\n= 2\n= entered\nL0 exit 1 w1 b\n= open\nL0 close 2 w0 a\n= closed\nL0 close 1 w0 b\n= closed\n";
-    assert_eq!(&rt; text.as_str(), expected);
-    Ok(())
+    plays(&rt, rt.alloc(), ROOMY, &[plan], &acts, expected)
 }
 
 #[test]
@@ -178,10 +164,8 @@ fn names_have_at_most_64_bytes(rt: HostRuntime) -> Result<(), Fail> {
         (0, Act::Close(1)),
     ];
     let plans = [(Form::Compact, FmtSpan::NONE, "", Level::Trace); 64];
-    let text = played(&rt, rt.alloc(), ROOMY, &plans, &acts)?;
     let expected = "= 1\n! bad name\n! bad name\n! bad name\n= closed\n";
-    assert_eq!(&rt; text.as_str(), expected);
-    Ok(())
+    plays(&rt, rt.alloc(), ROOMY, &plans, &acts, expected)
 }
 
 #[test]
@@ -210,11 +194,9 @@ fn both_forms_with_fields(rt: HostRuntime) -> Result<(), Fail> {
         (0, Act::Close(1)),
     ];
     let plans = [(Form::Json, FmtSpan::FULL, "", Level::Trace), EVERYTHING];
-    let text = played(&rt, rt.alloc(), ROOMY, &plans, &acts)?;
     let expected =
         "L0 {\"fields\":[[\"k\",\"1\"]],\"id\":1,\"kind\":\"new\",\"path\":\"a\",\"worker\":0}\nL1 new 1 w0 a k=1\n= 1\nL0 {\"fields\":[[\"k\",\"2\"]],\"id\":1,\"kind\":\"record\",\"path\":\"a\",\"worker\":0}\nL1 record 1 w0 a k=2\n= recorded\nL0 {\"fields\":[],\"id\":0,\"kind\":\"event\",\"level\":\"WARN\",\"message\":\"x\\ny\",\"path\":\"-\",\"worker\":0}\nL1 event 0 w0 - WARN x\\ny\n= told\nL0 {\"fields\":[[\"k\",\"1\"],[\"k\",\"2\"]],\"id\":1,\"kind\":\"close\",\"path\":\"a\",\"worker\":0}\nL1 close 1 w0 a k=1 k=2\n= closed\n";
-    assert_eq!(&rt; text.as_str(), expected);
-    Ok(())
+    plays(&rt, rt.alloc(), ROOMY, &plans, &acts, expected)
 }
 
 #[test]
@@ -234,9 +216,7 @@ fn refusals_come_in_their_order(rt: HostRuntime) -> Result<(), Fail> {
         (0, Act::Exit(1)),
         (0, Act::Close(1)),
     ];
-    let text = played(&rt, rt.alloc(), limits, &[], &acts)?;
     let expected =
         "= 1\n! bad name\n! unknown\n! count full\n! full\n! unknown\n! not entered\n= closed\n";
-    assert_eq!(&rt; text.as_str(), expected);
-    Ok(())
+    plays(&rt, rt.alloc(), limits, &[], &acts, expected)
 }

@@ -1,5 +1,6 @@
 //! Several workers and layers with rules of their own.
 use crate::tests::acts::{Act, new, played};
+use crate::tests::same::same;
 use span_id::{Level, Limits};
 use span_layers::{FmtSpan, Form};
 use span_outlet::ParentOf;
@@ -84,6 +85,11 @@ L1 close 1 w2 serve user=ann
 = closed
 ";
 
+// What comes after the first two parts.
+fn ended(text: &str) -> Option<&str> {
+    text.strip_prefix(BEGUN)?.strip_prefix(TOLD)
+}
+
 #[test]
 fn three_workers_and_three_layers(rt: HostRuntime) -> Result<(), Fail> {
     let plans = [
@@ -114,9 +120,6 @@ fn three_workers_and_three_layers(rt: HostRuntime) -> Result<(), Fail> {
         (2, Act::Exit(2)),
     ];
     let text = played(&rt, rt.alloc(), LIMITS, &plans, &acts)?;
-    let ended = text
-        .strip_prefix(BEGUN)
-        .and_then(|rest| rest.strip_prefix(TOLD));
-    assert_eq!(&rt; ended, Some(ENDED));
+    same(&rt, ended(text.as_str()), Some(ENDED));
     Ok(())
 }
