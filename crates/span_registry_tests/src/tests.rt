@@ -11,6 +11,7 @@ mod layers;
 mod names;
 mod on_core;
 mod on_registry;
+mod same;
 mod scripts;
 mod steps;
 mod strangers;

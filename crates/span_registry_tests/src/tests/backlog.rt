@@ -1,7 +1,6 @@
 //! A ring of one place that is full: calls are refused, and made again after a step of the drain.
 use crate::tests::acts::{Act, new};
-use crate::tests::ended_on_a_ring::run_to_end_on_a_ring;
-use crate::tests::endings::{Ending, is_ending};
+use crate::tests::endings::{Ending, ends_on_a_ring};
 use crate::tests::layers::{EVERYTHING, Plan};
 use span_id::{Level, Limits};
 use span_layers::{FmtSpan, Form};
@@ -24,8 +23,7 @@ fn ends<R: Threads + Wait + Abort + Sync>(
         ring: 1,
         ..Limits::default()
     };
-    let ended = run_to_end_on_a_ring(rt, alloc, limits, plans, acts)?;
-    is_ending(rt, alloc, &ended, ending)
+    ends_on_a_ring(rt, alloc, limits, plans, acts, ending)
 }
 
 // An event without fields.

@@ -1,6 +1,7 @@
 //! The shortest caller, as the page on calling shows it.
 ghost use Rattle.std.specs.Prelude.{◌≡◌, [], None};
 
+use crate::tests::same::same;
 use span_id::{Checked, Fault, Level, Limits, Meta, copy_text};
 use span_layers::{Filters, Layers, Say, Tellers};
 use span_registry::{HANDLE_PARTS, Kept, ParentOf, Registry, Report, SeatTable, Setup};
@@ -72,19 +73,20 @@ fn run<H: Ledger, C: Ledger, S: Setup, V: Say, R: Wait>(
     Ok(registry.finish_kept(share))
 }
 
-#[test]
-fn one_worker_makes_a_span(rt: HostRuntime) -> Result<(), Fail> {
-    let alloc = rt.alloc();
-    let (filters, tellers) = Layers::new(alloc).split();
+fn report_of<R: Wait>(rt: &R, alloc: Global) -> Result<Report, Fault> {
     let meta = Meta {
         name: copy_text(alloc, "a")?,
         target: copy_text(alloc, "app")?,
         level: Level::Info,
     };
-    let report = one_span(&rt, alloc, filters, tellers, &meta)?;
-    assert_eq!(&rt;
-        (report.calls, report.made, report.closed, report.left),
-        (2, 1, 1, 0)
-    );
+    let (filters, tellers) = Layers::new(alloc).split();
+    one_span(rt, alloc, filters, tellers, &meta)
+}
+
+#[test]
+fn one_worker_makes_a_span(rt: HostRuntime) -> Result<(), Fail> {
+    let report = report_of(&rt, rt.alloc())?;
+    let counts = (report.calls, report.made, report.closed, report.left);
+    same(&rt, counts, (2, 1, 1, 0));
     Ok(())
 }

@@ -6,6 +6,7 @@ use crate::tests::handed_on::hand_jobs_on;
 use crate::tests::held::{Gathered, finished, gather};
 use crate::tests::layers::{Plan, layers};
 use crate::tests::on_registry::calls;
+use crate::tests::same::same;
 use crate::tests::steps::{NoDrain, Steps};
 use crate::tests::threads::two_rounds;
 use span_id::{Checked, Limits};
@@ -13,6 +14,7 @@ use span_layers::{Filters, Say};
 use span_registry::{HANDLE_PARTS, Kept, Outlet, Registry, Report, SeatTable, Setup, Worker};
 use std::alloc::Global;
 use std::marker::Brand;
+use std::process::Abort;
 use std::sync::Wait;
 use std::sync::ledger::{Blank, Ledger};
 use std::test::Fail;
@@ -37,6 +39,33 @@ pub(crate) struct Done<H: Ledger, C: Ledger> {
     pub(crate) gathered: Gathered<H, C>,
 }
 
+// The calls, and what is left of the workers and the handles.
+fn all_calls<H: Ledger, C: Ledger, S: Setup, O: Outlet, D: Steps, R: Wait>(
+    rt: &R,
+    alloc: Global,
+    registry: &Registry<H, C, S, O>,
+    drain: &mut D,
+    workers: Vec<Worker<H, C>>,
+    acts: &[(u32, Act)],
+    transcript: &mut Transcript,
+) -> Result<Gathered<H, C>, Fail>
+    ensures name { D.name drain.new ≡ D.name drain.old }
+{
+    let mut workers = workers;
+    let mut held = Vec::new(alloc);
+    calls(
+        rt,
+        alloc,
+        registry,
+        drain,
+        &mut workers,
+        &mut held,
+        acts,
+        transcript,
+    )?;
+    gather(alloc, workers, held)
+}
+
 /// Does this.
 pub(crate) fn perform<
     H: Ledger + Send + Sync,
@@ -58,12 +87,11 @@ pub(crate) fn perform<
 {
     match deed {
         Deed::Calls => {
-            let mut workers = workers;
-            let mut held = Vec::new(alloc);
-            let transcript = calls(rt, alloc, registry, drain, &mut workers, &mut held, acts)?;
+            let mut transcript = Transcript::new(alloc);
+            let gathered = all_calls(rt, alloc, registry, drain, workers, acts, &mut transcript)?;
             Ok(Done {
                 transcript,
-                gathered: gather(alloc, workers, held)?,
+                gathered,
             })
         }
         Deed::TwoRounds => Ok(Done {
@@ -111,15 +139,28 @@ fn named<
         alloc, checked, filters, outlet, handles, calls, table,
     )?;
     let done = perform(rt, alloc, &registry, &mut NoDrain, workers, deed, acts)?;
-    let Gathered { whole, counts } = done.gathered;
-    let whole = whole.ok_or("there are no parts")?;
-    let workers = u64::from(checked.limits().workers);
-    let report = finished(registry, workers, whole).ok_or("not all parts are there")?;
-    Ok(Ended {
-        transcript: done.transcript,
-        counts,
-        report,
-    })
+    let Done {
+        transcript,
+        gathered: Gathered { whole, counts },
+    } = done;
+    let report = finished(registry, u64::from(checked.limits().workers), whole);
+    ended_with(transcript, counts, report)
+}
+
+/// What is left where there is a report.
+pub(crate) fn ended_with(
+    transcript: Transcript,
+    counts: Vec<u8>,
+    report: Option<Report>,
+) -> Result<Ended, Fail> {
+    match report {
+        Some(report) => Ok(Ended {
+            transcript,
+            counts,
+            report,
+        }),
+        None => Err(Fail::new("not all parts are there")),
+    }
 }
 
 // Generic in what makes the texts.
@@ -171,8 +212,8 @@ pub(crate) fn run_to_end<R: Threads + Wait + Sync>(
     )
 }
 
-/// The numbers of a report, in words.
-pub(crate) fn numbers(alloc: Global, report: &Report) -> Result<String, Fail> {
+// The numbers of a report, in words.
+fn numbers(alloc: Global, report: &Report) -> Result<String, Fail> {
     let Report {
         left,
         handles,
@@ -186,4 +227,16 @@ pub(crate) fn numbers(alloc: Global, report: &Report) -> Result<String, Fail> {
     Ok(format!(in alloc;
         "left {left} handles {handles} entries {entries} calls {calls} made {made} closed {closed} refused {refused}"
     )?)
+}
+
+/// These are the numbers of a report.
+pub(crate) fn has_numbers(
+    rt: &impl Abort,
+    alloc: Global,
+    report: &Report,
+    expected: &str,
+) -> Result<(), Fail> {
+    let text = numbers(alloc, report)?;
+    same(rt, text.as_str(), expected);
+    Ok(())
 }

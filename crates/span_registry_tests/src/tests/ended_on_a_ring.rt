@@ -2,7 +2,7 @@
 ghost use Rattle.std.specs.Prelude.{◌≡◌, [], Some};
 
 use crate::tests::acts::Act;
-use crate::tests::ended::{Deed, Ended, perform};
+use crate::tests::ended::{Deed, Done, Ended, ended_with, perform};
 use crate::tests::held::{Gathered, drained};
 use crate::tests::layers::{Plan, layers};
 use span_id::{Checked, Limits};
@@ -45,15 +45,13 @@ fn named<
     )?;
     let mut drain = drain;
     let done = perform(rt, alloc, &registry, &mut drain, workers, Deed::Calls, acts)?;
-    let Gathered { whole, counts } = done.gathered;
-    let whole = whole.ok_or("there are no parts")?;
+    let Done {
+        transcript,
+        gathered: Gathered { whole, counts },
+    } = done;
     let workers = u64::from(checked.limits().workers);
-    let report = drained(registry, workers, whole, drain).ok_or("not all parts are there")?;
-    Ok(Ended {
-        transcript: done.transcript,
-        counts,
-        report,
-    })
+    let report = drained(registry, workers, whole, drain);
+    ended_with(transcript, counts, report)
 }
 
 /// Makes a registry over a ring with these layers, makes the calls and the steps of the drain, and ends it.

@@ -1,8 +1,9 @@
 //! Registries that end with handles given up, entries left or nothing.
 use crate::tests::acts::{Act, child, new};
-use crate::tests::ended::{Deed, Ended, numbers, run_to_end};
+use crate::tests::ended::{Deed, Ended, has_numbers, run_to_end};
 use crate::tests::ended_on_a_ring::run_to_end_on_a_ring;
 use crate::tests::layers::{EVERYTHING, Plan};
+use crate::tests::same::{is_text, same};
 use span_id::{Level, Limits};
 use span_outlet::Line;
 use std::alloc::Global;
@@ -25,7 +26,7 @@ fn numbered(alloc: Global, lines: &[Line]) -> Result<String, Fail> {
 
 /// How a registry ends: what it answers, what is left of each worker and then of each handle, its report's numbers and
 /// its lines.
-#[derive(Drop)]
+#[derive(Clone, Copy)]
 pub(crate) struct Ending<'a> {
     pub(crate) answers: &'a str,
     pub(crate) counts: &'a str,
@@ -42,29 +43,42 @@ pub(crate) fn ends<R: Threads + Wait + Abort + Sync>(
     acts: &[(u32, Act)],
     ending: &Ending,
 ) -> Result<(), Fail> {
-    let kept = run_to_end(rt, alloc, limits, plans, Deed::Calls, acts)?;
-    is_ending(rt, alloc, &kept, ending)?;
-    let drained = run_to_end_on_a_ring(rt, alloc, limits, plans, acts)?;
-    is_ending(rt, alloc, &drained, ending)
+    ends_kept(rt, alloc, limits, plans, acts, ending)?;
+    ends_on_a_ring(rt, alloc, limits, plans, acts, ending)
+}
+
+fn ends_kept<R: Threads + Wait + Abort + Sync>(
+    rt: &R,
+    alloc: Global,
+    limits: Limits,
+    plans: &[Plan],
+    acts: &[(u32, Act)],
+    ending: &Ending,
+) -> Result<(), Fail> {
+    let ended = run_to_end(rt, alloc, limits, plans, Deed::Calls, acts)?;
+    is_ending(rt, alloc, &ended, ending)
+}
+
+/// A registry over a ring, of these limits and layers, ends so after these calls.
+pub(crate) fn ends_on_a_ring<R: Threads + Wait + Abort + Sync>(
+    rt: &R,
+    alloc: Global,
+    limits: Limits,
+    plans: &[Plan],
+    acts: &[(u32, Act)],
+    ending: &Ending,
+) -> Result<(), Fail> {
+    let ended = run_to_end_on_a_ring(rt, alloc, limits, plans, acts)?;
+    is_ending(rt, alloc, &ended, ending)
 }
 
 // A registry ended so.
-pub(crate) fn is_ending<R: Abort>(
-    rt: &R,
-    alloc: Global,
-    ended: &Ended,
-    ending: &Ending,
-) -> Result<(), Fail> {
-    assert_eq!(rt;
-        str::from_utf8(ended.transcript.answers.as_slice())?,
-        ending.answers
-    );
-    assert_eq!(rt; str::from_utf8(ended.counts.as_slice())?, ending.counts);
-    assert_eq!(rt; numbers(alloc, &ended.report)?.as_str(), ending.numbers);
-    assert_eq!(rt;
-        numbered(alloc, ended.report.lines.as_slice())?.as_str(),
-        ending.lines
-    );
+fn is_ending(rt: &impl Abort, alloc: Global, ended: &Ended, ending: &Ending) -> Result<(), Fail> {
+    is_text(rt, ended.transcript.answers.as_slice(), ending.answers);
+    is_text(rt, ended.counts.as_slice(), ending.counts);
+    has_numbers(rt, alloc, &ended.report, ending.numbers)?;
+    let lines = numbered(alloc, ended.report.lines.as_slice())?;
+    same(rt, lines.as_str(), ending.lines);
     Ok(())
 }
 

@@ -1,14 +1,16 @@
 //! Handles that one thread makes, a second enters and a third closes.
 use crate::tests::acts::Transcript;
-use crate::tests::ended::{Deed, Done, numbers, run_to_end};
+use crate::tests::ended::{Deed, Done, Ended, has_numbers, run_to_end};
 use crate::tests::held::{Held, close, gather};
 use crate::tests::layers::{EVERYTHING, meta_of};
+use crate::tests::same::{is_text, same};
 use crate::tests::threads::begin_job;
 use span_id::{Fault, Id, Level, Limits};
 use span_layers::{FmtSpan, Form};
 use span_outlet::Line;
 use span_registry::{Outlet, Registry, Setup, Worker};
 use std::alloc::Global;
+use std::process::Abort;
 use std::sync::Wait;
 use std::sync::ledger::Ledger;
 use std::test::Fail;
@@ -286,6 +288,18 @@ fn lines_of(lines: &[Line], layer: u32) -> usize {
     lines.iter().filter(|line| line.layer == layer).count()
 }
 
+// All handles were handed on, and each layer has its lines.
+fn are_handed_on(rt: &impl Abort, alloc: Global, ended: &Ended) -> Result<(), Fail> {
+    let answers = ended.transcript.answers.as_slice();
+    is_text(rt, answers, "0 200\n0 200\n0 200\n0 200\n");
+    let expected = "left 0 handles 0 entries 0 calls 9600 made 1600 closed 1600 refused 0";
+    has_numbers(rt, alloc, &ended.report, expected)?;
+    let lines = ended.report.lines.as_slice();
+    same(rt, lines_of(lines, 0), 8000);
+    same(rt, (lines_of(lines, 1), lines_of(lines, 2)), (4800, 4800));
+    Ok(())
+}
+
 #[test]
 fn four_threads_hand_their_handles_on(rt: HostRuntime) -> Result<(), Fail> {
     let plans = [
@@ -298,21 +312,7 @@ fn four_threads_hand_their_handles_on(rt: HostRuntime) -> Result<(), Fail> {
         ),
         (Form::Json, FmtSpan::ACTIVE, "app", Level::Info),
     ];
-    let ended = run_to_end(
-        &rt,
-        rt.alloc(),
-        Limits::default(),
-        &plans,
-        Deed::HandOn(200),
-        &[],
-    )?;
-    let answers = str::from_utf8(ended.transcript.answers.as_slice())?;
-    assert_eq!(&rt; answers, "0 200\n0 200\n0 200\n0 200\n");
-    let expected = "left 0 handles 0 entries 0 calls 9600 made 1600 closed 1600 refused 0";
-    assert_eq!(&rt; numbers(rt.alloc(), &ended.report)?.as_str(), expected);
-    let lines = ended.report.lines.as_slice();
-    assert_eq!(&rt; lines_of(lines, 0), 8000);
-    assert_eq!(&rt; lines_of(lines, 1), 4800);
-    assert_eq!(&rt; lines_of(lines, 2), 4800);
-    Ok(())
+    let deed = Deed::HandOn(200);
+    let ended = run_to_end(&rt, rt.alloc(), Limits::default(), &plans, deed, &[])?;
+    are_handed_on(&rt, rt.alloc(), &ended)
 }

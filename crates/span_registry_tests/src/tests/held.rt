@@ -139,10 +139,11 @@ pub(crate) fn gather<H: Ledger, C: Ledger, S: Setup>(
 pub(crate) fn finished<H: Ledger, C: Ledger, S: Setup, V: Say, A: Admit>(
     registry: Registry<H, C, S, Kept<V>, A>,
     workers: u64,
-    whole: Part<H, C>,
+    whole: Option<Part<H, C>>,
 ) -> Option<Report>
     requires { (H.parts ≡ HANDLE_PARTS) × (C.parts ≡ workers) }
 {
+    let whole = whole?;
     if whole.handle_parts != HANDLE_PARTS || whole.call_parts != workers {
         return None;
     }
@@ -153,12 +154,13 @@ pub(crate) fn finished<H: Ledger, C: Ledger, S: Setup, V: Say, A: Admit>(
 pub(crate) fn drained<H: Ledger, C: Ledger, S: Setup, V: Say, A: Admit>(
     registry: Registry<H, C, S, Ring, A>,
     workers: u64,
-    whole: Part<H, C>,
+    whole: Option<Part<H, C>>,
     drain: Drain<V>,
 ) -> Option<Report>
     requires parts { (H.parts ≡ HANDLE_PARTS) × (C.parts ≡ workers) }
     requires pair { Some drain.name ≡ S.ring }
 {
+    let whole = whole?;
     if whole.handle_parts != HANDLE_PARTS || whole.call_parts != workers {
         return None;
     }

@@ -50,13 +50,19 @@ fn layer(alloc: Global, plan: &Plan) -> Result<Layer, AllocError> {
     })
 }
 
+// Adds a layer of this plan.
+fn add(alloc: Global, layers: &mut Layers, plan: &Plan) -> Result<(), Fail> {
+    match layers.add(layer(alloc, plan)?) {
+        Ok(_) => Ok(()),
+        Err(_) => Err(Fail::new("a layer too many, or no memory")),
+    }
+}
+
 /// The two parts of layers of these plans.
 pub(crate) fn layers(alloc: Global, plans: &[Plan]) -> Result<(Filters, Tellers), Fail> {
     let mut layers = Layers::new(alloc);
     for plan in plans {
-        if layers.add(layer(alloc, plan)?).is_err() {
-            return Err(Fail::new("a layer too many, or no memory"));
-        }
+        add(alloc, &mut layers, plan)?;
     }
     Ok(layers.split())
 }

@@ -3,7 +3,7 @@ ghost use Rattle.std.specs.Prelude.{◌≡◌, ◌<◌, []};
 
 use crate::tests::acts::{Act, Answer, Fields, Transcript, lines_text};
 use crate::tests::layers::{Plan, fields_of, layers, meta_of};
-use span_id::{Fault, Id, Level, Limits, copy_text};
+use span_id::{Checked, Fault, Id, Level, Limits, copy_text};
 use span_layers::{Filters, Say};
 use span_outlet::Kept;
 use span_registry::{Core, Found};
@@ -110,51 +110,84 @@ fn call<V: Say>(
     }
 }
 
+// A call, which may make one more span; and what `find` then answers of each span.
+fn note_call<V: Say>(
+    alloc: Global,
+    core: &mut Core<Kept<V>>,
+    worker: u32,
+    act: &Act,
+    ids: &mut Vec<Id>,
+    transcript: &mut Transcript,
+) -> Result<(), Fail>
+    requires { worker < core.old.limits.workers }
+    ensures limits { core.new.limits ≡ core.old.limits }
+{
+    let answer = call(alloc, core, worker, act).unwrap_or_else(Answer::Refused);
+    if let Answer::Made(id) = answer {
+        ids.push(id)?;
+    }
+    transcript.answer(alloc, &answer)?;
+    for id in &*ids {
+        transcript.found(alloc, &found(alloc, core, *id)?)?;
+    }
+    Ok(())
+}
+
 // All calls, each made by the worker beside it.
 fn calls<V: Say>(
     alloc: Global,
     core: &mut Core<Kept<V>>,
     workers: u32,
     acts: &[(u32, Act)],
-) -> Result<Transcript, Fail>
+    ids: &mut Vec<Id>,
+    transcript: &mut Transcript,
+) -> Result<(), Fail>
     requires { workers ≡ core.old.limits.workers }
     ensures limits { core.new.limits ≡ core.old.limits }
 {
-    let mut transcript = Transcript::new(alloc);
-    let mut ids = Vec::new(alloc);
     for (worker, act) in acts {
         if *worker >= workers {
             return Err(Fail::new("there is no such worker"));
         }
-        let answer = match call(alloc, core, *worker, act) {
-            Ok(answer) => answer,
-            Err(fault) => Answer::Refused(fault),
-        };
-        if let Answer::Made(id) = answer {
-            ids.push(id)?;
-        }
-        transcript.answer(alloc, &answer)?;
-        for id in &ids {
-            transcript.found(alloc, &found(alloc, core, *id)?)?;
-        }
+        note_call(alloc, core, *worker, act, ids, transcript)?;
     }
-    Ok(transcript)
+    Ok(())
+}
+
+// What is answered to all calls, and the lines.
+fn answered<V: Say>(
+    alloc: Global,
+    core: &mut Core<Kept<V>>,
+    workers: u32,
+    acts: &[(u32, Act)],
+) -> Result<(Transcript, String), Fail>
+    requires { workers ≡ core.old.limits.workers }
+{
+    let mut transcript = Transcript::new(alloc);
+    calls(
+        alloc,
+        core,
+        workers,
+        acts,
+        &mut Vec::new(alloc),
+        &mut transcript,
+    )?;
+    let lines = lines_text(alloc, core.outlet().all())?;
+    Ok((transcript, lines))
 }
 
 // The same for a new core.
 fn begun<V: Say>(
     alloc: Global,
-    limits: Limits,
+    checked: &Checked,
     filters: Filters,
     outlet: Kept<V>,
     acts: &[(u32, Act)],
 ) -> Result<(Transcript, String), Fail>
     requires { outlet.sent ≡ [] }
 {
-    let mut core = Core::new(alloc, &limits.check()?, filters, outlet)?;
-    let transcript = calls(alloc, &mut core, limits.workers, acts)?;
-    let lines = lines_text(alloc, core.outlet().all())?;
-    Ok((transcript, lines))
+    let mut core = Core::new(alloc, checked, filters, outlet)?;
+    answered(alloc, &mut core, checked.limits().workers, acts)
 }
 
 /// What a new core with these layers answers to the calls, and the lines.
@@ -164,6 +197,7 @@ pub(crate) fn on_core(
     plans: &[Plan],
     acts: &[(u32, Act)],
 ) -> Result<(Transcript, String), Fail> {
+    let checked = limits.check()?;
     let (filters, tellers) = layers(alloc, plans)?;
-    begun(alloc, limits, filters, Kept::new(alloc, tellers), acts)
+    begun(alloc, &checked, filters, Kept::new(alloc, tellers), acts)
 }

@@ -150,6 +150,32 @@ fn call<H: Ledger, C: Ledger, S: Setup, O: Outlet, D: Steps, R: Wait>(
     }
 }
 
+// A call or a step, which may make one more span; and what `find` then answers of each span.
+fn note_call<H: Ledger, C: Ledger, S: Setup, O: Outlet, D: Steps, R: Wait>(
+    rt: &R,
+    alloc: Global,
+    registry: &Registry<H, C, S, O>,
+    drain: &mut D,
+    worker: &mut Worker<H, C>,
+    held: &mut Vec<Held<H, C, S>>,
+    act: &Act,
+    ids: &mut Vec<Id>,
+    transcript: &mut Transcript,
+) -> Result<(), Fail>
+    ensures name { D.name drain.new ≡ D.name drain.old }
+{
+    let answer = call(rt, alloc, registry, drain, worker, held, act);
+    let answer = answer.unwrap_or_else(Answer::Refused);
+    if let Answer::Made(id) = answer {
+        ids.push(id)?;
+    }
+    transcript.answer(alloc, &answer)?;
+    for id in &*ids {
+        transcript.found(alloc, &registry.find(rt, alloc, *id)?)?;
+    }
+    Ok(())
+}
+
 /// All calls, each made by the worker beside it, and the steps of the drain. The handles that are left are kept.
 pub(crate) fn calls<H: Ledger, C: Ledger, S: Setup, O: Outlet, D: Steps, R: Wait>(
     rt: &R,
@@ -159,24 +185,16 @@ pub(crate) fn calls<H: Ledger, C: Ledger, S: Setup, O: Outlet, D: Steps, R: Wait
     workers: &mut Vec<Worker<H, C>>,
     held: &mut Vec<Held<H, C, S>>,
     acts: &[(u32, Act)],
-) -> Result<Transcript, Fail>
+    transcript: &mut Transcript,
+) -> Result<(), Fail>
     ensures name { D.name drain.new ≡ D.name drain.old }
 {
-    let mut transcript = Transcript::new(alloc);
     let mut ids = Vec::new(alloc);
     for (number, act) in acts {
         let worker = workers.get_mut(*number as usize).ok_or("no such worker")?;
-        let answer = match call(rt, alloc, registry, drain, worker, held, act) {
-            Ok(answer) => answer,
-            Err(fault) => Answer::Refused(fault),
-        };
-        if let Answer::Made(id) = answer {
-            ids.push(id)?;
-        }
-        transcript.answer(alloc, &answer)?;
-        for id in &ids {
-            transcript.found(alloc, &registry.find(rt, alloc, *id)?)?;
-        }
+        note_call(
+            rt, alloc, registry, drain, worker, held, act, &mut ids, transcript,
+        )?;
     }
-    Ok(transcript)
+    Ok(())
 }

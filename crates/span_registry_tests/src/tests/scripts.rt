@@ -1,8 +1,9 @@
 //! The same calls on a registry, through its handles, and on a core, through ids.
 use crate::tests::acts::{Act, child, lines_text, new};
-use crate::tests::ended::{Deed, run_to_end};
+use crate::tests::ended::{Deed, Ended, run_to_end};
 use crate::tests::layers::{EVERYTHING, Plan};
 use crate::tests::on_core::on_core;
+use crate::tests::same::{is_text, same};
 use span_id::{Level, Limits};
 use span_layers::{FmtSpan, Form};
 use span_registry::ParentOf;
@@ -11,6 +12,38 @@ use std::process::Abort;
 use std::sync::Wait;
 use std::test::Fail;
 use std::thread::Threads;
+
+// A registry ended with these answers, and its report has these lines and leaves nothing.
+fn is_ended(
+    rt: &impl Abort,
+    alloc: Global,
+    ended: &Ended,
+    answers: &str,
+    lines: &str,
+) -> Result<(), Fail> {
+    is_text(rt, ended.transcript.answers.as_slice(), answers);
+    same(rt, (ended.report.left, ended.report.refused), (0, 0));
+    let text = lines_text(alloc, ended.report.lines.as_slice())?;
+    same(rt, text.as_str(), lines);
+    Ok(())
+}
+
+// A core answers so to the calls, with these lines, and `find` answers so after each call.
+fn core_answers(
+    rt: &impl Abort,
+    alloc: Global,
+    plans: &[Plan],
+    acts: &[(u32, Act)],
+    answers: &str,
+    finds: &[u8],
+    lines: &str,
+) -> Result<(), Fail> {
+    let (beside, beside_lines) = on_core(alloc, Limits::default(), plans, acts)?;
+    is_text(rt, beside.answers.as_slice(), answers);
+    same(rt, beside.finds.as_slice(), finds);
+    same(rt, beside_lines.as_str(), lines);
+    Ok(())
+}
 
 // A registry answers so, and its report has these lines and leaves nothing. A core answers the same to each call,
 // `find` answers the same of each span after each call, and the core's outlet keeps the same lines.
@@ -23,21 +56,9 @@ fn agree<R: Threads + Wait + Abort + Sync>(
     lines: &str,
 ) -> Result<(), Fail> {
     let ended = run_to_end(rt, alloc, Limits::default(), plans, Deed::Calls, acts)?;
-    assert_eq!(rt;
-        str::from_utf8(ended.transcript.answers.as_slice())?,
-        answers
-    );
-    assert_eq!(rt;
-        lines_text(alloc, ended.report.lines.as_slice())?.as_str(),
-        lines
-    );
-    assert_eq!(rt; ended.report.left, 0);
-    assert_eq!(rt; ended.report.refused, 0);
-    let (beside, beside_lines) = on_core(alloc, Limits::default(), plans, acts)?;
-    assert_eq!(rt; str::from_utf8(beside.answers.as_slice())?, answers);
-    assert!(rt; beside.finds.as_slice() == ended.transcript.finds.as_slice());
-    assert_eq!(rt; beside_lines.as_str(), lines);
-    Ok(())
+    is_ended(rt, alloc, &ended, answers, lines)?;
+    let finds = ended.transcript.finds.as_slice();
+    core_answers(rt, alloc, plans, acts, answers, finds, lines)
 }
 
 #[test]

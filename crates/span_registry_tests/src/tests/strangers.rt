@@ -170,6 +170,27 @@ fn refuses_exit<H: Ledger, C: Ledger, S: Setup, O: Outlet, R: Wait>(
     registry.exit(rt, worker, stranger) == Err(Fault::Unknown)
 }
 
+// Whether each call finds no span of the id of this number, without a change of what is counted.
+fn is_stranger<H: Ledger, C: Ledger, S: Setup, O: Outlet, R: Wait>(
+    rt: &R,
+    alloc: Global,
+    registry: &Registry<H, C, S, O>,
+    worker: &mut Worker<H, C>,
+    meta: &Meta,
+    number: u64,
+    before: &[u64],
+) -> bool {
+    match Id::from_u64(number) {
+        Some(stranger) => {
+            finds_none(rt, alloc, registry, stranger)
+                & refuses_child(rt, registry, worker, meta, stranger)
+                & refuses_exit(rt, registry, worker, stranger)
+                & (counts(rt, alloc, registry, worker).as_slice() == before)
+        }
+        None => false,
+    }
+}
+
 // How many strangers each call refused as unknown, without a change of what is counted.
 fn unknown_strangers<H: Ledger, C: Ledger, S: Setup, O: Outlet, R: Wait>(
     rt: &R,
@@ -177,17 +198,13 @@ fn unknown_strangers<H: Ledger, C: Ledger, S: Setup, O: Outlet, R: Wait>(
     registry: &Registry<H, C, S, O>,
     worker: &mut Worker<H, C>,
     meta: &Meta,
+    strangers: &[u64],
 ) -> u32 {
     let before = counts(rt, alloc, registry, worker);
     let mut unknown = 0u32;
-    for number in STRANGERS {
-        if let Some(stranger) = Id::from_u64(number) {
-            let refused = finds_none(rt, alloc, registry, stranger)
-                & refuses_child(rt, registry, worker, meta, stranger)
-                & refuses_exit(rt, registry, worker, stranger)
-                & (counts(rt, alloc, registry, worker) == before);
-            unknown = unknown.saturating_add(u32::from(refused));
-        }
+    for number in strangers {
+        let refused = is_stranger(rt, alloc, registry, worker, meta, *number, &before);
+        unknown = unknown.saturating_add(u32::from(refused));
     }
     unknown
 }
@@ -210,7 +227,7 @@ fn tried<H: Ledger, C: Ledger, S: Setup, O: Outlet, R: Wait>(
 ) -> Result<(u32, [u64; 5]), Fail> {
     let meta = meta_of(alloc, "a", "app", Level::Info)?;
     let held = live_the_past(rt, registry, worker, &meta)?;
-    let unknown = unknown_strangers(rt, alloc, registry, worker, &meta);
+    let unknown = unknown_strangers(rt, alloc, registry, worker, &meta, &STRANGERS);
     let counts = counts(rt, alloc, registry, worker);
     leave_and_close(rt, registry, worker, held)?;
     Ok((unknown, counts))
@@ -251,7 +268,8 @@ fn run<H: Ledger, C: Ledger, S: Setup, V: Say, R: Wait>(
     )?;
     let mut worker = workers.into_iter().next().ok_or("no worker")?;
     let (unknown, counts) = tried(rt, alloc, &registry, &mut worker)?;
-    let report = finished(registry, 1, Part::of_worker(worker)).ok_or("not all parts are there")?;
+    let whole = Some(Part::of_worker(worker));
+    let report = finished(registry, 1, whole).ok_or("not all parts are there")?;
     Ok(Outcome {
         unknown,
         counts,

@@ -1,7 +1,8 @@
 //! Two threads of one scope.
-use crate::tests::ended::{Deed, numbers, run_to_end};
+use crate::tests::ended::{Deed, has_numbers, run_to_end};
 use crate::tests::held::{Gathered, Held, Part, close};
 use crate::tests::layers::meta_of;
+use crate::tests::same::same;
 use span_id::{Fault, Level, Limits};
 use span_registry::{Outlet, ParentOf, Registry, Setup, Worker};
 use std::alloc::Global;
@@ -150,7 +151,7 @@ fn two_threads_make_a_round_each(rt: HostRuntime) -> Result<(), Fail> {
     };
     let ended = run_to_end(&rt, rt.alloc(), limits, &[], Deed::TwoRounds, &[])?;
     let expected = "left 0 handles 0 entries 0 calls 18 made 4 closed 4 refused 0";
-    assert_eq!(&rt; numbers(rt.alloc(), &ended.report)?.as_str(), expected);
-    assert!(&rt; ended.report.lines.is_empty());
+    has_numbers(&rt, rt.alloc(), &ended.report, expected)?;
+    same(&rt, ended.report.lines.len(), 0);
     Ok(())
 }

@@ -4,6 +4,3 @@ use Rattle.span_registry_tests.proofs.tests.on_registry.calls.Given as goal
 -- the drain keeps the name of its ring
 abbrev pub invariant-loop-number : goal.invariant-loop-number
 invariant-loop-number g l = g.D.Steps.name l.drain ≡ g.D.Steps.name l.initial.drain
-
-abbrev pub invariant-loop-id : goal.invariant-loop-id
-invariant-loop-id g l = g.D.Steps.name l.drain ≡ g.D.Steps.name l.initial.drain
