@@ -6,7 +6,7 @@ use Rattle.span_outlet.specs.declared.batch.ParentOf.TheVariants.{Root, Current,
 use Rattle.span_ffi.specs.declared.data.SpanMeta.{SpanMeta}
 use Rattle.span_ffi.specs.declared.data.SpanField.{SpanField}
 use Rattle.span_ffi.specs.declared.status.Status.{Status}
-use Rattle.span_ffi.specs.declared.status.Status.TheVariants.{Done, Refused, BadData, EmptyHandle, ShortBuffer}
+use Rattle.span_ffi.specs.declared.status.Status.TheVariants.{Done, Refused, BadData, EmptyHandle, ShortBuffer, NoSuchCallsite}
 use Rattle.span_ffi.specs.Status.{meaning}
 use Rattle.span_ffi.specs.Ends.{Ends, Keeps, flag}
 use Rattle.span_ffi.specs.Data.{said_level, said_parent, said_meta, said_fields, behind_meta}
@@ -31,7 +31,10 @@ bad_data = refl
 short_buffer : meaning 16 ≡ Some ShortBuffer
 short_buffer = refl
 
-beyond : meaning 17 ≡ None
+no_such_callsite : meaning 17 ≡ Some NoSuchCallsite
+no_such_callsite = refl
+
+beyond : meaning 18 ≡ None
 beyond = refl
 
 -- levels and parents

@@ -4,8 +4,9 @@ ghost use Rattle.std.specs.Arc.{arc_str_bytes};
 ghost use Rattle.span_id.specs.Meta.{plain_fields};
 ghost use Rattle.span_core.specs.Core.{are_keys};
 ghost use Rattle.span_ffi.specs.Status.{meaning};
+ghost use Rattle.span_ffi.specs.Registry.{OnCore};
 ghost use Rattle.span_ffi.specs.Ends.{Ends};
-ghost use Rattle.span_ffi.specs.Data.{IsEvent, said_meta, said_fields, behind_meta};
+ghost use Rattle.span_ffi.specs.Data.{IsEvent, IsEventAt, said_meta, said_fields, behind_meta};
 ghost use Rattle.span_ffi.specs.Calls.{Records, Tells};
 
 use crate::data::{SpanField, SpanMeta};
@@ -72,7 +73,8 @@ pub extern "C" fn span_registry_record(
     fields: &[SpanField],
     texts: &[u8],
 ) -> u32
-    ensures { Ends registry.old.held (Records worker id fields.now texts.now) (meaning result) registry.new.held }
+    ensures { Ends registry.old.held (OnCore (Records worker id fields.now texts.now)) (meaning result)
+        registry.new.held }
 {
     let Some(mut held) = registry.take(alloc) else {
         return Status::EmptyHandle.number();
@@ -121,9 +123,24 @@ fn read_event(
         ≡ said_fields fields.now (drop message_len (behind_meta meta.now texts.now))) }
 {
     let (meta, rest) = read_meta(alloc, meta, texts)?;
-    let (message, rest) = read_message(alloc, rest, message_len)?;
-    let fields = read_fields(alloc, fields, rest)?;
+    let (message, fields) = read_told(alloc, message_len, fields, rest)?;
     Some((meta, message, fields))
+}
+
+/// The message and the fields of an event. None: the data say nothing, or memory is refused.
+pub(super) fn read_told(
+    alloc: Global,
+    message_len: u32,
+    fields: &[SpanField],
+    texts: &[u8],
+) -> Option<(ArcStr, Fields)>
+    ensures is { OnSome result (IsEventAt message_len fields.now texts.now) }
+    ensures message { IfSome result (λ told. arc_str_bytes told.0 ≡ take message_len texts.now) }
+    ensures fields { IfSome result (λ told. told.1 ≡ said_fields fields.now (drop message_len texts.now)) }
+{
+    let (message, rest) = read_message(alloc, texts, message_len)?;
+    let fields = read_fields(alloc, fields, rest)?;
+    Some((message, fields))
 }
 
 /// Tells an event. The texts are its name, its target, the message, and the keys and values, one after another.
@@ -137,7 +154,7 @@ pub extern "C" fn span_registry_event(
     fields: &[SpanField],
     texts: &[u8],
 ) -> u32
-    ensures { Ends registry.old.held (Tells worker meta.now message_len fields.now texts.now) (meaning result)
+    ensures { Ends registry.old.held (OnCore (Tells worker meta.now message_len fields.now texts.now)) (meaning result)
         registry.new.held }
 {
     let Some(mut held) = registry.take(alloc) else {

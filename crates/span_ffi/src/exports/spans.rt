@@ -4,6 +4,7 @@ ghost use Rattle.span_outlet.specs.Request.{new_span};
 ghost use Rattle.span_core.specs.Step.{is_open};
 ghost use Rattle.span_core.specs.Parent.{parent_found};
 ghost use Rattle.span_ffi.specs.Status.{meaning};
+ghost use Rattle.span_ffi.specs.Registry.{OnCore};
 ghost use Rattle.span_ffi.specs.Ends.{Ends, Keeps};
 ghost use Rattle.span_ffi.specs.Data.{IsMeta, AreFields, said_meta, said_fields, said_parent, behind_meta};
 ghost use Rattle.span_ffi.specs.Calls.{MakesSpan, IsMadeOrRefused};
@@ -33,8 +34,8 @@ fn closed_id(core: &RingCore) -> Id
     Id::pack(0, 1)
 }
 
-// The parent that is meant. In the place of a number that is no id comes an id that isn't open: it is refused alike.
-fn read_parent(core: &RingCore, kind: u32, parent: u64) -> Option<ParentOf>
+/// The parent that is meant. In the place of a number that is no id comes an id that isn't open: it is refused alike.
+pub(super) fn read_parent(core: &RingCore, kind: u32, parent: u64) -> Option<ParentOf>
     ensures exact { IsSome result ↔ (kind ≤ 2) }
     ensures parent { IfSome result (λ meant. AreAlike core.now.world.spans meant (said_parent kind parent)) }
 {
@@ -49,8 +50,8 @@ fn read_parent(core: &RingCore, kind: u32, parent: u64) -> Option<ParentOf>
     }
 }
 
-// The meta and the fields of a span. None: the data say nothing, or memory is refused.
-fn read_span(
+/// The meta and the fields of a span. None: the data say nothing, or memory is refused.
+pub(super) fn read_span(
     alloc: Global,
     meta: &SpanMeta,
     fields: &[SpanField],
@@ -66,7 +67,8 @@ fn read_span(
     Some((meta, fields))
 }
 
-fn new_span(
+/// Makes a span of what was read, under this parent.
+pub(super) fn new_span(
     core: &mut RingCore,
     worker: u32,
     parent: ParentOf,
@@ -132,8 +134,8 @@ pub extern "C" fn span_registry_new_span(
     texts: &[u8],
     id: &mut u64,
 ) -> u32
-    ensures made { Ends registry.old.held (MakesSpan worker parent_kind parent meta.now fields.now texts.now id.new)
-        (meaning result) registry.new.held }
+    ensures made { Ends registry.old.held (OnCore (MakesSpan worker parent_kind parent meta.now fields.now texts.now
+        id.new)) (meaning result) registry.new.held }
     ensures kept { Keeps (meaning result) id.old id.new }
 {
     let Some(mut held) = registry.take(alloc) else {
