@@ -4,7 +4,7 @@ use Rattle.span_ffi.specs.Calls.{HasWorker, MakesAsked, span_asked}
 use Rattle.span_ffi.specs.Data.{IsSpanAt, said_fields}
 use Rattle.span_ffi.proofs.Alike.{makes_as_read}
 use Rattle.span_ffi.proofs.Found.{at_found}
-use Rattle.span_ffi.proofs.exports.callsites.make_span_at.Goals as goal
+use Rattle.span_ffi.proofs.exports.spans.make_span_at.Goals as goal
 
 pub returns-in-Some-read_fields-clause-made : goal.returns-in-Some-read_fields-clause-made
 returns-in-Some-read_fields-clause-made c =
