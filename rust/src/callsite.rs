@@ -31,8 +31,8 @@ impl Callsite {
 impl Registry {
     /// A callsite with this meta, which is read, checked and copied here, once for all spans and events at it.
     ///
-    /// It is kept until the registry is gone, so a program makes one for each place, and not for each span. Two with the
-    /// same meta may be made. It needs no worker's number and no place in the ring, and is never refused as
+    /// It is kept until the registry is gone, so a program makes one for each place, and not for each span. Two with
+    /// the same meta may be made. It needs no worker's number and no place in the ring, and is never refused as
     /// [`Backlog`](Error::Backlog). It is refused as [`BadName`](Error::BadName) where no span may have the name.
     ///
     /// ```

@@ -20,8 +20,8 @@ pub enum Error {
     NotEntered,
     /// More than 64 layers.
     TooManyLayers,
-    /// A span's or an event's name, or a field's key, is empty, over 64 bytes, or has a byte outside ASCII letters,
-    /// digits, `_`, `.` and `-`.
+    /// A span's, an event's or a callsite's name, or a field's key, is empty, over 64 bytes, or has a byte outside ASCII
+    /// letters, digits, `_`, `.` and `-`.
     BadName,
     /// The ring is full: nobody read the [`Drain`](crate::Drain) for so many calls. The same call may succeed later.
     Backlog,

@@ -1,5 +1,5 @@
-/* Callsites: that a span or an event at one is what the same call by its meta is, and what is refused. The last line that
- * it prints is 'N passed, M failed'. It is linked with --wrap=malloc and --wrap=realloc, so that memory can be refused. */
+/* Callsites: a span or an event at one is what the same call by its meta is, and what is refused. The last line that it
+ * prints is 'N passed, M failed'. It is linked with --wrap=malloc and --wrap=realloc, so that memory can be refused. */
 #include "checks.h"
 #include "span_registry.h"
 
@@ -227,7 +227,8 @@ static void test_wrong_numbers(void) {
     check_no_line();
     /* of several things that stand against a call the first one is told */
     CHECK(span_registry_new_span_at(&registry, 1, 3, 0, PLACES, &field, 1, bytes("k"), 1, &id) == SPAN_NO_SUCH_WORKER);
-    CHECK(span_registry_new_span_at(&registry, 0, 3, 0, PLACES, &field, 1, bytes("k"), 1, &id) == SPAN_NO_SUCH_CALLSITE);
+    CHECK(span_registry_new_span_at(&registry, 0, 3, 0, PLACES, &field, 1, bytes("k"), 1, &id)
+        == SPAN_NO_SUCH_CALLSITE);
     CHECK(span_registry_new_span_at(&registry, 0, 3, 0, 0, &bad_key, 1, bytes(" "), 1, &id) == SPAN_BAD_DATA);
     CHECK(span_registry_new_span_at(&registry, 0, SPAN_UNDER, 7, 0, &bad_key, 1, bytes(" "), 1, &id) == SPAN_BAD_NAME);
     CHECK(span_registry_event_at(&registry, 1, PLACES, 9, no_fields, 0, bytes(""), 0) == SPAN_NO_SUCH_WORKER);
@@ -277,7 +278,7 @@ static void test_empty_handle(void) {
     close_both();
 }
 
-/* a call is refused for want of memory, with more of it allowed each time, until it is done; how often it was refused */
+/* makes a call with one allocation more each time, until it is done; how often it was refused for want of memory */
 static long refusals_of(uint32_t (*call)(uint64_t *told)) {
     uint64_t told = 99;
     uint32_t status;
