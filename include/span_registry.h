@@ -43,7 +43,8 @@ enum {
     SPAN_HANDLE_IN_USE = 13,   /* a handle that was to be filled isn't empty */
     SPAN_NO_SUCH_WORKER = 14,
     SPAN_NO_LINE = 15,         /* the drain has no line now */
-    SPAN_SHORT_BUFFER = 16     /* the text is longer than the buffer: its length was told */
+    SPAN_SHORT_BUFFER = 16,    /* the text is longer than the buffer: its length was told */
+    SPAN_NO_SUCH_CALLSITE = 17 /* no span_registry_add_callsite gave the number */
 };
 
 /* slots 1 to 2^24; last_generation any; max_count from 1; workers 1 to 256; ring 1 to 65536 */
@@ -85,9 +86,10 @@ typedef struct SpanCounts {
 
 /* Texts stand one after another in `texts`, each of the length that its struct tells, and all bytes have to be used up.
  * Of several things that stand against a call the status tells the first: SPAN_EMPTY_HANDLE, SPAN_NO_SUCH_WORKER,
- * SPAN_BAD_DATA, SPAN_BAD_NAME, SPAN_UNKNOWN, SPAN_COUNT_FULL, SPAN_FULL, SPAN_NOT_ENTERED; SPAN_BACKLOG comes where
- * none of these does, and SPAN_OUT_OF_MEMORY may come before SPAN_BAD_NAME and what follows it. That no layer wants a
- * span is found after SPAN_BAD_NAME and before SPAN_UNKNOWN. Workers and layers are numbered from 0. */
+ * SPAN_NO_SUCH_CALLSITE, SPAN_BAD_DATA, SPAN_BAD_NAME, SPAN_UNKNOWN, SPAN_COUNT_FULL, SPAN_FULL, SPAN_NOT_ENTERED;
+ * SPAN_BACKLOG comes where none of these does, and SPAN_OUT_OF_MEMORY may come before SPAN_BAD_NAME and what follows
+ * it. That no layer wants a span is found after SPAN_BAD_NAME and before SPAN_UNKNOWN. Workers, layers and callsites
+ * are numbered from 0. */
 
 /* Fills two empty handles. Each layer takes the next of the rules for its own; texts: the prefixes of all rules.
  * Refused in this order: SPAN_HANDLE_IN_USE, SPAN_BAD_LIMITS, SPAN_TOO_MANY_LAYERS, SPAN_BAD_DATA,
@@ -127,6 +129,24 @@ uint32_t span_registry_record(SpanRegistry *registry, uint32_t worker, uint64_t 
 
 /* texts: name, target, message, then each key and its value. */
 uint32_t span_registry_event(SpanRegistry *registry, uint32_t worker, const SpanMeta *meta, uint32_t message_len,
+    const SpanField *fields, size_t fields_len, const uint8_t *texts, size_t texts_len);
+
+/* Adds a callsite: a place of a program that makes spans or tells events again and again. Its level, name and target
+ * are read, tested and kept here once. texts: name, target. number: how many callsites there were before. The number is
+ * good for this registry alone, until that is freed. Equal callsites may be added, and none is taken away. It needs no
+ * worker, and puts nothing into the ring. Refused in this order: SPAN_EMPTY_HANDLE, SPAN_BAD_DATA, SPAN_BAD_NAME,
+ * SPAN_COUNT_FULL where there are 2^32 callsites; SPAN_OUT_OF_MEMORY may come before SPAN_BAD_NAME. */
+uint32_t span_registry_add_callsite(SpanRegistry *registry, const SpanMeta *meta,
+    const uint8_t *texts, size_t texts_len, uint32_t *number);
+
+/* As span_registry_new_span, with the level, name and target of a callsite. texts: each key and its value. */
+uint32_t span_registry_new_span_at(SpanRegistry *registry, uint32_t worker, uint32_t parent_kind, uint64_t parent,
+    uint32_t callsite, const SpanField *fields, size_t fields_len, const uint8_t *texts, size_t texts_len,
+    uint64_t *id);
+
+/* As span_registry_event, with the level, name and target of a callsite. texts: message, then each key and its
+ * value. */
+uint32_t span_registry_event_at(SpanRegistry *registry, uint32_t worker, uint32_t callsite, uint32_t message_len,
     const SpanField *fields, size_t fields_len, const uint8_t *texts, size_t texts_len);
 
 /* SPAN_UNKNOWN where the span isn't open. */

@@ -17,9 +17,12 @@ from pathlib import Path
 TOP = Path(__file__).resolve().parent.parent
 CRATE = TOP / "crates/span_ffi"
 WARNINGS = ["-std=gnu11", "-pthread", "-Wall", "-Wextra", "-Wpedantic", "-Werror"]
-# Each program, and what it is linked with: the first one refuses memory to the library.
+# So that a program can refuse memory to the library.
+WRAPS = ["-Wl,--wrap=malloc", "-Wl,--wrap=realloc"]
+# Each program, and what it is linked with.
 PROGRAMS = [
-    ("span_registry", ["-Wl,--wrap=malloc", "-Wl,--wrap=realloc"]),
+    ("span_registry", WRAPS),
+    ("callsites", WRAPS),
     ("strangers", []),
 ]
 RUNS = [

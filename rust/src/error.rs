@@ -6,7 +6,7 @@ use std::fmt;
 ///
 /// Of several reasons the first in the order `BadName`, `Unknown`, `CountFull`, `Full`, `NotEntered`, `Backlog` is
 /// answered; want of memory may come before any of them. While something is owed (see [`Span`](crate::Span)), what
-/// stands in the way of that comes before all others.
+/// stands in the way of that comes before all others but `OtherRegistry`.
 #[derive(Clone, Copy, Debug, PartialEq, Eq, Hash)]
 #[non_exhaustive]
 pub enum Error {
@@ -20,8 +20,8 @@ pub enum Error {
     NotEntered,
     /// More than 64 layers.
     TooManyLayers,
-    /// A span's or an event's name, or a field's key, is empty, over 64 bytes, or has a byte outside ASCII letters,
-    /// digits, `_`, `.` and `-`.
+    /// A span's, an event's or a callsite's name, or a field's key, is empty, over 64 bytes, or has a byte outside ASCII
+    /// letters, digits, `_`, `.` and `-`.
     BadName,
     /// The ring is full: nobody read the [`Drain`](crate::Drain) for so many calls. The same call may succeed later.
     Backlog,
@@ -33,13 +33,16 @@ pub enum Error {
     BadData,
     /// More threads call than the registry has workers, or the thread calls while its thread locals are being dropped.
     TooManyThreads,
+    /// The callsite belongs to another registry.
+    OtherRegistry,
     /// A status that no right use of the C interface gets: a fault of this crate, or of the library that it was built
     /// with.
     Other(u32),
 }
 
 impl Error {
-    /// The number of this refusal in the C interface. This crate's own `TooManyThreads` has 100.
+    /// The number of this refusal in the C interface. This crate's own `TooManyThreads` has 100,
+    /// and `OtherRegistry` 101.
     #[must_use]
     pub fn number(self) -> u32 {
         match self {
@@ -54,6 +57,7 @@ impl Error {
             Error::OutOfMemory => raw::OUT_OF_MEMORY,
             Error::BadData => raw::BAD_DATA,
             Error::TooManyThreads => 100,
+            Error::OtherRegistry => 101,
             Error::Other(status) => status,
         }
     }
@@ -97,6 +101,7 @@ impl fmt::Display for Error {
             Error::OutOfMemory => "out of memory",
             Error::BadData => "bad data",
             Error::TooManyThreads => "too many threads",
+            Error::OtherRegistry => "other registry",
             Error::Other(status) => return write!(f, "status {status}: {}", raw::status_text(status)),
         })
     }
@@ -137,7 +142,7 @@ mod tests {
         for status in 1..120 {
             let error = Error::of_status(status).unwrap_err();
             assert_eq!(error.number(), status);
-            assert_ne!(error, Error::TooManyThreads);
+            assert!(![Error::TooManyThreads, Error::OtherRegistry].contains(&error));
         }
     }
 }

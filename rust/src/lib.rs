@@ -10,6 +10,7 @@
 #![deny(missing_docs, unsafe_code)]
 
 mod builder;
+mod callsite;
 mod directives;
 mod drain;
 mod error;
@@ -26,6 +27,7 @@ mod state;
 mod workers;
 
 pub use builder::{Layer, RegistryBuilder};
+pub use callsite::Callsite;
 pub use directives::{ParseError, Targets};
 pub use drain::{Drain, DrainCounts, Line};
 pub use error::Error;

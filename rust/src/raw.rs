@@ -153,6 +153,35 @@ unsafe extern "C" {
         texts: *const u8,
         texts_len: usize,
     ) -> u32;
+    fn span_registry_add_callsite(
+        registry: *mut SpanRegistry,
+        meta: *const SpanMeta,
+        texts: *const u8,
+        texts_len: usize,
+        number: *mut u32,
+    ) -> u32;
+    fn span_registry_new_span_at(
+        registry: *mut SpanRegistry,
+        worker: u32,
+        parent_kind: u32,
+        parent: u64,
+        callsite: u32,
+        fields: *const SpanField,
+        fields_len: usize,
+        texts: *const u8,
+        texts_len: usize,
+        id: *mut u64,
+    ) -> u32;
+    fn span_registry_event_at(
+        registry: *mut SpanRegistry,
+        worker: u32,
+        callsite: u32,
+        message_len: u32,
+        fields: *const SpanField,
+        fields_len: usize,
+        texts: *const u8,
+        texts_len: usize,
+    ) -> u32;
     fn span_registry_find(registry: *mut SpanRegistry, id: u64, found: *mut SpanFound) -> u32;
     fn span_registry_current_span(registry: *mut SpanRegistry, worker: u32, id: *mut u64) -> u32;
     fn span_registry_counts(registry: *mut SpanRegistry, counts: *mut SpanCounts) -> u32;
@@ -199,7 +228,7 @@ mod tests {
 
     #[test]
     fn each_status_has_a_text_of_one_line() {
-        for status in 0..=16 {
+        for status in 0..=17 {
             let text = status_text(status);
             assert!(!text.contains('\n'), "{text:?}");
             assert!(status == 9 || !text.is_empty(), "status {status}");

@@ -1,13 +1,18 @@
 //! The lock, and what may be asked without it.
 use crate::state::{Owed, State};
-use std::sync::atomic::{AtomicBool, Ordering};
+use std::sync::atomic::{AtomicBool, AtomicU64, Ordering};
 use std::sync::{Mutex, MutexGuard, PoisonError};
 use std::thread;
 use std::time::Duration;
 
+/// How many registries this process has made.
+static MADE: AtomicU64 = AtomicU64::new(0);
+
 /// What registries, spans and the drain share.
 pub(crate) struct Shared {
     state: Mutex<State>,
+    // How many registries were made before.
+    number: u64,
     // Whether something is owed, as of the last time that the lock was given back.
     owes: AtomicBool,
     // Whether each registry and each span is gone. The drain may be there still.
@@ -18,6 +23,7 @@ impl Shared {
     pub(crate) fn new(state: State) -> Shared {
         Shared {
             state: Mutex::new(state),
+            number: MADE.fetch_add(1, Ordering::Relaxed),
             owes: AtomicBool::new(false),
             is_over: AtomicBool::new(false),
         }
@@ -30,6 +36,11 @@ impl Shared {
         let result = call(&mut state);
         self.owes.store(state.owes(), Ordering::Release);
         result
+    }
+
+    /// By which it is told from all others of the process, also those that are gone.
+    pub(crate) fn number(&self) -> u64 {
+        self.number
     }
 
     pub(crate) fn pay_or_owe(&self, payment: Owed) {

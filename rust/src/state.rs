@@ -112,6 +112,26 @@ impl State {
         Ok(id)
     }
 
+    /// Its number.
+    pub(crate) fn add_callsite(&mut self, meta: &Meta<'_>) -> Result<u32, Error> {
+        self.packed.pack(&[meta.name, meta.target], &[])?;
+        self.core.add_callsite(meta, &self.packed)
+    }
+
+    pub(crate) fn new_span_at(
+        &mut self,
+        worker: u32,
+        callsite: u32,
+        parent: Parent,
+        fields: Fields<'_>,
+    ) -> Result<Option<Id>, Error> {
+        self.reserve_owed(1)?;
+        self.packed.pack(&[], fields)?;
+        let id = self.core.new_span_at(worker, parent, callsite, &self.packed)?;
+        self.held += usize::from(id.is_some());
+        Ok(id)
+    }
+
     pub(crate) fn clone_span(&mut self, worker: u32, id: Id) -> Result<(), Error> {
         self.reserve_owed(1)?;
         self.core.clone_span(worker, id)?;
@@ -152,6 +172,17 @@ impl State {
     ) -> Result<(), Error> {
         self.packed.pack(&[meta.name, meta.target, message], fields)?;
         self.core.event(worker, meta, message, &self.packed)
+    }
+
+    pub(crate) fn event_at(
+        &mut self,
+        worker: u32,
+        callsite: u32,
+        message: &str,
+        fields: Fields<'_>,
+    ) -> Result<(), Error> {
+        self.packed.pack(&[message], fields)?;
+        self.core.event_at(worker, callsite, message, &self.packed)
     }
 
     pub(crate) fn current_span(&mut self, worker: u32) -> Result<Option<Id>, Error> {

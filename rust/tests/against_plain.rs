@@ -5,7 +5,7 @@
 mod plain;
 
 use plain::{Plain, PlainDrain};
-use span_registry::{Drain, Error, FmtSpan, Form, Id, Layer, Level, Meta, Parent, Registry, Targets};
+use span_registry::{Callsite, Drain, Error, FmtSpan, Form, Id, Layer, Level, Meta, Parent, Registry, Targets};
 
 const RUNS: u64 = 400;
 const CALLS: usize = 150;
@@ -139,6 +139,11 @@ impl Pair {
         self.compare();
     }
 
+    // A call is made by its meta, or at a callsite. What has a bad name gets no callsite: it is refused as the call is.
+    fn callsite(&mut self, meta: &Meta<'_>) -> Option<Result<Callsite, Error>> {
+        (self.random.below(2) == 0).then(|| self.registry.callsite(meta))
+    }
+
     fn make(&mut self) -> (Result<u64, Error>, Result<u64, plain::Refusal>) {
         let (name, target, level) = (
             self.random.name(),
@@ -155,7 +160,11 @@ impl Pair {
                 plain::Parent::Of(under),
             ),
         };
-        let ours = self.registry.new_span(&Meta::new(level, target, name), parent, &fields);
+        let meta = Meta::new(level, target, name);
+        let ours = match self.callsite(&meta) {
+            Some(made) => made.and_then(|callsite| self.registry.new_span_at(&callsite, parent, &fields)),
+            None => self.registry.new_span(&meta, parent, &fields),
+        };
         let meta = plain::Meta {
             level: level as u32,
             name,
@@ -175,7 +184,11 @@ impl Pair {
             self.random.of(&Level::ALL),
         );
         let (message, fields) = (self.random.of(&VALUES), self.random.fields());
-        let ours = self.registry.event(&Meta::new(level, target, name), message, &fields);
+        let meta = Meta::new(level, target, name);
+        let ours = match self.callsite(&meta) {
+            Some(made) => made.and_then(|callsite| self.registry.event_at(&callsite, message, &fields)),
+            None => self.registry.event(&meta, message, &fields),
+        };
         let meta = plain::Meta {
             level: level as u32,
             name,

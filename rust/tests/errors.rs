@@ -15,6 +15,7 @@ fn each_refusal_has_its_text_and_number() {
         (Error::OutOfMemory, 10, "out of memory"),
         (Error::BadData, 11, "bad data"),
         (Error::TooManyThreads, 100, "too many threads"),
+        (Error::OtherRegistry, 101, "other registry"),
     ];
     for (error, number, text) in table {
         assert_eq!((error.number(), error.to_string()), (number, text.to_owned()));

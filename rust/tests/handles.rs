@@ -2,7 +2,7 @@
 mod common;
 
 use common::{assert_empty, compact, id, span, texts, Ids};
-use span_registry::{Drain, Entered, Error, Id, Parent, Registry, Span};
+use span_registry::{Callsite, Drain, Entered, Error, Id, Parent, Registry, Span};
 use std::panic::{catch_unwind, AssertUnwindSafe};
 use std::thread;
 
@@ -12,6 +12,7 @@ fn what_threads_share_may_be_shared() {
     fn is_send<T: Send>() {}
     is_send_and_sync::<Registry>();
     is_send_and_sync::<Span>();
+    is_send_and_sync::<Callsite>();
     is_send_and_sync::<Error>();
     is_send::<Drain>();
 }

@@ -104,7 +104,7 @@ impl Calls {
     }
 }
 
-const LINES: [&str; 11] = [
+const LINES: [&str; 14] = [
     "new 1 w0 a k=v",
     "enter 1 w0 a",
     "new 2 w0 a:b",
@@ -116,6 +116,9 @@ const LINES: [&str; 11] = [
     "close 2 w0 a:b key=value",
     "close 1 w0 a k=v",
     "event 0 w0 - INFO end",
+    "new 16777217 w0 c k=v",
+    "event 0 w0 - INFO at",
+    "close 16777217 w0 c k=v",
 ];
 
 /// All kinds of calls and drops.
@@ -141,8 +144,12 @@ fn run(registry: Registry, drain: &mut Drain) -> Calls {
     calls.drop(b);
     calls.drop(a);
     calls.make(|registry| Ids(registry.clone()).event("end"));
+    let place = calls.make(|registry| registry.callsite(&info("c")));
+    let c = calls.make(|registry| registry.span_at(&place, Parent::Root, &[("k", "v")]));
+    calls.make(|registry| registry.event_at(&place, "at", &[]));
+    calls.drop(c);
     assert_empty(&calls.registry);
-    assert_eq!(calls.registry.counts().calls, 13);
+    assert_eq!(calls.registry.counts().calls, 16);
     let lines = texts(drain);
     let missed = usize::try_from(drain.counts().missed).expect("few");
     assert_eq!(lines.len() + missed, LINES.len());

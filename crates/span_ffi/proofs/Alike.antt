@@ -11,11 +11,9 @@ use Rattle.span_core.specs.Step.{is_open}
 use Rattle.span_core.specs.Parent.{parent_found}
 use Rattle.span_core.specs.Core.{CoreView, WhyRefused}
 use Rattle.span_ffi.specs.declared.status.Status.{Status}
-use Rattle.span_ffi.specs.declared.status.Status.TheVariants.{Done, Refused, BadData, EmptyHandle, HandleInUse, NoSuchWorker, NoLine, ShortBuffer}
-use Rattle.span_ffi.specs.declared.data.SpanMeta.{SpanMeta}
-use Rattle.span_ffi.specs.declared.data.SpanField.{SpanField}
-use Rattle.span_ffi.specs.Data.{IsSpan, said_meta, said_fields, said_parent, behind_meta}
-use Rattle.span_ffi.specs.Calls.{HasWorker, IsMadeOrRefused, MakesSpan, span_asked}
+use Rattle.span_ffi.specs.declared.status.Status.TheVariants.{Done, Refused, BadData, EmptyHandle, HandleInUse, NoSuchWorker, NoLine, ShortBuffer, NoSuchCallsite}
+use Rattle.span_ffi.specs.Data.{said_parent}
+use Rattle.span_ffi.specs.Calls.{HasWorker, IsMadeOrRefused, MakesAsked, span_asked}
 use Rattle.span_ffi.specs.inside.Parents.{AreAlike}
 
 module _ (old new : CoreView) (worker : ℕ) (meta : PlainMeta) (fields : List KeyValue) (a b : ℕ)
@@ -46,6 +44,7 @@ module _ (old new : CoreView) (worker : ℕ) (meta : PlainMeta) (fields : List K
   closed_alike made NoSuchWorker is = absurd is
   closed_alike made NoLine is = absurd is
   closed_alike made ShortBuffer is = absurd is
+  closed_alike made NoSuchCallsite is = absurd is
 
 -- the outcome is the same under parents that are alike
 pub made_alike : (old new : CoreView) (worker : ℕ) (meta : PlainMeta) (fields : List KeyValue) (meant said : ParentOf) (made : ℕ) (status : Status)
@@ -67,38 +66,35 @@ made_alike old new worker meta fields Current (Of id) made status alike is = abs
 made_alike old new worker meta fields (Of id) Root made status alike is = absurd alike
 made_alike old new worker meta fields (Of id) Current made status alike is = absurd alike
 
--- what the registry did with the span that the data ask for is what the call does
-pub makes : (worker kind parent : ℕ) (meta : SpanMeta) (fields : List SpanField) (bytes : List ℕ) (made : ℕ) (old : CoreView) (status : Status) (new : CoreView)
-    → HasWorker old worker → IsSpan kind meta fields bytes
-    → IsMadeOrRefused (span_asked worker kind parent meta fields bytes old) made old status new
-    → MakesSpan worker kind parent meta fields bytes made old status new
-makes worker kind parent meta fields bytes made old Done new within says is = (within, says, is)
-makes worker kind parent meta fields bytes made old (Refused Unknown) new within says is = (within, says, is)
-makes worker kind parent meta fields bytes made old (Refused CountFull) new within says is = (within, says, is)
-makes worker kind parent meta fields bytes made old (Refused Full) new within says is = (within, says, is)
-makes worker kind parent meta fields bytes made old (Refused NotEntered) new within says is = (within, says, is)
-makes worker kind parent meta fields bytes made old (Refused TooManyLayers) new within says is = (within, says, is)
-makes worker kind parent meta fields bytes made old (Refused BadName) new within says is = (within, says, is)
-makes worker kind parent meta fields bytes made old (Refused Backlog) new within says is = (within, says, is)
-makes worker kind parent meta fields bytes made old (Refused BadLimits) new within says is = (within, says, is)
-makes worker kind parent meta fields bytes made old (Refused Memory) new within says is = (within, says, is.unchanged)
-makes worker kind parent meta fields bytes made old BadData new within says is = absurd is
-makes worker kind parent meta fields bytes made old EmptyHandle new within says is = absurd is
-makes worker kind parent meta fields bytes made old HandleInUse new within says is = absurd is
-makes worker kind parent meta fields bytes made old NoSuchWorker new within says is = absurd is
-makes worker kind parent meta fields bytes made old NoLine new within says is = absurd is
-makes worker kind parent meta fields bytes made old ShortBuffer new within says is = absurd is
+-- what the registry did with the span that was asked for is what the call does
+pub makes : (worker : ℕ) (Says : Type 0) (request : Request) (made : ℕ) (old : CoreView) (status : Status) (new : CoreView)
+    → HasWorker old worker → Says → IsMadeOrRefused request made old status new → MakesAsked worker Says request made old status new
+makes worker Says request made old Done new within says is = (within, says, is)
+makes worker Says request made old (Refused Unknown) new within says is = (within, says, is)
+makes worker Says request made old (Refused CountFull) new within says is = (within, says, is)
+makes worker Says request made old (Refused Full) new within says is = (within, says, is)
+makes worker Says request made old (Refused NotEntered) new within says is = (within, says, is)
+makes worker Says request made old (Refused TooManyLayers) new within says is = (within, says, is)
+makes worker Says request made old (Refused BadName) new within says is = (within, says, is)
+makes worker Says request made old (Refused Backlog) new within says is = (within, says, is)
+makes worker Says request made old (Refused BadLimits) new within says is = (within, says, is)
+makes worker Says request made old (Refused Memory) new within says is = (within, says, is.unchanged)
+makes worker Says request made old BadData new within says is = absurd is
+makes worker Says request made old EmptyHandle new within says is = absurd is
+makes worker Says request made old HandleInUse new within says is = absurd is
+makes worker Says request made old NoSuchWorker new within says is = absurd is
+makes worker Says request made old NoLine new within says is = absurd is
+makes worker Says request made old ShortBuffer new within says is = absurd is
+makes worker Says request made old NoSuchCallsite new within says is = absurd is
 
 -- the same where the registry was asked for the meta and the fields that were read, under a parent that is alike
-pub makes_as_read : (worker kind parent : ℕ) (meta : SpanMeta) (fields : List SpanField) (bytes : List ℕ) (made : ℕ) (old : CoreView) (status : Status) (new : CoreView)
+pub makes_as_read : (worker kind parent : ℕ) (Says : Type 0) (meta : PlainMeta) (fields : List KeyValue) (made : ℕ) (old : CoreView) (status : Status) (new : CoreView)
     (read : PlainMeta) (read_fields : List KeyValue) (meant : ParentOf)
-    → HasWorker old worker → IsSpan kind meta fields bytes
-    → read ≡ said_meta meta bytes → read_fields ≡ said_fields fields (behind_meta meta bytes)
-    → AreAlike old.world.spans meant (said_parent kind parent)
+    → HasWorker old worker → Says → read ≡ meta → read_fields ≡ fields → AreAlike old.world.spans meant (said_parent kind parent)
     → IsMadeOrRefused (new_span worker read read_fields (parent_found old.world worker meant)) made old status new
-    → MakesSpan worker kind parent meta fields bytes made old status new
-makes_as_read worker kind parent meta fields bytes made old status new read read_fields meant within says is are alike done =
-    let asked = λ (m : PlainMeta) (fs : List KeyValue). IsMadeOrRefused (new_span worker m fs (parent_found old.world worker (said_parent kind parent))) made old status new in
+    → MakesAsked worker Says (span_asked worker kind parent meta fields old) made old status new
+makes_as_read worker kind parent Says meta fields made old status new read read_fields meant within says is are alike done =
+    let asked = λ (m : PlainMeta) (fs : List KeyValue). IsMadeOrRefused (span_asked worker kind parent m fs old) made old status new in
     let as_read = made_alike old new worker read read_fields meant (said_parent kind parent) made status alike done in
-    makes worker kind parent meta fields bytes made old status new within says
-    (subst (λ (fs : List KeyValue). asked (said_meta meta bytes) fs) are (subst (λ (m : PlainMeta). asked m read_fields) is as_read))
+    makes worker Says (span_asked worker kind parent meta fields old) made old status new within says
+    (subst (λ (fs : List KeyValue). asked meta fs) are (subst (λ (m : PlainMeta). asked m read_fields) is as_read))

@@ -4,12 +4,17 @@ use Rattle.std.proofs.lemmas.Bool.{true≢false}
 use Rattle.std.proofs.lemmas.Str.{IsUtf8-from_is_utf8, is_utf8-from_IsUtf8}
 use Rattle.std.specs.Str.{IsUtf8, is_utf8, chars}
 use Rattle.std.specs.Char.{encode_utf8}
+use Rattle.span_id.specs.declared.fault.Fault.TheVariants.{BadName}
 use Rattle.span_id.specs.declared.level.Level.TheVariants.{Error, Trace}
+use Rattle.span_id.specs.Meta.{PlainMeta}
 use Rattle.span_layers.specs.declared.form.Form.TheVariants.{Compact, Json}
 use Rattle.span_ffi.specs.declared.data.SpanField.{SpanField}
+use Rattle.span_ffi.specs.declared.data.SpanMeta.{SpanMeta}
 use Rattle.span_ffi.specs.declared.data.SpanLayer.{SpanLayer}
 use Rattle.span_ffi.specs.declared.data.SpanRule.{SpanRule}
-use Rattle.span_ffi.specs.Data.{BeginsWithText, AreFields, said_fields}
+use Rattle.span_ffi.specs.declared.status.Status.TheVariants.{Done, Refused}
+use Rattle.span_ffi.specs.Data.{BeginsWithText, AreFields, IsCallsite, said_fields, said_meta}
+use Rattle.span_ffi.specs.Callsites.{AddsCallsite}
 use Rattle.span_ffi.specs.Opening.{AreRules, said_pairs, behind_rules, AreLayers, said_filters, said_forms}
 
 begins : (len : ℕ) (bytes : List ℕ) → len ≤ length bytes → is_utf8 (take len bytes) ≡ true → BeginsWithText len bytes
@@ -79,6 +84,60 @@ no_utf8 are = no_text (195 ∷ 195 ∷ []) cut_off are.2.0.1
 -- no fields and no bytes
 none : AreFields [] []
 none = refl
+
+-- ---- callsites
+
+-- the name `k`, the target `a`
+abbrev site : SpanMeta
+site = record { level = 4; name_len = 1; target_len = 1 }
+
+abbrev site_bytes : List ℕ
+site_bytes = 107 ∷ 97 ∷ []
+
+is_site : IsCallsite site site_bytes
+is_site = record {
+  meta_is = record {
+    level = omega arith;
+    name = begins 1 site_bytes (omega arith) letter_k;
+    target = begins 1 (97 ∷ []) (omega arith) letter_a;
+  };
+  whole = refl;
+}
+
+-- it comes behind the one that is there, and its number is 1
+added_site : (first : PlainMeta) → AddsCallsite site site_bytes 1 (first ∷ []) Done (first ∷ said_meta site site_bytes ∷ [])
+added_site first = (is_site, refl, refl, refl)
+
+-- its number isn't that of the first, and it doesn't take its place
+same_number : (first : PlainMeta) → AddsCallsite site site_bytes 0 (first ∷ []) Done (first ∷ said_meta site site_bytes ∷ []) → ⊥
+same_number first adds = let number = adds.2 in omega (arith, number)
+
+took_its_place : (first : PlainMeta) → AddsCallsite site site_bytes 1 (first ∷ []) Done (said_meta site site_bytes ∷ []) → ⊥
+took_its_place first adds = let more = ap length adds.3 in omega (arith, more)
+
+-- `k` is a name
+good_name : (sites : List PlainMeta) → AddsCallsite site site_bytes 0 sites (Refused BadName) sites → ⊥
+good_name sites adds = true≢false adds.1
+
+-- an empty one is none
+empty_name : (sites : List PlainMeta)
+    → AddsCallsite (record { level = 4; name_len = 0; target_len = 1 }) (97 ∷ []) 0 sites (Refused BadName) sites
+empty_name sites = (
+  record {
+    meta_is = record {
+      level = omega arith;
+      name = begins_empty (97 ∷ []);
+      target = begins 1 (97 ∷ []) (omega arith) letter_a;
+    };
+    whole = refl;
+  },
+  refl,
+  refl,
+)
+
+-- a byte is left over
+byte_over_site : IsCallsite site (107 ∷ 97 ∷ 97 ∷ []) → ⊥
+byte_over_site is = let left = ap length is.whole in omega (arith, left)
 
 -- ---- rules and layers
 

@@ -1,16 +1,21 @@
 -- Worked cases of the definitions, computed from them alone.
-use Rattle.std.proofs.Common.{◌≡◌, ℕ, ◌+◌, refl, List, [], ◌∷◌, Some, None, true, false}
+use Rattle.std.proofs.Common.{◌≡◌, ℕ, ◌+◌, refl, ap, List, [], ◌∷◌, length, Some, None, true, false, arith}
+use Rattle.std.specs.Prelude.{slice_get}
 use Rattle.span_id.specs.declared.fault.Fault.TheVariants.{Unknown, Memory}
 use Rattle.span_id.specs.declared.level.Level.TheVariants.{Error, Trace}
+use Rattle.span_id.specs.Meta.{PlainMeta}
+use Rattle.span_core.specs.Core.{CoreView}
 use Rattle.span_outlet.specs.declared.batch.ParentOf.TheVariants.{Root, Current, Of}
 use Rattle.span_ffi.specs.declared.data.SpanMeta.{SpanMeta}
 use Rattle.span_ffi.specs.declared.data.SpanField.{SpanField}
 use Rattle.span_ffi.specs.declared.status.Status.{Status}
-use Rattle.span_ffi.specs.declared.status.Status.TheVariants.{Done, Refused, BadData, EmptyHandle, ShortBuffer}
+use Rattle.span_ffi.specs.declared.status.Status.TheVariants.{Done, Refused, BadData, EmptyHandle, ShortBuffer, NoSuchCallsite}
 use Rattle.span_ffi.specs.Status.{meaning}
 use Rattle.span_ffi.specs.Ends.{Ends, Keeps, flag}
 use Rattle.span_ffi.specs.Data.{said_level, said_parent, said_meta, said_fields, behind_meta}
-use Rattle.span_ffi.specs.Calls.{id_number}
+use Rattle.span_ffi.specs.Registry.{OnCore, OnCallsites}
+use Rattle.span_ffi.specs.Calls.{HasWorker, id_number}
+use Rattle.span_ffi.specs.Callsites.{AtCallsite}
 
 -- the first and the last number, those beside the gap, and those that mean nothing
 done : meaning 0 ≡ Some Done
@@ -31,7 +36,10 @@ bad_data = refl
 short_buffer : meaning 16 ≡ Some ShortBuffer
 short_buffer = refl
 
-beyond : meaning 17 ≡ None
+no_such_callsite : meaning 17 ≡ Some NoSuchCallsite
+no_such_callsite = refl
+
+beyond : meaning 18 ≡ None
 beyond = refl
 
 -- levels and parents
@@ -104,3 +112,42 @@ written = tt
 
 kept : Keeps {X = ℕ} (Some BadData) 3 3
 kept = refl
+
+-- two callsites
+abbrev sites : List PlainMeta
+sites =
+    (record { name = 97 ∷ []; target = []; level = Error }) ∷ (record { name = 98 ∷ 98 ∷ []; target = []; level = Trace }) ∷ []
+
+-- a call that is done with a meta whose name has two bytes
+abbrev LikesTwo : PlainMeta → CoreView → Status → CoreView → Type 0
+LikesTwo site old Done new = length site.name ≡ 2
+LikesTwo site old _ new = ⊥
+
+second : (core : CoreView) → AtCallsite 0 (slice_get sites 1) LikesTwo core Done core
+second core = refl
+
+first : (core : CoreView) → AtCallsite 0 (slice_get sites 0) LikesTwo core Done core → ⊥
+first core likes = omega (arith, likes)
+
+beyond_the_last : (core : CoreView) → HasWorker core 0 → AtCallsite 0 (slice_get sites 2) LikesTwo core NoSuchCallsite core
+beyond_the_last core has = (has, refl, refl)
+
+done_beyond : (core : CoreView) → AtCallsite 0 (slice_get sites 2) LikesTwo core Done core → ⊥
+done_beyond core likes = likes
+
+-- a call on the core leaves the callsites, and one on the callsites the core
+abbrev Stays : CoreView → Status → CoreView → Type 0
+Stays old status new = new ≡ old
+
+abbrev Empties : List PlainMeta → Status → List PlainMeta → Type 0
+Empties old status new = new ≡ []
+
+on_core : (core : CoreView) → OnCore Stays (record { core = core; callsites = sites }) Done (record { core = core; callsites = sites })
+on_core core = (refl, refl)
+
+drops_callsites : (core : CoreView) → OnCore Stays (record { core = core; callsites = sites }) Done (record { core = core; callsites = [] }) → ⊥
+drops_callsites core does = let left = ap length does.1 in omega (arith, left)
+
+on_callsites : (core : CoreView)
+    → OnCallsites Empties (record { core = core; callsites = sites }) Done (record { core = core; callsites = [] })
+on_callsites core = (refl, refl)

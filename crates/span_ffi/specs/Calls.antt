@@ -2,6 +2,7 @@
 use Rattle.std.specs.Prelude.{◌≡◌, ◌≢◌, ℕ, ◌<◌, ◌≤◌, ◌==◌, nat_lt, List, length, take, drop, Option, Some, None, is_none, IsSomeAnd}
 use Rattle.span_id.specs.declared.fault.Fault.TheVariants.{Unknown, Memory}
 use Rattle.span_id.specs.Level.{verbosity}
+use Rattle.span_id.specs.Meta.{PlainMeta, KeyValue}
 use Rattle.span_stack.specs.Stack.{current}
 use Rattle.span_forest.specs.declared.span.Holder.TheVariants.{Handle}
 use Rattle.span_forest.specs.Node.{Node}
@@ -87,11 +88,10 @@ Tells worker meta message_len fields bytes =
     AnswersData worker (IsEvent meta message_len fields bytes)
     (event worker (said_meta meta bytes) (take message_len behind) (said_fields fields (drop message_len behind))) told
 
--- the span that the data ask for, under the parent that is meant
-abbrev pub span_asked : ℕ → ℕ → ℕ → SpanMeta → List SpanField → List ℕ → CoreView → Request
-span_asked worker kind parent meta fields bytes core =
-    new_span worker (said_meta meta bytes) (said_fields fields (behind_meta meta bytes))
-    (parent_found core.world worker (said_parent kind parent))
+-- a span with this meta and these fields, under the parent that is meant
+abbrev pub span_asked : ℕ → ℕ → ℕ → PlainMeta → List KeyValue → CoreView → Request
+span_asked worker kind parent meta fields core =
+    new_span worker meta fields (parent_found core.world worker (said_parent kind parent))
 
 -- the span was made, and the id is the one that the history so far gives; or there are layers and none admits it, and
 -- the id is 0
@@ -106,17 +106,22 @@ IsMadeOrRefused request id old Done new = IsMade request id old new
 IsMadeOrRefused request id old (Refused fault) new = IsRefused old request fault new
 IsMadeOrRefused request id old _ new = ⊥
 
--- A worker makes a span. Its id is told, and 0 where there are layers and none admits it. Where the data say nothing,
--- the status says so, also where memory is short. Then, and where memory is refused, nothing changes.
+-- A worker makes a span. `Says` holds where the data say something, and then `request` is what they ask for. Its id is
+-- told, and 0 where there are layers and none admits it. Where the data say nothing, the status says so, also where
+-- memory is short. Then, and where memory is refused, nothing changes.
+abbrev pub MakesAsked : ℕ → Type 0 → Request → ℕ → CoreView → Status → CoreView → Type 0
+MakesAsked worker Says request id old NoSuchWorker new = LacksWorker old worker new
+MakesAsked worker Says request id old BadData new = HasWorker old worker × (Says → ⊥) × (new ≡ old)
+MakesAsked worker Says request id old (Refused Memory) new = HasWorker old worker × Says × (new ≡ old)
+MakesAsked worker Says request id old status new =
+    HasWorker old worker × Says × IsMadeOrRefused request id old status new
+
+-- the same of the meta and the fields that the data say
 abbrev pub MakesSpan : ℕ → ℕ → ℕ → SpanMeta → List SpanField → List ℕ → ℕ → CoreView → Status → CoreView → Type 0
-MakesSpan worker kind parent meta fields bytes id old NoSuchWorker new = LacksWorker old worker new
-MakesSpan worker kind parent meta fields bytes id old BadData new =
-    HasWorker old worker × (IsSpan kind meta fields bytes → ⊥) × (new ≡ old)
-MakesSpan worker kind parent meta fields bytes id old (Refused Memory) new =
-    HasWorker old worker × IsSpan kind meta fields bytes × (new ≡ old)
-MakesSpan worker kind parent meta fields bytes id old status new =
-    HasWorker old worker × IsSpan kind meta fields bytes
-    × IsMadeOrRefused (span_asked worker kind parent meta fields bytes old) id old status new
+MakesSpan worker kind parent meta fields bytes id old =
+    let said = said_fields fields (behind_meta meta bytes) in
+    MakesAsked worker (IsSpan kind meta fields bytes)
+    (span_asked worker kind parent (said_meta meta bytes) said old) id old
 
 -- ---- questions, which change nothing
 

@@ -71,3 +71,18 @@ pub record IsEvent (meta : SpanMeta) (message_len : ℕ) (fields : List SpanFiel
   pub meta_is : IsMeta meta bytes
   pub message : BeginsWithText message_len (behind_meta meta bytes)
   pub fields_are : AreFields fields (drop message_len (behind_meta meta bytes))
+
+-- the bytes are the name and the target of a callsite
+pub record IsCallsite (meta : SpanMeta) (bytes : List ℕ) : Type 0 where
+  pub meta_is : IsMeta meta bytes
+  pub whole : behind_meta meta bytes ≡ []
+
+-- the kind of parent is there, and the bytes are the fields of a span
+pub record IsSpanAt (kind : ℕ) (fields : List SpanField) (bytes : List ℕ) : Type 0 where
+  pub kind_is : kind ≤ 2
+  pub fields_are : AreFields fields bytes
+
+-- the bytes are the message and the fields of an event
+pub record IsEventAt (message_len : ℕ) (fields : List SpanField) (bytes : List ℕ) : Type 0 where
+  pub message : BeginsWithText message_len bytes
+  pub fields_are : AreFields fields (drop message_len bytes)

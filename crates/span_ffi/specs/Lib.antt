@@ -1,7 +1,9 @@
 pub mod Status
 pub mod Ends
 pub mod Data
+pub mod Registry
 pub mod Opening
 pub mod Calls
+pub mod Callsites
 pub mod Lines
 pub mod inside

@@ -10,13 +10,13 @@ use Rattle.span_layers.specs.Filter.{Filter}
 use Rattle.span_outlet.specs.Ring.{places_of}
 use Rattle.span_outlet.specs.LineReader.{LineReaderView}
 use Rattle.span_core.specs.World.{empty_world}
-use Rattle.span_core.specs.Core.{CoreView}
 use Rattle.span_ffi.specs.declared.data.SpanLimits.{SpanLimits}
 use Rattle.span_ffi.specs.declared.data.SpanLayer.{SpanLayer}
 use Rattle.span_ffi.specs.declared.data.SpanRule.{SpanRule}
 use Rattle.span_ffi.specs.declared.status.Status.{Status}
 use Rattle.span_ffi.specs.declared.status.Status.TheVariants.{Done, Refused, BadData, HandleInUse}
 use Rattle.span_ffi.specs.Data.{BeginsWithText, said_level}
+use Rattle.span_ffi.specs.Registry.{RegistryView}
 
 abbrev pub said_limits : SpanLimits → Limits
 said_limits limits = record {
@@ -70,16 +70,17 @@ abbrev pub said_forms : List SpanLayer → List Form
 said_forms layers = map (λ layer. said_form layer.form) layers
 
 -- A new registry and the other end of its ring: the limits are in their ranges, the layers are few enough, and the data
--- say them. The ring has as many places as the limits say. No span is open, nothing was sent, and nothing was taken.
+-- say them. The ring has as many places as the limits say. No span is open, there are no callsites, nothing was sent,
+-- and nothing was taken.
 pub record AreNew
     (limits : SpanLimits) (layers : List SpanLayer) (rules : List SpanRule) (bytes : List ℕ)
-    (core : CoreView) (reader : LineReaderView)
+    (registry : RegistryView) (reader : LineReaderView)
     : Type 0 where
   pub in_range : AreInRange (said_limits limits)
   pub few : length layers ≤ 64
   pub said : AreLayers layers rules bytes
   pub places : places_of reader.name ≡ limits.ring
-  pub core_is : core ≡ record {
+  pub core_is : registry.core ≡ record {
     limits = said_limits limits;
     rules = said_filters layers rules bytes;
     world = empty_world limits.workers;
@@ -88,6 +89,7 @@ pub record AreNew
     forms = [];
     name = Some reader.name;
   }
+  pub callsites : registry.callsites ≡ []
   pub reader_is : reader ≡ record {
     name = reader.name;
     looks = 0;
@@ -109,13 +111,14 @@ WhyNone limits layers rules bytes _ = ⊥
 
 -- Two empty handles get a new registry and the other end of its ring; else both stay as they were, and the status says
 -- why: a handle isn't empty, or there is no new registry.
-abbrev pub Opens : SpanLimits → List SpanLayer → List SpanRule → List ℕ → Option CoreView → Option LineReaderView
-    → Option Status → Option CoreView → Option LineReaderView → Type 0
-Opens limits layers rules bytes core reader None core' reader' = ⊥
-Opens limits layers rules bytes core reader (Some Done) core' reader' =
-    (core ≡ None) × (reader ≡ None)
-    × IsSomeAnd core' (λ new. IsSomeAnd reader' (λ other. AreNew limits layers rules bytes new other))
-Opens limits layers rules bytes core reader (Some HandleInUse) core' reader' =
-    ((is_some core || is_some reader) ≡ true) × (core' ≡ core) × (reader' ≡ reader)
-Opens limits layers rules bytes core reader (Some status) core' reader' =
-    (core ≡ None) × (reader ≡ None) × WhyNone limits layers rules bytes status × (core' ≡ core) × (reader' ≡ reader)
+abbrev pub Opens : SpanLimits → List SpanLayer → List SpanRule → List ℕ → Option RegistryView → Option LineReaderView
+    → Option Status → Option RegistryView → Option LineReaderView → Type 0
+Opens limits layers rules bytes registry reader None registry' reader' = ⊥
+Opens limits layers rules bytes registry reader (Some Done) registry' reader' =
+    (registry ≡ None) × (reader ≡ None)
+    × IsSomeAnd registry' (λ new. IsSomeAnd reader' (λ other. AreNew limits layers rules bytes new other))
+Opens limits layers rules bytes registry reader (Some HandleInUse) registry' reader' =
+    ((is_some registry || is_some reader) ≡ true) × (registry' ≡ registry) × (reader' ≡ reader)
+Opens limits layers rules bytes registry reader (Some status) registry' reader' =
+    (registry ≡ None) × (reader ≡ None) × WhyNone limits layers rules bytes status
+    × (registry' ≡ registry) × (reader' ≡ reader)

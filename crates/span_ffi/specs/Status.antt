@@ -4,7 +4,7 @@ use Rattle.std.specs.List.{find as first_that}
 use Rattle.span_id.specs.declared.fault.Fault.TheVariants.{Unknown, CountFull, Full, NotEntered, TooManyLayers, BadName, Backlog, BadLimits, Memory}
 use Rattle.span_id.specs.Fault.{number_of, text_of}
 use Rattle.span_ffi.specs.declared.status.Status.{Status}
-use Rattle.span_ffi.specs.declared.status.Status.TheVariants.{Done, Refused, BadData, EmptyHandle, HandleInUse, NoSuchWorker, NoLine, ShortBuffer}
+use Rattle.span_ffi.specs.declared.status.Status.TheVariants.{Done, Refused, BadData, EmptyHandle, HandleInUse, NoSuchWorker, NoLine, ShortBuffer, NoSuchCallsite}
 
 -- the number of a status; a refusal has its fault's
 abbrev pub status_number : Status → ℕ
@@ -16,15 +16,17 @@ status_number HandleInUse = 13
 status_number NoSuchWorker = 14
 status_number NoLine = 15
 status_number ShortBuffer = 16
+status_number NoSuchCallsite = 17
 
 -- every status
 abbrev pub statuses : List Status
 statuses =
     Done ∷ Refused Unknown ∷ Refused CountFull ∷ Refused Full ∷ Refused NotEntered ∷ Refused TooManyLayers
     ∷ Refused BadName ∷ Refused Backlog ∷ Refused BadLimits ∷ Refused Memory
-    ∷ BadData ∷ EmptyHandle ∷ HandleInUse ∷ NoSuchWorker ∷ NoLine ∷ ShortBuffer ∷ []
+    ∷ BadData ∷ EmptyHandle ∷ HandleInUse ∷ NoSuchWorker ∷ NoLine ∷ ShortBuffer
+    ∷ NoSuchCallsite ∷ []
 
--- the status that a number means; 9 and numbers above 16 mean none
+-- the status that a number means; 9 and numbers above 17 mean none
 abbrev pub meaning : ℕ → Option Status
 meaning number = first_that (λ status. status_number status == number) statuses
 
@@ -38,3 +40,4 @@ status_text HandleInUse = codes "handle in use"
 status_text NoSuchWorker = codes "no such worker"
 status_text NoLine = codes "no line"
 status_text ShortBuffer = codes "short buffer"
+status_text NoSuchCallsite = codes "no such callsite"

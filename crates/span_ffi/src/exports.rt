@@ -1,6 +1,7 @@
 //! What C calls. Each function takes whatever C passes, tests it, and answers the number of a status.
 
 mod callers;
+mod callsites;
 mod drain;
 mod entries;
 mod events;

@@ -3,6 +3,7 @@
 //! `include/span_registry.h` at the top of the repository is what a C program sees.
 #![tactic(auto)]
 
+mod callsites;
 mod data;
 mod drain_handle;
 mod exports;

@@ -12,6 +12,7 @@ ghost use Rattle.span_core.specs.World.{empty_world};
 ghost use Rattle.span_ffi.specs.Data.{BeginsWithText, said_level};
 ghost use Rattle.span_ffi.specs.Opening.{AreRules, said_pairs, behind_rules, said_form, AreLayers, said_filters, said_forms, said_limits, AreNew, WhyNone};
 
+use crate::callsites::Callsites;
 use crate::data::{SpanLayer, SpanLimits, SpanRule};
 use crate::reader::Reader;
 use crate::reading::{read_level, read_text, unread};
@@ -150,7 +151,7 @@ fn read_limits(limits: &SpanLimits) -> Result<Checked, Fault>
 
 // A registry with these layers, and the other end of its ring. The only error is `Memory`.
 fn make(alloc: Global, checked: &Checked, layers: PlainLayers) -> Result<(Registry, Reader), Fault>
-    ensures core { IfOk result (λ made. made.0 ≡ record {
+    ensures core { IfOk result (λ made. made.0.core ≡ record {
       limits = checked.now;
       rules = filters_in layers;
       world = empty_world checked.now.workers;
@@ -159,6 +160,7 @@ fn make(alloc: Global, checked: &Checked, layers: PlainLayers) -> Result<(Regist
       forms = [];
       name = Some made.1.name;
     }) }
+    ensures callsites { IfOk result (λ made. made.0.callsites ≡ []) }
     ensures reader { IfOk result (λ made. made.1 ≡ record {
       name = made.1.name;
       looks = 0;
@@ -174,7 +176,8 @@ fn make(alloc: Global, checked: &Checked, layers: PlainLayers) -> Result<(Regist
     let (ring, tap) = Ring::pair(alloc, checked)?;
     let core = Core::new(alloc, checked, filters, ring)?;
     let lines = LineReader::new(alloc, tap, tellers);
-    Ok((Registry { core }, Reader { lines }))
+    let callsites = Callsites::new(alloc);
+    Ok((Registry { core, callsites }, Reader { lines }))
 }
 
 /// A new registry and the other end of its ring, each in a box.

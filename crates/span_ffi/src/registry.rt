@@ -1,5 +1,6 @@
 //! What lies behind the handle of a registry.
 
+use crate::callsites::Callsites;
 use span_core::Core;
 use span_layers::{Admitters, ByRule};
 use span_outlet::Ring;
@@ -8,16 +9,17 @@ use std::marker::Model;
 /// A registry without a lock whose layers admit by their rules, and which sends its batches into a ring.
 pub(crate) type RingCore = Core<Ring, Admitters<ByRule>>;
 
-/// The registry behind a handle. Contracts see the core.
+/// The registry behind a handle. Contracts see the core and the metas of the callsites.
 #[derive(Drop)]
 pub struct Registry {
     pub(crate) core: RingCore,
+    pub(crate) callsites: Callsites,
 }
 
 impl Model for Registry {
-    ghost use Rattle.span_core.specs.Core.{CoreView};
+    ghost use Rattle.span_ffi.specs.Registry.{RegistryView};
 
-    ghost Value = { CoreView };
+    ghost Value = { RegistryView };
 
-    ghost view = { λ registry. registry.core };
+    ghost view = { λ registry. record { core = registry.core; callsites = registry.callsites } };
 }

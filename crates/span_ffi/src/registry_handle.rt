@@ -2,7 +2,7 @@
 ghost use Rattle.std.specs.Prelude.{◌≡◌, Some, None, Option, is_none};
 ghost use Rattle.std.specs.Option.{option_map};
 ghost use denote.RawPtr.{null_ptr};
-ghost use Rattle.span_core.specs.Core.{CoreView};
+ghost use Rattle.span_ffi.specs.Registry.{RegistryView};
 ghost use Rattle.span_ffi.specs.inside.RegistryOwned.{held_coded, handle_owns};
 
 use crate::parts::Parts;
@@ -17,7 +17,7 @@ use std::{mem, ptr};
 pub struct SpanRegistry {
     at: *mut u8,
     alloc: Global,
-    pub ghost held: { Option CoreView } by { held_coded },
+    pub ghost held: { Option RegistryView } by { held_coded },
 }
 
 impl Model for SpanRegistry {

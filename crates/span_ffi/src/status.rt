@@ -23,10 +23,12 @@ pub enum Status {
     NoLine,
     /// The text is longer than the buffer.
     ShortBuffer,
+    /// The registry has no callsite of this number.
+    NoSuchCallsite,
 }
 
 impl Status {
-    /// The number for C: 0 where the call was done, the fault's where it was refused, and 11 to 16 for the others.
+    /// The number for C: 0 where the call was done, the fault's where it was refused, and 11 to 17 for the others.
     pub fn number(self) -> u32
         ensures value { result ≡ status_number self }
         ensures meaning { meaning result ≡ Some self }
@@ -40,6 +42,7 @@ impl Status {
             Status::NoSuchWorker => 14,
             Status::NoLine => 15,
             Status::ShortBuffer => 16,
+            Status::NoSuchCallsite => 17,
         }
     }
 
@@ -64,6 +67,7 @@ impl Status {
             14 => Status::NoSuchWorker,
             15 => Status::NoLine,
             16 => Status::ShortBuffer,
+            17 => Status::NoSuchCallsite,
             _ => return None,
         };
         Some(status)
@@ -82,6 +86,7 @@ impl Status {
             Status::NoSuchWorker => "no such worker",
             Status::NoLine => "no line",
             Status::ShortBuffer => "short buffer",
+            Status::NoSuchCallsite => "no such callsite",
         }
     }
 }

@@ -1,6 +1,6 @@
 //! Whether data say something, found without memory.
 ghost use Rattle.std.specs.Prelude.{◌≤◌, ◌≡◌, ◌↔◌, drop, IsTrue, IsSome, IfSome};
-ghost use Rattle.span_ffi.specs.Data.{BeginsWithText, IsMeta, behind_meta, AreFields, behind_field, IsEvent};
+ghost use Rattle.span_ffi.specs.Data.{BeginsWithText, IsMeta, behind_meta, AreFields, behind_field, IsEvent, IsEventAt};
 ghost use Rattle.span_ffi.specs.Opening.{AreRules, behind_rules, AreLayers};
 
 use crate::data::{SpanField, SpanLayer, SpanMeta, SpanRule};
@@ -66,7 +66,14 @@ pub(crate) fn is_event(
     let Some(left) = behind_meta(meta, bytes) else {
         return false;
     };
-    match split_text(left, message_len) {
+    is_told(message_len, fields, left)
+}
+
+/// Whether the bytes are the message, and then the texts of these fields.
+pub(crate) fn is_told(message_len: u32, fields: &[SpanField], bytes: &[u8]) -> bool
+    ensures { IsTrue result ↔ IsEventAt message_len fields.now bytes.now }
+{
+    match split_text(bytes, message_len) {
         Some((_, behind)) => are_fields(fields, behind),
         None => false,
     }

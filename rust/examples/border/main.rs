@@ -7,7 +7,7 @@
 mod plain;
 
 use plain::{Plain, PlainDrain};
-use span_registry::{Drain, Error, Layer, Level, Meta, Parent, Registry};
+use span_registry::{Drain, Error, Fields, Id, Layer, Level, Meta, Parent, Registry};
 use std::sync::Mutex;
 use std::time::{Duration, Instant};
 
@@ -20,6 +20,8 @@ const META: Meta<'static> = Meta {
     target: "app::module",
     name: "request",
 };
+const NONE: Fields<'static> = &[];
+const ONE: Fields<'static> = &[("k", "value")];
 
 /// Nanoseconds of a round, and of reading its lines.
 struct Cost {
@@ -48,27 +50,36 @@ fn registry(layers: usize) -> Result<(Registry, Drain), Error> {
         .build()
 }
 
-fn by_ids(layers: usize) -> Result<Cost, Error> {
-    let (registry, mut drain) = registry(layers)?;
+/// Rounds by ids of the spans that `make` makes.
+fn rounds_of(registry: &Registry, mut drain: Drain, make: impl Fn(&Registry) -> Result<Option<Id>, Error>) -> Cost {
     let round = || -> Result<(), Error> {
-        let id = registry
-            .new_span(&META, Parent::Current, &[("k", "value")])?
-            .expect("it is wanted");
+        let id = make(registry)?.expect("it is wanted");
         registry.enter(id)?;
         registry.exit(id)?;
         registry.try_close(id).map(drop)
     };
     let rounds = || (0..ROUNDS).for_each(|_| round().expect("the ring has place"));
-    Ok(measure(rounds, || drain.lines().for_each(drop)))
+    measure(rounds, || drain.lines().for_each(drop))
+}
+
+fn by_ids(layers: usize, fields: Fields<'_>) -> Result<Cost, Error> {
+    let (registry, drain) = registry(layers)?;
+    Ok(rounds_of(&registry, drain, |registry| {
+        registry.new_span(&META, Parent::Current, fields)
+    }))
+}
+
+fn by_callsite(layers: usize, fields: Fields<'_>) -> Result<Cost, Error> {
+    let (registry, drain) = registry(layers)?;
+    let callsite = registry.callsite(&META)?;
+    Ok(rounds_of(&registry, drain, |registry| {
+        registry.new_span_at(&callsite, Parent::Current, fields)
+    }))
 }
 
 fn by_spans(layers: usize) -> Result<Cost, Error> {
     let (registry, mut drain) = registry(layers)?;
-    let round = || {
-        registry
-            .span(&META, Parent::Current, &[("k", "value")])?
-            .in_scope(|| ())
-    };
+    let round = || registry.span(&META, Parent::Current, ONE)?.in_scope(|| ());
     let rounds = || (0..ROUNDS).for_each(|_| round().expect("the ring has place"));
     Ok(measure(rounds, || drain.lines().for_each(drop)))
 }
@@ -122,14 +133,21 @@ fn a_look() -> Result<f64, Error> {
 fn main() -> Result<(), Error> {
     println!("ns of a round of new, enter, exit, close + ns of reading its lines, the best of {TURNS} x {ROUNDS}");
     for layers in [0, 1, 8] {
-        let costs = [by_ids(layers)?, by_spans(layers)?, in_plain_rust(layers)];
-        for (name, cost) in ["proved, by ids", "proved, by spans", "plain Rust"].iter().zip(costs) {
+        let costs = [
+            ("proved, by ids", by_ids(layers, ONE)?),
+            ("proved, by callsite", by_callsite(layers, ONE)?),
+            ("proved, by spans", by_spans(layers)?),
+            ("plain Rust", in_plain_rust(layers)),
+            ("no field, by ids", by_ids(layers, NONE)?),
+            ("no field, by callsite", by_callsite(layers, NONE)?),
+        ];
+        for (name, cost) in costs {
             println!(
-                "{layers} layers, {name:<17} {:>7.0} + {:>6.0}",
+                "{layers} layers, {name:<21} {:>7.0} + {:>6.0}",
                 cost.round, cost.reading
             );
         }
     }
-    println!("a call that changes nothing   {:>7.0}", a_look()?);
+    println!("a call that changes nothing     {:>7.0}", a_look()?);
     Ok(())
 }

@@ -1,9 +1,10 @@
 //! The owner of a registry's handle.
 use super::{
-    span_registry_clone_span, span_registry_counts, span_registry_current_span, span_registry_enter,
-    span_registry_event, span_registry_exit, span_registry_find, span_registry_free, span_registry_new,
-    span_registry_new_span, span_registry_record, span_registry_try_close, Lines, SpanCounts, SpanDrain, SpanFound,
-    SpanLayer, SpanLimits, SpanMeta, SpanRegistry, SpanRule, CURRENT, ROOT, UNDER,
+    span_registry_add_callsite, span_registry_clone_span, span_registry_counts, span_registry_current_span,
+    span_registry_enter, span_registry_event, span_registry_event_at, span_registry_exit, span_registry_find,
+    span_registry_free, span_registry_new, span_registry_new_span, span_registry_new_span_at, span_registry_record,
+    span_registry_try_close, Lines, SpanCounts, SpanDrain, SpanFound, SpanLayer, SpanLimits, SpanMeta, SpanRegistry,
+    SpanRule, CURRENT, ROOT, UNDER,
 };
 use crate::error::Error;
 use crate::level::Level;
@@ -59,11 +60,7 @@ impl Core {
         packed: &Packed,
     ) -> Result<Option<Id>, Error> {
         let meta = raw_meta(meta)?;
-        let (kind, parent) = match parent {
-            Parent::Root => (ROOT, 0),
-            Parent::Current => (CURRENT, 0),
-            Parent::Of(id) => (UNDER, id.into_u64()),
-        };
+        let (kind, parent) = raw_parent(parent);
         let (fields, texts) = (packed.fields(), packed.texts());
         let mut id = 0;
         // SAFETY: the handle is full and lent to this call alone, and each pointer is of a value or of a slice with its
@@ -75,6 +72,50 @@ impl Core {
                 kind,
                 parent,
                 &meta,
+                fields.as_ptr(),
+                fields.len(),
+                texts.as_ptr(),
+                texts.len(),
+                &mut id,
+            )
+        };
+        Error::of_status(status)?;
+        Ok(Id::from_u64(id))
+    }
+
+    /// The number of the callsite that is added. The texts are its name and its target.
+    pub(crate) fn add_callsite(&mut self, meta: &Meta<'_>, packed: &Packed) -> Result<u32, Error> {
+        let meta = raw_meta(meta)?;
+        let texts = packed.texts();
+        let mut number = 0;
+        // SAFETY: the handle is full and lent to this call alone, and each pointer is of a value or of a slice with its
+        // length.
+        Error::of_status(unsafe {
+            span_registry_add_callsite(&mut self.handle, &meta, texts.as_ptr(), texts.len(), &mut number)
+        })?;
+        Ok(number)
+    }
+
+    /// None: no layer wants it.
+    pub(crate) fn new_span_at(
+        &mut self,
+        worker: u32,
+        parent: Parent,
+        callsite: u32,
+        packed: &Packed,
+    ) -> Result<Option<Id>, Error> {
+        let (kind, parent) = raw_parent(parent);
+        let (fields, texts) = (packed.fields(), packed.texts());
+        let mut id = 0;
+        // SAFETY: the handle is full and lent to this call alone, and each pointer is of a value or of a slice with its
+        // length.
+        let status = unsafe {
+            span_registry_new_span_at(
+                &mut self.handle,
+                worker,
+                kind,
+                parent,
+                callsite,
                 fields.as_ptr(),
                 fields.len(),
                 texts.as_ptr(),
@@ -151,6 +192,24 @@ impl Core {
         })
     }
 
+    pub(crate) fn event_at(&mut self, worker: u32, callsite: u32, message: &str, packed: &Packed) -> Result<(), Error> {
+        let message_len = length(message)?;
+        let (fields, texts) = (packed.fields(), packed.texts());
+        // SAFETY: the handle is full and lent to this call alone, and each pointer is of a slice with its length.
+        Error::of_status(unsafe {
+            span_registry_event_at(
+                &mut self.handle,
+                worker,
+                callsite,
+                message_len,
+                fields.as_ptr(),
+                fields.len(),
+                texts.as_ptr(),
+                texts.len(),
+            )
+        })
+    }
+
     pub(crate) fn find(&mut self, id: Id) -> Option<Found> {
         let mut found = SpanFound::default();
         // SAFETY: the handle is full and lent to this call alone, and `found` is this call's.
@@ -186,6 +245,14 @@ impl Drop for Core {
         // SAFETY: the handle is full, lent to this call alone, and not used again.
         let status = unsafe { span_registry_free(&mut self.handle) };
         debug_assert_eq!(status, super::OK);
+    }
+}
+
+fn raw_parent(parent: Parent) -> (u32, u64) {
+    match parent {
+        Parent::Root => (ROOT, 0),
+        Parent::Current => (CURRENT, 0),
+        Parent::Of(id) => (UNDER, id.into_u64()),
     }
 }
 

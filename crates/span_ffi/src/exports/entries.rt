@@ -1,6 +1,7 @@
 //! The calls that change a worker's stack.
 ghost use Rattle.std.specs.Prelude.{Some};
 ghost use Rattle.span_ffi.specs.Status.{meaning};
+ghost use Rattle.span_ffi.specs.Registry.{OnCore};
 ghost use Rattle.span_ffi.specs.Ends.{Ends, Keeps};
 ghost use Rattle.span_ffi.specs.Calls.{Enters, Exits};
 
@@ -39,7 +40,7 @@ pub extern "C" fn span_registry_enter(
     id: u64,
     first: &mut u32,
 ) -> u32
-    ensures entered { Ends registry.old.held (Enters worker id first.new) (meaning result) registry.new.held }
+    ensures entered { Ends registry.old.held (OnCore (Enters worker id first.new)) (meaning result) registry.new.held }
     ensures kept { Keeps (meaning result) first.old first.new }
 {
     let Some(mut held) = registry.take(alloc) else {
@@ -78,7 +79,7 @@ pub extern "C" fn span_registry_exit(
     id: u64,
     closed: &mut u32,
 ) -> u32
-    ensures exited { Ends registry.old.held (Exits worker id closed.new) (meaning result) registry.new.held }
+    ensures exited { Ends registry.old.held (OnCore (Exits worker id closed.new)) (meaning result) registry.new.held }
     ensures kept { Keeps (meaning result) closed.old closed.new }
 {
     let Some(mut held) = registry.take(alloc) else {

@@ -4,17 +4,20 @@ ghost use Rattle.std.specs.Arc.{arc_str_bytes};
 ghost use Rattle.span_id.specs.Meta.{plain_fields};
 ghost use Rattle.span_core.specs.Core.{are_keys};
 ghost use Rattle.span_ffi.specs.Status.{meaning};
+ghost use Rattle.span_ffi.specs.Registry.{OnCore, WithCallsites};
 ghost use Rattle.span_ffi.specs.Ends.{Ends};
-ghost use Rattle.span_ffi.specs.Data.{IsEvent, said_meta, said_fields, behind_meta};
+ghost use Rattle.span_ffi.specs.Data.{IsEvent, IsEventAt, said_meta, said_fields, behind_meta};
 ghost use Rattle.span_ffi.specs.Calls.{Records, Tells};
+ghost use Rattle.span_ffi.specs.Callsites.{TellsAt};
 
+use crate::callsites::Callsites;
 use crate::data::{SpanField, SpanMeta};
 use crate::exports::callers::{has_worker, id_of};
 use crate::reading::{read_fields, read_message, read_meta, unread};
-use crate::registry::RingCore;
+use crate::registry::{Registry, RingCore};
 use crate::registry_handle::SpanRegistry;
 use crate::status::Status;
-use crate::valid::{are_fields, is_event};
+use crate::valid::{are_fields, is_event, is_told};
 use span_id::{Fault, Field, Fields, SharedMeta};
 use std::alloc::Global;
 use std::sync::ArcStr;
@@ -72,7 +75,8 @@ pub extern "C" fn span_registry_record(
     fields: &[SpanField],
     texts: &[u8],
 ) -> u32
-    ensures { Ends registry.old.held (Records worker id fields.now texts.now) (meaning result) registry.new.held }
+    ensures { Ends registry.old.held (OnCore (Records worker id fields.now texts.now)) (meaning result)
+        registry.new.held }
 {
     let Some(mut held) = registry.take(alloc) else {
         return Status::EmptyHandle.number();
@@ -121,9 +125,24 @@ fn read_event(
         ≡ said_fields fields.now (drop message_len (behind_meta meta.now texts.now))) }
 {
     let (meta, rest) = read_meta(alloc, meta, texts)?;
-    let (message, rest) = read_message(alloc, rest, message_len)?;
-    let fields = read_fields(alloc, fields, rest)?;
+    let (message, fields) = read_told(alloc, message_len, fields, rest)?;
     Some((meta, message, fields))
+}
+
+// The message and the fields of an event. None: the data say nothing, or memory is refused.
+fn read_told(
+    alloc: Global,
+    message_len: u32,
+    fields: &[SpanField],
+    texts: &[u8],
+) -> Option<(ArcStr, Fields)>
+    ensures is { OnSome result (IsEventAt message_len fields.now texts.now) }
+    ensures message { IfSome result (λ told. arc_str_bytes told.0 ≡ take message_len texts.now) }
+    ensures fields { IfSome result (λ told. told.1 ≡ said_fields fields.now (drop message_len texts.now)) }
+{
+    let (message, rest) = read_message(alloc, texts, message_len)?;
+    let fields = read_fields(alloc, fields, rest)?;
+    Some((message, fields))
 }
 
 /// Tells an event. The texts are its name, its target, the message, and the keys and values, one after another.
@@ -137,7 +156,7 @@ pub extern "C" fn span_registry_event(
     fields: &[SpanField],
     texts: &[u8],
 ) -> u32
-    ensures { Ends registry.old.held (Tells worker meta.now message_len fields.now texts.now) (meaning result)
+    ensures { Ends registry.old.held (OnCore (Tells worker meta.now message_len fields.now texts.now)) (meaning result)
         registry.new.held }
 {
     let Some(mut held) = registry.take(alloc) else {
@@ -148,6 +167,66 @@ pub extern "C" fn span_registry_event(
         &mut held.core,
         worker,
         meta,
+        message_len,
+        fields,
+        texts,
+    );
+    registry.put(held);
+    status.number()
+}
+
+fn tell_at(
+    alloc: Global,
+    core: &mut RingCore,
+    callsites: &Callsites,
+    worker: u32,
+    callsite: u32,
+    message_len: u32,
+    fields: &[SpanField],
+    texts: &[u8],
+) -> Status
+    ensures { TellsAt worker callsite message_len fields.now texts.now callsites.now core.old result core.new }
+{
+    if !has_worker(core, worker) {
+        return Status::NoSuchWorker;
+    }
+    let Some(meta) = callsites.get(callsite) else {
+        return Status::NoSuchCallsite;
+    };
+    let Some((message, fields)) = read_told(alloc, message_len, fields, texts) else {
+        return unread(is_told(message_len, fields, texts));
+    };
+    match core.event_shared(worker, meta, &message, &fields) {
+        Ok(()) => Status::Done,
+        Err(fault) => Status::Refused(fault),
+    }
+}
+
+/// Tells an event as `span_registry_event` does, with the meta of a callsite. The texts are the message, and the keys
+/// and values, one after another.
+#[unsafe(no_mangle)]
+pub extern "C" fn span_registry_event_at(
+    alloc: Global,
+    registry: &mut SpanRegistry,
+    worker: u32,
+    callsite: u32,
+    message_len: u32,
+    fields: &[SpanField],
+    texts: &[u8],
+) -> u32
+    ensures { Ends registry.old.held (WithCallsites (TellsAt worker callsite message_len fields.now texts.now))
+        (meaning result) registry.new.held }
+{
+    let Some(mut held) = registry.take(alloc) else {
+        return Status::EmptyHandle.number();
+    };
+    let Registry { core, callsites } = &mut *held;
+    let status = tell_at(
+        alloc,
+        core,
+        callsites,
+        worker,
+        callsite,
         message_len,
         fields,
         texts,

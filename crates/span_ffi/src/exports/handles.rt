@@ -1,6 +1,7 @@
 //! The handles of spans.
 ghost use Rattle.std.specs.Prelude.{Some};
 ghost use Rattle.span_ffi.specs.Status.{meaning};
+ghost use Rattle.span_ffi.specs.Registry.{OnCore};
 ghost use Rattle.span_ffi.specs.Ends.{Ends, Keeps};
 ghost use Rattle.span_ffi.specs.Calls.{Clones, Releases};
 
@@ -34,7 +35,7 @@ pub extern "C" fn span_registry_clone_span(
     worker: u32,
     id: u64,
 ) -> u32
-    ensures { Ends registry.old.held (Clones worker id) (meaning result) registry.new.held }
+    ensures { Ends registry.old.held (OnCore (Clones worker id)) (meaning result) registry.new.held }
 {
     let Some(mut held) = registry.take(alloc) else {
         return Status::EmptyHandle.number();
@@ -72,7 +73,8 @@ pub extern "C" fn span_registry_try_close(
     id: u64,
     closed: &mut u32,
 ) -> u32
-    ensures released { Ends registry.old.held (Releases worker id closed.new) (meaning result) registry.new.held }
+    ensures released { Ends registry.old.held (OnCore (Releases worker id closed.new)) (meaning result)
+        registry.new.held }
     ensures kept { Keeps (meaning result) closed.old closed.new }
 {
     let Some(mut held) = registry.take(alloc) else {

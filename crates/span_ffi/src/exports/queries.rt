@@ -1,6 +1,7 @@
 //! Questions, which change nothing.
 ghost use Rattle.std.specs.Prelude.{◌≡◌, Some, Option};
 ghost use Rattle.span_ffi.specs.Status.{meaning};
+ghost use Rattle.span_ffi.specs.Registry.{OnCore};
 ghost use Rattle.span_ffi.specs.Ends.{Ends, Keeps};
 ghost use Rattle.span_ffi.specs.Calls.{Finds, SeesCurrent, Counts, id_number};
 
@@ -50,7 +51,7 @@ pub extern "C" fn span_registry_find(
     id: u64,
     found: &mut SpanFound,
 ) -> u32
-    ensures found { Ends registry.old.held (Finds id found.new) (meaning result) registry.new.held }
+    ensures found { Ends registry.old.held (OnCore (Finds id found.new)) (meaning result) registry.new.held }
     ensures kept { Keeps (meaning result) found.old found.new }
 {
     let Some(held) = registry.take(alloc) else {
@@ -80,7 +81,7 @@ pub extern "C" fn span_registry_current_span(
     worker: u32,
     id: &mut u64,
 ) -> u32
-    ensures current { Ends registry.old.held (SeesCurrent worker id.new) (meaning result) registry.new.held }
+    ensures current { Ends registry.old.held (OnCore (SeesCurrent worker id.new)) (meaning result) registry.new.held }
     ensures kept { Keeps (meaning result) id.old id.new }
 {
     let Some(held) = registry.take(alloc) else {
@@ -111,7 +112,7 @@ pub extern "C" fn span_registry_counts(
     registry: &mut SpanRegistry,
     counts: &mut SpanCounts,
 ) -> u32
-    ensures counts { Ends registry.old.held (Counts counts.new) (meaning result) registry.new.held }
+    ensures counts { Ends registry.old.held (OnCore (Counts counts.new)) (meaning result) registry.new.held }
     ensures kept { Keeps (meaning result) counts.old counts.new }
 {
     let Some(held) = registry.take(alloc) else {

@@ -4,18 +4,21 @@ ghost use Rattle.span_outlet.specs.Request.{new_span};
 ghost use Rattle.span_core.specs.Step.{is_open};
 ghost use Rattle.span_core.specs.Parent.{parent_found};
 ghost use Rattle.span_ffi.specs.Status.{meaning};
+ghost use Rattle.span_ffi.specs.Registry.{OnCore, WithCallsites};
 ghost use Rattle.span_ffi.specs.Ends.{Ends, Keeps};
 ghost use Rattle.span_ffi.specs.Data.{IsMeta, AreFields, said_meta, said_fields, said_parent, behind_meta};
 ghost use Rattle.span_ffi.specs.Calls.{MakesSpan, IsMadeOrRefused};
+ghost use Rattle.span_ffi.specs.Callsites.{MakesSpanAt};
 ghost use Rattle.span_ffi.specs.inside.Parents.{AreAlike};
 
+use crate::callsites::Callsites;
 use crate::data::{SpanField, SpanMeta};
 use crate::exports::callers::{has_worker, id_of};
 use crate::reading::{read_fields, read_meta, unread};
-use crate::registry::RingCore;
+use crate::registry::{Registry, RingCore};
 use crate::registry_handle::SpanRegistry;
 use crate::status::Status;
-use crate::valid::is_span;
+use crate::valid::{are_fields, is_span};
 use span_core::laws::each_slot_has_one_open_span;
 use span_id::{Fault, Fields, Id, SharedMeta};
 use span_outlet::ParentOf;
@@ -49,8 +52,8 @@ fn read_parent(core: &RingCore, kind: u32, parent: u64) -> Option<ParentOf>
     }
 }
 
-// The meta and the fields of a span. None: the data say nothing, or memory is refused.
-fn read_span(
+/// The meta and the fields of a span. None: the data say nothing, or memory is refused.
+pub(super) fn read_span(
     alloc: Global,
     meta: &SpanMeta,
     fields: &[SpanField],
@@ -132,8 +135,8 @@ pub extern "C" fn span_registry_new_span(
     texts: &[u8],
     id: &mut u64,
 ) -> u32
-    ensures made { Ends registry.old.held (MakesSpan worker parent_kind parent meta.now fields.now texts.now id.new)
-        (meaning result) registry.new.held }
+    ensures made { Ends registry.old.held (OnCore (MakesSpan worker parent_kind parent meta.now fields.now texts.now
+        id.new)) (meaning result) registry.new.held }
     ensures kept { Keeps (meaning result) id.old id.new }
 {
     let Some(mut held) = registry.take(alloc) else {
@@ -147,6 +150,75 @@ pub extern "C" fn span_registry_new_span(
         parent_kind,
         parent,
         meta,
+        fields,
+        texts,
+        id,
+    );
+    registry.put(held);
+    status.number()
+}
+
+fn make_span_at(
+    alloc: Global,
+    core: &mut RingCore,
+    callsites: &Callsites,
+    worker: u32,
+    parent_kind: u32,
+    parent: u64,
+    callsite: u32,
+    fields: &[SpanField],
+    texts: &[u8],
+    id: &mut u64,
+) -> Status
+    ensures made { MakesSpanAt worker parent_kind parent callsite fields.now texts.now id.new callsites.now
+        core.old result core.new }
+    ensures kept { Keeps (Some result) id.old id.new }
+{
+    if !has_worker(core, worker) {
+        return Status::NoSuchWorker;
+    }
+    let Some(meta) = callsites.get(callsite) else {
+        return Status::NoSuchCallsite;
+    };
+    let Some(parent) = read_parent(core, parent_kind, parent) else {
+        return Status::BadData;
+    };
+    match read_fields(alloc, fields, texts) {
+        Some(fields) => new_span(core, worker, parent, meta, &fields, id),
+        None => unread(are_fields(fields, texts)),
+    }
+}
+
+/// Makes a span as `span_registry_new_span` does, with the meta of a callsite. The texts are the keys and values, one
+/// after another.
+#[unsafe(no_mangle)]
+pub extern "C" fn span_registry_new_span_at(
+    alloc: Global,
+    registry: &mut SpanRegistry,
+    worker: u32,
+    parent_kind: u32,
+    parent: u64,
+    callsite: u32,
+    fields: &[SpanField],
+    texts: &[u8],
+    id: &mut u64,
+) -> u32
+    ensures made { Ends registry.old.held (WithCallsites (MakesSpanAt worker parent_kind parent callsite fields.now
+        texts.now id.new)) (meaning result) registry.new.held }
+    ensures kept { Keeps (meaning result) id.old id.new }
+{
+    let Some(mut held) = registry.take(alloc) else {
+        return Status::EmptyHandle.number();
+    };
+    let Registry { core, callsites } = &mut *held;
+    let status = make_span_at(
+        alloc,
+        core,
+        callsites,
+        worker,
+        parent_kind,
+        parent,
+        callsite,
         fields,
         texts,
         id,

@@ -1,0 +1,80 @@
+//! Callsites: places of a program whose meta is handed over once.
+use crate::error::Error;
+use crate::meta::{Fields, Id, Meta, Parent};
+use crate::registry::Registry;
+use crate::span::Span;
+
+/// A place of a program that makes spans or tells events again and again, as [`Registry::callsite`] answers it.
+///
+/// It is a number and may be copied to any thread. It belongs to the registry that made it and to the clones of that
+/// one; any other refuses it as [`OtherRegistry`](Error::OtherRegistry).
+#[derive(Clone, Copy, Debug, PartialEq, Eq, Hash)]
+pub struct Callsite {
+    // No two registries of a process have the same one.
+    registry: u64,
+    // Among the callsites of its registry.
+    number: u32,
+}
+
+impl Callsite {
+    // Its number, where it is one of this registry.
+    fn number_in(self, registry: &Registry) -> Result<u32, Error> {
+        if self.registry == registry.shared().number() {
+            Ok(self.number)
+        } else {
+            Err(Error::OtherRegistry)
+        }
+    }
+}
+
+/// Spans and events at callsites. The calls by meta read, check and copy a name and a target each time; these don't.
+impl Registry {
+    /// A callsite with this meta, which is read, checked and copied here, once for all spans and events at it.
+    ///
+    /// It is kept until the registry is gone, so a program makes one for each place, and not for each span. Two with
+    /// the same meta may be made. It needs no worker's number and no place in the ring, and is never refused as
+    /// [`Backlog`](Error::Backlog). It is refused as [`BadName`](Error::BadName) where no span may have the name.
+    ///
+    /// ```
+    /// # fn main() -> Result<(), span_registry::Error> {
+    /// # let (registry, mut drain) = span_registry::Registry::builder()
+    /// #     .layer(span_registry::Layer::compact()).build()?;
+    /// use span_registry::{Level, Meta, Parent};
+    /// let query = registry.callsite(&Meta::new(Level::Info, "app::db", "query"))?;
+    /// for table in ["users", "groups"] {
+    ///     let _query = registry.span_at(&query, Parent::Current, &[("table", table)])?;
+    /// }
+    /// # let lines: Vec<String> = drain.lines().map(|line| line.text).collect();
+    /// # assert_eq!(lines[0], "new 1 w0 query table=users");
+    /// # assert_eq!(lines.len(), 4);
+    /// # Ok(())
+    /// # }
+    /// ```
+    pub fn callsite(&self, meta: &Meta<'_>) -> Result<Callsite, Error> {
+        let number = self.shared().with(|state| state.add_callsite(meta))?;
+        Ok(Callsite {
+            registry: self.shared().number(),
+            number,
+        })
+    }
+
+    /// [`span`](Registry::span) with the meta of a callsite.
+    pub fn span_at(&self, callsite: &Callsite, parent: Parent, fields: Fields<'_>) -> Result<Span, Error> {
+        let number = callsite.number_in(self)?;
+        let (id, worker) =
+            self.call(|state, worker| Ok((state.new_span_at(worker, number, parent, fields)?, worker)))?;
+        Ok(id.map_or_else(Span::none, |id| Span::of(self, id, worker)))
+    }
+
+    /// [`new_span`](Registry::new_span) with the meta of a callsite.
+    pub fn new_span_at(&self, callsite: &Callsite, parent: Parent, fields: Fields<'_>) -> Result<Option<Id>, Error> {
+        let number = callsite.number_in(self)?;
+        self.call(|state, worker| state.new_span_at(worker, number, parent, fields))
+    }
+
+    /// [`event`](Registry::event) with the meta of a callsite.
+    pub fn event_at(&self, callsite: &Callsite, message: &str, fields: Fields<'_>) -> Result<(), Error> {
+        let number = callsite.number_in(self)?;
+        self.call(|state, worker| state.event_at(worker, number, message, fields))
+    }
+}
