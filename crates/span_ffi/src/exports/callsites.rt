@@ -41,8 +41,8 @@ fn add_callsite(
     Status::Done
 }
 
-/// Adds a callsite, and tells its number: how many there were before. The texts are its name and its target. A name that
-/// no span and no event may have is refused here.
+/// Adds a callsite, and tells its number: how many there were before. The texts are its name and its target. A name
+/// that no span and no event may have is refused here.
 #[unsafe(no_mangle)]
 pub extern "C" fn span_registry_add_callsite(
     alloc: Global,
