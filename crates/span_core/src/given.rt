@@ -41,6 +41,7 @@ impl<'a> GivenMeta<'a> {
     }
 
     // The meta, to be kept.
+    #[inline(always)]
     pub(crate) fn keep(&self, alloc: Global) -> Result<SharedMeta, Fault>
         ensures meta { IfOk result (λ kept. kept ≡ meta_given self.now) }
         ensures memory { IfErr result (λ fault. fault ≡ Fault.Memory) }

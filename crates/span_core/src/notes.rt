@@ -17,7 +17,7 @@ pub(crate) mod paths;
 
 use closing::push_closes;
 use events::contextual_span;
-use layers::{told_count, told_layers};
+use layers::{is_told_to_none, told_count, told_layers};
 use paths::{ToldPaths, new_text, seen_text};
 use span_forest::Forest;
 use span_id::{Bits, Fault, Fields, Id, Level};
@@ -186,7 +186,26 @@ fn push_told(
 }
 
 // The notes of the layers alone.
+#[inline(always)]
 fn told(
+    alloc: Global,
+    rules: &Rules,
+    forest: &Forest,
+    what: &Telling<'_>,
+) -> Result<Vec<Note>, Fault>
+    ensures notes { IfOk result (λ notes. map plain_note notes.items
+        ≡ notes_told rules.now forest.now.spans what.now) }
+    ensures memory { IfErr result (λ fault. fault ≡ Fault.Memory) }
+{
+    if is_told_to_none(rules, what.bits, what.kind) {
+        return Ok(Vec::new(alloc));
+    }
+    told_to_some(alloc, rules, forest, what)
+}
+
+// These notes, where some layer is told.
+#[inline(never)]
+fn told_to_some(
     alloc: Global,
     rules: &Rules,
     forest: &Forest,
@@ -203,6 +222,7 @@ fn told(
 }
 
 // The notes of what happened to a span: one for each layer that admits the span and wants the kind.
+#[inline(always)]
 pub(crate) fn span_notes(
     alloc: Global,
     rules: &Rules,
@@ -215,10 +235,14 @@ pub(crate) fn span_notes(
         (at_span forest.now.spans what.now.kind what.now.id fields.now)) }
     ensures memory { IfErr result (λ fault. fault ≡ Fault.Memory) }
 {
-    let mut notes = Vec::new(alloc);
-    let mut paths = ToldPaths::none(alloc);
-    push_notes(alloc, &mut notes, &mut paths, rules, forest, what, fields)?;
-    Ok(notes)
+    let what = Telling {
+        worker: what.worker,
+        kind: what.kind,
+        bits: what.bits,
+        fields,
+        subject: Subject::Span(what.id),
+    };
+    told(alloc, rules, forest, &what)
 }
 
 // Appends these notes.
@@ -292,6 +316,9 @@ pub(crate) fn exit_notes(
         (at_span forest.now.spans OnExit exit.now.id [] ∷ map (close_of forest.now.spans) closing.now)) }
     ensures memory { IfErr result (λ fault. fault ≡ Fault.Memory) }
 {
+    if closing.is_empty() {
+        return span_notes(alloc, rules, forest, exit, &Fields::none());
+    }
     let mut notes = Vec::new(alloc);
     let mut paths = ToldPaths::none(alloc);
     push_notes(

@@ -75,6 +75,7 @@ pub(crate) fn stays_inside(stacks: &[SpanStack], worker: u32, id: Id) -> Option<
 }
 
 // Takes the topmost place of a span out of a worker's stack.
+#[inline(always)]
 pub(crate) fn pop_at(stacks: &mut Vec<SpanStack>, worker: u32, id: Id)
     requires { worker < length stacks.old.items }
     ensures { ids_of_each stacks.new.items

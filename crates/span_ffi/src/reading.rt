@@ -114,10 +114,14 @@ fn read_field<'b>(alloc: Global, field: &SpanField, bytes: &'b [u8]) -> Option<(
 }
 
 /// The fields whose texts are all the bytes: they are copied here and shared from then on.
+#[inline(always)]
 pub(crate) fn read_fields(alloc: Global, fields: &[SpanField], bytes: &[u8]) -> Option<Fields>
     ensures are { OnSome result (AreFields fields.now bytes.now) }
     ensures fields { IfSome result (λ read. read ≡ said_fields fields.now bytes.now) }
 {
+    if fields.is_empty() && bytes.is_empty() {
+        return Some(Fields::none());
+    }
     let list = read_list(alloc, fields, bytes)?;
     let Ok(fields) = Fields::new(alloc, list) else {
         return None;
@@ -126,6 +130,7 @@ pub(crate) fn read_fields(alloc: Global, fields: &[SpanField], bytes: &[u8]) -> 
 }
 
 // The fields whose texts are all the bytes.
+#[inline(never)]
 fn read_list(alloc: Global, fields: &[SpanField], bytes: &[u8]) -> Option<Vec<Field>>
     ensures are { OnSome result (AreFields fields.now bytes.now) }
     ensures fields { IfSome result (λ read. plain_fields read.items ≡ said_fields fields.now bytes.now) }

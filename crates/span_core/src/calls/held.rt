@@ -52,6 +52,7 @@ pub(crate) fn open_bits(forest: &Forest, id: Id) -> Option<Bits>
 }
 
 // The spans that close where a holder that is there is given back, child first.
+#[inline]
 pub(crate) fn closing_of(forest: &Forest, id: Id, holder: Holder) -> Result<Vec<Id>, Fault>
     requires { IsHeld forest.now.spans id holder }
     ensures list { IfOk result (λ ids. ids.items ≡ closing_list forest.now.spans id holder) }

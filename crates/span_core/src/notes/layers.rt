@@ -1,5 +1,5 @@
 //! The layers that are told of what happens.
-ghost use Rattle.std.specs.Prelude.{◌≡◌, ◌<◌, ℕ, false, [], filter, length};
+ghost use Rattle.std.specs.Prelude.{◌≡◌, ◌<◌, ℕ, true, false, [], filter, length};
 ghost use Rattle.std.specs.List.{range_with_len};
 ghost use Rattle.std.specs.Iterator.{YieldsFirst, item_count};
 ghost use Rattle.span_layers.specs.Filter.{layer_wants};
@@ -59,6 +59,13 @@ pub(crate) fn told_layers(rules: &Rules, bits: Bits, kind: Kind) -> ToldLayers<'
         kind,
         next: 0,
     }
+}
+
+// Whether no layer is told.
+pub(crate) fn is_told_to_none(rules: &Rules, bits: Bits, kind: Kind) -> bool
+    ensures { result ≡ true → filter (hears rules.now bits.0 kind) (range_with_len 0 (length rules.now)) ≡ [] }
+{
+    told_layers(rules, bits, kind).next().is_none()
 }
 
 // How many layers are told.

@@ -1,5 +1,15 @@
-use Rattle.span_forest.specs.Path.{path_text}
+use Rattle.std.proofs.Common.{◌≡◌, ℕ, length, map, subst}
+use Rattle.std.specs.Prelude.{IfOk, filter}
+use Rattle.std.specs.List.{range_with_len}
+use Rattle.span_layers.specs.Note.{plain_note}
+use Rattle.span_core.specs.Happening.{at_span, note_of}
+use Rattle.span_core.specs.inside.Sound.{hears}
 use Rattle.span_core.proofs.notes.span_notes.Goals as goal
 
-pub push_notes-requires-clause-known : goal.push_notes-requires-clause-known
-push_notes-requires-clause-known c = c.none-paths.ensures path_text c.args.forest.now.spans
+pub returns-clause-notes : goal.returns-clause-notes
+returns-clause-notes c =
+    let what = at_span c.args.forest.now.spans c.args.what.now.kind c.args.what.now.id c.args.fields.now in
+    subst
+    (λ (bits : ℕ). IfOk c.told.result (λ notes. map plain_note notes.items
+    ≡ map (note_of c.args.what.now.worker what) (filter (hears c.args.rules.now bits c.args.what.now.kind) (range_with_len 0 (length c.args.rules.now)))))
+    c.requires.bits c.told.ensures.notes
