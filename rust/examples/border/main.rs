@@ -8,13 +8,16 @@ mod plain;
 
 use plain::{Plain, PlainDrain};
 use span_registry::{Drain, Error, Fields, Id, Layer, Level, Meta, Parent, Registry};
+use std::cell::RefCell;
+use std::ops::DerefMut;
 use std::sync::Mutex;
 use std::time::{Duration, Instant};
 
 /// Few enough that most turns are done in one go, though others share the processor.
-const ROUNDS: u32 = 500;
-const TURNS: u32 = 400;
-const RING: u32 = 65_536;
+const ROUNDS: u32 = 250;
+const TURNS: u32 = 800;
+/// Just places enough for a turn, so that a ring's memory stays near the processor.
+const RING: u32 = 1024;
 const META: Meta<'static> = Meta {
     level: Level::Info,
     target: "app::module",
@@ -84,7 +87,7 @@ fn by_spans(layers: usize) -> Result<Cost, Error> {
     Ok(measure(rounds, || drain.lines().for_each(drop)))
 }
 
-fn plain(layers: usize) -> (Mutex<Plain>, PlainDrain) {
+fn plain(layers: usize) -> (Plain, PlainDrain) {
     let limits = plain::Limits {
         slots: 1024,
         last_generation: u32::MAX,
@@ -97,29 +100,40 @@ fn plain(layers: usize) -> (Mutex<Plain>, PlainDrain) {
         kinds: 15,
         rules: vec![(String::new(), 4)],
     };
-    let (plain, drain) = Plain::new(limits, (0..layers).map(layer).collect()).expect("few layers");
-    (Mutex::new(plain), drain)
+    Plain::new(limits, (0..layers).map(layer).collect()).expect("few layers")
 }
 
-fn in_plain_rust(layers: usize) -> Cost {
-    let (registry, mut drain) = plain(layers);
-    let lock = || registry.lock().expect("no panic");
+/// Rounds in plain Rust, each call through what `lend` gives.
+fn plain_rounds<L: DerefMut<Target = Plain>>(mut drain: PlainDrain, fields: Fields<'_>, lend: impl Fn() -> L) -> Cost {
     let meta = plain::Meta {
         level: META.level as u32,
         name: META.name,
         target: META.target,
     };
+    let owned = |&(key, value): &(&str, &str)| (key.to_owned(), value.to_owned());
     let round = || -> Result<(), plain::Refusal> {
-        let fields = vec![("k".to_owned(), "value".to_owned())];
-        let id = lock()
+        let fields = fields.iter().map(owned).collect();
+        let id = lend()
             .new_span(0, plain::Parent::Current, &meta, fields)?
             .expect("it is wanted");
-        lock().enter(0, id)?;
-        lock().exit(0, id)?;
-        lock().try_close(0, id).map(drop)
+        lend().enter(0, id)?;
+        lend().exit(0, id)?;
+        lend().try_close(0, id).map(drop)
     };
     let rounds = || (0..ROUNDS).for_each(|_| round().expect("the channel has place"));
     measure(rounds, || drain.tell_all(|_, text| drop(text)))
+}
+
+fn in_plain_rust(layers: usize, fields: Fields<'_>) -> Cost {
+    let (registry, drain) = plain(layers);
+    let registry = Mutex::new(registry);
+    plain_rounds(drain, fields, || registry.lock().expect("no panic"))
+}
+
+fn in_plain_rust_without_lock(layers: usize, fields: Fields<'_>) -> Cost {
+    let (registry, drain) = plain(layers);
+    let registry = RefCell::new(registry);
+    plain_rounds(drain, fields, || registry.borrow_mut())
 }
 
 /// A call that looks at the core and changes nothing: the lock, and the way over the border and back.
@@ -137,17 +151,19 @@ fn main() -> Result<(), Error> {
             ("proved, by ids", by_ids(layers, ONE)?),
             ("proved, by callsite", by_callsite(layers, ONE)?),
             ("proved, by spans", by_spans(layers)?),
-            ("plain Rust", in_plain_rust(layers)),
+            ("plain Rust", in_plain_rust(layers, ONE)),
             ("no field, by ids", by_ids(layers, NONE)?),
             ("no field, by callsite", by_callsite(layers, NONE)?),
+            ("no field, plain Rust", in_plain_rust(layers, NONE)),
+            ("the same without a lock", in_plain_rust_without_lock(layers, NONE)),
         ];
         for (name, cost) in costs {
             println!(
-                "{layers} layers, {name:<21} {:>7.0} + {:>6.0}",
+                "{layers} layers, {name:<23} {:>7.0} + {:>6.0}",
                 cost.round, cost.reading
             );
         }
     }
-    println!("a call that changes nothing     {:>7.0}", a_look()?);
+    println!("a call that changes nothing       {:>7.0}", a_look()?);
     Ok(())
 }
