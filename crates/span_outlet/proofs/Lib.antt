@@ -2,5 +2,6 @@ pub mod Keeping
 pub mod Apart
 pub mod Draining
 pub mod Reading
+pub mod Waiting
 pub mod OfLayer
 mod KeptCases

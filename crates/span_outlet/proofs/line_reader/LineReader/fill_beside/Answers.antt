@@ -1,8 +1,9 @@
-use Rattle.std.proofs.Common.{rules, ◌≡◌, [], sym, ap, ◌∙◌, subst}
+use Rattle.std.proofs.Common.{rules, ◌≡◌, [], sym, ap, ◌∙◌, subst, arith}
 use mathlib.Core.List.{reverse}
 use Rattle.rtrb.specs.Ring.{received}
 use Rattle.std.proofs.lemmas.List.{nil_from_length}
 use Rattle.span_outlet.proofs.Reading.{takes_none, as_told, filled_left, filled_takes, all_taken, OfLast}
+use Rattle.span_outlet.proofs.Waiting.{some_wait, no_lines, none_wait, none_wait_here, answered, not_looked, none_waited}
 use Rattle.span_outlet.proofs.line_reader.LineReader.fill_beside.Goals as goal
 
 pub returns-then-not-is_empty-clause-taken : goal.returns-then-not-is_empty-clause-taken
@@ -29,3 +30,23 @@ pub returns-clause-sent : goal.returns-clause-sent
 returns-clause-sent g c =
     let told : reverse c.reverse.new.self.items ≡ c.take_until_told.new.told.lines.items = as_told _ _ c.reverse.ensures.items in
     all_taken _ _ _ _ _ told c.take_until_told.ensures.none_left (c.take_until_told.ensures.fifo ∙ c.look_beside-standing.ensures.fifo)
+
+pub returns-then-not-is_empty-clause-answer : goal.returns-then-not-is_empty-clause-answer
+returns-then-not-is_empty-clause-answer g c = (λ _. some_wait c.self.inside.told.lines.items _ _ c.is_empty.ensures (omega (arith, c.self.inside.told.lines.ok.0)) c.if-not-is_empty.true, λ _. search rules)
+
+pub returns-then-not-is_empty-clause-looked : goal.returns-then-not-is_empty-clause-looked
+returns-then-not-is_empty-clause-looked g c = rw (← c.self.view_is) (not_looked _ _ (some_wait c.self.inside.told.lines.items _ _ c.is_empty.ensures (omega (arith, c.self.inside.told.lines.ok.0)) c.if-not-is_empty.true))
+
+pub returns-then-not-is_empty-clause-sent : goal.returns-then-not-is_empty-clause-sent
+returns-then-not-is_empty-clause-sent g c = λ none.
+    let some = some_wait c.self.inside.told.lines.items _ _ c.is_empty.ensures (omega (arith, c.self.inside.told.lines.ok.0)) c.if-not-is_empty.true in
+    absurd (none_wait_here _ some none)
+
+pub returns-clause-answer : goal.returns-clause-answer
+returns-clause-answer g c = answered c.reverse.new.self.items _ _ c.is_empty-2.ensures (omega (arith, c.reverse.new.self.ok.0))
+
+pub returns-clause-none : goal.returns-clause-none
+returns-clause-none g c = none_wait c.reverse.new.self.items _ _ c.is_empty-2.ensures (omega (arith, c.reverse.new.self.ok.0))
+
+pub returns-clause-waited : goal.returns-clause-waited
+returns-clause-waited g c = rw (← c.self.view_is) (λ some. absurd (none_waited c.self.inside.told.lines.items (no_lines _ _ _ c.is_empty.ensures (omega (arith, c.self.inside.told.lines.ok.0)) c.if-not-is_empty.false) some))
