@@ -2,7 +2,7 @@ use Rattle.std.proofs.Common.{◌≡◌, ◌<◌, Some, length, map, refl, arith
 use Rattle.std.proofs.lemmas.List.{length-map, map-append}
 use Rattle.span_slots.specs.inside.Cells.{row_of}
 use Rattle.span_slots.proofs.Rows.{length-entries-le}
-use Rattle.span_slots.proofs.CellLemmas.{freshened, next_slot_fresh, vacant_fresh}
+use Rattle.span_slots.proofs.CellLemmas.{freshened, next_slot_fresh, next_id_fresh, vacant_fresh}
 use Rattle.span_slots.proofs.Sound.{IsSound-fresh}
 use Rattle.span_slots.proofs.Slots.fresh.Goals as goal
 
@@ -54,3 +54,21 @@ returns-clause-slot g c =
     let slot : c.len-slot.result ≡ length i.cells.items = omega (arith, c.len-slot.ensures, i.cells.ok.0) in
     let none = rw (← c.self.view_is) at c.requires.none_freed in
     rw (← c.self.view_is, c.pack.ensures.id) (next_slot_fresh i.slots i.last_generation c.len-slot.result i.cells.items i.freed.items (omega (arith, v.slots_high)) slot (omega arith) none)
+
+pub push_reserved-requires : goal.push_reserved-requires
+push_reserved-requires g c =
+    let i = c.self.inside in
+    let v = c.self.invariant in
+    let req = rw (← c.self.view_is) at c.requires.room in
+    let room : length i.cells.items < i.slots = (let k = length-map i.cells.items (λ x. x.given) in omega arith) in
+    omega (arith, room, v.cells_room, i.cells.ok.0)
+
+pub returns-clause-id : goal.returns-clause-id
+returns-clause-id g c =
+    let i = c.self.inside in
+    let v = c.self.invariant in
+    let req = rw (← c.self.view_is) at c.requires.room in
+    let room : length i.cells.items < i.slots = (let k = length-map i.cells.items (λ x. x.given) in omega arith) in
+    let slot : c.len-slot.result ≡ length i.cells.items = omega (arith, c.len-slot.ensures, i.cells.ok.0) in
+    let none = rw (← c.self.view_is) at c.requires.none_freed in
+    rw (← c.self.view_is, c.pack.ensures.id) (next_id_fresh i.slots i.last_generation c.len-slot.result i.cells.items i.freed.items slot (omega arith) none)

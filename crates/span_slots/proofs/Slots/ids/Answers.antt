@@ -15,6 +15,20 @@ loop-slot-init g c =
       room = rw cells (omega (arith, v.len_is, c.in_ok-ids.ensures.capacity));
     }
 
+pub overflow_cast-slot : goal.overflow_cast-slot
+overflow_cast-slot g c =
+    let i = c.self.inside in
+    let v = c.self.invariant in
+    let cells = ap length c.deref-cell-items.ensures.value in
+    omega (arith, c.loop-slot-test.true, cells, length-map i.cells.items row_of, v.used, v.slots_high)
+
+pub pack-requires : goal.pack-requires
+pack-requires g c =
+    let i = c.self.inside in
+    let v = c.self.invariant in
+    let cells = ap length c.deref-cell-items.ensures.value in
+    omega (arith, c.loop-slot-test.true, cells, length-map i.cells.items row_of, v.used, v.slots_high)
+
 pub overflow_sub-cell : goal.overflow_sub-cell
 overflow_sub-cell g c =
     let i = c.self.inside in
