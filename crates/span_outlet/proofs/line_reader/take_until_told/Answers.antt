@@ -2,7 +2,7 @@ use Rattle.std.proofs.Common.{rules, ◌≡◌, ◌++◌, ◌∷◌, [], length,
 use Rattle.std.proofs.lemmas.List.{nil_from_length}
 use Rattle.rtrb.specs.Ring.{received}
 use Rattle.span_outlet.proofs.Draining.{one_more_taken, moved_on}
-use Rattle.span_outlet.proofs.Reading.{takes_nothing, takes_more, of_batch}
+use Rattle.span_outlet.proofs.Reading.{takes_nothing, takes_more, of_batch, none_of_last}
 use Rattle.span_outlet.proofs.line_reader.take_until_told.Goals as goal
 
 pub loop-init : goal.loop-init
@@ -44,3 +44,9 @@ loop-preserved g c =
       nothing = nil_from_length _ (search rules);
       batches = takes_more _ _ _ _ _ _ _ _ _ batch _ _ _ _ _ _ before.forms before.number popped before.batches c.tell_all.ensures.told;
     }
+
+pub returns-clause-last : goal.returns-clause-last
+returns-clause-last g c = none_of_last _ _ c.loop.invariant.nothing
+
+pub returns-clause-none_left : goal.returns-clause-none_left
+returns-clause-none_left g c = λ _. nil_from_length _ (omega (arith, c.loop.invariant.standing, c.loop-test.false, c.loop.auto.counter-end))
