@@ -1,14 +1,15 @@
 //! A whole run, from the making of its registry to its report.
-ghost use Rattle.std.specs.Prelude.{◌≡◌, ◌+◌, ◌↔◌, [], Some, IfOk};
+ghost use Rattle.std.specs.Prelude.{◌≡◌, ◌+◌, ◌<◌, ◌↔◌, [], Some, IfOk, vec_len};
+ghost use Rattle.soak.specs.Back.{HasAll};
 ghost use Rattle.soak.specs.Order.{IsInRange};
 
 use crate::order::Order;
-use crate::returned::Tally;
+use crate::returned::{Returned, Tally};
 use crate::texts::Texts;
 use crate::threads::in_threads;
 use span_id::{Checked, Fault, Limits};
 use span_layers::{Filters, Layers, Say};
-use span_registry::{Drain, HANDLE_PARTS, Registry, Report, Ring, SeatTable, Setup};
+use span_registry::{Drain, HANDLE_PARTS, Registry, Report, Ring, SeatTable, Setup, Worker};
 use std::alloc::Global;
 use std::marker::Brand;
 use std::sync::Wait;
@@ -89,18 +90,40 @@ fn run<
     let (registry, workers) = Registry::<H, C, S, Ring>::new(
         alloc, checked, filters, ring, handles, calls, table,
     )?;
+    let (whole, drain) = with_texts(rt, alloc, order, &registry, workers, drain)?;
+    Ok(Soaked {
+        report: registry.finish(whole.share, drain),
+        tally: whole.tally,
+    })
+}
+
+// Makes what the calls pass, and the calls.
+fn with_texts<
+    H: Ledger + Send + Sync,
+    C: Ledger + Send + Sync,
+    S: Setup + Send + Sync,
+    V: Say + Drop + Send,
+    R: Threads + Wait + Clock + Sync,
+>(
+    rt: &R,
+    alloc: Global,
+    order: &Order,
+    registry: &Registry<H, C, S, Ring>,
+    workers: Vec<Worker<H, C>>,
+    drain: Drain<V>,
+) -> Result<(Returned<H, C>, Drain<V>), Fault>
+    requires some { 0 < vec_len workers }
+    ensures whole { IfOk result (λ back. HasAll workers.items back.0.share) }
+    ensures drain { IfOk result (λ back. back.1.name ≡ drain.name) }
+{
     let texts = Texts::new(alloc)?;
-    let (whole, drain) = in_threads(
+    in_threads(
         rt,
-        &registry,
+        registry,
         &texts,
         order.rounds,
         order.seed,
         workers,
         drain,
-    )?;
-    Ok(Soaked {
-        report: registry.finish(whole.share, drain),
-        tally: whole.tally,
-    })
+    )
 }

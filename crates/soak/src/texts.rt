@@ -13,18 +13,30 @@ pub struct Texts {
 impl Texts {
     /// The only error is `Memory`.
     pub fn new(alloc: Global) -> Result<Texts, Fault> {
-        let mut fields = Vec::with_capacity(alloc, 1)?;
-        fields.push_reserved(Field {
-            key: copy_text(alloc, "key")?,
-            value: copy_text(alloc, "a value")?,
-        });
         Ok(Texts {
-            meta: Meta {
-                name: copy_text(alloc, "request")?,
-                target: copy_text(alloc, "app")?,
-                level: Level::Info,
-            },
-            fields,
+            meta: meta_of(alloc)?,
+            fields: fields_of(alloc)?,
         })
     }
+}
+
+fn meta_of(alloc: Global) -> Result<Meta, Fault> {
+    Ok(Meta {
+        name: copy_text(alloc, "request")?,
+        target: copy_text(alloc, "app")?,
+        level: Level::Info,
+    })
+}
+
+fn fields_of(alloc: Global) -> Result<Vec<Field>, Fault> {
+    let mut fields = Vec::with_capacity(alloc, 1)?;
+    fields.push_reserved(field_of(alloc)?);
+    Ok(fields)
+}
+
+fn field_of(alloc: Global) -> Result<Field, Fault> {
+    Ok(Field {
+        key: copy_text(alloc, "key")?,
+        value: copy_text(alloc, "a value")?,
+    })
 }
