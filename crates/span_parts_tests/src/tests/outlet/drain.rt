@@ -47,34 +47,86 @@ fn step<V: Say>(rt: &impl Abort, drain: &mut Drain<V>, want: Option<Step>)
     same(rt, answer, want, "a step");
 }
 
-// The next steps of the drain answer this.
-fn steps<V: Say>(rt: &impl Abort, drain: &mut Drain<V>, wanted: &[Option<Step>]) {
-    for want in wanted {
-        step(rt, drain, *want);
-    }
-}
-
 // How many batches were taken, and how many notes missed.
 fn counts<V>(drain: &Drain<V>) -> (u64, u64) {
     (drain.taken(), drain.refused())
 }
 
-// The drain takes the three one by one, and then none.
-fn takes_three<V: Say>(rt: &impl Abort, drain: &mut Drain<V>) {
-    steps(rt, drain, &[did(2, 0), did(0, 0), did(2, 0), None]);
-    same(rt, counts(drain), (3, 0), "taken and refused");
+/// What is done with a ring and its drain, and what is wanted of it.
+#[derive(Clone, Copy)]
+pub(crate) enum Act<'a> {
+    /// A call is sent whose layers are told; whether there is room for its batch.
+    Send(Kind, &'a [u32], bool),
+    /// How often the ring was full.
+    TimesFull(u64),
+    /// A step of the drain tells and misses so many notes.
+    Step(usize, usize),
+    /// A step of the drain finds no batch.
+    Idle,
+    /// How many batches were taken, and how many notes missed.
+    Count(u64, u64),
+    /// All lines.
+    Lines(&'a str),
 }
+
+fn looks(rt: &impl Abort, alloc: Global, ring: &Ring, drain: &mut Drain, act: &Act<'_>) {
+    match act {
+        Act::TimesFull(want) => same(rt, ring.times_full(), *want, "times full"),
+        Act::Step(told, refused) => step(rt, drain, did(*told, *refused)),
+        Act::Idle => step(rt, drain, None),
+        Act::Count(taken, refused) => {
+            let want = (*taken, *refused);
+            same(rt, counts(drain), want, "taken and refused");
+        }
+        Act::Lines(want) => are_lines(rt, alloc, drain, want),
+        Act::Send(..) => {}
+    }
+}
+
+// The acts are done in their order.
+fn plays(rt: &impl Abort, alloc: Global, ring: &mut Ring, drain: &mut Drain, acts: &[Act<'_>])
+    requires { ring.old.sent ≡ [] }
+{
+    for act in acts {
+        match act {
+            Act::Send(kind, layers, want) => sends(rt, alloc, ring, (*kind, layers), *want),
+            _ => looks(rt, alloc, ring, drain, act),
+        }
+    }
+}
+
+/// A drain of a ring of so many places that writes in these forms, after the acts were done in their order.
+pub(crate) fn played(
+    rt: &impl Abort,
+    alloc: Global,
+    places: u32,
+    forms: &[Form],
+    acts: &[Act<'_>],
+) -> Drain {
+    let (mut ring, mut drain) = opened(rt, alloc, places, forms);
+    plays(rt, alloc, &mut ring, &mut drain, acts);
+    drain
+}
+
+// The three are taken one by one, and then none.
+const THREE: [Act<'static>; 10] = [
+    Act::Idle,
+    Act::Send(Kind::OnEnter, &[0, 1], true),
+    Act::Send(Kind::OnEnter, &[], true),
+    Act::Send(Kind::OnExit, &[1, 0], true),
+    Act::Count(0, 0),
+    Act::Step(2, 0),
+    Act::Step(0, 0),
+    Act::Step(2, 0),
+    Act::Idle,
+    Act::Count(3, 0),
+];
 
 #[test]
 fn three_batches_in_two_forms(rt: HostRuntime) {
-    let alloc = rt.alloc();
-    let (mut ring, mut drain) = opened(&rt, alloc, 8, &FORMS);
-    step(&rt, &mut drain, None);
-    send_three(&rt, alloc, &mut ring);
-    same(&rt, counts(&drain).0, 0, "taken");
-    takes_three(&rt, &mut drain);
-    are_kept_lines(&rt, alloc, &drain);
-    moves_its_lines_out(&rt, alloc, drain);
+    let drain = played(&rt, rt.alloc(), 8, &FORMS, &THREE);
+    are_kept_lines(&rt, rt.alloc(), &drain);
+    moves_its_lines_out(&rt, rt.alloc(), drain);
 }
 
 // The lines that are moved out of a drain are those that it had.
@@ -84,40 +136,43 @@ fn moves_its_lines_out<V: Drop>(rt: &impl Abort, alloc: Global, drain: Drain<V>)
     same(rt, moved.as_str(), lines.as_str(), "the lines moved out");
 }
 
-#[test]
-fn the_lines_of_each_layer(rt: HostRuntime) {
-    let alloc = rt.alloc();
-    let (mut ring, mut drain) = opened(&rt, alloc, 8, &FORMS);
-    send_three(&rt, alloc, &mut ring);
-    takes_three(&rt, &mut drain);
-    let json = r#"0 0 0 {"fields":[],"id":1,"kind":"enter","path":"a","worker":0}
+const JSON: &str = r#"0 0 0 {"fields":[],"id":1,"kind":"enter","path":"a","worker":0}
 2 1 0 {"fields":[],"id":1,"kind":"exit","path":"a","worker":0}
 "#;
-    let compact = "0 1 1 enter 1 w0 a\n2 0 1 exit 1 w0 a\n";
-    for (layer, want) in [(0, json), (1, compact), (2, "")] {
-        are_lines_of(&rt, alloc, &drain, layer, want);
+
+const COMPACT: &str = "0 1 1 enter 1 w0 a\n2 0 1 exit 1 w0 a\n";
+
+#[test]
+fn the_lines_of_each_layer(rt: HostRuntime) {
+    let drain = played(&rt, rt.alloc(), 8, &FORMS, &THREE);
+    for (layer, want) in [(0, JSON), (1, COMPACT), (2, "")] {
+        are_lines_of(&rt, rt.alloc(), &drain, layer, want);
     }
 }
 
 #[test]
 fn a_note_whose_text_is_refused_memory(rt: HostRuntime) {
-    let alloc = rt.alloc();
-    let (mut ring, mut drain) = opened(&rt, alloc, 8, &[Form::Compact]);
-    sends(&rt, alloc, &mut ring, (Kind::OnNew, &[0]), true);
-    sends(&rt, alloc, &mut ring, (Kind::OnClose, &[0]), true);
-    steps(&rt, &mut drain, &[did(0, 1), did(1, 0), None]);
-    are_lines(&rt, alloc, &drain, "1 0 0 close 1 w0 a\n");
-    same(&rt, counts(&drain), (2, 1), "taken and refused");
+    let acts = [
+        Act::Send(Kind::OnNew, &[0], true),
+        Act::Send(Kind::OnClose, &[0], true),
+        Act::Step(0, 1),
+        Act::Step(1, 0),
+        Act::Idle,
+        Act::Lines("1 0 0 close 1 w0 a\n"),
+        Act::Count(2, 1),
+    ];
+    played(&rt, rt.alloc(), 8, &[Form::Compact], &acts);
 }
 
 #[test]
 fn notes_of_a_layer_without_a_teller(rt: HostRuntime) {
-    let alloc = rt.alloc();
-    let (mut ring, mut drain) = opened(&rt, alloc, 8, &[Form::Compact]);
-    sends(&rt, alloc, &mut ring, (Kind::OnEnter, &[1, 0, 7]), true);
-    step(&rt, &mut drain, did(1, 2));
-    are_lines(&rt, alloc, &drain, "0 1 0 enter 1 w0 a\n");
-    same(&rt, counts(&drain).1, 2, "refused");
+    let acts = [
+        Act::Send(Kind::OnEnter, &[1, 0, 7], true),
+        Act::Step(1, 2),
+        Act::Lines("0 1 0 enter 1 w0 a\n"),
+        Act::Count(1, 2),
+    ];
+    played(&rt, rt.alloc(), 8, &[Form::Compact], &acts);
 }
 
 #[test]

@@ -57,84 +57,142 @@ fn given<V>(reader: &mut LineReader<V>) -> Option<(u64, u32)> {
     reader.next().map(|line| (line.batch, line.place))
 }
 
-// Whether a line waits once the reader was filled.
-fn fills<V: Say>(rt: &impl Abort, reader: &mut LineReader<V>, want: bool) {
-    let filled = reader.fill();
-    same(rt, filled, want, "a line waits");
-}
-
 // No line waits, so many batches were taken, and so many notes missed.
 fn stands_at<V: Say>(rt: &impl Abort, reader: &mut LineReader<V>, taken: u64, refused: u64) {
-    fills(rt, reader, false);
-    same(rt, peeked(reader), None, "the line that waits");
-    same(rt, given(reader), None, "the line that is given out");
+    let line = (reader.fill(), peeked(reader), given(reader));
+    same(rt, line, (false, None, None), "no line waits");
     same(rt, counts(reader), (taken, refused), "taken and refused");
 }
 
-#[test]
-fn lines_of_three_batches(rt: HostRuntime) {
-    let alloc = rt.alloc();
-    let (mut ring, mut reader) = opened(&rt, alloc, 8, &FORMS);
-    stands_at(&rt, &mut reader, 0, 0);
-    sends(&rt, alloc, &mut ring, (Kind::OnEnter, &[0, 1]), true);
-    sends(&rt, alloc, &mut ring, (Kind::OnEnter, &[]), true);
-    sends(&rt, alloc, &mut ring, (Kind::OnExit, &[1, 0]), true);
-    let lines = r#"0 0 0 {"fields":[],"id":1,"kind":"enter","path":"a","worker":0}
+// What is done with a ring and its reader, and what is wanted of it.
+#[derive(Clone, Copy)]
+enum Act<'a> {
+    // A call is sent whose layers are told; whether there is room for its batch.
+    Send(Kind, &'a [u32], bool),
+    // The lines that are read.
+    Read(&'a str),
+    // The reader stands at so many batches that were taken, and so many notes missed.
+    StandAt(u64, u64),
+    // The line at this place of the first batch waits and is given out.
+    Wait(u32),
+    // A line waits; so many batches were taken, and so many notes missed.
+    Fill(u64, u64),
+    // No line is known to wait, and so many batches were taken.
+    Peek(u64),
+}
+
+fn looks<V: Say>(rt: &impl Abort, alloc: Global, reader: &mut LineReader<V>, act: &Act<'_>) {
+    match act {
+        Act::Read(want) => reads(rt, alloc, reader, want),
+        Act::StandAt(taken, refused) => stands_at(rt, reader, *taken, *refused),
+        Act::Wait(place) => waits(rt, reader, *place),
+        Act::Fill(taken, refused) => fills_to(rt, reader, *taken, *refused),
+        Act::Peek(taken) => has_none(rt, reader, *taken),
+        Act::Send(..) => {}
+    }
+}
+
+// The acts are done in their order.
+fn plays<V: Say>(
+    rt: &impl Abort,
+    alloc: Global,
+    ring: &mut Ring,
+    reader: &mut LineReader<V>,
+    acts: &[Act<'_>],
+)
+    requires { ring.old.sent ≡ [] }
+{
+    for act in acts {
+        match act {
+            Act::Send(kind, layers, want) => sends(rt, alloc, ring, (*kind, layers), *want),
+            _ => looks(rt, alloc, reader, act),
+        }
+    }
+}
+
+// The acts are done with a ring of so many places, and a reader of it that writes in these forms.
+fn plays_new(rt: &impl Abort, alloc: Global, places: u32, forms: &[Form], acts: &[Act<'_>]) {
+    let (mut ring, mut reader) = opened(rt, alloc, places, forms);
+    plays(rt, alloc, &mut ring, &mut reader, acts);
+}
+
+const THREE_LINES: &str = r#"0 0 0 {"fields":[],"id":1,"kind":"enter","path":"a","worker":0}
 0 1 1 enter 1 w0 a
 2 0 1 exit 1 w0 a
 2 1 0 {"fields":[],"id":1,"kind":"exit","path":"a","worker":0}
 "#;
-    reads(&rt, alloc, &mut reader, lines);
-    stands_at(&rt, &mut reader, 3, 0);
+
+#[test]
+fn lines_of_three_batches(rt: HostRuntime) {
+    let acts = [
+        Act::StandAt(0, 0),
+        Act::Send(Kind::OnEnter, &[0, 1], true),
+        Act::Send(Kind::OnEnter, &[], true),
+        Act::Send(Kind::OnExit, &[1, 0], true),
+        Act::Read(THREE_LINES),
+        Act::StandAt(3, 0),
+    ];
+    plays_new(&rt, rt.alloc(), 8, &FORMS, &acts);
 }
 
 #[test]
 fn a_line_that_waits_is_looked_at_and_given_out(rt: HostRuntime) {
-    let alloc = rt.alloc();
-    let (mut ring, mut reader) = opened(&rt, alloc, 8, &[Form::Compact]);
-    sends(&rt, alloc, &mut ring, (Kind::OnEnter, &[0, 0]), true);
-    sends(&rt, alloc, &mut ring, (Kind::OnExit, &[0]), true);
-    for place in 0..2 {
-        waits(&rt, &mut reader, place);
-    }
-    same(&rt, peeked(&reader), None, "the line that waits");
-    same(&rt, counts(&reader).0, 1, "taken");
-    reads(&rt, alloc, &mut reader, "1 0 0 exit 1 w0 a\n");
-    stands_at(&rt, &mut reader, 2, 0);
+    let acts = [
+        Act::Send(Kind::OnEnter, &[0, 0], true),
+        Act::Send(Kind::OnExit, &[0], true),
+        Act::Wait(0),
+        Act::Wait(1),
+        Act::Peek(1),
+        Act::Read("1 0 0 exit 1 w0 a\n"),
+        Act::StandAt(2, 0),
+    ];
+    plays_new(&rt, rt.alloc(), 8, &[Form::Compact], &acts);
 }
 
 // The line at this place of the first batch waits, however often the reader is filled, and then it's given out.
 fn waits<V: Say>(rt: &impl Abort, reader: &mut LineReader<V>, place: u32) {
-    fills(rt, reader, true);
-    fills(rt, reader, true);
-    same(rt, counts(reader).0, 1, place);
-    same(rt, peeked(reader), Some(place), place);
-    same(rt, given(reader), Some((0, place)), place);
+    let filled = [reader.fill(), reader.fill()];
+    same(rt, filled, [true, true], "a line waits");
+    let stands = (counts(reader).0, peeked(reader), given(reader));
+    same(rt, stands, (1, Some(place), Some((0, place))), place);
+}
+
+// No line is known to wait, and so many batches were taken.
+fn has_none<V>(rt: &impl Abort, reader: &LineReader<V>, taken: u64) {
+    let stands = (peeked(reader), counts(reader).0);
+    same(rt, stands, (None, taken), "the line that waits, and taken");
+}
+
+// A line waits once the reader was filled, and then so many batches were taken, and so many notes missed.
+fn fills_to<V: Say>(rt: &impl Abort, reader: &mut LineReader<V>, taken: u64, refused: u64) {
+    let stands = (reader.fill(), counts(reader));
+    same(rt, stands, (true, (taken, refused)), "taken and refused");
 }
 
 #[test]
 fn batches_whose_texts_are_refused_memory(rt: HostRuntime) {
-    let alloc = rt.alloc();
-    let (mut ring, mut reader) = opened(&rt, alloc, 8, &[Form::Compact]);
-    sends(&rt, alloc, &mut ring, (Kind::OnNew, &[0]), true);
-    sends(&rt, alloc, &mut ring, (Kind::OnNew, &[0, 0]), true);
-    sends(&rt, alloc, &mut ring, (Kind::OnClose, &[0, 7]), true);
-    fills(&rt, &mut reader, true);
-    same(&rt, counts(&reader), (3, 4), "taken and refused");
-    reads(&rt, alloc, &mut reader, "2 0 0 close 1 w0 a\n");
-    stands_at(&rt, &mut reader, 3, 4);
+    let acts = [
+        Act::Send(Kind::OnNew, &[0], true),
+        Act::Send(Kind::OnNew, &[0, 0], true),
+        Act::Send(Kind::OnClose, &[0, 7], true),
+        Act::Fill(3, 4),
+        Act::Read("2 0 0 close 1 w0 a\n"),
+        Act::StandAt(3, 4),
+    ];
+    plays_new(&rt, rt.alloc(), 8, &[Form::Compact], &acts);
 }
 
 #[test]
 fn a_place_that_is_used_again(rt: HostRuntime) {
-    let alloc = rt.alloc();
-    let (mut ring, mut reader) = opened(&rt, alloc, 1, &[Form::Compact]);
-    sends(&rt, alloc, &mut ring, (Kind::OnEnter, &[0]), true);
-    sends(&rt, alloc, &mut ring, (Kind::OnExit, &[0]), false);
-    reads(&rt, alloc, &mut reader, "0 0 0 enter 1 w0 a\n");
-    sends(&rt, alloc, &mut ring, (Kind::OnExit, &[0]), true);
-    reads(&rt, alloc, &mut reader, "1 0 0 exit 1 w0 a\n");
-    stands_at(&rt, &mut reader, 2, 0);
+    let acts = [
+        Act::Send(Kind::OnEnter, &[0], true),
+        Act::Send(Kind::OnExit, &[0], false),
+        Act::Read("0 0 0 enter 1 w0 a\n"),
+        Act::Send(Kind::OnExit, &[0], true),
+        Act::Read("1 0 0 exit 1 w0 a\n"),
+        Act::StandAt(2, 0),
+    ];
+    plays_new(&rt, rt.alloc(), 1, &[Form::Compact], &acts);
 }
 
 // Whether a line waits once the reader was filled beside the ring.
@@ -213,16 +271,19 @@ fn plain(rt: &impl Abort, alloc: Global, places: u32) -> (Ring, PlainReader)
     (ring, reader)
 }
 
-#[test]
-fn lines_of_layers_without_closures(rt: HostRuntime) {
-    let alloc = rt.alloc();
-    let (mut ring, mut reader) = plain(&rt, alloc, 2);
-    sends(&rt, alloc, &mut ring, (Kind::OnNew, &[1, 0]), true);
-    let lines = r#"0 0 1 new 1 w0 a
+const PLAIN_LINES: &str = r#"0 0 1 new 1 w0 a
 0 1 0 {"fields":[],"id":1,"kind":"new","path":"a","worker":0}
 "#;
-    reads(&rt, alloc, &mut reader, lines);
-    stands_at(&rt, &mut reader, 1, 0);
+
+#[test]
+fn lines_of_layers_without_closures(rt: HostRuntime) {
+    let (mut ring, mut reader) = plain(&rt, rt.alloc(), 2);
+    let acts = [
+        Act::Send(Kind::OnNew, &[1, 0], true),
+        Act::Read(PLAIN_LINES),
+        Act::StandAt(1, 0),
+    ];
+    plays(&rt, rt.alloc(), &mut ring, &mut reader, &acts);
 }
 
 // What it is given may go to another thread.

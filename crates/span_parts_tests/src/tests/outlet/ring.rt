@@ -1,30 +1,33 @@
 //! Whether a ring has room.
-use crate::tests::compare::{holds, same};
-use crate::tests::outlet::batches::{opened, sends};
+use crate::tests::compare::same;
+use crate::tests::outlet::batches::opened;
+use crate::tests::outlet::drain::{Act, played};
 use span_layers::{Form, Kind};
 use span_outlet::{Drain, Ring};
 
 #[test]
 fn a_ring_of_one_place(rt: HostRuntime) {
-    let alloc = rt.alloc();
-    let (mut ring, mut drain) = opened(&rt, alloc, 1, &[Form::Compact]);
-    sends(&rt, alloc, &mut ring, (Kind::OnEnter, &[0]), true);
-    sends(&rt, alloc, &mut ring, (Kind::OnExit, &[0]), false);
-    sends(&rt, alloc, &mut ring, (Kind::OnExit, &[0]), false);
-    same(&rt, ring.times_full(), 2, "times full");
-    holds(&rt, drain.step().is_some(), "a batch is taken");
-    sends(&rt, alloc, &mut ring, (Kind::OnExit, &[0]), true);
-    same(&rt, ring.times_full(), 2, "times full");
+    let acts = [
+        Act::Send(Kind::OnEnter, &[0], true),
+        Act::Send(Kind::OnExit, &[0], false),
+        Act::Send(Kind::OnExit, &[0], false),
+        Act::TimesFull(2),
+        Act::Step(1, 0),
+        Act::Send(Kind::OnExit, &[0], true),
+        Act::TimesFull(2),
+    ];
+    played(&rt, rt.alloc(), 1, &[Form::Compact], &acts);
 }
 
 #[test]
 fn a_ring_of_two_places(rt: HostRuntime) {
-    let alloc = rt.alloc();
-    let (mut ring, _drain) = opened(&rt, alloc, 2, &[Form::Compact]);
-    sends(&rt, alloc, &mut ring, (Kind::OnEnter, &[0]), true);
-    sends(&rt, alloc, &mut ring, (Kind::OnExit, &[0]), true);
-    sends(&rt, alloc, &mut ring, (Kind::OnExit, &[0]), false);
-    same(&rt, ring.times_full(), 1, "times full");
+    let acts = [
+        Act::Send(Kind::OnEnter, &[0], true),
+        Act::Send(Kind::OnExit, &[0], true),
+        Act::Send(Kind::OnExit, &[0], false),
+        Act::TimesFull(1),
+    ];
+    played(&rt, rt.alloc(), 2, &[Form::Compact], &acts);
 }
 
 // What it is given may go to another thread.
