@@ -18,16 +18,36 @@ fn table(rt: &impl Abort, alloc: Global, slots: u32, last_generation: u32) -> Sl
     Slots::new(alloc, &checked).expect(rt, "memory")
 }
 
-// Stores a value where a slot is free.
-fn put(rt: &impl Abort, slots: &mut Slots<u32>, value: u32) -> Id {
-    slots.insert(value).ok().expect(rt, "no slot is free")
+// What is done with a table, and what is wanted of it. Ids stand under their numbers.
+#[derive(Clone, Copy)]
+enum Act<'a> {
+    // Stores a value, whose id has this number.
+    Put(u32, u64),
+    // A value is too many.
+    Full(u32),
+    // The value of an id.
+    Get(u64, Option<u32>),
+    // Takes the value of an id out.
+    Remove(u64, Option<u32>),
+    // Writes the value of an id.
+    Write(u64, u32),
+    // The value of an id can't be written.
+    Gone(u64),
+    // How many values there are, and how many slots are free.
+    Sizes(u32, u32),
+    // The number of the next id.
+    Next(Option<u64>),
+    // The ids of the table have these numbers, in this order.
+    List(&'a [u64]),
 }
 
-// Stores a value, and its id has this number.
-fn gives(rt: &impl Abort, slots: &mut Slots<u32>, value: u32, number: u64) -> Id {
-    let id = put(rt, slots, value);
+fn id(rt: &impl Abort, number: u64) -> Id {
+    Id::from_u64(number).expect(rt, "an id")
+}
+
+fn gives(rt: &impl Abort, slots: &mut Slots<u32>, value: u32, number: u64) {
+    let id = slots.insert(value).ok().expect(rt, "no slot is free");
     same(rt, id.get(), number, "an id that was given");
-    id
 }
 
 fn is_full(rt: &impl Abort, slots: &mut Slots<u32>, value: u32) {
@@ -35,15 +55,6 @@ fn is_full(rt: &impl Abort, slots: &mut Slots<u32>, value: u32) {
     same(rt, refused, Err((value, Fault::Full)), "a value too many");
 }
 
-fn has(rt: &impl Abort, slots: &Slots<u32>, id: Id, value: Option<u32>) {
-    same(rt, slots.get(id).copied(), value, id.get());
-}
-
-fn removes(rt: &impl Abort, slots: &mut Slots<u32>, id: Id, value: Option<u32>) {
-    same(rt, slots.remove(id), value, id.get());
-}
-
-// The ids of the table have these numbers, in this order.
 fn lists(rt: &impl Abort, slots: &Slots<u32>, numbers: &[u64]) {
     let ids = slots.ids().expect(rt, "memory");
     same(rt, ids.len(), numbers.len(), "how many ids");
@@ -52,76 +63,8 @@ fn lists(rt: &impl Abort, slots: &Slots<u32>, numbers: &[u64]) {
     }
 }
 
-#[test]
-fn a_slot_at_its_last_generation_is_retired(rt: HostRuntime) {
-    let mut slots = table(&rt, rt.alloc(), 2, 0);
-    let first = gives(&rt, &mut slots, 7, 1);
-    gives(&rt, &mut slots, 8, 2);
-    is_full(&rt, &mut slots, 9);
-    lists(&rt, &slots, &[1, 2]);
-
-    removes(&rt, &mut slots, first, Some(7));
-    has(&rt, &slots, first, None);
-    removes(&rt, &mut slots, first, None);
-    is_full(&rt, &mut slots, 9);
-    same(&rt, (slots.len(), slots.free()), (1, 0), "len and free");
-    same(&rt, slots.next_id(), None, "the next id");
-    lists(&rt, &slots, &[2]);
-}
-
-// Gives a slot and takes it back, while one more is free.
-fn gives_and_takes_back(rt: &impl Abort, slots: &mut Slots<u32>, number: u64) {
-    let next = slots.next_id();
-    let id = gives(rt, slots, 20, number);
-    same(rt, (next, slots.free()), (Some(id), 1), number);
-    removes(rt, slots, id, Some(20));
-    has(rt, slots, id, None);
-}
-
-#[test]
-fn a_slot_is_given_at_one_generation_after_another(rt: HostRuntime) {
-    let mut slots = table(&rt, rt.alloc(), 3, 2);
-    let kept = put(&rt, &mut slots, 10);
-    for number in [2, 16777218, 33554434] {
-        gives_and_takes_back(&rt, &mut slots, number);
-    }
-    // The second slot gave its last id, so the third comes next.
-    same(&rt, slots.free(), 1, "free");
-    gives(&rt, &mut slots, 30, 3);
-    same(&rt, slots.next_id(), None, "the next id");
-    has(&rt, &slots, kept, Some(10));
-}
-
-#[test]
-fn the_slot_freed_last_comes_first(rt: HostRuntime) {
-    let mut slots = table(&rt, rt.alloc(), 4, 9);
-    holds(&rt, slots.is_empty(), "a new table is empty");
-    let first = put(&rt, &mut slots, 1);
-    let second = put(&rt, &mut slots, 2);
-    let third = put(&rt, &mut slots, 3);
-    removes(&rt, &mut slots, second, Some(2));
-    removes(&rt, &mut slots, first, Some(1));
-    same(&rt, slots.free(), 3, "free");
-    for number in [16777217, 16777218, 4] {
-        gives(&rt, &mut slots, 5, number);
-    }
-    is_full(&rt, &mut slots, 6);
-    lists(&rt, &slots, &[16777217, 16777218, 3, 4]);
-    has(&rt, &slots, third, Some(3));
-    holds(&rt, !slots.is_empty(), "a full table is not empty");
-}
-
-#[test]
-fn a_write_changes_one_value(rt: HostRuntime) {
-    let mut slots = table(&rt, rt.alloc(), 2, 1);
-    let first = put(&rt, &mut slots, 1);
-    let second = put(&rt, &mut slots, 2);
-    write(&mut slots, first, 11);
-    has(&rt, &slots, first, Some(11));
-    has(&rt, &slots, second, Some(2));
-    removes(&rt, &mut slots, first, Some(11));
-    let gone = slots.get_mut(first).is_none();
-    holds(&rt, gone, "a removed value can't be written");
+fn sizes(slots: &Slots<u32>) -> (u32, u32, bool) {
+    (slots.len(), slots.free(), slots.is_empty())
 }
 
 fn write(slots: &mut Slots<u32>, id: Id, value: u32) {
@@ -130,14 +73,145 @@ fn write(slots: &mut Slots<u32>, id: Id, value: u32) {
     }
 }
 
+fn shows(rt: &impl Abort, slots: &Slots<u32>, act: &Act<'_>) {
+    match act {
+        Act::Get(number, want) => {
+            let value = slots.get(id(rt, *number)).copied();
+            same(rt, value, *want, *number);
+        }
+        Act::Sizes(len, free) => {
+            same(rt, sizes(slots), (*len, *free, *len == 0), "len and free");
+        }
+        Act::Next(want) => {
+            same(rt, slots.next_id().map(Id::get), *want, "the next id");
+        }
+        Act::List(numbers) => lists(rt, slots, numbers),
+        _ => {}
+    }
+}
+
+fn does(rt: &impl Abort, slots: &mut Slots<u32>, act: &Act<'_>) {
+    match act {
+        Act::Put(value, number) => gives(rt, slots, *value, *number),
+        Act::Full(value) => is_full(rt, slots, *value),
+        Act::Remove(number, want) => {
+            let removed = slots.remove(id(rt, *number));
+            same(rt, removed, *want, *number);
+        }
+        Act::Write(number, value) => write(slots, id(rt, *number), *value),
+        Act::Gone(number) => {
+            let gone = slots.get_mut(id(rt, *number)).is_none();
+            holds(rt, gone, "a removed value can't be written");
+        }
+        _ => shows(rt, slots, act),
+    }
+}
+
+// The acts are done in their order with a new table of so many slots, whose last generation is this one.
+fn plays(rt: &impl Abort, alloc: Global, limits: (u32, u32), acts: &[Act<'_>]) {
+    let (slots, last_generation) = limits;
+    let mut slots = table(rt, alloc, slots, last_generation);
+    for act in acts {
+        does(rt, &mut slots, act);
+    }
+}
+
+#[test]
+fn a_slot_at_its_last_generation_is_retired(rt: HostRuntime) {
+    let acts = [
+        Act::Put(7, 1),
+        Act::Put(8, 2),
+        Act::Full(9),
+        Act::List(&[1, 2]),
+        Act::Remove(1, Some(7)),
+        Act::Get(1, None),
+        Act::Remove(1, None),
+        Act::Full(9),
+        Act::Sizes(1, 0),
+        Act::Next(None),
+        Act::List(&[2]),
+    ];
+    plays(&rt, rt.alloc(), (2, 0), &acts);
+}
+
+#[test]
+fn a_slot_is_given_at_one_generation_after_another(rt: HostRuntime) {
+    let mut slots = table(&rt, rt.alloc(), 3, 2);
+    does(&rt, &mut slots, &Act::Put(10, 1));
+    for number in [2, 16777218, 33554434] {
+        gives_and_takes_back(&rt, &mut slots, number);
+    }
+    // The second slot gave its last id, so the third comes next.
+    let acts = [
+        Act::Sizes(1, 1),
+        Act::Put(30, 3),
+        Act::Next(None),
+        Act::Get(1, Some(10)),
+    ];
+    for act in &acts {
+        does(&rt, &mut slots, act);
+    }
+}
+
+// Gives a slot and takes it back, while one more is free.
+fn gives_and_takes_back(rt: &impl Abort, slots: &mut Slots<u32>, number: u64) {
+    let acts = [
+        Act::Next(Some(number)),
+        Act::Put(20, number),
+        Act::Sizes(2, 1),
+        Act::Remove(number, Some(20)),
+        Act::Get(number, None),
+    ];
+    for act in &acts {
+        does(rt, slots, act);
+    }
+}
+
+#[test]
+fn the_slot_freed_last_comes_first(rt: HostRuntime) {
+    let acts = [
+        Act::Sizes(0, 4),
+        Act::Put(1, 1),
+        Act::Put(2, 2),
+        Act::Put(3, 3),
+        Act::Remove(2, Some(2)),
+        Act::Remove(1, Some(1)),
+        Act::Sizes(1, 3),
+        Act::Put(5, 16777217),
+        Act::Put(5, 16777218),
+        Act::Put(5, 4),
+        Act::Full(6),
+        Act::List(&[16777217, 16777218, 3, 4]),
+        Act::Get(3, Some(3)),
+        Act::Sizes(4, 0),
+    ];
+    plays(&rt, rt.alloc(), (4, 9), &acts);
+}
+
+#[test]
+fn a_write_changes_one_value(rt: HostRuntime) {
+    let acts = [
+        Act::Put(1, 1),
+        Act::Put(2, 2),
+        Act::Write(1, 11),
+        Act::Get(1, Some(11)),
+        Act::Get(2, Some(2)),
+        Act::Remove(1, Some(11)),
+        Act::Gone(1),
+    ];
+    plays(&rt, rt.alloc(), (2, 1), &acts);
+}
+
 #[test]
 fn as_many_slots_as_ids_have_room_for(rt: HostRuntime) {
-    let mut slots = table(&rt, rt.alloc(), 16777216, 4294967295);
-    same(&rt, slots.free(), 16777216, "free");
-    let first = put(&rt, &mut slots, 1);
-    gives(&rt, &mut slots, 2, 2);
-    removes(&rt, &mut slots, first, Some(1));
-    same(&rt, slots.free(), 16777215, "free");
-    gives(&rt, &mut slots, 3, 16777217);
-    lists(&rt, &slots, &[16777217, 2]);
+    let acts = [
+        Act::Sizes(0, 16777216),
+        Act::Put(1, 1),
+        Act::Put(2, 2),
+        Act::Remove(1, Some(1)),
+        Act::Sizes(1, 16777215),
+        Act::Put(3, 16777217),
+        Act::List(&[16777217, 2]),
+    ];
+    plays(&rt, rt.alloc(), (16777216, 4294967295), &acts);
 }

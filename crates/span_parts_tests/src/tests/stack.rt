@@ -10,14 +10,41 @@ fn pops(rt: &impl Abort, stack: &mut SpanStack, id: Id, first: Option<bool>) {
     same(rt, stack.pop(id), first, id.get());
 }
 
-// Who is current, and who is on top.
-fn ends(stack: &SpanStack) -> (Option<Id>, Option<Id>) {
-    (stack.current(), stack.top())
+// How often a span stands in the stack: at all, once, and what a pop of it would answer.
+type Stands = (bool, bool, Option<bool>);
+
+// It stands there once.
+const ONCE: Stands = (true, true, Some(true));
+
+// It stands there again.
+const AGAIN: Stands = (true, false, Some(false));
+
+const NOWHERE: Stands = (false, false, None);
+
+// The length, the number of the current span and of the one on top, and how two spans stand there.
+type State = (usize, Option<u64>, Option<u64>, [Stands; 2]);
+
+fn stands(stack: &SpanStack, id: Id) -> Stands {
+    (stack.has(id), stack.stands_once(id), stack.would_pop(id))
 }
 
-// How often the span stands in the stack: at all, and once.
-fn stands(stack: &SpanStack, id: Id) -> (bool, bool) {
-    (stack.has(id), stack.stands_once(id))
+fn state(stack: &SpanStack) -> State {
+    let (current, top) = (stack.current(), stack.top());
+    let two = [
+        stands(stack, Id::pack(0, 0)),
+        stands(stack, Id::pack(1, 0)),
+    ];
+    (stack.len(), current.map(Id::get), top.map(Id::get), two)
+}
+
+// The number of the span whose topmost entry is taken out, what that answers, and what it leaves.
+type Pop = (u64, Option<bool>, State);
+
+fn pops_to(rt: &impl Abort, stack: &mut SpanStack, pop: &Pop) {
+    let (number, first, left) = *pop;
+    let id = Id::from_u64(number).expect(rt, "an id");
+    pops(rt, stack, id, first);
+    same(rt, state(stack), left, number);
 }
 
 // The walk over the stack meets these spans.
@@ -37,41 +64,50 @@ fn pushed(rt: &impl Abort, alloc: Global, one: Id, two: Id) -> SpanStack {
     stack
 }
 
+const POPS: [Pop; 5] = [
+    (2, Some(true), (2, Some(1), Some(1), [AGAIN, NOWHERE])),
+    (2, None, (2, Some(1), Some(1), [AGAIN, NOWHERE])),
+    (1, Some(false), (1, Some(1), Some(1), [ONCE, NOWHERE])),
+    (1, Some(true), (0, None, None, [NOWHERE, NOWHERE])),
+    (1, None, (0, None, None, [NOWHERE, NOWHERE])),
+];
+
 #[test]
 fn counts_a_span_that_is_entered_again_once(rt: HostRuntime) {
     let (one, two) = (Id::pack(0, 0), Id::pack(1, 0));
     let mut stack = pushed(&rt, rt.alloc(), one, two);
-    same(&rt, stack.len(), 3, "the length");
-    same(&rt, ends(&stack), (Some(two), Some(one)), "ends");
-    same(&rt, stands(&stack, one).1, false, "the first span");
-    same(&rt, stands(&stack, two).1, true, "the second span");
-    let would_pop = (stack.would_pop(one), stack.would_pop(two));
-    same(&rt, would_pop, (Some(false), Some(true)), "would pop");
+    let made = (3, Some(2), Some(1), [AGAIN, ONCE]);
+    same(&rt, state(&stack), made, "three entries");
     walks(&rt, rt.alloc(), &stack, &[two, one]);
-    pops(&rt, &mut stack, two, Some(true));
-    same(&rt, ends(&stack).0, Some(one), "current");
-    same(&rt, stands(&stack, two), (false, false), "the second span");
-    same(&rt, stack.would_pop(two), None, "would pop");
-    pops(&rt, &mut stack, two, None);
-    pops(&rt, &mut stack, one, Some(false));
-    same(&rt, stands(&stack, one).1, true, "the first span");
-    pops(&rt, &mut stack, one, Some(true));
-    pops(&rt, &mut stack, one, None);
-    same(&rt, ends(&stack).0, None, "current");
+    for pop in &POPS {
+        pops_to(&rt, &mut stack, pop);
+    }
 }
 
-#[test]
-fn pushes_what_is_known_to_stand_there_or_not(rt: HostRuntime) {
+// A stack into which the same three were put by what is known of them.
+fn pushed_as_known(alloc: Global) -> SpanStack {
     let (one, two) = (Id::pack(0, 0), Id::pack(1, 0));
-    let mut stack = SpanStack::new(rt.alloc());
+    let mut stack = SpanStack::new(alloc);
     stack.push_new(one);
     stack.push_new(two);
     stack.push_again(one);
-    same(&rt, stack.len(), 3, "the length");
-    same(&rt, ends(&stack), (Some(two), Some(one)), "ends");
-    pops(&rt, &mut stack, one, Some(false));
-    pops(&rt, &mut stack, one, Some(true));
-    pops(&rt, &mut stack, two, Some(true));
+    stack
+}
+
+const KNOWN_POPS: [Pop; 3] = [
+    (1, Some(false), (2, Some(2), Some(2), [ONCE, ONCE])),
+    (1, Some(true), (1, Some(2), Some(2), [NOWHERE, ONCE])),
+    (2, Some(true), (0, None, None, [NOWHERE, NOWHERE])),
+];
+
+#[test]
+fn pushes_what_is_known_to_stand_there_or_not(rt: HostRuntime) {
+    let mut stack = pushed_as_known(rt.alloc());
+    let made = (3, Some(2), Some(1), [AGAIN, ONCE]);
+    same(&rt, state(&stack), made, "three entries");
+    for pop in &KNOWN_POPS {
+        pops_to(&rt, &mut stack, pop);
+    }
     holds(&rt, stack.is_empty(), "the stack is empty at the end");
 }
 
