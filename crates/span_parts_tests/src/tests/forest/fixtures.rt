@@ -160,3 +160,78 @@ pub(crate) fn held(rt: &impl Abort, forest: &Forest, number: u64) -> Option<(u32
         None => None,
     }
 }
+
+/// A span is refused.
+fn refuses(
+    rt: &impl Abort,
+    alloc: Global,
+    forest: &mut Forest,
+    (parent, bits): (u64, u64),
+    fault: Fault,
+) {
+    let meta = named(rt, alloc, "b");
+    let added = forest.add(meta, Fields::none(), Id::from_u64(parent), Bits(bits));
+    same(rt, added, Err(fault), "a span that is refused");
+}
+
+/// What is done with a forest, and what is wanted of it. Spans stand under the numbers of their ids, no span under 0.
+#[derive(Clone, Copy)]
+pub(crate) enum Act<'a> {
+    /// Adds a span of this name below another, which the layers of these bits admit.
+    Add(&'a str, u64, u64),
+    /// A span below another, which the layers of these bits admit, is refused.
+    Refuse(u64, u64, Fault),
+    /// What a call that keeps a span open answers.
+    Keep(u64, Holder, Result<(), Fault>),
+    /// Gives a holder back, with what closes then.
+    Release(u64, Holder, &'a str),
+    /// The names of a layer's path to a span, each with a colon after it.
+    Path(u32, u64, &'a str),
+    /// How many spans are open, and how many holders there are.
+    Sizes(u32, u64),
+    /// The handles, entries and count of a span.
+    Held(u64, Option<(u32, u32, u32)>),
+    /// The number of the next id.
+    Next(u64),
+}
+
+fn shows(rt: &impl Abort, alloc: Global, forest: &Forest, act: &Act<'_>) {
+    match act {
+        Act::Path(layer, number, want) => has_path(rt, alloc, forest, (*layer, *number), want),
+        Act::Sizes(open, holders) => {
+            let found = (sizes(forest), forest.is_empty());
+            same(rt, found, ((*open, *holders), *open == 0), "sizes");
+        }
+        Act::Held(number, want) => same(rt, held(rt, forest, *number), *want, *number),
+        Act::Next(want) => same(rt, next_number(forest), *want, "the next id"),
+        _ => {}
+    }
+}
+
+fn does(rt: &impl Abort, alloc: Global, forest: &mut Forest, act: &Act<'_>) {
+    match act {
+        Act::Add(name, parent, bits) => {
+            add(rt, alloc, forest, name, Id::from_u64(*parent), *bits);
+        }
+        Act::Refuse(parent, bits, fault) => refuses(rt, alloc, forest, (*parent, *bits), *fault),
+        Act::Keep(number, holder, want) => keep(rt, forest, (*number, *holder), *want),
+        Act::Release(number, holder, closed) => {
+            release(rt, alloc, forest, (*number, *holder), closed);
+        }
+        _ => shows(rt, alloc, forest, act),
+    }
+}
+
+/// The acts are done in their order.
+pub(crate) fn plays(rt: &impl Abort, alloc: Global, forest: &mut Forest, acts: &[Act<'_>]) {
+    for act in acts {
+        does(rt, alloc, forest, act);
+    }
+}
+
+/// A forest that these tests don't fill, after the acts were done in their order.
+pub(crate) fn played(rt: &impl Abort, alloc: Global, acts: &[Act<'_>]) -> Forest {
+    let mut forest = wide(rt, alloc);
+    plays(rt, alloc, &mut forest, acts);
+    forest
+}

@@ -1,6 +1,6 @@
 //! Refusals by limits, a long chain, and as many roots as there are slots.
 use crate::tests::compare::{holds, same};
-use crate::tests::forest::fixtures::{add, forest, held, id, named, release, sizes};
+use crate::tests::forest::fixtures::{Act, forest, id, named, plays, sizes};
 use span_forest::{Forest, Holder};
 use span_id::{Bits, Fault, Fields, Id, SharedMeta};
 use std::alloc::Global;
@@ -18,46 +18,30 @@ fn add_of(
     forest.add(shared, Fields::none(), parent, bits)
 }
 
-// A span is refused.
-fn refuses(
-    rt: &impl Abort,
-    alloc: Global,
-    forest: &mut Forest,
-    parent: Option<Id>,
-    bits: Bits,
-    fault: Fault,
-) {
-    let meta = named(rt, alloc, "b");
-    let added = forest.add(meta, Fields::none(), parent, bits);
-    same(rt, added, Err(fault), "a span that is refused");
-}
-
 #[test]
 fn a_slot_that_gave_its_last_id_gives_no_more(rt: HostRuntime) {
-    let alloc = rt.alloc();
-    let mut forest = forest(&rt, alloc, (1, 0, 1));
-    add(&rt, alloc, &mut forest, "a", None, 1);
-    release(&rt, alloc, &mut forest, (1, Holder::Handle), "1");
-    same(&rt, forest.next_id(), None, "the next id");
-    refuses(&rt, alloc, &mut forest, None, Bits(0), Fault::Full);
+    let mut forest = forest(&rt, rt.alloc(), (1, 0, 1));
+    let acts = [
+        Act::Add("a", 0, 1),
+        Act::Release(1, Holder::Handle, "1"),
+        Act::Next(0),
+        Act::Refuse(0, 0, Fault::Full),
+    ];
+    plays(&rt, rt.alloc(), &mut forest, &acts);
 }
 
 #[test]
 fn refusals_in_their_order(rt: HostRuntime) {
-    let alloc = rt.alloc();
-    let mut forest = forest(&rt, alloc, (1, 9, 1));
-    add(&rt, alloc, &mut forest, "a", None, 1);
-    for (parent, fault) in [
-        (Id::from_u64(2), Fault::Unknown),
-        (Id::from_u64(1), Fault::CountFull),
-        (None, Fault::Full),
-    ] {
-        refuses(&rt, alloc, &mut forest, parent, Bits(1), fault);
-    }
-    let kept = forest.keep(id(&rt, 1), Holder::Entry);
-    same(&rt, kept, Err(Fault::CountFull), "an entry");
-    let counts = held(&rt, &forest, 1);
-    same(&rt, counts, Some((1, 0, 1)), "the span");
+    let mut forest = forest(&rt, rt.alloc(), (1, 9, 1));
+    let acts = [
+        Act::Add("a", 0, 1),
+        Act::Refuse(2, 1, Fault::Unknown),
+        Act::Refuse(1, 1, Fault::CountFull),
+        Act::Refuse(0, 1, Fault::Full),
+        Act::Keep(1, Holder::Entry, Err(Fault::CountFull)),
+        Act::Held(1, Some((1, 0, 1))),
+    ];
+    plays(&rt, rt.alloc(), &mut forest, &acts);
 }
 
 // Adds a child with this number and gives its parent's handle back.

@@ -1,10 +1,10 @@
 //! Three spans below each other, with each answer of each call.
 use crate::tests::compare::same;
 use crate::tests::forest::fixtures::{
-    add, are_listed, has_path, held, id, keep, next_number, release, wide,
+    Act, are_listed, held, id, keep, next_number, played, plays, release,
 };
 use span_forest::{Forest, Holder};
-use span_id::{Fault, Id};
+use span_id::Fault;
 use std::alloc::Global;
 use std::process::Abort;
 
@@ -74,26 +74,26 @@ fn takes(rt: &impl Abort, forest: &mut Forest, alloc: Global, step: Step) {
 }
 
 // A root `a` that layer 0 admits, `b` below it that layer 1 admits, and `c` below `b` that both admit.
-fn three(rt: &impl Abort, alloc: Global) -> Forest {
-    let mut forest = wide(rt, alloc);
-    add(rt, alloc, &mut forest, "a", None, 1);
-    add(rt, alloc, &mut forest, "b", Id::from_u64(1), 2);
-    add(rt, alloc, &mut forest, "c", Id::from_u64(2), 3);
-    forest
-}
+const THREE: [Act<'static>; 3] = [
+    Act::Add("a", 0, 1),
+    Act::Add("b", 1, 2),
+    Act::Add("c", 2, 3),
+];
 
 #[test]
 fn three_spans_with_each_answer(rt: HostRuntime) {
     let alloc = rt.alloc();
-    let mut forest = three(&rt, alloc);
+    let mut forest = played(&rt, alloc, &THREE);
     let spans = [Some((1, 0, 2)), Some((1, 0, 2)), Some((1, 0, 1))];
-    let made = state(&rt, &forest);
-    same(&rt, made, ((3, 3, 3, 4), spans), "three spans");
-    for (layer, path) in [(0, "a:c:"), (1, "b:c:"), (2, "")] {
-        has_path(&rt, alloc, &forest, (layer, 3), path);
-    }
-    keep(&rt, &mut forest, (2, Holder::Entry), Ok(()));
-    keep(&rt, &mut forest, (3, Holder::Handle), Ok(()));
+    same(&rt, state(&rt, &forest), ((3, 3, 3, 4), spans), "three");
+    let acts = [
+        Act::Path(0, 3, "a:c:"),
+        Act::Path(1, 3, "b:c:"),
+        Act::Path(2, 3, ""),
+        Act::Keep(2, Holder::Entry, Ok(())),
+        Act::Keep(3, Holder::Handle, Ok(())),
+    ];
+    plays(&rt, alloc, &mut forest, &acts);
     for step in STEPS {
         takes(&rt, &mut forest, alloc, step);
     }
@@ -110,7 +110,7 @@ fn closes_as_told(rt: &impl Abort, alloc: Global, forest: &mut Forest, number: u
 #[test]
 fn a_list_that_was_told_is_closed(rt: HostRuntime) {
     let alloc = rt.alloc();
-    let mut forest = three(&rt, alloc);
+    let mut forest = played(&rt, alloc, &THREE);
     release(&rt, alloc, &mut forest, (2, Holder::Handle), "");
     closes_as_told(&rt, alloc, &mut forest, 3, "3,2");
     let left = ((1, 1, 1, 16777218), [Some((1, 0, 1)), None, None]);

@@ -1,6 +1,6 @@
 //! A tree of thirty spans, taken down in three orders. Each closing list was written out by hand.
-use crate::tests::compare::{holds, same};
-use crate::tests::forest::fixtures::{add, forest, held, keep, next_number, release, sizes};
+use crate::tests::compare::holds;
+use crate::tests::forest::fixtures::{Act, add, forest, plays, release};
 use span_forest::{Forest, Holder};
 use span_id::Id;
 use std::alloc::Global;
@@ -15,20 +15,24 @@ fn add_below(rt: &impl Abort, alloc: Global, forest: &mut Forest, parent: &str) 
     add(rt, alloc, forest, "s", Id::from_u64(parent), 1);
 }
 
+const HELD: [Act<'static>; 8] = [
+    Act::Next(31),
+    Act::Keep(17, Holder::Handle, Ok(())),
+    Act::Keep(4, Holder::Entry, Ok(())),
+    Act::Keep(21, Holder::Entry, Ok(())),
+    Act::Keep(28, Holder::Entry, Ok(())),
+    Act::Keep(28, Holder::Entry, Ok(())),
+    Act::Sizes(30, 35),
+    Act::Held(4, Some((1, 1, 5))),
+];
+
 // Each span has a handle. Span 17 has one more, spans 4 and 21 have an entry, span 28 has two.
 fn grown(rt: &impl Abort, alloc: Global) -> Forest {
     let mut forest = forest(rt, alloc, (32, 0, 100));
     for parent in PARENTS.split_whitespace() {
         add_below(rt, alloc, &mut forest, parent);
     }
-    same(rt, next_number(&forest), 31, "the next id");
-    keep(rt, &mut forest, (17, Holder::Handle), Ok(()));
-    for number in [4, 21, 28, 28] {
-        keep(rt, &mut forest, (number, Holder::Entry), Ok(()));
-    }
-    same(rt, sizes(&forest), (30, 35), "open, and holders");
-    let fourth = held(rt, &forest, 4);
-    same(rt, fourth, Some((1, 1, 5)), "the fourth span");
+    plays(rt, alloc, &mut forest, &HELD);
     forest
 }
 
