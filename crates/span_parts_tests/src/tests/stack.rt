@@ -30,10 +30,7 @@ fn stands(stack: &SpanStack, id: Id) -> Stands {
 
 fn state(stack: &SpanStack) -> State {
     let (current, top) = (stack.current(), stack.top());
-    let two = [
-        stands(stack, Id::pack(0, 0)),
-        stands(stack, Id::pack(1, 0)),
-    ];
+    let two = [stands(stack, Id::pack(0, 0)), stands(stack, Id::pack(1, 0))];
     (stack.len(), current.map(Id::get), top.map(Id::get), two)
 }
 

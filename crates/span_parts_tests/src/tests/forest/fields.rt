@@ -28,17 +28,22 @@ fn fields_of(forest: &Forest, id: Id) -> usize {
     }
 }
 
+// The span has so many fields, of which the last one is `k=1`.
+fn ends_with_the_field(rt: &impl Abort, forest: &Forest, id: Id, len: usize) {
+    let span = forest.find(id).expect(rt, "a span is open");
+    let last = span.fields.as_slice().last().expect(rt, "a field");
+    let pair = (last.key.as_str(), last.value.as_str());
+    same(rt, span.fields.len(), len, "the fields");
+    same(rt, pair, ("k", "1"), "the last field");
+}
+
 #[test]
 fn fields_are_written_at_the_end(rt: HostRuntime) {
-    let alloc = rt.alloc();
-    let mut forest = pair(&rt, alloc);
-    write(&rt, alloc, &mut forest, id(&rt, 1));
-    write(&rt, alloc, &mut forest, id(&rt, 1));
-    same(&rt, fields_of(&forest, id(&rt, 1)), 2, "the fields");
-    let span = forest.find(id(&rt, 1)).expect(&rt, "a is open");
-    let last = span.fields.as_slice().last().expect(&rt, "a field");
-    let pair = (last.key.as_str(), last.value.as_str());
-    same(&rt, pair, ("k", "1"), "the last field");
+    let mut forest = pair(&rt, rt.alloc());
+    let a = id(&rt, 1);
+    write(&rt, rt.alloc(), &mut forest, a);
+    write(&rt, rt.alloc(), &mut forest, a);
+    ends_with_the_field(&rt, &forest, a, 2);
 }
 
 // Adds a root with these fields and the field `k=1`.
@@ -50,13 +55,17 @@ fn add_root(rt: &impl Abort, alloc: Global, forest: &mut Forest, fields: &Fields
     made
 }
 
+// Copied: the field `k=1`.
+fn copied(rt: &impl Abort, alloc: Global) -> Fields {
+    let one = [field(rt, alloc)];
+    Fields::copy_of(alloc, &one).expect(rt, "memory")
+}
+
 #[test]
 fn another_owner_keeps_its_fields(rt: HostRuntime) {
-    let alloc = rt.alloc();
-    let mut forest = pair(&rt, alloc);
-    let one = [field(&rt, alloc)];
-    let fields = Fields::copy_of(alloc, &one).expect(&rt, "memory");
-    let made = add_root(&rt, alloc, &mut forest, &fields);
+    let mut forest = pair(&rt, rt.alloc());
+    let fields = copied(&rt, rt.alloc());
+    let made = add_root(&rt, rt.alloc(), &mut forest, &fields);
     let lengths = (fields_of(&forest, made), fields.len());
     same(&rt, lengths, (2, 1), "the span's and the owner's");
 }
@@ -66,18 +75,27 @@ fn share(rt: &impl Abort, forest: &mut Forest, id: Id, fields: &Fields) {
     forest.share_fields(id, fields).expect(rt, "an open span");
 }
 
+// Moved in: the field `k=1`.
+fn moved(rt: &impl Abort, alloc: Global) -> Fields {
+    let mut list = Vec::new(alloc);
+    list.push(field(rt, alloc)).expect(rt, "memory");
+    Fields::new(alloc, list).expect(rt, "memory")
+}
+
+// Shares the fields with the first span once and with the second one twice, and answers how many each has then.
+fn share_thrice(rt: &impl Abort, forest: &mut Forest, fields: &Fields) -> (usize, usize, usize) {
+    let (one, two) = (id(rt, 1), id(rt, 2));
+    share(rt, forest, one, fields);
+    share(rt, forest, two, fields);
+    share(rt, forest, two, fields);
+    let (first, second) = (fields_of(forest, one), fields_of(forest, two));
+    (first, second, fields.len())
+}
+
 #[test]
 fn a_span_shares_its_first_fields(rt: HostRuntime) {
-    let alloc = rt.alloc();
-    let mut forest = pair(&rt, alloc);
-    let mut list = Vec::new(alloc);
-    list.push(field(&rt, alloc)).expect(&rt, "memory");
-    let fields = Fields::new(alloc, list).expect(&rt, "memory");
-    let (one, two) = (id(&rt, 1), id(&rt, 2));
-    share(&rt, &mut forest, one, &fields);
-    share(&rt, &mut forest, two, &fields);
-    share(&rt, &mut forest, two, &fields);
-    let spans = (fields_of(&forest, one), fields_of(&forest, two));
-    same(&rt, spans, (1, 2), "the spans' fields");
-    same(&rt, fields.len(), 1, "the owner's fields");
+    let mut forest = pair(&rt, rt.alloc());
+    let fields = moved(&rt, rt.alloc());
+    let lengths = share_thrice(&rt, &mut forest, &fields);
+    same(&rt, lengths, (1, 2, 1), "the spans' and the owner's");
 }
