@@ -1,20 +1,18 @@
-//! Calls as data, and what a core answers to them as text.
-ghost use Rattle.std.specs.Prelude.{◌≡◌, ◌<◌, []};
+//! Calls as data, each made by one function of this file or of `shared`.
+ghost use Rattle.std.specs.Prelude.{◌<◌};
 
-use crate::tests::layers::{Plan, fields_of, layers, meta_of};
-use crate::tests::same::same;
+use crate::tests::answers::Answer;
+use crate::tests::layers::{fields_of, meta_of};
+use crate::tests::shared::{Texts, Way, share};
 use span_core::Core;
-use span_id::{Checked, Fault, Id, Level, Limits};
-use span_layers::{Filters, Say};
-use span_outlet::{Kept, Line, ParentOf};
+use span_id::{Fault, Field, Id, Level, Meta};
+use span_outlet::{Outlet, ParentOf};
 use std::alloc::{AllocError, Global};
-use std::process::Abort;
-use std::test::Fail;
 
 /// Keys and values.
 pub(crate) type Fields<'a> = &'a [(&'a str, &'a str)];
 
-/// A call; spans stand under the numbers of their ids.
+/// A call, or a look; spans stand under the numbers of their ids.
 #[derive(Clone, Copy)]
 pub(crate) enum Act<'a> {
     New {
@@ -28,6 +26,9 @@ pub(crate) enum Act<'a> {
     Enter(u64),
     Exit(u64),
     Close(u64),
+    /// An exit and a close that show which spans close.
+    ExitShown(u64),
+    CloseShown(u64),
     Record(u64, Fields<'a>),
     Event {
         target: &'a str,
@@ -35,6 +36,21 @@ pub(crate) enum Act<'a> {
         message: &'a str,
         fields: Fields<'a>,
     },
+    /// A call that shares what its caller has.
+    Share(Way, &'a Texts),
+    Find(u64),
+    /// What is counted of the core.
+    Count,
+    /// Below the span 1, each under the one before, the spans up to this id, whose handles are given back but the last.
+    Grow(u64),
+    /// How many owners the paths and the messages of all batches have.
+    Owners(&'a [(usize, usize)]),
+    /// Each call that takes an id, on each of these ids.
+    Strangers(&'a [u64]),
+    /// A step of the drain.
+    Step,
+    /// So many steps of the drain, and how many batches and lines it had.
+    Drain(u32),
 }
 
 /// A new span whose parent is the current span.
@@ -59,23 +75,9 @@ pub(crate) fn child<'a>(name: &'a str, parent: u64) -> Act<'a> {
     }
 }
 
-/// What a call answers.
-#[derive(Clone, Copy)]
-enum Answer {
-    Made(Id),
-    NotWanted,
-    Cloned,
-    Entered(bool),
-    Closed(bool),
-    Recorded,
-    Told,
-    Refused(Fault),
-}
-
-// A call on a span that is open or was never made.
-fn perform_on<V: Say>(core: &mut Core<Kept<V>>, worker: u32, act: &Act, id: Id) -> Answer
+// A call that says no more than whose it is.
+fn hold<O: Outlet>(core: &mut Core<O>, worker: u32, act: &Act, id: Id) -> Answer
     requires { worker < core.old.limits.workers }
-    ensures limits { core.new.limits ≡ core.old.limits }
 {
     match act {
         Act::Clone(_) => match core.clone_span(worker, id) {
@@ -97,192 +99,203 @@ fn perform_on<V: Say>(core: &mut Core<Kept<V>>, worker: u32, act: &Act, id: Id) 
     }
 }
 
-// A call.
-fn perform<V: Say>(
-    alloc: Global,
-    core: &mut Core<Kept<V>>,
-    worker: u32,
-    act: &Act,
-) -> Result<Answer, AllocError>
+// The number of an id; 0 for none.
+fn number_of(id: Option<&Id>) -> u64 {
+    match id {
+        Some(id) => id.get(),
+        None => 0,
+    }
+}
+
+// Keeps of a list that is shown how long it is, and its two ends.
+fn keep(list: &mut Option<[u64; 3]>, ids: &[Id]) {
+    *list = Some([
+        ids.len() as u64,
+        number_of(ids.first()),
+        number_of(ids.last()),
+    ]);
+}
+
+// An accepted call shows one list, a refused one none.
+fn shown(closed: Result<bool, Fault>, list: Option<[u64; 3]>) -> Answer {
+    match (closed, list) {
+        (Ok(closed), Some(list)) => Answer::Shown(closed, list),
+        (Err(fault), None) => Answer::Refused(fault),
+        _ => Answer::WronglyShown,
+    }
+}
+
+// A call that shows which spans close.
+fn show<O: Outlet>(core: &mut Core<O>, worker: u32, act: &Act, id: Id) -> Answer
     requires { worker < core.old.limits.workers }
-    ensures limits { core.new.limits ≡ core.old.limits }
 {
+    let mut list = None;
+    let closed = match act {
+        Act::ExitShown(_) => core.exit_with(worker, id, &mut list, keep),
+        _ => core.try_close_with(worker, id, &mut list, keep),
+    };
+    shown(closed, list)
+}
+
+/// The handles, the entries, the count and the fields of a span.
+pub(crate) fn counts_of<O: Outlet>(core: &Core<O>, id: Id) -> Option<[u64; 4]> {
+    let span = core.find(id)?;
+    Some([
+        u64::from(span.handles),
+        u64::from(span.entries),
+        u64::from(span.count),
+        span.fields.len() as u64,
+    ])
+}
+
+fn find<O: Outlet>(core: &Core<O>, id: Id) -> Answer {
+    match counts_of(core, id) {
+        Some(counts) => Answer::Found(counts),
+        None => Answer::Refused(Fault::Unknown),
+    }
+}
+
+fn perform_on<O: Outlet>(core: &mut Core<O>, worker: u32, act: &Act, number: u64) -> Answer
+    requires { worker < core.old.limits.workers }
+{
+    let Some(id) = Id::from_u64(number) else {
+        return Answer::Refused(Fault::Unknown);
+    };
+    match act {
+        Act::Find(_) => find(core, id),
+        Act::ExitShown(_) | Act::CloseShown(_) => show(core, worker, act, id),
+        _ => hold(core, worker, act, id),
+    }
+}
+
+// What a call passes.
+#[derive(Drop)]
+struct Parts {
+    meta: Meta,
+    fields: Vec<Field>,
+}
+
+fn given(
+    alloc: Global,
+    name: &str,
+    target: &str,
+    level: Level,
+    fields: Fields,
+) -> Result<Parts, AllocError> {
+    let fields = fields_of(alloc, fields)?;
+    Ok(Parts {
+        meta: meta_of(alloc, name, target, level)?,
+        fields,
+    })
+}
+
+// What this call passes, where it passes something.
+fn given_by(alloc: Global, act: &Act) -> Result<Parts, AllocError> {
     match act {
         Act::New {
             name,
             target,
             level,
-            parent,
+            parent: _,
             fields,
-        } => {
-            let meta = meta_of(alloc, name, target, *level)?;
-            let fields = fields_of(alloc, fields)?;
-            match core.new_span(worker, &meta, fields.as_slice(), *parent) {
-                Ok(Some(id)) => Ok(Answer::Made(id)),
-                Ok(None) => Ok(Answer::NotWanted),
-                Err(fault) => Ok(Answer::Refused(fault)),
-            }
-        }
+        } => given(alloc, name, target, *level, fields),
         Act::Event {
             target,
             level,
-            message,
+            message: _,
             fields,
-        } => {
-            let meta = meta_of(alloc, "event", target, *level)?;
-            let fields = fields_of(alloc, fields)?;
-            match core.event(worker, &meta, message, fields.as_slice()) {
-                Ok(()) => Ok(Answer::Told),
-                Err(fault) => Ok(Answer::Refused(fault)),
-            }
-        }
-        Act::Record(number, fields) => {
-            let fields = fields_of(alloc, fields)?;
-            let Some(id) = Id::from_u64(*number) else {
-                return Ok(Answer::Refused(Fault::Unknown));
-            };
-            match core.record(worker, id, fields.as_slice()) {
-                Ok(()) => Ok(Answer::Recorded),
-                Err(fault) => Ok(Answer::Refused(fault)),
-            }
-        }
-        Act::Clone(number) | Act::Enter(number) | Act::Exit(number) | Act::Close(number) => {
-            let Some(id) = Id::from_u64(*number) else {
-                return Ok(Answer::Refused(Fault::Unknown));
-            };
-            Ok(perform_on(core, worker, act, id))
-        }
+        } => given(alloc, "event", target, *level, fields),
+        Act::Record(_, fields) => given(alloc, "", "", Level::Info, fields),
+        _ => given(alloc, "", "", Level::Info, &[]),
     }
 }
 
-/// `L<layer> <text>`, on a line each, of the lines from this one on.
-pub(crate) fn push_lines(
-    alloc: Global,
-    text: &mut Vec<u8>,
-    lines: &[Line],
-    first: usize,
-) -> Result<(), AllocError> {
-    for line in lines.iter().skip(first) {
-        let layer = format!(in alloc; "L{} ", line.layer)?;
-        text.extend_from_slice(layer.as_bytes())?;
-        text.extend_from_slice(line.text.as_slice())?;
-        text.extend_from_slice(b"\n")?;
+fn make<O: Outlet>(core: &mut Core<O>, worker: u32, parent: ParentOf, given: &Parts) -> Answer
+    requires { worker < core.old.limits.workers }
+{
+    match core.new_span(worker, &given.meta, given.fields.as_slice(), parent) {
+        Ok(Some(id)) => Answer::Made(id),
+        Ok(None) => Answer::NotWanted,
+        Err(fault) => Answer::Refused(fault),
     }
-    Ok(())
 }
 
-// `= ` and the answer, or `! ` and the refusal, on a line.
-fn push_answer(alloc: Global, text: &mut Vec<u8>, answer: Answer) -> Result<(), AllocError> {
-    let line = match answer {
-        Answer::Made(id) => format!(in alloc; "= {id}\n")?,
-        Answer::NotWanted => String::from_str(alloc, "= not wanted\n")?,
-        Answer::Cloned => String::from_str(alloc, "= cloned\n")?,
-        Answer::Entered(true) => String::from_str(alloc, "= entered\n")?,
-        Answer::Entered(false) => String::from_str(alloc, "= again\n")?,
-        Answer::Closed(true) => String::from_str(alloc, "= closed\n")?,
-        Answer::Closed(false) => String::from_str(alloc, "= open\n")?,
-        Answer::Recorded => String::from_str(alloc, "= recorded\n")?,
-        Answer::Told => String::from_str(alloc, "= told\n")?,
-        Answer::Refused(fault) => format!(in alloc; "! {fault}\n")?,
+fn tell<O: Outlet>(core: &mut Core<O>, worker: u32, message: &str, given: &Parts) -> Answer
+    requires { worker < core.old.limits.workers }
+{
+    match core.event(worker, &given.meta, message, given.fields.as_slice()) {
+        Ok(()) => Answer::Told,
+        Err(fault) => Answer::Refused(fault),
+    }
+}
+
+fn record<O: Outlet>(core: &mut Core<O>, worker: u32, number: u64, given: &Parts) -> Answer
+    requires { worker < core.old.limits.workers }
+{
+    let Some(id) = Id::from_u64(number) else {
+        return Answer::Refused(Fault::Unknown);
     };
-    text.extend_from_slice(line.as_bytes())
-}
-
-/// What a core with so many workers answers to these calls, each made by the worker beside it: for each call first the
-/// lines of its notes, then `= ` and its answer, or `! ` and its refusal.
-pub(crate) fn play<V: Say>(
-    alloc: Global,
-    core: &mut Core<Kept<V>>,
-    workers: u32,
-    acts: &[(u32, Act)],
-) -> Result<String, Fail>
-    requires { workers ≡ core.old.limits.workers }
-    ensures limits { core.new.limits ≡ core.old.limits }
-{
-    let mut text = Vec::new(alloc);
-    for (worker, act) in acts {
-        if *worker >= workers {
-            return Err(Fail::new("there is no such worker"));
-        }
-        let first = core.outlet().all().len();
-        let answer = perform(alloc, core, *worker, act)?;
-        push_lines(alloc, &mut text, core.outlet().all(), first)?;
-        push_answer(alloc, &mut text, answer)?;
+    match core.record(worker, id, given.fields.as_slice()) {
+        Ok(()) => Answer::Recorded,
+        Err(fault) => Answer::Refused(fault),
     }
-    Ok(String::from_utf8(text)?)
 }
 
-/// A core answers so to these calls.
-pub(crate) fn says<V: Say>(
-    rt: &impl Abort,
-    alloc: Global,
-    core: &mut Core<Kept<V>>,
-    workers: u32,
-    acts: &[(u32, Act)],
-    expected: &str,
-) -> Result<(), Fail>
-    requires { workers ≡ core.old.limits.workers }
-    ensures limits { core.new.limits ≡ core.old.limits }
+// A call that passes what is given; any other act is none.
+fn pass<O: Outlet>(core: &mut Core<O>, worker: u32, act: &Act, given: &Parts) -> Answer
+    requires { worker < core.old.limits.workers }
 {
-    let text = play(alloc, core, workers, acts)?;
-    same(rt, text.as_str(), expected);
-    Ok(())
+    match act {
+        Act::New { parent, .. } => make(core, worker, *parent, given),
+        Act::Event { message, .. } => tell(core, worker, message, given),
+        Act::Record(number, _) => record(core, worker, *number, given),
+        _ => Answer::NoCall,
+    }
 }
 
-// What a core answers to these calls. In the end no span is open and no note was missed.
-fn play_to_end<V: Say>(
-    rt: &impl Abort,
-    alloc: Global,
-    core: &mut Core<Kept<V>>,
-    workers: u32,
-    acts: &[(u32, Act)],
-) -> Result<String, Fail>
-    requires { workers ≡ core.old.limits.workers }
+fn give<O: Outlet>(alloc: Global, core: &mut Core<O>, worker: u32, act: &Act) -> Answer
+    requires { worker < core.old.limits.workers }
 {
-    let text = play(alloc, core, workers, acts)?;
-    same(rt, (core.len(), core.outlet().refused()), (0, 0));
-    Ok(text)
+    match given_by(alloc, act) {
+        Ok(given) => pass(core, worker, act, &given),
+        Err(_) => Answer::Refused(Fault::Memory),
+    }
 }
 
-// The same for a new core.
-fn answered<V: Say>(
-    rt: &impl Abort,
-    alloc: Global,
-    checked: &Checked,
-    filters: Filters,
-    outlet: Kept<V>,
-    acts: &[(u32, Act)],
-) -> Result<String, Fail>
-    requires { outlet.sent ≡ [] }
-{
-    let mut core = Core::new(alloc, checked, filters, outlet)?;
-    play_to_end(rt, alloc, &mut core, checked.limits().workers, acts)
+/// What is counted of a core: the spans that are open, how often they are held, the handles, the entries, the accepted
+/// calls, and the spans that were made and that closed.
+pub(crate) fn counts<O: Outlet>(core: &Core<O>) -> [u64; 7] {
+    [
+        u64::from(core.len()),
+        core.total(),
+        core.handles(),
+        core.entries(),
+        core.calls(),
+        core.made(),
+        core.closed(),
+    ]
 }
 
-/// What a new core with these layers answers to the calls, and the lines; in the end no span is open.
-pub(crate) fn played(
-    rt: &impl Abort,
+/// What a core answers to a call of this worker, or to a look.
+pub(crate) fn perform<O: Outlet>(
     alloc: Global,
-    limits: Limits,
-    plans: &[Plan],
-    acts: &[(u32, Act)],
-) -> Result<String, Fail> {
-    let checked = limits.check()?;
-    let (filters, tellers) = layers(alloc, plans)?;
-    let outlet = Kept::new(alloc, tellers);
-    answered(rt, alloc, &checked, filters, outlet, acts)
-}
-
-/// A new core with these layers answers so to the calls, with these lines; in the end no span is open.
-pub(crate) fn plays(
-    rt: &impl Abort,
-    alloc: Global,
-    limits: Limits,
-    plans: &[Plan],
-    acts: &[(u32, Act)],
-    expected: &str,
-) -> Result<(), Fail> {
-    let text = played(rt, alloc, limits, plans, acts)?;
-    same(rt, text.as_str(), expected);
-    Ok(())
+    core: &mut Core<O>,
+    worker: u32,
+    act: &Act,
+) -> Answer {
+    if worker >= core.limits().workers {
+        return Answer::NoWorker;
+    }
+    match act {
+        Act::Clone(number)
+        | Act::Enter(number)
+        | Act::Exit(number)
+        | Act::Close(number)
+        | Act::ExitShown(number)
+        | Act::CloseShown(number)
+        | Act::Find(number) => perform_on(core, worker, act, *number),
+        Act::Count => Answer::Counted(counts(core)),
+        Act::Share(way, texts) => share(core, worker, *way, texts),
+        _ => give(alloc, core, worker, act),
+    }
 }

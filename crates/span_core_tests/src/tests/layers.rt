@@ -5,12 +5,11 @@ ghost use Rattle.span_layers.specs.Note.{plain_note};
 ghost use Rattle.span_layers.specs.Rule.{pairs_of, is_admitted};
 ghost use Rattle.span_layers.specs.Text.{text_of};
 
-use span_id::{Field, Level, Meta};
+use span_id::{Fault, Field, Level, Meta};
 use span_layers::{
     Filters, FmtSpan, Form, Hooks, Layer, Layers, Note, Rule, Style, Tellers, admits, text,
 };
 use std::alloc::{AllocError, Global};
-use std::test::Fail;
 
 /// A layer in few words: its form, the kinds that it wants, and the one pair of its rule.
 pub(crate) type Plan<'a> = (Form, FmtSpan, &'a str, Level);
@@ -52,20 +51,20 @@ pub(crate) fn layer(alloc: Global, plan: &Plan, hooks: Hooks) -> Result<Layer, A
 }
 
 /// Adds a layer.
-pub(crate) fn add(layers: &mut Layers, layer: Layer) -> Result<(), Fail> {
+pub(crate) fn add(layers: &mut Layers, layer: Layer) -> Result<(), Fault> {
     match layers.add(layer) {
         Ok(_) => Ok(()),
-        Err(_) => Err(Fail::new("a layer too many, or no memory")),
+        Err((_, fault)) => Err(fault),
     }
 }
 
 // Adds a layer of this plan.
-fn add_plan(alloc: Global, layers: &mut Layers, plan: &Plan) -> Result<(), Fail> {
+fn add_plan(alloc: Global, layers: &mut Layers, plan: &Plan) -> Result<(), Fault> {
     add(layers, layer(alloc, plan, hooks(alloc)?)?)
 }
 
 /// The two parts of layers of these plans.
-pub(crate) fn layers(alloc: Global, plans: &[Plan]) -> Result<(Filters, Tellers), Fail> {
+pub(crate) fn layers(alloc: Global, plans: &[Plan]) -> Result<(Filters, Tellers), Fault> {
     let mut layers = Layers::new(alloc);
     for plan in plans {
         add_plan(alloc, &mut layers, plan)?;

@@ -1,17 +1,17 @@
 //! The calls that share what their caller has.
-ghost use Rattle.std.specs.Prelude.{◌≡◌, []};
+ghost use Rattle.std.specs.Prelude.{◌<◌};
 
-use crate::tests::acts::push_lines;
-use crate::tests::layers::{EVERYTHING, fields_of, layers, meta_of};
+use crate::tests::acts::Act;
+use crate::tests::answers::Answer;
+use crate::tests::layers::{EVERYTHING, fields_of, meta_of};
+use crate::tests::play::plays;
 use crate::tests::same::same;
 use span_core::Core;
-use span_id::{Checked, Fault, Fields, Id, Level, Limits, SharedMeta};
-use span_layers::{Filters, Say};
-use span_outlet::{Kept, Line, ParentOf};
+use span_id::{Fault, Fields, Id, Level, Limits, SharedMeta};
+use span_outlet::{Outlet, ParentOf};
 use std::alloc::Global;
 use std::process::Abort;
 use std::sync::ArcStr;
-use std::test::Fail;
 
 const LIMITS: Limits = Limits {
     slots: 2,
@@ -21,26 +21,25 @@ const LIMITS: Limits = Limits {
     ring: 1,
 };
 
-const TOLD: &str = "\
-L0 new 1 w0 a k=1
-L0 new 2 w0 a
-L0 record 1 w0 a k=1
-L0 record 2 w0 a k=1
-L0 record 2 w0 a k=1
-L0 event 0 w0 - INFO told k=1
-L0 close 1 w0 a k=1 k=1
-L0 close 2 w0 a k=1 k=1
-";
-
-// What the calls share.
+/// What the calls share.
 #[derive(Drop)]
-struct Texts {
+pub(crate) struct Texts {
     meta: SharedMeta,
     fields: Fields,
     message: ArcStr,
 }
 
-fn texts_of(alloc: Global, key: &str, message: &str) -> Result<Texts, Fail> {
+/// The calls that share.
+#[derive(Clone, Copy)]
+pub(crate) enum Way {
+    /// A new root with the fields, and one without.
+    New,
+    NewBare,
+    Record(u64),
+    Event,
+}
+
+fn shares_with(alloc: Global, key: &str, message: &str) -> Result<Texts, Fault> {
     let meta = SharedMeta::new(alloc, meta_of(alloc, "a", "app", Level::Info)?)?;
     let fields = Fields::new(alloc, fields_of(alloc, &[(key, "1")])?)?;
     let message = ArcStr::from_str(alloc, message)?;
@@ -51,95 +50,106 @@ fn texts_of(alloc: Global, key: &str, message: &str) -> Result<Texts, Fail> {
     })
 }
 
-// Two spans of one meta, and records and an event of the same fields.
-fn make_calls<V: Say>(core: &mut Core<Kept<V>>, texts: &Texts) -> Result<(), Fault>
-    requires { 1 ≡ core.old.limits.workers }
-    ensures { core.new.limits ≡ core.old.limits }
+fn make<O: Outlet>(core: &mut Core<O>, worker: u32, meta: &SharedMeta, fields: &Fields) -> Answer
+    requires { worker < core.old.limits.workers }
 {
-    let (first, second) = (Id::pack(0, 0), Id::pack(1, 0));
-    core.new_span_shared(0, &texts.meta, &texts.fields, ParentOf::Root)?;
-    core.new_span_shared(0, &texts.meta, &Fields::none(), ParentOf::Root)?;
-    core.record_shared(0, first, &texts.fields)?;
-    core.record_shared(0, second, &texts.fields)?;
-    core.record_shared(0, second, &texts.fields)?;
-    core.event_shared(0, &texts.meta, &texts.message, &texts.fields)?;
-    core.try_close(0, first)?;
-    core.try_close(0, second)?;
-    Ok(())
+    match core.new_span_shared(worker, meta, fields, ParentOf::Root) {
+        Ok(Some(id)) => Answer::Made(id),
+        Ok(None) => Answer::NotWanted,
+        Err(fault) => Answer::Refused(fault),
+    }
 }
 
-// Each of the calls refuses a key that is no name.
-fn refuse<V: Say>(rt: &impl Abort, core: &mut Core<Kept<V>>, texts: &Texts)
-    requires { 1 ≡ core.old.limits.workers }
-    ensures { core.new.limits ≡ core.old.limits }
+fn record<O: Outlet>(core: &mut Core<O>, worker: u32, number: u64, fields: &Fields) -> Answer
+    requires { worker < core.old.limits.workers }
 {
-    let made = core.new_span_shared(0, &texts.meta, &texts.fields, ParentOf::Root);
-    let written = core.record_shared(0, Id::pack(0, 0), &texts.fields);
-    let told = core.event_shared(0, &texts.meta, &texts.message, &texts.fields);
-    same(rt, made, Err(Fault::BadName));
-    same(
-        rt,
-        (written, told),
-        (Err(Fault::BadName), Err(Fault::BadName)),
-    );
+    let Some(id) = Id::from_u64(number) else {
+        return Answer::Refused(Fault::Unknown);
+    };
+    match core.record_shared(worker, id, fields) {
+        Ok(()) => Answer::Recorded,
+        Err(fault) => Answer::Refused(fault),
+    }
 }
 
-fn refuses<V: Say>(rt: &impl Abort, alloc: Global, core: &mut Core<Kept<V>>) -> Result<(), Fail>
-    requires { 1 ≡ core.old.limits.workers }
-    ensures { core.new.limits ≡ core.old.limits }
+fn tell<O: Outlet>(core: &mut Core<O>, worker: u32, texts: &Texts) -> Answer
+    requires { worker < core.old.limits.workers }
 {
-    let texts = texts_of(alloc, "no name", "")?;
-    refuse(rt, core, &texts);
-    Ok(())
+    match core.event_shared(worker, &texts.meta, &texts.message, &texts.fields) {
+        Ok(()) => Answer::Told,
+        Err(fault) => Answer::Refused(fault),
+    }
 }
 
-fn calls<V: Say>(alloc: Global, core: &mut Core<Kept<V>>) -> Result<(), Fail>
-    requires { 1 ≡ core.old.limits.workers }
-    ensures { core.new.limits ≡ core.old.limits }
+/// What a core answers to a call that shares these texts.
+pub(crate) fn share<O: Outlet>(core: &mut Core<O>, worker: u32, way: Way, texts: &Texts) -> Answer
+    requires { worker < core.old.limits.workers }
 {
-    let texts = texts_of(alloc, "k", "told")?;
-    Ok(make_calls(core, &texts)?)
+    match way {
+        Way::New => make(core, worker, &texts.meta, &texts.fields),
+        Way::NewBare => make(core, worker, &texts.meta, &Fields::none()),
+        Way::Record(number) => record(core, worker, number, &texts.fields),
+        Way::Event => tell(core, worker, texts),
+    }
 }
 
-// The lines that the core told.
-fn tells(rt: &impl Abort, alloc: Global, lines: &[Line], expected: &str) -> Result<(), Fail> {
-    let mut text = Vec::new(alloc);
-    push_lines(alloc, &mut text, lines, 0)?;
-    same(rt, str::from_utf8(text.as_slice()).ok(), Some(expected));
-    Ok(())
+// Each of the calls refuses a key that is no name. Then come two spans of one meta, and records and an event of the same
+// fields.
+const TOLD: &str = "\
+! bad name
+! bad name
+! bad name
+L0 new 1 w0 a k=1
+= 1
+L0 new 2 w0 a
+= 2
+L0 record 1 w0 a k=1
+= recorded
+L0 record 2 w0 a k=1
+= recorded
+L0 record 2 w0 a k=1
+= recorded
+L0 event 0 w0 - INFO told k=1
+= told
+L0 close 1 w0 a k=1 k=1
+= closed
+L0 close 2 w0 a k=1 k=1
+= closed
+";
+
+fn tells<'a>(rt: &impl Abort, alloc: Global, bad: &'a Texts, good: &'a Texts) {
+    let acts = [
+        (0, Act::Share(Way::New, bad)),
+        (0, Act::Share(Way::Record(1), bad)),
+        (0, Act::Share(Way::Event, bad)),
+        (0, Act::Share(Way::New, good)),
+        (0, Act::Share(Way::NewBare, good)),
+        (0, Act::Share(Way::Record(1), good)),
+        (0, Act::Share(Way::Record(2), good)),
+        (0, Act::Share(Way::Record(2), good)),
+        (0, Act::Share(Way::Event, good)),
+        (0, Act::Close(1)),
+        (0, Act::Close(2)),
+    ];
+    plays(rt, alloc, LIMITS, &[EVERYTHING], &acts, TOLD);
 }
 
-fn refuse_and_tell<V: Say>(
+fn both_tell(
     rt: &impl Abort,
     alloc: Global,
-    core: &mut Core<Kept<V>>,
-) -> Result<(), Fail>
-    requires { 1 ≡ core.old.limits.workers }
-{
-    refuses(rt, alloc, core)?;
-    calls(alloc, core)?;
-    tells(rt, alloc, core.outlet().all(), TOLD)
-}
-
-// The lines of the calls on a new core.
-fn told<V: Say>(
-    rt: &impl Abort,
-    alloc: Global,
-    checked: &Checked,
-    filters: Filters,
-    outlet: Kept<V>,
-) -> Result<(), Fail>
-    requires sent { outlet.sent ≡ [] }
-    requires workers { checked.now.workers ≡ 1 }
-{
-    let mut core = Core::new(alloc, checked, filters, outlet)?;
-    refuse_and_tell(rt, alloc, &mut core)
+    bad: &Result<Texts, Fault>,
+    good: &Result<Texts, Fault>,
+) {
+    match (bad, good) {
+        (Ok(bad), Ok(good)) => tells(rt, alloc, bad, good),
+        _ => same(rt, Some("no memory"), None),
+    }
 }
 
 #[test]
-fn what_is_shared_is_told_and_kept(rt: HostRuntime) -> Result<(), Fail> {
+fn what_is_shared_is_told_and_kept(rt: HostRuntime) {
     let alloc = rt.alloc();
-    let checked = LIMITS.check()?;
-    let (filters, tellers) = layers(alloc, &[EVERYTHING])?;
-    told(&rt, alloc, &checked, filters, Kept::new(alloc, tellers))
+    let bad = shares_with(alloc, "no name", "");
+    let good = shares_with(alloc, "k", "told");
+    both_tell(&rt, alloc, &bad, &good);
 }

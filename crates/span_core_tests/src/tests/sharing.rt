@@ -1,15 +1,13 @@
 //! What the notes of a call share, by how many owners it has.
-ghost use Rattle.std.specs.Prelude.{◌≡◌, []};
-
-use crate::tests::acts::{Act, Fields, child, new, play, played};
-use crate::tests::layers::{EVERYTHING, layers};
-use span_core::Core;
-use span_id::{Level, Limits};
-use span_layers::{Filters, FmtSpan, Form, Note, Say};
-use span_outlet::{Batch, Call, Kept, ParentOf};
-use std::alloc::Global;
+use crate::tests::acts::{Act, Fields, child, new};
+use crate::tests::layers::{EVERYTHING, Plan};
+use crate::tests::play::{Transcript, played, plays};
+use crate::tests::same::same;
+use span_id::{Fault, Level, Limits};
+use span_layers::{FmtSpan, Form, Note};
+use span_outlet::{Batch, Call, ParentOf};
+use std::process::Abort;
 use std::sync::ArcStr;
-use std::test::Fail;
 
 const LIMITS: Limits = Limits {
     slots: 8,
@@ -43,8 +41,8 @@ fn is_shared(batch: &Batch, paths: usize, messages: usize) -> bool {
         & (batch.notes.len() == batch.notes.capacity())
 }
 
-// Whether each batch is shared so.
-fn are_shared(batches: &[Batch], owners: &[(usize, usize)]) -> bool {
+/// Whether there are so many batches, and each is shared so.
+pub(crate) fn are_shared(batches: &[Batch], owners: &[(usize, usize)]) -> bool {
     let mut right = batches.len() == owners.len();
     for (batch, (paths, messages)) in batches.iter().zip(owners) {
         right = right & is_shared(batch, *paths, *messages);
@@ -63,7 +61,7 @@ fn elsewhere<'a>(name: &'a str, fields: Fields<'a>) -> Act<'a> {
     }
 }
 
-fn acts<'a>() -> [(u32, Act<'a>); 10] {
+fn acts<'a>() -> [(u32, Act<'a>); 11] {
     let event = Act::Event {
         target: "app",
         level: Level::Info,
@@ -81,6 +79,7 @@ fn acts<'a>() -> [(u32, Act<'a>); 10] {
         (0, Act::Close(1)),
         (0, Act::Close(2)),
         (0, Act::Close(3)),
+        (0, Act::Owners(&OWNERS)),
     ]
 }
 
@@ -99,7 +98,7 @@ const OWNERS: [(usize, usize); 10] = [
     (3, 0),
 ];
 
-fn closing_acts<'a>() -> [(u32, Act<'a>); 8] {
+fn closing_acts<'a>() -> [(u32, Act<'a>); 9] {
     [
         (0, new("a")),
         (0, Act::Enter(1)),
@@ -109,6 +108,7 @@ fn closing_acts<'a>() -> [(u32, Act<'a>); 8] {
         (0, Act::Enter(3)),
         (0, Act::Close(3)),
         (0, Act::Exit(3)),
+        (0, Act::Owners(&CLOSING_OWNERS)),
     ]
 }
 
@@ -125,50 +125,30 @@ const CLOSING_OWNERS: [(usize, usize); 8] = [
     (4, 0),
 ];
 
-fn calls_are_shared<V: Say>(
-    alloc: Global,
-    filters: Filters,
-    outlet: Kept<V>,
-    acts: &[(u32, Act<'_>)],
-    owners: &[(usize, usize)],
-) -> Result<bool, Fail>
-    requires { outlet.sent ≡ [] }
-{
-    let mut core = Core::new(alloc, &LIMITS.check()?, filters, outlet)?;
-    play(alloc, &mut core, LIMITS.workers, acts)?;
-    Ok(are_shared(core.outlet().batches(), owners))
+// The batches are looked at last, while the core has them.
+fn are_right(rt: &impl Abort, played: &Result<Transcript, Fault>) {
+    match played {
+        Ok(played) => same(rt, played.text.ends_with(b"= yes\n"), true),
+        Err(fault) => same(rt, Some(*fault), None),
+    }
 }
 
-fn with_four_layers(alloc: Global) -> Result<bool, Fail> {
-    let app = (Form::Compact, FmtSpan::FULL, "app", Level::Trace);
-    let (filters, tellers) = layers(alloc, &[EVERYTHING, EVERYTHING, app, EVERYTHING])?;
-    let outlet = Kept::new(alloc, tellers);
-    calls_are_shared(alloc, filters, outlet, &acts(), &OWNERS)
-}
+const APP: Plan<'static> = (Form::Compact, FmtSpan::FULL, "app", Level::Trace);
 
-fn with_three_layers(alloc: Global) -> Result<bool, Fail> {
-    let app = (Form::Compact, FmtSpan::FULL, "app", Level::Trace);
-    let (filters, tellers) = layers(alloc, &[EVERYTHING, app, EVERYTHING])?;
-    let outlet = Kept::new(alloc, tellers);
-    calls_are_shared(alloc, filters, outlet, &closing_acts(), &CLOSING_OWNERS)
+#[test]
+fn notes_share_with_the_call(rt: HostRuntime) {
+    let plans = [EVERYTHING, EVERYTHING, APP, EVERYTHING];
+    are_right(&rt, &played(rt.alloc(), LIMITS, &plans, &acts()));
 }
 
 #[test]
-fn notes_share_with_the_call(rt: HostRuntime) -> Result<(), Fail> {
-    let shared = with_four_layers(rt.alloc())?;
-    assert!(&rt; shared);
-    Ok(())
+fn an_exit_shares_with_its_closes(rt: HostRuntime) {
+    let plans = [EVERYTHING, APP, EVERYTHING];
+    are_right(&rt, &played(rt.alloc(), LIMITS, &plans, &closing_acts()));
 }
 
 #[test]
-fn an_exit_shares_with_its_closes(rt: HostRuntime) -> Result<(), Fail> {
-    let shared = with_three_layers(rt.alloc())?;
-    assert!(&rt; shared);
-    Ok(())
-}
-
-#[test]
-fn a_name_may_be_a_dash(rt: HostRuntime) -> Result<(), Fail> {
+fn a_name_may_be_a_dash(rt: HostRuntime) {
     let acts = [
         (0, new("-")),
         (0, Act::Enter(1)),
@@ -178,9 +158,7 @@ fn a_name_may_be_a_dash(rt: HostRuntime) -> Result<(), Fail> {
         (0, Act::Close(2)),
     ];
     let lib = (Form::Compact, FmtSpan::FULL, "lib", Level::Trace);
-    let text = played(&rt, rt.alloc(), LIMITS, &[EVERYTHING, lib], &acts)?;
     let expected =
         "L0 new 1 w0 -\n= 1\nL0 enter 1 w0 -\n= entered\nL0 new 2 w0 -:x\nL1 new 2 w0 x\n= 2\nL0 exit 1 w0 -\n= open\n= open\nL0 close 2 w0 -:x\nL1 close 2 w0 x\nL0 close 1 w0 -\n= closed\n";
-    assert_eq!(&rt; text.as_str(), expected);
-    Ok(())
+    plays(&rt, rt.alloc(), LIMITS, &[EVERYTHING, lib], &acts, expected);
 }

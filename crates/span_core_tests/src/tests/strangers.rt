@@ -1,12 +1,13 @@
 //! Strangers' ids: ids of every kind that no span has, in every call that takes an id.
-ghost use Rattle.std.specs.Prelude.{◌≡◌, [], IfOk};
-
-use crate::tests::layers::{EVERYTHING, fields_of, layers, meta_of};
+use crate::tests::acts::{Act, child, counts, counts_of, perform};
+use crate::tests::answers::Answer;
+use crate::tests::layers::{EVERYTHING, layers};
+use crate::tests::on_a_ring::played_on_ring;
+use crate::tests::play::ends;
 use span_core::Core;
-use span_id::{Fault, Field, Id, Level, Limits, Meta};
-use span_outlet::{Drain, ParentOf, Ring};
+use span_id::{Fault, Id, Limits};
+use span_outlet::Outlet;
 use std::alloc::Global;
-use std::test::Fail;
 
 const LIMITS: Limits = Limits {
     slots: 4,
@@ -33,209 +34,110 @@ const STRANGERS: [u64; 11] = [
     72057594037927936,
 ];
 
-// What the calls pass.
-#[derive(Drop)]
-struct Texts {
-    meta: Meta,
-    fields: Vec<Field>,
-}
+// The open span: the second of slot 1.
+const OPEN: u64 = 16777218;
 
-// A core over a ring, and the ring's drain.
-fn opened(alloc: Global) -> Result<(Core<Ring>, Drain), Fail>
-    ensures { IfOk result (λ made. made.0.limits.workers ≡ 1) }
-{
-    let (filters, tellers) = layers(alloc, &[EVERYTHING])?;
-    let checked = LIMITS.check()?;
-    let (ring, tap) = Ring::pair(alloc, &checked)?;
-    let core = Core::new(alloc, &checked, filters, ring)?;
-    Ok((core, Drain::new(alloc, tap, tellers)))
-}
-
-// A span that closes at once.
-fn make_and_close(core: &mut Core<Ring>, texts: &Texts) -> Result<(), Fault>
-    requires { core.old.limits.workers ≡ 1 }
-    ensures { core.new.limits ≡ core.old.limits }
-{
-    if let Some(id) = core.new_span(0, &texts.meta, &[], ParentOf::Root)? {
-        core.try_close(0, id)?;
-    }
-    Ok(())
-}
-
-// A span that stays, with two handles and the worker inside it.
-fn make_and_stay(core: &mut Core<Ring>, texts: &Texts) -> Result<(), Fault>
-    requires { core.old.limits.workers ≡ 1 }
-    ensures { core.new.limits ≡ core.old.limits }
-{
-    if let Some(id) = core.new_span(0, &texts.meta, &[], ParentOf::Root)? {
-        core.enter(0, id)?;
-        core.clone_span(0, id)?;
-    }
-    Ok(())
-}
-
-// Slot 0 is retired, slot 1 has its second span, which is open, slot 2 is free again, slot 3 was never used.
-fn live_the_past(core: &mut Core<Ring>, texts: &Texts) -> Result<(), Fault>
-    requires { core.old.limits.workers ≡ 1 }
-    ensures { core.new.limits ≡ core.old.limits }
-{
-    make_and_close(core, texts)?;
-    make_and_close(core, texts)?;
-    make_and_close(core, texts)?;
-    make_and_stay(core, texts)?;
-    make_and_close(core, texts)
-}
-
-// What can be counted of the core, and of the span that is open.
-fn counts(core: &Core<Ring>) -> [u64; 10] {
-    let (handles, entries, fields) = match core.find(Id::pack(1, 1)) {
-        Some(span) => (span.handles, span.entries, span.fields.len()),
-        None => (0, 0, 0),
-    };
+// Every call that takes an id. Those that would show which spans close show nothing.
+fn calls_on<'a>(number: u64) -> [Act<'a>; 9] {
     [
-        u64::from(core.len()),
-        core.total(),
-        core.handles(),
-        core.entries(),
-        core.calls(),
-        core.made(),
-        core.closed(),
-        u64::from(handles),
-        u64::from(entries),
-        fields as u64,
+        Act::Find(number),
+        child("a", number),
+        Act::Clone(number),
+        Act::Enter(number),
+        Act::Exit(number),
+        Act::Record(number, &[("k", "v")]),
+        Act::Close(number),
+        Act::ExitShown(number),
+        Act::CloseShown(number),
     ]
 }
 
-fn finds_none(core: &Core<Ring>, stranger: Id) -> bool {
-    core.find(stranger).is_none()
-}
-
-fn refuses_child(core: &mut Core<Ring>, texts: &Texts, stranger: Id) -> bool
-    requires { core.old.limits.workers ≡ 1 }
-    ensures { core.new.limits ≡ core.old.limits }
-{
-    core.new_span(0, &texts.meta, &[], ParentOf::Of(stranger)) == Err(Fault::Unknown)
-}
-
-fn refuses_clone(core: &mut Core<Ring>, stranger: Id) -> bool
-    requires { core.old.limits.workers ≡ 1 }
-    ensures { core.new.limits ≡ core.old.limits }
-{
-    core.clone_span(0, stranger) == Err(Fault::Unknown)
-}
-
-fn refuses_enter(core: &mut Core<Ring>, stranger: Id) -> bool
-    requires { core.old.limits.workers ≡ 1 }
-    ensures { core.new.limits ≡ core.old.limits }
-{
-    core.enter(0, stranger) == Err(Fault::Unknown)
-}
-
-fn refuses_exit(core: &mut Core<Ring>, stranger: Id) -> bool
-    requires { core.old.limits.workers ≡ 1 }
-    ensures { core.new.limits ≡ core.old.limits }
-{
-    core.exit(0, stranger) == Err(Fault::Unknown)
-}
-
-fn refuses_record(core: &mut Core<Ring>, texts: &Texts, stranger: Id) -> bool
-    requires { core.old.limits.workers ≡ 1 }
-    ensures { core.new.limits ≡ core.old.limits }
-{
-    core.record(0, stranger, texts.fields.as_slice()) == Err(Fault::Unknown)
-}
-
-fn refuses_close(core: &mut Core<Ring>, stranger: Id) -> bool
-    requires { core.old.limits.workers ≡ 1 }
-    ensures { core.new.limits ≡ core.old.limits }
-{
-    core.try_close(0, stranger) == Err(Fault::Unknown)
-}
-
-// Keeps that a list was shown.
-fn see(seen: &mut bool, _closing: &[Id]) {
-    *seen = true;
-}
-
-// The calls that show which spans close show nothing.
-fn shows_nothing(core: &mut Core<Ring>, stranger: Id) -> bool
-    requires { core.old.limits.workers ≡ 1 }
-    ensures { core.new.limits ≡ core.old.limits }
-{
-    let mut seen = false;
-    let left = core.exit_with(0, stranger, &mut seen, see);
-    let closed = core.try_close_with(0, stranger, &mut seen, see);
-    (left == Err(Fault::Unknown)) & (closed == Err(Fault::Unknown)) & !seen
-}
-
-// Whether each call finds no span of this id.
-fn is_unknown(core: &mut Core<Ring>, texts: &Texts, stranger: Id) -> bool
-    requires { core.old.limits.workers ≡ 1 }
-    ensures { core.new.limits ≡ core.old.limits }
-{
-    finds_none(core, stranger)
-        & refuses_child(core, texts, stranger)
-        & refuses_clone(core, stranger)
-        & refuses_enter(core, stranger)
-        & refuses_exit(core, stranger)
-        & refuses_record(core, texts, stranger)
-        & refuses_close(core, stranger)
-        & shows_nothing(core, stranger)
-}
-
-// How many strangers each call refused as unknown, without a change of what is counted.
-fn unknown_strangers(core: &mut Core<Ring>, texts: &Texts) -> u32
-    requires { core.old.limits.workers ≡ 1 }
-    ensures { core.new.limits ≡ core.old.limits }
-{
-    let before = counts(core);
-    let mut unknown = 0u32;
-    for number in STRANGERS {
-        if let Some(stranger) = Id::from_u64(number) {
-            let refused = is_unknown(core, texts, stranger);
-            unknown = unknown.saturating_add(u32::from(refused & (counts(core) == before)));
-        }
+// Whether this is an id, and each call finds no span of it.
+fn is_unknown<O: Outlet>(alloc: Global, core: &mut Core<O>, number: u64) -> bool {
+    let mut unknown = Id::from_u64(number).is_some();
+    let acts = calls_on(number);
+    for act in &acts {
+        let answer = perform(alloc, core, 0, act);
+        unknown = unknown & matches!(answer, Answer::Refused(Fault::Unknown));
     }
     unknown
 }
 
-// How many batches and lines the drain had.
-fn drained(drain: &mut Drain) -> (u64, usize) {
-    for _ in 0..LIMITS.ring {
-        drain.step();
+// What can be counted of the core, and of the span that is open.
+fn all_counts<O: Outlet>(core: &Core<O>) -> ([u64; 7], Option<[u64; 4]>) {
+    (counts(core), counts_of(core, Id::pack(1, 1)))
+}
+
+/// How many strangers each call refused as unknown, without a change of what is counted.
+pub(crate) fn unknown_strangers<O: Outlet>(
+    alloc: Global,
+    core: &mut Core<O>,
+    numbers: &[u64],
+) -> u64 {
+    let before = all_counts(core);
+    let mut unknown = 0u64;
+    for number in numbers {
+        let refused = is_unknown(alloc, core, *number);
+        unknown = unknown.saturating_add(u64::from(refused & (all_counts(core) == before)));
     }
-    (drain.taken(), drain.all().len())
+    unknown
 }
 
-// What came of the calls.
-#[derive(Clone, Copy)]
-struct Outcome {
-    unknown: u32,
-    counts: [u64; 10],
-    drained: (u64, usize),
+// Slot 0 is retired, slot 1 has its second span, which is open, slot 2 is free again, slot 3 was never used.
+fn acts<'a>() -> [(u32, Act<'a>); 16] {
+    [
+        (0, child("a", 0)),
+        (0, Act::Close(1)),
+        (0, child("a", 0)),
+        (0, Act::Close(16777217)),
+        (0, child("a", 0)),
+        (0, Act::Close(2)),
+        (0, child("a", 0)),
+        (0, Act::Enter(OPEN)),
+        (0, Act::Clone(OPEN)),
+        (0, child("a", 0)),
+        (0, Act::Close(3)),
+        (0, Act::Strangers(&STRANGERS)),
+        (0, Act::Count),
+        (0, Act::Find(OPEN)),
+        (0, Act::Drain(LIMITS.ring)),
+        (0, Act::Step),
+    ]
 }
 
-fn tried(alloc: Global) -> Result<Outcome, Fail> {
-    let (mut core, mut drain) = opened(alloc)?;
-    let texts = Texts {
-        meta: meta_of(alloc, "a", "app", Level::Info)?,
-        fields: fields_of(alloc, &[("k", "v")])?,
-    };
-    live_the_past(&mut core, &texts)?;
-    let unknown = unknown_strangers(&mut core, &texts);
-    Ok(Outcome {
-        unknown,
-        counts: counts(&core),
-        drained: drained(&mut drain),
-    })
-}
+// One span is open, with two handles and an entry; eleven calls were accepted.
+const ANSWERS: &str = "\
+= 1
+= closed
+= 16777217
+= closed
+= 2
+= closed
+= 16777218
+= entered
+= cloned
+= 3
+= closed
+= right 11
+= counts 1 3 2 1 11 5 4
+= found 2 1 3 0
+= drained 11 0 10
+= no batch
+0 0 0 new 1 w0 a
+1 0 0 close 1 w0 a
+2 0 0 new 16777217 w0 a
+3 0 0 close 16777217 w0 a
+4 0 0 new 2 w0 a
+5 0 0 close 2 w0 a
+6 0 0 new 16777218 w0 a
+7 0 0 enter 16777218 w0 a
+9 0 0 new 3 w0 a
+10 0 0 close 3 w0 a
+";
 
 #[test]
-fn strangers_ids_are_unknown_and_change_nothing(rt: HostRuntime) -> Result<(), Fail> {
-    let tried = tried(rt.alloc())?;
-    assert!(&rt; tried.unknown == 11);
-    // One span is open, with two handles and an entry; eleven calls were accepted.
-    assert!(&rt; tried.counts == [1, 3, 2, 1, 11, 5, 4, 2, 1, 0]);
-    assert!(&rt; tried.drained == (11, 10));
-    Ok(())
+fn strangers_ids_are_unknown_and_change_nothing(rt: HostRuntime) {
+    let alloc = rt.alloc();
+    let played = played_on_ring(alloc, LIMITS, layers(alloc, &[EVERYTHING]), &acts());
+    ends(&rt, &played, ANSWERS, (1, 0));
 }
