@@ -17,7 +17,7 @@ pub(crate) type Plan<'a> = (Form, FmtSpan, &'a str, Level);
 /// Lets everything in, and writes everything in the compact form.
 pub(crate) const EVERYTHING: Plan<'static> = (Form::Compact, FmtSpan::FULL, "", Level::Trace);
 
-pub(crate) fn hooks(alloc: Global) -> Result<Hooks, AllocError> {
+fn hooks(alloc: Global) -> Result<Hooks, AllocError> {
     Ok(Hooks::new(
         Box::new(
             alloc,
@@ -58,8 +58,8 @@ pub(crate) fn add(layers: &mut Layers, layer: Layer) -> Result<(), Fault> {
     }
 }
 
-// Adds a layer of this plan.
-fn add_plan(alloc: Global, layers: &mut Layers, plan: &Plan) -> Result<(), Fault> {
+/// Adds a layer of this plan.
+pub(crate) fn add_plan(alloc: Global, layers: &mut Layers, plan: &Plan) -> Result<(), Fault> {
     add(layers, layer(alloc, plan, hooks(alloc)?)?)
 }
 

@@ -7,7 +7,7 @@ ghost use Rattle.span_layers.specs.Text.{text_of};
 
 use crate::tests::acts::{Act, new, perform};
 use crate::tests::answers::push_numbered;
-use crate::tests::layers::{EVERYTHING, add, hooks, layer, layers};
+use crate::tests::layers::{EVERYTHING, add, add_plan, layer, layers};
 use crate::tests::same::same;
 use span_core::Core;
 use span_id::{Checked, Fault, Limits, Meta};
@@ -25,8 +25,8 @@ const LIMITS: Limits = Limits {
     ring: 1,
 };
 
-/// Hooks whose texts of notes of this kind are refused memory.
-pub(crate) fn refused_at(alloc: Global, kind: Kind) -> Result<Hooks, AllocError> {
+// Hooks whose texts of notes of this kind are refused memory.
+fn refused_at(alloc: Global, kind: Kind) -> Result<Hooks, AllocError> {
     Ok(Hooks::new(
         Box::new(
             alloc,
@@ -119,13 +119,20 @@ fn kept_by<V: Say>(alloc: Global, filters: Filters, outlet: Kept<V>) -> Result<K
     entered_and_left(alloc, &checked, filters, outlet)
 }
 
+/// Adds a layer that lets everything in, and is refused memory for the texts of notes of this kind.
+pub(crate) fn add_refused(alloc: Global, layers: &mut Layers, kind: Kind) -> Result<(), Fault> {
+    add(layers, layer(alloc, &EVERYTHING, refused_at(alloc, kind)?)?)
+}
+
+fn add_both(alloc: Global, layers: &mut Layers) -> Result<(), Fault> {
+    add_refused(alloc, layers, Kind::OnEnter)?;
+    add_plan(alloc, layers, &EVERYTHING)
+}
+
 // Two layers that let everything in, of which the first is refused memory for the text of an entry.
 fn first_refused(alloc: Global) -> Result<(Filters, Tellers), Fault> {
     let mut both = Layers::new(alloc);
-    let first = layer(alloc, &EVERYTHING, refused_at(alloc, Kind::OnEnter)?)?;
-    add(&mut both, first)?;
-    let second = layer(alloc, &EVERYTHING, hooks(alloc)?)?;
-    add(&mut both, second)?;
+    add_both(alloc, &mut both)?;
     Ok(both.split())
 }
 

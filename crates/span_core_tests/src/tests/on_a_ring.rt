@@ -1,8 +1,7 @@
 //! A core whose outlet is a ring: a full ring refuses, and a drain tells.
 use crate::tests::acts::{Act, child, perform};
 use crate::tests::answers::{Answer, push_answer, push_numbered};
-use crate::tests::layers::{EVERYTHING, add, layer};
-use crate::tests::missed::refused_at;
+use crate::tests::missed::add_refused;
 use crate::tests::play::{Transcript, ends};
 use crate::tests::strangers::unknown_strangers;
 use span_core::Core;
@@ -122,8 +121,7 @@ fn a_full_ring_refuses(rt: HostRuntime) {
 // A layer that lets everything in, and is refused memory for the text of a new span.
 fn new_refused(alloc: Global) -> Result<(Filters, Tellers), Fault> {
     let mut layers = Layers::new(alloc);
-    let refused = layer(alloc, &EVERYTHING, refused_at(alloc, Kind::OnNew)?)?;
-    add(&mut layers, refused)?;
+    add_refused(alloc, &mut layers, Kind::OnNew)?;
     Ok(layers.split())
 }
 

@@ -65,9 +65,9 @@ fn enters_twice_and_leaves(rt: HostRuntime) {
     plays(&rt, rt.alloc(), ROOMY, &[EVERYTHING], &acts, expected);
 }
 
-#[test]
-fn each_layer_has_its_own_path(rt: HostRuntime) {
-    let acts = [
+// A span of another target below the first one, and an event and a span below it.
+fn acts_of_two_targets<'a>() -> [(u32, Act<'a>); 11] {
+    [
         (0, new("a")),
         (0, Act::Enter(1)),
         (
@@ -96,14 +96,25 @@ fn each_layer_has_its_own_path(rt: HostRuntime) {
         (0, Act::Close(1)),
         (0, Act::Close(3)),
         (0, Act::Close(2)),
-    ];
+    ]
+}
+
+#[test]
+fn each_layer_has_its_own_path(rt: HostRuntime) {
     let plans = [
         (Form::Compact, FmtSpan::NEW, "", Level::Trace),
         (Form::Compact, FmtSpan::NEW, "app", Level::Info),
     ];
     let expected =
         "L0 new 1 w0 a\nL1 new 1 w0 a\n= 1\n= entered\nL0 new 2 w0 a:q\n= 2\n= entered\nL0 new 3 w0 a:q:c\nL1 new 3 w0 a:c\n= 3\nL0 event 2 w0 a:q INFO hi k=v\nL1 event 1 w0 a INFO hi k=v\n= told\n= open\n= open\n= open\n= closed\n= closed\n";
-    plays(&rt, rt.alloc(), ROOMY, &plans, &acts, expected);
+    plays(
+        &rt,
+        rt.alloc(),
+        ROOMY,
+        &plans,
+        &acts_of_two_targets(),
+        expected,
+    );
 }
 
 #[test]

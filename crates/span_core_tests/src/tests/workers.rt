@@ -1,5 +1,6 @@
 //! Several workers and layers with rules of their own.
 use crate::tests::acts::{Act, new};
+use crate::tests::layers::{EVERYTHING, Plan};
 use crate::tests::play::plays;
 use span_id::{Level, Limits};
 use span_layers::{FmtSpan, Form};
@@ -78,19 +79,18 @@ L1 close 1 w2 serve user=ann
 = closed
 ";
 
-#[test]
-fn three_workers_and_three_layers(rt: HostRuntime) {
-    let plans = [
-        (Form::Compact, FmtSpan::FULL, "", Level::Trace),
-        (
-            Form::Compact,
-            FmtSpan::NEW | FmtSpan::CLOSE,
-            "app",
-            Level::Info,
-        ),
+fn plans<'a>() -> [Plan<'a>; 3] {
+    let spans = FmtSpan::NEW | FmtSpan::CLOSE;
+    [
+        EVERYTHING,
+        (Form::Compact, spans, "app", Level::Info),
         (Form::Json, FmtSpan::ACTIVE, "app.db", Level::Debug),
-    ];
-    let acts = [
+    ]
+}
+
+// What each worker calls, in turn.
+fn acts<'a>() -> [(u32, Act<'a>); 15] {
+    [
         (0, new("serve")),
         (0, Act::Enter(1)),
         (0, QUERY),
@@ -106,6 +106,10 @@ fn three_workers_and_three_layers(rt: HostRuntime) {
         (0, Act::Exit(1)),
         (2, Act::Record(2, &[])),
         (2, Act::Exit(2)),
-    ];
-    plays(&rt, rt.alloc(), LIMITS, &plans, &acts, ANSWERS);
+    ]
+}
+
+#[test]
+fn three_workers_and_three_layers(rt: HostRuntime) {
+    plays(&rt, rt.alloc(), LIMITS, &plans(), &acts(), ANSWERS);
 }
