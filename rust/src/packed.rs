@@ -21,6 +21,9 @@ impl Packed {
         }
         self.texts.clear();
         self.fields.clear();
+        if first.is_empty() && fields.is_empty() {
+            return Ok(());
+        }
         let texts = first.iter().chain(fields.iter().flat_map(|(key, value)| [key, value]));
         let bytes = texts.map(|text| text.len()).try_fold(0, usize::checked_add);
         reserve(&mut self.texts, bytes.ok_or(Error::OutOfMemory)?)?;

@@ -4,7 +4,7 @@
 use crate::error::Error;
 use crate::shared::Shared;
 use crate::state::{Owed, State};
-use std::cell::RefCell;
+use std::cell::{Cell, RefCell};
 use std::sync::{Arc, Weak};
 
 /// This thread is this worker of this registry.
@@ -16,12 +16,19 @@ struct Place {
 /// A place for each registry that this thread called.
 struct Places(Vec<Place>);
 
+/// A registry's number among all of the process, and a worker's number in it.
+type Known = (u64, u32);
+
 thread_local! {
+    // The place that was last asked for: mostly the next call asks for the same. It needs no drop, so a look at it costs
+    // little, and it says nothing once the places are gone.
+    static LAST: Cell<Option<Known>> = const { Cell::new(None) };
     static PLACES: RefCell<Places> = const { RefCell::new(Places(Vec::new())) };
 }
 
 impl Drop for Places {
     fn drop(&mut self) {
+        LAST.set(None);
         for place in self.0.drain(..) {
             if let Some(shared) = place.registry.upgrade() {
                 shared.pay_or_owe(Owed::Leave { worker: place.worker });
@@ -31,7 +38,16 @@ impl Drop for Places {
 }
 
 /// This thread's number, if it has one.
+#[inline]
 pub(crate) fn known(shared: &Arc<Shared>) -> Option<u32> {
+    match LAST.get() {
+        Some((registry, worker)) if registry == shared.number() => Some(worker),
+        _ => looked_up(shared),
+    }
+}
+
+#[cold]
+fn looked_up(shared: &Arc<Shared>) -> Option<u32> {
     let find = |places: &RefCell<Places>| {
         let places = places.borrow();
         let place = places
@@ -40,14 +56,19 @@ pub(crate) fn known(shared: &Arc<Shared>) -> Option<u32> {
             .find(|place| place.registry.as_ptr() == Arc::as_ptr(shared))?;
         Some(place.worker)
     };
-    PLACES.try_with(find).ok().flatten()
+    let worker = PLACES.try_with(find).ok().flatten()?;
+    LAST.set(Some((shared.number(), worker)));
+    Some(worker)
 }
 
 /// This thread's number; it takes one where it has none. A number that is owed back is no free one yet.
+#[inline]
 pub(crate) fn number(shared: &Arc<Shared>, state: &mut State) -> Result<u32, Error> {
-    if let Some(worker) = known(shared) {
-        return Ok(worker);
-    }
+    known(shared).map_or_else(|| taken(shared, state), Ok)
+}
+
+#[cold]
+fn taken(shared: &Arc<Shared>, state: &mut State) -> Result<u32, Error> {
     let take = |places: &RefCell<Places>| {
         let places = &mut places.borrow_mut().0;
         places.retain(|place| place.registry.strong_count() > 0);
