@@ -1,4 +1,5 @@
-//! Calls as data, each made by one function of this file or of `shared`.
+//! Calls and looks as data. The calls are made here and in `shared`; what a whole run is asked is answered in `play`,
+//! and what its ring and its drain are asked in `on_a_ring`.
 ghost use Rattle.std.specs.Prelude.{◌<◌};
 
 use crate::tests::answers::Answer;
@@ -43,13 +44,13 @@ pub(crate) enum Act<'a> {
     Count,
     /// Below the span 1, each under the one before, the spans up to this id, whose handles are given back but the last.
     Grow(u64),
-    /// How many owners the paths and the messages of all batches have.
+    /// Whether the paths and the messages of all batches have so many owners.
     Owners(&'a [(usize, usize)]),
     /// Each call that takes an id, on each of these ids.
     Strangers(&'a [u64]),
     /// A step of the drain.
     Step,
-    /// So many steps of the drain, and how many batches and lines it had.
+    /// So many steps of the drain, and how many batches, refused notes and lines it had.
     Drain(u32),
 }
 
@@ -75,7 +76,7 @@ pub(crate) fn child<'a>(name: &'a str, parent: u64) -> Act<'a> {
     }
 }
 
-// A call that says no more than whose it is.
+// A call that is told a worker and a span, and no more.
 fn hold<O: Outlet>(core: &mut Core<O>, worker: u32, act: &Act, id: Id) -> Answer
     requires { worker < core.old.limits.workers }
 {
