@@ -7,6 +7,7 @@ mod ended_on_a_ring;
 mod endings;
 mod handed_on;
 mod held;
+mod jobs;
 mod layers;
 mod names;
 mod on_core;

@@ -28,6 +28,8 @@ pub(crate) enum Act<'a> {
         fields: Fields<'a>,
     },
     Find(u64),
+    /// What was counted of the worker.
+    Count,
     /// A step of the drain, where there is one.
     Step,
 }
@@ -63,6 +65,8 @@ pub(crate) enum Answer {
     Recorded,
     Told,
     Found(Option<Found>),
+    /// How many calls were accepted of the worker, and how many parts of the ledger of handles it has given out.
+    Counted(u64, u64),
     Stepped(Option<Step>),
     Refused(Fault),
 }
@@ -70,7 +74,7 @@ pub(crate) enum Answer {
 /// What `find` answers, on a line.
 pub(crate) fn found_text(alloc: Global, found: &Option<Found>) -> Result<String, AllocError> {
     let Some(found) = found else {
-        return String::from_str(alloc, "! unknown\n");
+        return String::from_str(alloc, "= none\n");
     };
     let parent = found.parent.map_or(0, Id::get);
     let Found {
@@ -91,6 +95,9 @@ pub(crate) fn answer_text(alloc: Global, answer: &Answer) -> Result<String, Allo
         Answer::Made(id) => return format!(in alloc; "= {id}\n"),
         Answer::Found(found) => return found_text(alloc, found),
         Answer::Refused(fault) => return format!(in alloc; "! {fault}\n"),
+        Answer::Counted(accepted, out) => {
+            return format!(in alloc; "= accepted {accepted} out {out}\n");
+        }
         Answer::Stepped(Some(Step { told, refused })) => {
             return format!(in alloc; "= told {told} refused {refused}\n");
         }
@@ -107,11 +114,14 @@ pub(crate) fn answer_text(alloc: Global, answer: &Answer) -> Result<String, Allo
     String::from_str(alloc, text)
 }
 
-/// The answers to calls; and after each call what `find` answers of each span made so far.
+/// The answers to calls; what `find` answers after each call of each span made so far; and what was left of each worker
+/// and then of each handle.
 #[derive(Drop)]
 pub(crate) struct Transcript {
     pub(crate) answers: Vec<u8>,
     pub(crate) finds: Vec<u8>,
+    pub(crate) counts: Vec<u8>,
+    pub(crate) ids: Vec<Id>,
 }
 
 impl Transcript {
@@ -120,20 +130,29 @@ impl Transcript {
         Transcript {
             answers: Vec::new(alloc),
             finds: Vec::new(alloc),
+            counts: Vec::new(alloc),
+            ids: Vec::new(alloc),
         }
     }
 
-    /// The answer of the next call.
+    /// The answer of the next call, which may have made a span.
     pub(crate) fn answer(&mut self, alloc: Global, answer: &Answer) -> Result<(), AllocError> {
+        if let Answer::Made(id) = answer {
+            self.ids.push(*id)?;
+        }
         let text = answer_text(alloc, answer)?;
         self.answers.extend_from_slice(text.as_bytes())
     }
+}
 
-    /// What `find` answers of a span.
-    pub(crate) fn found(&mut self, alloc: Global, found: &Option<Found>) -> Result<(), AllocError> {
-        let text = found_text(alloc, found)?;
-        self.finds.extend_from_slice(text.as_bytes())
-    }
+/// What `find` answers of a span, as the next text.
+pub(crate) fn note_found(
+    alloc: Global,
+    finds: &mut Vec<u8>,
+    found: &Option<Found>,
+) -> Result<(), AllocError> {
+    let text = found_text(alloc, found)?;
+    finds.extend_from_slice(text.as_bytes())
 }
 
 /// `L<layer> <text>`, on a line each.

@@ -2,13 +2,12 @@
 ghost use Rattle.std.specs.Prelude.{◌≡◌, [], None};
 
 use crate::tests::acts::{Act, Transcript};
-use crate::tests::handed_on::hand_jobs_on;
-use crate::tests::held::{Gathered, finished, gather};
+use crate::tests::held::{Part, finished, gather};
 use crate::tests::layers::{Plan, layers};
 use crate::tests::on_registry::calls;
 use crate::tests::same::same;
 use crate::tests::steps::{NoDrain, Steps};
-use crate::tests::threads::two_rounds;
+use crate::tests::threads::{Turn, take_turns};
 use span_id::{Checked, Limits};
 use span_layers::{Filters, Say};
 use span_registry::{HANDLE_PARTS, Kept, Outlet, Registry, Report, SeatTable, Setup, Worker};
@@ -22,24 +21,15 @@ use std::thread::Threads;
 
 /// What is done with a registry before its end.
 #[derive(Clone, Copy)]
-pub(crate) enum Deed {
+pub(crate) enum Deed<'a> {
     /// The calls, each made by the worker beside it; then the workers leave, and the handles that are left are given
     /// up.
     Calls,
-    /// Two workers make the calls of one round each, in two threads.
-    TwoRounds,
-    /// The workers make so many jobs each, in threads, and hand them on.
-    HandOn(u32),
+    /// The workers take these turns, each in a thread of its own.
+    InThreads(&'a [Turn]),
 }
 
-/// What was answered, and what was left of workers and handles.
-#[derive(Drop)]
-pub(crate) struct Done<H: Ledger, C: Ledger> {
-    pub(crate) transcript: Transcript,
-    pub(crate) gathered: Gathered<H, C>,
-}
-
-// The calls, and what is left of the workers and the handles.
+// The calls, and the parts of the workers and of the handles that are left.
 fn all_calls<H: Ledger, C: Ledger, S: Setup, O: Outlet, D: Steps, R: Wait>(
     rt: &R,
     alloc: Global,
@@ -48,7 +38,7 @@ fn all_calls<H: Ledger, C: Ledger, S: Setup, O: Outlet, D: Steps, R: Wait>(
     workers: Vec<Worker<H, C>>,
     acts: &[(u32, Act)],
     transcript: &mut Transcript,
-) -> Result<Gathered<H, C>, Fail>
+) -> Result<Option<Part<H, C>>, Fail>
     ensures name { D.name drain.new ≡ D.name drain.old }
 {
     let mut workers = workers;
@@ -63,10 +53,10 @@ fn all_calls<H: Ledger, C: Ledger, S: Setup, O: Outlet, D: Steps, R: Wait>(
         acts,
         transcript,
     )?;
-    gather(alloc, workers, held)
+    gather(alloc, &mut transcript.counts, workers, held)
 }
 
-/// Does this.
+/// Does this, and puts the parts together.
 pub(crate) fn perform<
     H: Ledger + Send + Sync,
     C: Ledger + Send + Sync,
@@ -82,31 +72,20 @@ pub(crate) fn perform<
     workers: Vec<Worker<H, C>>,
     deed: Deed,
     acts: &[(u32, Act)],
-) -> Result<Done<H, C>, Fail>
+    transcript: &mut Transcript,
+) -> Result<Option<Part<H, C>>, Fail>
     ensures name { D.name drain.new ≡ D.name drain.old }
 {
     match deed {
-        Deed::Calls => {
-            let mut transcript = Transcript::new(alloc);
-            let gathered = all_calls(rt, alloc, registry, drain, workers, acts, &mut transcript)?;
-            Ok(Done {
-                transcript,
-                gathered,
-            })
-        }
-        Deed::TwoRounds => Ok(Done {
-            transcript: Transcript::new(alloc),
-            gathered: two_rounds(rt, alloc, registry, workers)?,
-        }),
-        Deed::HandOn(rounds) => hand_jobs_on(rt, alloc, registry, workers, rounds),
+        Deed::Calls => all_calls(rt, alloc, registry, drain, workers, acts, transcript),
+        Deed::InThreads(turns) => take_turns(rt, alloc, registry, workers, turns, transcript),
     }
 }
 
-/// What was answered, what was left of each worker and each handle, and the report.
+/// What was answered, what was left, and the report.
 #[derive(Drop)]
 pub(crate) struct Ended {
     pub(crate) transcript: Transcript,
-    pub(crate) counts: Vec<u8>,
     pub(crate) report: Report,
 }
 
@@ -128,7 +107,8 @@ fn named<
     table: SeatTable,
     deed: Deed,
     acts: &[(u32, Act)],
-) -> Result<Ended, Fail>
+    transcript: &mut Transcript,
+) -> Result<Option<Report>, Fail>
     requires sent { outlet.sent ≡ [] }
     requires setup { (checked.now ≡ S.limits) × (filters.rules ≡ S.rules) × (S.ring ≡ None) }
     requires handles { (handles.name ≡ H.name) × (handles.parts ≡ H.parts) × (H.parts ≡ HANDLE_PARTS) }
@@ -138,27 +118,24 @@ fn named<
     let (registry, workers) = Registry::<H, C, S, Kept<V>>::new(
         alloc, checked, filters, outlet, handles, calls, table,
     )?;
-    let done = perform(rt, alloc, &registry, &mut NoDrain, workers, deed, acts)?;
-    let Done {
+    let whole = perform(
+        rt,
+        alloc,
+        &registry,
+        &mut NoDrain,
+        workers,
+        deed,
+        acts,
         transcript,
-        gathered: Gathered { whole, counts },
-    } = done;
-    let report = finished(registry, u64::from(checked.limits().workers), whole);
-    ended_with(transcript, counts, report)
+    )?;
+    let workers = u64::from(checked.limits().workers);
+    Ok(finished(registry, workers, whole))
 }
 
 /// What is left where there is a report.
-pub(crate) fn ended_with(
-    transcript: Transcript,
-    counts: Vec<u8>,
-    report: Option<Report>,
-) -> Result<Ended, Fail> {
+pub(crate) fn ended_with(transcript: Transcript, report: Option<Report>) -> Result<Ended, Fail> {
     match report {
-        Some(report) => Ok(Ended {
-            transcript,
-            counts,
-            report,
-        }),
+        Some(report) => Ok(Ended { transcript, report }),
         None => Err(Fail::new("not all parts are there")),
     }
 }
@@ -172,7 +149,8 @@ fn begun<V: Say + Send, R: Threads + Wait + Sync>(
     outlet: Kept<V>,
     deed: Deed,
     acts: &[(u32, Act)],
-) -> Result<Ended, Fail>
+    transcript: &mut Transcript,
+) -> Result<Option<Report>, Fail>
     requires { outlet.sent ≡ [] }
 {
     let checked = limits.check()?;
@@ -188,6 +166,7 @@ fn begun<V: Say + Send, R: Threads + Wait + Sync>(
         table,
         deed,
         acts,
+        transcript,
     )
 }
 
@@ -201,7 +180,8 @@ pub(crate) fn run_to_end<R: Threads + Wait + Sync>(
     acts: &[(u32, Act)],
 ) -> Result<Ended, Fail> {
     let (filters, tellers) = layers(alloc, plans)?;
-    begun(
+    let mut transcript = Transcript::new(alloc);
+    let report = begun(
         rt,
         alloc,
         limits,
@@ -209,7 +189,9 @@ pub(crate) fn run_to_end<R: Threads + Wait + Sync>(
         Kept::new(alloc, tellers),
         deed,
         acts,
-    )
+        &mut transcript,
+    )?;
+    ended_with(transcript, report)
 }
 
 // The numbers of a report, in words.

@@ -1,13 +1,13 @@
 //! Registries over a ring, from their making to their reports.
 ghost use Rattle.std.specs.Prelude.{◌≡◌, [], Some};
 
-use crate::tests::acts::Act;
-use crate::tests::ended::{Deed, Done, Ended, ended_with, perform};
-use crate::tests::held::{Gathered, drained};
+use crate::tests::acts::{Act, Transcript};
+use crate::tests::ended::{Deed, Ended, ended_with, perform};
+use crate::tests::held::drained;
 use crate::tests::layers::{Plan, layers};
 use span_id::{Checked, Limits};
 use span_layers::Filters;
-use span_registry::{Drain, HANDLE_PARTS, Registry, Ring, SeatTable, Setup};
+use span_registry::{Drain, HANDLE_PARTS, Registry, Report, Ring, SeatTable, Setup};
 use std::alloc::Global;
 use std::marker::Brand;
 use std::sync::Wait;
@@ -32,7 +32,8 @@ fn named<
     calls: Blank,
     table: SeatTable,
     acts: &[(u32, Act)],
-) -> Result<Ended, Fail>
+    transcript: &mut Transcript,
+) -> Result<Option<Report>, Fail>
     requires sent { ring.sent ≡ [] }
     requires setup { (checked.now ≡ S.limits) × (filters.rules ≡ S.rules) }
     requires pair { (Some ring.name ≡ S.ring) × (Some drain.name ≡ S.ring) }
@@ -44,14 +45,18 @@ fn named<
         alloc, checked, filters, ring, handles, calls, table,
     )?;
     let mut drain = drain;
-    let done = perform(rt, alloc, &registry, &mut drain, workers, Deed::Calls, acts)?;
-    let Done {
+    let whole = perform(
+        rt,
+        alloc,
+        &registry,
+        &mut drain,
+        workers,
+        Deed::Calls,
+        acts,
         transcript,
-        gathered: Gathered { whole, counts },
-    } = done;
+    )?;
     let workers = u64::from(checked.limits().workers);
-    let report = drained(registry, workers, whole, drain);
-    ended_with(transcript, counts, report)
+    Ok(drained(registry, workers, whole, drain))
 }
 
 /// Makes a registry over a ring with these layers, makes the calls and the steps of the drain, and ends it.
@@ -67,7 +72,8 @@ pub(crate) fn run_to_end_on_a_ring<R: Threads + Wait + Sync>(
     let table = SeatTable::new(alloc, limits.slots)?;
     let (ring, tap) = Ring::pair(alloc, &checked)?;
     let drain = Drain::new(alloc, tap, tellers);
-    named::<Brand, Brand, Brand, R>(
+    let mut transcript = Transcript::new(alloc);
+    let report = named::<Brand, Brand, Brand, R>(
         rt,
         alloc,
         &checked,
@@ -78,5 +84,7 @@ pub(crate) fn run_to_end_on_a_ring<R: Threads + Wait + Sync>(
         Blank::new(u64::from(limits.workers)),
         table,
         acts,
-    )
+        &mut transcript,
+    )?;
+    ended_with(transcript, report)
 }

@@ -75,7 +75,7 @@ pub(crate) fn ends_on_a_ring<R: Threads + Wait + Abort + Sync>(
 // A registry ended so.
 fn is_ending(rt: &impl Abort, alloc: Global, ended: &Ended, ending: &Ending) -> Result<(), Fail> {
     is_text(rt, ended.transcript.answers.as_slice(), ending.answers);
-    is_text(rt, ended.counts.as_slice(), ending.counts);
+    is_text(rt, ended.transcript.counts.as_slice(), ending.counts);
     has_numbers(rt, alloc, &ended.report, ending.numbers)?;
     let lines = numbered(alloc, ended.report.lines.as_slice())?;
     same(rt, lines.as_str(), ending.lines);
@@ -100,7 +100,7 @@ const EVERY_ANSWER: &str = "\
 = open
 = open
 = closed
-! unknown
+= none
 ";
 
 const EVERY_LINE: &str = "\

@@ -5,7 +5,7 @@ use span_id::Fault;
 use span_layers::{Admit, Say};
 use span_outlet::{Drain, Kept, Outlet, Ring};
 use span_registry::{HANDLE_PARTS, Handle, Registry, Report, Setup, Share, Worker};
-use std::alloc::Global;
+use std::alloc::{AllocError, Global};
 use std::sync::Wait;
 use std::sync::ledger::Ledger;
 use std::test::Fail;
@@ -40,6 +40,19 @@ pub(crate) fn close<H: Ledger, C: Ledger, S: Setup, O: Outlet, A: Admit, R: Wait
     match registry.try_close(rt, worker, held.into_handle()) {
         Ok(closed) => Ok(closed),
         Err((handle, fault)) => Err((Held { handle }, fault)),
+    }
+}
+
+/// Closes the span of a handle, which is given up where that is refused.
+pub(crate) fn spend<H: Ledger, C: Ledger, S: Setup, O: Outlet, A: Admit, R: Wait>(
+    rt: &R,
+    registry: &Registry<H, C, S, O, A>,
+    worker: &mut Worker<H, C>,
+    held: Held<H, C, S>,
+) -> Result<bool, Fault> {
+    match close(rt, registry, worker, held) {
+        Ok(closed) => Ok(closed),
+        Err((_held, fault)) => Err(fault),
     }
 }
 
@@ -91,48 +104,49 @@ impl<H: Ledger, C: Ledger> Part<H, C> {
     }
 }
 
-/// Parts that are put together, and how many units and accepted calls each of them had, on a line.
-#[derive(Drop)]
-pub(crate) struct Gathered<H: Ledger, C: Ledger> {
-    pub(crate) whole: Option<Part<H, C>>,
-    pub(crate) counts: Vec<u8>,
-}
-
-impl<H: Ledger, C: Ledger> Gathered<H, C> {
-    // With one more part.
-    fn and(self, alloc: Global, part: Part<H, C>) -> Result<Gathered<H, C>, Fail> {
-        let Gathered { whole, mut counts } = self;
-        let (units, accepted) = part.counts();
-        let line = format!(in alloc; "units {units} accepted {accepted}\n")?;
-        counts.extend_from_slice(line.as_bytes())?;
-        let whole = match whole {
-            None => part,
-            Some(before) => before.join(part).ok_or("the sums are too great")?,
-        };
-        Ok(Gathered {
-            whole: Some(whole),
-            counts,
-        })
+// The parts so far with one more, whose units and accepted calls are noted on a line.
+fn with_part<H: Ledger, C: Ledger>(
+    alloc: Global,
+    counts: &mut Vec<u8>,
+    whole: Option<Part<H, C>>,
+    part: Part<H, C>,
+) -> Result<Option<Part<H, C>>, Fail> {
+    let (units, accepted) = part.counts();
+    note_counts(alloc, counts, units, accepted)?;
+    let Some(before) = whole else {
+        return Ok(Some(part));
+    };
+    match before.join(part) {
+        Some(both) => Ok(Some(both)),
+        None => Err(Fail::new("the sums are too great")),
     }
 }
 
-/// The parts of workers that leave and of handles that are given up.
+fn note_counts(
+    alloc: Global,
+    counts: &mut Vec<u8>,
+    units: u64,
+    accepted: u64,
+) -> Result<(), AllocError> {
+    let line = format!(in alloc; "units {units} accepted {accepted}\n")?;
+    counts.extend_from_slice(line.as_bytes())
+}
+
+/// The parts of workers that leave and of handles that are given up, put together; what each had is noted.
 pub(crate) fn gather<H: Ledger, C: Ledger, S: Setup>(
     alloc: Global,
+    counts: &mut Vec<u8>,
     workers: Vec<Worker<H, C>>,
     held: Vec<Held<H, C, S>>,
-) -> Result<Gathered<H, C>, Fail> {
-    let mut gathered = Gathered {
-        whole: None,
-        counts: Vec::new(alloc),
-    };
+) -> Result<Option<Part<H, C>>, Fail> {
+    let mut whole = None;
     for worker in workers {
-        gathered = gathered.and(alloc, Part::of_worker(worker))?;
+        whole = with_part(alloc, counts, whole, Part::of_worker(worker))?;
     }
     for one in held {
-        gathered = gathered.and(alloc, Part::of_handle(one))?;
+        whole = with_part(alloc, counts, whole, Part::of_handle(one))?;
     }
-    Ok(gathered)
+    Ok(whole)
 }
 
 /// The report of a registry with so many workers, if these are all parts.

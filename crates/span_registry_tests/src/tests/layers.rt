@@ -80,6 +80,25 @@ pub(crate) fn meta_of(
     })
 }
 
+/// A meta and fields.
+#[derive(Drop)]
+pub(crate) struct Said {
+    pub(crate) meta: Meta,
+    pub(crate) fields: Vec<Field>,
+}
+
+/// A meta and fields of these texts.
+pub(crate) fn said_of(
+    alloc: Global,
+    names: (&str, &str),
+    level: Level,
+    pairs: &[(&str, &str)],
+) -> Result<Said, AllocError> {
+    let meta = meta_of(alloc, names.0, names.1, level)?;
+    let fields = fields_of(alloc, pairs)?;
+    Ok(Said { meta, fields })
+}
+
 pub(crate) fn fields_of(alloc: Global, pairs: &[(&str, &str)]) -> Result<Vec<Field>, AllocError> {
     let mut fields = Vec::new(alloc);
     for (key, value) in pairs {

@@ -1,13 +1,13 @@
 //! Calls on a core, which has no lock.
 ghost use Rattle.std.specs.Prelude.{◌≡◌, ◌<◌, []};
 
-use crate::tests::acts::{Act, Answer, Fields, Transcript, lines_text};
-use crate::tests::layers::{Plan, fields_of, layers, meta_of};
+use crate::tests::acts::{Act, Answer, Transcript, lines_text, note_found};
+use crate::tests::layers::{Plan, fields_of, layers, said_of};
 use span_id::{Checked, Fault, Id, Level, Limits, copy_text};
 use span_layers::{Filters, Say};
 use span_outlet::Kept;
 use span_registry::{Core, Found};
-use std::alloc::Global;
+use std::alloc::{AllocError, Global};
 use std::test::Fail;
 
 // What `find` answers, as a registry would.
@@ -52,24 +52,6 @@ fn call_on<V: Say>(
     }
 }
 
-// An event.
-fn tell<V: Say>(
-    alloc: Global,
-    core: &mut Core<Kept<V>>,
-    worker: u32,
-    level: Level,
-    message: &str,
-    fields: Fields,
-) -> Result<Answer, Fault>
-    requires { worker < core.old.limits.workers }
-    ensures limits { core.new.limits ≡ core.old.limits }
-{
-    let meta = meta_of(alloc, "event", "app", level)?;
-    let fields = fields_of(alloc, fields)?;
-    core.event(worker, &meta, message, fields.as_slice())?;
-    Ok(Answer::Told)
-}
-
 // A call.
 fn call<V: Say>(
     alloc: Global,
@@ -87,17 +69,21 @@ fn call<V: Say>(
             parent,
             fields,
         } => {
-            let meta = meta_of(alloc, name, target, Level::Info)?;
-            let fields = fields_of(alloc, fields)?;
-            let made = core.new_span(worker, &meta, fields.as_slice(), *parent)?;
+            let said = said_of(alloc, (*name, *target), Level::Info, fields)?;
+            let made = core.new_span(worker, &said.meta, said.fields.as_slice(), *parent)?;
             Ok(made.map_or(Answer::NotWanted, Answer::Made))
         }
         Act::Event {
             level,
             message,
             fields,
-        } => tell(alloc, core, worker, *level, message, fields),
-        Act::Step => Ok(Answer::Stepped(None)),
+        } => {
+            let said = said_of(alloc, ("event", "app"), *level, fields)?;
+            core.event(worker, &said.meta, message, said.fields.as_slice())?;
+            Ok(Answer::Told)
+        }
+        // A core has no drain, and no worker of which something is counted.
+        Act::Step | Act::Count => Ok(Answer::Stepped(None)),
         Act::Clone(number)
         | Act::Enter(number)
         | Act::Exit(number)
@@ -110,36 +96,41 @@ fn call<V: Say>(
     }
 }
 
-// A call, which may make one more span; and what `find` then answers of each span.
+// A call.
 fn note_call<V: Say>(
     alloc: Global,
     core: &mut Core<Kept<V>>,
     worker: u32,
     act: &Act,
-    ids: &mut Vec<Id>,
     transcript: &mut Transcript,
-) -> Result<(), Fail>
+) -> Result<(), AllocError>
     requires { worker < core.old.limits.workers }
     ensures limits { core.new.limits ≡ core.old.limits }
 {
     let answer = call(alloc, core, worker, act).unwrap_or_else(Answer::Refused);
-    if let Answer::Made(id) = answer {
-        ids.push(id)?;
-    }
-    transcript.answer(alloc, &answer)?;
-    for id in &*ids {
-        transcript.found(alloc, &found(alloc, core, *id)?)?;
+    transcript.answer(alloc, &answer)
+}
+
+// What `find` answers of each span.
+fn note_finds<V: Say>(
+    alloc: Global,
+    core: &Core<Kept<V>>,
+    ids: &[Id],
+    finds: &mut Vec<u8>,
+) -> Result<(), Fault> {
+    for id in ids {
+        let found = found(alloc, core, *id)?;
+        note_found(alloc, finds, &found)?;
     }
     Ok(())
 }
 
-// All calls, each made by the worker beside it.
+// All calls, each made by the worker beside it, and what `find` answers after each.
 fn calls<V: Say>(
     alloc: Global,
     core: &mut Core<Kept<V>>,
     workers: u32,
     acts: &[(u32, Act)],
-    ids: &mut Vec<Id>,
     transcript: &mut Transcript,
 ) -> Result<(), Fail>
     requires { workers ≡ core.old.limits.workers }
@@ -149,7 +140,9 @@ fn calls<V: Say>(
         if *worker >= workers {
             return Err(Fail::new("there is no such worker"));
         }
-        note_call(alloc, core, *worker, act, ids, transcript)?;
+        note_call(alloc, core, *worker, act, transcript)?;
+        let Transcript { ids, finds, .. } = &mut *transcript;
+        note_finds(alloc, core, ids.as_slice(), finds)?;
     }
     Ok(())
 }
@@ -164,14 +157,7 @@ fn answered<V: Say>(
     requires { workers ≡ core.old.limits.workers }
 {
     let mut transcript = Transcript::new(alloc);
-    calls(
-        alloc,
-        core,
-        workers,
-        acts,
-        &mut Vec::new(alloc),
-        &mut transcript,
-    )?;
+    calls(alloc, core, workers, acts, &mut transcript)?;
     let lines = lines_text(alloc, core.outlet().all())?;
     Ok((transcript, lines))
 }

@@ -1,31 +1,23 @@
 //! Calls on a registry, with the handles that it gave.
 ghost use Rattle.std.specs.Prelude.{◌≡◌};
 
-use crate::tests::acts::{Act, Answer, Fields, Transcript};
+use crate::tests::acts::{Act, Answer, Transcript, note_found};
 use crate::tests::held::{Held, close};
-use crate::tests::layers::{fields_of, meta_of};
+use crate::tests::layers::{Said, fields_of, said_of};
 use crate::tests::steps::Steps;
 use span_id::{Fault, Id, Level};
-use span_registry::{Outlet, ParentOf, Registry, Setup, Worker};
-use std::alloc::Global;
+use span_registry::{HANDLE_PARTS, Handle, Outlet, ParentOf, Registry, Setup, Worker};
+use std::alloc::{AllocError, Global};
 use std::sync::Wait;
 use std::sync::ledger::Ledger;
 use std::test::Fail;
 
-// A new span, whose handle is kept.
-fn make_span<H: Ledger, C: Ledger, S: Setup, O: Outlet, R: Wait>(
-    rt: &R,
-    alloc: Global,
-    registry: &Registry<H, C, S, O>,
-    worker: &mut Worker<H, C>,
+// Keeps the handle of a new span.
+fn keep<H: Ledger, C: Ledger, S: Setup>(
     held: &mut Vec<Held<H, C, S>>,
-    names: (&str, &str),
-    fields: Fields,
-    parent: ParentOf,
+    made: Option<Handle<H, C, S>>,
 ) -> Result<Answer, Fault> {
-    let meta = meta_of(alloc, names.0, names.1, Level::Info)?;
-    let fields = fields_of(alloc, fields)?;
-    let Some(handle) = registry.new_span(rt, worker, &meta, fields.as_slice(), parent)? else {
+    let Some(handle) = made else {
         return Ok(Answer::NotWanted);
     };
     let id = handle.id();
@@ -33,20 +25,17 @@ fn make_span<H: Ledger, C: Ledger, S: Setup, O: Outlet, R: Wait>(
     Ok(Answer::Made(id))
 }
 
-// An event.
-fn tell<H: Ledger, C: Ledger, S: Setup, O: Outlet, R: Wait>(
+// A new span, whose handle is kept.
+fn make_span<H: Ledger, C: Ledger, S: Setup, O: Outlet, R: Wait>(
     rt: &R,
-    alloc: Global,
     registry: &Registry<H, C, S, O>,
     worker: &mut Worker<H, C>,
-    level: Level,
-    message: &str,
-    fields: Fields,
+    held: &mut Vec<Held<H, C, S>>,
+    said: &Said,
+    parent: ParentOf,
 ) -> Result<Answer, Fault> {
-    let meta = meta_of(alloc, "event", "app", level)?;
-    let fields = fields_of(alloc, fields)?;
-    registry.event(rt, worker, &meta, message, fields.as_slice())?;
-    Ok(Answer::Told)
+    let made = registry.new_span(rt, worker, &said.meta, said.fields.as_slice(), parent)?;
+    keep(held, made)
 }
 
 // The place of a handle of this id.
@@ -126,14 +115,18 @@ fn call<H: Ledger, C: Ledger, S: Setup, O: Outlet, D: Steps, R: Wait>(
             parent,
             fields,
         } => {
-            let names = (*name, *target);
-            make_span(rt, alloc, registry, worker, held, names, fields, *parent)
+            let said = said_of(alloc, (*name, *target), Level::Info, fields)?;
+            make_span(rt, registry, worker, held, &said, *parent)
         }
         Act::Event {
             level,
             message,
             fields,
-        } => tell(rt, alloc, registry, worker, *level, message, fields),
+        } => {
+            let said = said_of(alloc, ("event", "app"), *level, fields)?;
+            registry.event(rt, worker, &said.meta, message, said.fields.as_slice())?;
+            Ok(Answer::Told)
+        }
         Act::Exit(number) => {
             let id = Id::from_u64(*number).ok_or(Fault::Unknown)?;
             Ok(Answer::Closed(registry.exit(rt, worker, id)?))
@@ -143,6 +136,10 @@ fn call<H: Ledger, C: Ledger, S: Setup, O: Outlet, D: Steps, R: Wait>(
             Ok(Answer::Found(registry.find(rt, alloc, id)?))
         }
         Act::Close(number) => give_back(rt, registry, worker, held, *number),
+        Act::Count => {
+            let out = HANDLE_PARTS.wrapping_sub(worker.spare());
+            Ok(Answer::Counted(worker.accepted(), out))
+        }
         Act::Step => Ok(Answer::Stepped(drain.step())),
         Act::Clone(number) | Act::Enter(number) | Act::Record(number, _) => {
             call_on(rt, alloc, registry, worker, held, act, *number)
@@ -150,7 +147,7 @@ fn call<H: Ledger, C: Ledger, S: Setup, O: Outlet, D: Steps, R: Wait>(
     }
 }
 
-// A call or a step, which may make one more span; and what `find` then answers of each span.
+// A call or a step.
 fn note_call<H: Ledger, C: Ledger, S: Setup, O: Outlet, D: Steps, R: Wait>(
     rt: &R,
     alloc: Global,
@@ -159,24 +156,31 @@ fn note_call<H: Ledger, C: Ledger, S: Setup, O: Outlet, D: Steps, R: Wait>(
     worker: &mut Worker<H, C>,
     held: &mut Vec<Held<H, C, S>>,
     act: &Act,
-    ids: &mut Vec<Id>,
     transcript: &mut Transcript,
-) -> Result<(), Fail>
+) -> Result<(), AllocError>
     ensures name { D.name drain.new ≡ D.name drain.old }
 {
     let answer = call(rt, alloc, registry, drain, worker, held, act);
-    let answer = answer.unwrap_or_else(Answer::Refused);
-    if let Answer::Made(id) = answer {
-        ids.push(id)?;
-    }
-    transcript.answer(alloc, &answer)?;
-    for id in &*ids {
-        transcript.found(alloc, &registry.find(rt, alloc, *id)?)?;
+    transcript.answer(alloc, &answer.unwrap_or_else(Answer::Refused))
+}
+
+// What `find` answers of each span.
+fn note_finds<H: Ledger, C: Ledger, S: Setup, O: Outlet, R: Wait>(
+    rt: &R,
+    alloc: Global,
+    registry: &Registry<H, C, S, O>,
+    ids: &[Id],
+    finds: &mut Vec<u8>,
+) -> Result<(), Fault> {
+    for id in ids {
+        let found = registry.find(rt, alloc, *id)?;
+        note_found(alloc, finds, &found)?;
     }
     Ok(())
 }
 
-/// All calls, each made by the worker beside it, and the steps of the drain. The handles that are left are kept.
+/// All calls, each made by the worker beside it, and the steps of the drain; and what `find` answers after each. The
+/// handles that are left are kept.
 pub(crate) fn calls<H: Ledger, C: Ledger, S: Setup, O: Outlet, D: Steps, R: Wait>(
     rt: &R,
     alloc: Global,
@@ -189,12 +193,11 @@ pub(crate) fn calls<H: Ledger, C: Ledger, S: Setup, O: Outlet, D: Steps, R: Wait
 ) -> Result<(), Fail>
     ensures name { D.name drain.new ≡ D.name drain.old }
 {
-    let mut ids = Vec::new(alloc);
     for (number, act) in acts {
         let worker = workers.get_mut(*number as usize).ok_or("no such worker")?;
-        note_call(
-            rt, alloc, registry, drain, worker, held, act, &mut ids, transcript,
-        )?;
+        note_call(rt, alloc, registry, drain, worker, held, act, transcript)?;
+        let Transcript { ids, finds, .. } = &mut *transcript;
+        note_finds(rt, alloc, registry, ids.as_slice(), finds)?;
     }
     Ok(())
 }

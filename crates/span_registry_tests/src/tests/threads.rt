@@ -1,78 +1,28 @@
-//! Two threads of one scope.
+//! Workers that take turns, each in a thread of its own.
+use crate::tests::acts::Transcript;
 use crate::tests::ended::{Deed, has_numbers, run_to_end};
-use crate::tests::held::{Gathered, Held, Part, close};
-use crate::tests::layers::meta_of;
+use crate::tests::held::{Held, Part, gather};
+use crate::tests::jobs::{Station, Task, work};
 use crate::tests::same::same;
-use span_id::{Fault, Level, Limits};
-use span_registry::{Outlet, ParentOf, Registry, Setup, Worker};
-use std::alloc::Global;
+use span_id::{Fault, Limits};
+use span_registry::{Outlet, Registry, Setup, Worker};
+use std::alloc::{AllocError, Global};
 use std::sync::Wait;
 use std::sync::ledger::Ledger;
 use std::test::Fail;
-use std::thread;
 use std::thread::{JoinHandle, Scope, Threads};
+use std::{mem, thread};
 
-// A new span that has to be wanted.
-fn new<H: Ledger, C: Ledger, S: Setup, O: Outlet, R: Wait>(
-    rt: &R,
-    alloc: Global,
-    registry: &Registry<H, C, S, O>,
-    worker: &mut Worker<H, C>,
-    name: &str,
-    parent: ParentOf,
-) -> Result<Held<H, C, S>, Fault> {
-    let meta = meta_of(alloc, name, "app", Level::Info)?;
-    match registry.new_span(rt, worker, &meta, &[], parent)? {
-        Some(handle) => Ok(Held { handle }),
-        None => Err(Fault::BadName),
-    }
+/// What is done at a time.
+#[derive(Clone, Copy)]
+pub(crate) enum Turn {
+    /// All workers do this at once, each in a thread of its own.
+    All(Task),
+    /// Each worker's handles go to the next one, and those of the last to the first.
+    HandOn,
 }
 
-/// The first eight calls of a round: a job, with one handle left.
-pub(crate) fn begin_job<H: Ledger, C: Ledger, S: Setup, O: Outlet, R: Wait>(
-    rt: &R,
-    alloc: Global,
-    registry: &Registry<H, C, S, O>,
-    worker: &mut Worker<H, C>,
-) -> Result<Held<H, C, S>, Fault> {
-    let mut job = new(rt, alloc, registry, worker, "job", ParentOf::Root)?;
-    let other = Held {
-        handle: registry.clone_span(rt, worker, &mut job.handle)?,
-    };
-    registry.enter(rt, worker, &mut job.handle)?;
-    let meta = meta_of(alloc, "event", "app", Level::Info)?;
-    registry.event(rt, worker, &meta, "tick", &[])?;
-    let step = new(rt, alloc, registry, worker, "step", ParentOf::Current)?;
-    close(rt, registry, worker, step).map_err(|(_, fault)| fault)?;
-    registry.exit(rt, worker, job.handle.id())?;
-    close(rt, registry, worker, other).map_err(|(_, fault)| fault)?;
-    Ok(job)
-}
-
-// Nine calls.
-fn round<H: Ledger, C: Ledger, S: Setup, O: Outlet, R: Wait>(
-    rt: &R,
-    alloc: Global,
-    registry: &Registry<H, C, S, O>,
-    worker: &mut Worker<H, C>,
-) -> Result<(), Fault> {
-    let job = begin_job(rt, alloc, registry, worker)?;
-    close(rt, registry, worker, job).map_err(|(_, fault)| fault)?;
-    Ok(())
-}
-
-// What a thread does.
-fn work<H: Ledger, C: Ledger, S: Setup, O: Outlet, R: Wait>(
-    rt: &R,
-    alloc: Global,
-    registry: &Registry<H, C, S, O>,
-    worker: Worker<H, C>,
-) -> Result<Part<H, C>, Fault> {
-    let mut worker = worker;
-    round(rt, alloc, registry, &mut worker)?;
-    Ok(Part::of_worker(worker))
-}
-
+// Starts the thread of a station, which is lent to it.
 fn start<
     's,
     E: 's,
@@ -86,16 +36,48 @@ fn start<
     scope: &Scope<'s, E>,
     alloc: Global,
     registry: &'s Registry<H, C, S, O>,
-    worker: Worker<H, C>,
-) -> Result<JoinHandle<Result<Part<H, C>, Fault>>, Fault> {
-    match scope.spawn(move || work(rt, alloc, registry, worker)) {
+    station: &'s mut Station<H, C, S>,
+    task: Task,
+) -> Result<JoinHandle<Result<(), Fault>>, Fault> {
+    match scope.spawn(move || work(rt, alloc, registry, station, task)) {
         Ok(handle) => Ok(handle),
         Err(_) => Err(Fault::Memory),
     }
 }
 
-// Two threads of one scope.
-fn scoped<
+// Starts a thread for each station.
+fn start_all<
+    's,
+    E: 's,
+    H: Ledger + Send + Sync + 's,
+    C: Ledger + Send + Sync + 's,
+    S: Setup + Send + Sync + 's,
+    O: Outlet + Send + 's,
+    R: Wait + Sync,
+>(
+    rt: &'s R,
+    scope: &Scope<'s, E>,
+    alloc: Global,
+    registry: &'s Registry<H, C, S, O>,
+    stations: &'s mut [Station<H, C, S>],
+    task: Task,
+) -> Result<Vec<JoinHandle<Result<(), Fault>>>, Fault> {
+    let mut running = Vec::new(alloc);
+    for station in stations {
+        running.push(start(rt, scope, alloc, registry, station, task)?)?;
+    }
+    Ok(running)
+}
+
+fn join_all<R: Threads>(rt: &R, running: Vec<JoinHandle<Result<(), Fault>>>) -> Result<(), Fault> {
+    for handle in running {
+        handle.join(rt)?;
+    }
+    Ok(())
+}
+
+// All threads at once.
+fn in_threads<
     H: Ledger + Send + Sync,
     C: Ledger + Send + Sync,
     S: Setup + Send + Sync,
@@ -105,24 +87,97 @@ fn scoped<
     rt: &R,
     alloc: Global,
     registry: &Registry<H, C, S, O>,
-    first: Worker<H, C>,
-    second: Worker<H, C>,
-) -> Result<Option<Part<H, C>>, Fault> {
-    thread::scope(
-        thread::scope_env(),
-        rt,
-        move |scope| -> Result<Option<Part<H, C>>, Fault> {
-            let first = start(rt, scope, alloc, registry, first)?;
-            let second = start(rt, scope, alloc, registry, second)?;
-            let first = first.join(rt)?;
-            let second = second.join(rt)?;
-            Ok(first.join(second))
-        },
-    )
+    stations: &mut [Station<H, C, S>],
+    task: Task,
+) -> Result<(), Fault> {
+    thread::scope(thread::scope_env(), rt, move |scope| -> Result<(), Fault> {
+        let running = start_all(rt, scope, alloc, registry, stations, task)?;
+        join_all(rt, running)
+    })
 }
 
-/// The two workers make the calls of one round each, in threads of their own.
-pub(crate) fn two_rounds<
+// Each station's handles go to the next one, and those of the last to the first.
+fn hand_on<H: Ledger, C: Ledger, S: Setup>(alloc: Global, stations: &mut [Station<H, C, S>]) {
+    let mut carried = Vec::new(alloc);
+    for station in &mut *stations {
+        mem::swap(&mut station.held, &mut carried);
+    }
+    if let Some(first) = stations.first_mut() {
+        mem::swap(&mut first.held, &mut carried);
+    }
+}
+
+fn take_each_turn<
+    H: Ledger + Send + Sync,
+    C: Ledger + Send + Sync,
+    S: Setup + Send + Sync,
+    O: Outlet + Send,
+    R: Threads + Wait + Sync,
+>(
+    rt: &R,
+    alloc: Global,
+    registry: &Registry<H, C, S, O>,
+    stations: &mut [Station<H, C, S>],
+    turns: &[Turn],
+) -> Result<(), Fault> {
+    for turn in turns {
+        match turn {
+            Turn::All(task) => in_threads(rt, alloc, registry, stations, *task)?,
+            Turn::HandOn => hand_on(alloc, stations),
+        }
+    }
+    Ok(())
+}
+
+// The workers with no handle.
+fn stations_of<H: Ledger, C: Ledger, S: Setup>(
+    alloc: Global,
+    workers: Vec<Worker<H, C>>,
+) -> Result<Vec<Station<H, C, S>>, AllocError> {
+    let mut stations = Vec::new(alloc);
+    for worker in workers {
+        stations.push(Station {
+            worker,
+            held: Vec::new(alloc),
+            inside: Vec::new(alloc),
+            closed_by_close: 0,
+            closed_by_exit: 0,
+        })?;
+    }
+    Ok(stations)
+}
+
+// How many spans each worker closed by closing and by leaving, on a line.
+fn note_closed<H: Ledger, C: Ledger, S: Setup>(
+    alloc: Global,
+    stations: &[Station<H, C, S>],
+    answers: &mut Vec<u8>,
+) -> Result<(), AllocError> {
+    for station in stations {
+        let (by_close, by_exit) = (station.closed_by_close, station.closed_by_exit);
+        let line = format!(in alloc; "{by_close} {by_exit}\n")?;
+        answers.extend_from_slice(line.as_bytes())?;
+    }
+    Ok(())
+}
+
+// The parts of the workers, who have no handle left.
+fn leave<H: Ledger, C: Ledger, S: Setup>(
+    alloc: Global,
+    counts: &mut Vec<u8>,
+    stations: Vec<Station<H, C, S>>,
+) -> Result<Option<Part<H, C>>, Fail> {
+    let mut workers = Vec::new(alloc);
+    for station in stations {
+        workers.push(station.worker)?;
+    }
+    let none: Vec<Held<H, C, S>> = Vec::new(alloc);
+    gather(alloc, counts, workers, none)
+}
+
+/// The workers take these turns, and close all handles in them. The answer is, for each, how many spans it closed by
+/// closing and by leaving.
+pub(crate) fn take_turns<
     H: Ledger + Send + Sync,
     C: Ledger + Send + Sync,
     S: Setup + Send + Sync,
@@ -133,14 +188,13 @@ pub(crate) fn two_rounds<
     alloc: Global,
     registry: &Registry<H, C, S, O>,
     workers: Vec<Worker<H, C>>,
-) -> Result<Gathered<H, C>, Fail> {
-    let mut workers = workers;
-    let second = workers.pop().ok_or("no worker")?;
-    let first = workers.pop().ok_or("no second worker")?;
-    Ok(Gathered {
-        whole: scoped(rt, alloc, registry, first, second)?,
-        counts: Vec::new(alloc),
-    })
+    turns: &[Turn],
+    transcript: &mut Transcript,
+) -> Result<Option<Part<H, C>>, Fail> {
+    let mut stations: Vec<Station<H, C, S>> = stations_of(alloc, workers)?;
+    take_each_turn(rt, alloc, registry, &mut stations, turns)?;
+    note_closed(alloc, stations.as_slice(), &mut transcript.answers)?;
+    leave(alloc, &mut transcript.counts, stations)
 }
 
 #[test]
@@ -149,7 +203,8 @@ fn two_threads_make_a_round_each(rt: HostRuntime) -> Result<(), Fail> {
         workers: 2,
         ..Limits::default()
     };
-    let ended = run_to_end(&rt, rt.alloc(), limits, &[], Deed::TwoRounds, &[])?;
+    let deed = Deed::InThreads(&[Turn::All(Task::Round)]);
+    let ended = run_to_end(&rt, rt.alloc(), limits, &[], deed, &[])?;
     let expected = "left 0 handles 0 entries 0 calls 18 made 4 closed 4 refused 0";
     has_numbers(&rt, rt.alloc(), &ended.report, expected)?;
     same(&rt, ended.report.lines.len(), 0);
