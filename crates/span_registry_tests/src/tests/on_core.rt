@@ -1,12 +1,12 @@
 //! Calls on a core, which has no lock.
 ghost use Rattle.std.specs.Prelude.{◌≡◌, ◌<◌, []};
 
-use crate::tests::acts::{Act, Answer, Transcript, lines_text, note_found};
+use crate::tests::acts::{Act, Answer, Fields, Transcript, lines_text, note_found};
 use crate::tests::layers::{Plan, fields_of, layers, said_of};
 use span_id::{Checked, Fault, Id, Level, Limits, copy_text};
 use span_layers::{Filters, Say};
 use span_outlet::Kept;
-use span_registry::{Core, Found};
+use span_registry::{Core, Found, ParentOf};
 use std::alloc::{AllocError, Global};
 use std::test::Fail;
 
@@ -52,6 +52,40 @@ fn call_on<V: Say>(
     }
 }
 
+// A new span.
+fn make_span<V: Say>(
+    alloc: Global,
+    core: &mut Core<Kept<V>>,
+    worker: u32,
+    names: (&str, &str),
+    fields: Fields,
+    parent: ParentOf,
+) -> Result<Answer, Fault>
+    requires { worker < core.old.limits.workers }
+    ensures limits { core.new.limits ≡ core.old.limits }
+{
+    let said = said_of(alloc, names, Level::Info, fields)?;
+    let made = core.new_span(worker, &said.meta, said.fields.as_slice(), parent)?;
+    Ok(made.map_or(Answer::NotWanted, Answer::Made))
+}
+
+// An event.
+fn tell<V: Say>(
+    alloc: Global,
+    core: &mut Core<Kept<V>>,
+    worker: u32,
+    level: Level,
+    message: &str,
+    fields: Fields,
+) -> Result<Answer, Fault>
+    requires { worker < core.old.limits.workers }
+    ensures limits { core.new.limits ≡ core.old.limits }
+{
+    let said = said_of(alloc, ("event", "app"), level, fields)?;
+    core.event(worker, &said.meta, message, said.fields.as_slice())?;
+    Ok(Answer::Told)
+}
+
 // A call.
 fn call<V: Say>(
     alloc: Global,
@@ -68,20 +102,12 @@ fn call<V: Say>(
             target,
             parent,
             fields,
-        } => {
-            let said = said_of(alloc, (*name, *target), Level::Info, fields)?;
-            let made = core.new_span(worker, &said.meta, said.fields.as_slice(), *parent)?;
-            Ok(made.map_or(Answer::NotWanted, Answer::Made))
-        }
+        } => make_span(alloc, core, worker, (name, target), fields, *parent),
         Act::Event {
             level,
             message,
             fields,
-        } => {
-            let said = said_of(alloc, ("event", "app"), *level, fields)?;
-            core.event(worker, &said.meta, message, said.fields.as_slice())?;
-            Ok(Answer::Told)
-        }
+        } => tell(alloc, core, worker, *level, message, fields),
         // A core has no drain, and no worker of which something is counted.
         Act::Step | Act::Count => Ok(Answer::Stepped(None)),
         Act::Clone(number)

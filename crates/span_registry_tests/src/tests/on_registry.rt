@@ -1,9 +1,9 @@
 //! Calls on a registry, with the handles that it gave.
 ghost use Rattle.std.specs.Prelude.{◌≡◌};
 
-use crate::tests::acts::{Act, Answer, Transcript, note_found};
+use crate::tests::acts::{Act, Answer, Fields, Transcript, note_found};
 use crate::tests::held::{Held, close};
-use crate::tests::layers::{Said, fields_of, said_of};
+use crate::tests::layers::{fields_of, said_of};
 use crate::tests::steps::Steps;
 use span_id::{Fault, Id, Level};
 use span_registry::{HANDLE_PARTS, Handle, Outlet, ParentOf, Registry, Setup, Worker};
@@ -28,14 +28,32 @@ fn keep<H: Ledger, C: Ledger, S: Setup>(
 // A new span, whose handle is kept.
 fn make_span<H: Ledger, C: Ledger, S: Setup, O: Outlet, R: Wait>(
     rt: &R,
+    alloc: Global,
     registry: &Registry<H, C, S, O>,
     worker: &mut Worker<H, C>,
     held: &mut Vec<Held<H, C, S>>,
-    said: &Said,
+    names: (&str, &str),
+    fields: Fields,
     parent: ParentOf,
 ) -> Result<Answer, Fault> {
+    let said = said_of(alloc, names, Level::Info, fields)?;
     let made = registry.new_span(rt, worker, &said.meta, said.fields.as_slice(), parent)?;
     keep(held, made)
+}
+
+// An event.
+fn tell<H: Ledger, C: Ledger, S: Setup, O: Outlet, R: Wait>(
+    rt: &R,
+    alloc: Global,
+    registry: &Registry<H, C, S, O>,
+    worker: &mut Worker<H, C>,
+    level: Level,
+    message: &str,
+    fields: Fields,
+) -> Result<Answer, Fault> {
+    let said = said_of(alloc, ("event", "app"), level, fields)?;
+    registry.event(rt, worker, &said.meta, message, said.fields.as_slice())?;
+    Ok(Answer::Told)
 }
 
 // The place of a handle of this id.
@@ -96,6 +114,22 @@ fn give_back<H: Ledger, C: Ledger, S: Setup, O: Outlet, R: Wait>(
     }
 }
 
+// A call that takes an id and no handle.
+fn call_by_id<H: Ledger, C: Ledger, S: Setup, O: Outlet, R: Wait>(
+    rt: &R,
+    alloc: Global,
+    registry: &Registry<H, C, S, O>,
+    worker: &mut Worker<H, C>,
+    act: &Act,
+    number: u64,
+) -> Result<Answer, Fault> {
+    let id = Id::from_u64(number).ok_or(Fault::Unknown)?;
+    match act {
+        Act::Find(_) => Ok(Answer::Found(registry.find(rt, alloc, id)?)),
+        _ => Ok(Answer::Closed(registry.exit(rt, worker, id)?)),
+    }
+}
+
 // A call, or a step of the drain.
 fn call<H: Ledger, C: Ledger, S: Setup, O: Outlet, D: Steps, R: Wait>(
     rt: &R,
@@ -108,43 +142,37 @@ fn call<H: Ledger, C: Ledger, S: Setup, O: Outlet, D: Steps, R: Wait>(
 ) -> Result<Answer, Fault>
     ensures name { D.name drain.new ≡ D.name drain.old }
 {
-    match act {
+    match *act {
         Act::New {
             name,
             target,
             parent,
             fields,
         } => {
-            let said = said_of(alloc, (*name, *target), Level::Info, fields)?;
-            make_span(rt, registry, worker, held, &said, *parent)
+            let names = (name, target);
+            make_span(rt, alloc, registry, worker, held, names, fields, parent)
         }
         Act::Event {
             level,
             message,
             fields,
-        } => {
-            let said = said_of(alloc, ("event", "app"), *level, fields)?;
-            registry.event(rt, worker, &said.meta, message, said.fields.as_slice())?;
-            Ok(Answer::Told)
+        } => tell(rt, alloc, registry, worker, level, message, fields),
+        Act::Exit(number) | Act::Find(number) => {
+            call_by_id(rt, alloc, registry, worker, act, number)
         }
-        Act::Exit(number) => {
-            let id = Id::from_u64(*number).ok_or(Fault::Unknown)?;
-            Ok(Answer::Closed(registry.exit(rt, worker, id)?))
-        }
-        Act::Find(number) => {
-            let id = Id::from_u64(*number).ok_or(Fault::Unknown)?;
-            Ok(Answer::Found(registry.find(rt, alloc, id)?))
-        }
-        Act::Close(number) => give_back(rt, registry, worker, held, *number),
-        Act::Count => {
-            let out = HANDLE_PARTS.wrapping_sub(worker.spare());
-            Ok(Answer::Counted(worker.accepted(), out))
-        }
+        Act::Close(number) => give_back(rt, registry, worker, held, number),
+        Act::Count => Ok(counted(worker)),
         Act::Step => Ok(Answer::Stepped(drain.step())),
         Act::Clone(number) | Act::Enter(number) | Act::Record(number, _) => {
-            call_on(rt, alloc, registry, worker, held, act, *number)
+            call_on(rt, alloc, registry, worker, held, act, number)
         }
     }
+}
+
+// What was counted of a worker.
+fn counted<H: Ledger, C: Ledger>(worker: &Worker<H, C>) -> Answer {
+    let out = HANDLE_PARTS.wrapping_sub(worker.spare());
+    Answer::Counted(worker.accepted(), out)
 }
 
 // A call or a step.
