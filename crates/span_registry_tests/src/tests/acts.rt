@@ -65,7 +65,7 @@ pub(crate) enum Answer {
     Recorded,
     Told,
     Found(Option<Found>),
-    /// How many calls were accepted of the worker, and how many parts of the ledger of handles it has given out.
+    /// How many calls were accepted of the worker, and how many parts of the ledger of handles are not with it.
     Counted(u64, u64),
     Stepped(Option<Step>),
     Refused(Fault),
@@ -114,8 +114,8 @@ pub(crate) fn answer_text(alloc: Global, answer: &Answer) -> Result<String, Allo
     String::from_str(alloc, text)
 }
 
-/// The answers to calls; what `find` answers after each call of each span made so far; and what was left of each worker
-/// and then of each handle.
+/// The answers to calls; the ids of the spans made so far, and what `find` answers of each after each call; and what was
+/// left of each worker and then of each handle.
 #[derive(Drop)]
 pub(crate) struct Transcript {
     pub(crate) answers: Vec<u8>,

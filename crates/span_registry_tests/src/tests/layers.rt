@@ -80,7 +80,7 @@ pub(crate) fn meta_of(
     })
 }
 
-/// A meta and fields.
+/// What a call says: a meta and fields.
 #[derive(Drop)]
 pub(crate) struct Said {
     pub(crate) meta: Meta,
