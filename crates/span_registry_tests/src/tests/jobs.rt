@@ -174,6 +174,18 @@ pub(crate) fn work<H: Ledger, C: Ledger, S: Setup, O: Outlet, R: Wait>(
     rt: &R,
     alloc: Global,
     registry: &Registry<H, C, S, O>,
+    station: Station<H, C, S>,
+    task: Task,
+) -> Result<Station<H, C, S>, Fault> {
+    let mut station = station;
+    perform(rt, alloc, registry, &mut station, task)?;
+    Ok(station)
+}
+
+fn perform<H: Ledger, C: Ledger, S: Setup, O: Outlet, R: Wait>(
+    rt: &R,
+    alloc: Global,
+    registry: &Registry<H, C, S, O>,
     station: &mut Station<H, C, S>,
     task: Task,
 ) -> Result<(), Fault> {

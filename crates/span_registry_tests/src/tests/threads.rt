@@ -22,7 +22,9 @@ pub(crate) enum Turn {
     HandOn,
 }
 
-// Starts the thread of a station, which is lent to it.
+type Running<H, C, S> = JoinHandle<Result<Station<H, C, S>, Fault>>;
+
+// Starts the thread of a station, which is moved into it with its handles, and comes back when it is joined.
 fn start<
     's,
     E: 's,
@@ -36,9 +38,9 @@ fn start<
     scope: &Scope<'s, E>,
     alloc: Global,
     registry: &'s Registry<H, C, S, O>,
-    station: &'s mut Station<H, C, S>,
+    station: Station<H, C, S>,
     task: Task,
-) -> Result<JoinHandle<Result<(), Fault>>, Fault> {
+) -> Result<Running<H, C, S>, Fault> {
     match scope.spawn(move || work(rt, alloc, registry, station, task)) {
         Ok(handle) => Ok(handle),
         Err(_) => Err(Fault::Memory),
@@ -59,9 +61,9 @@ fn start_all<
     scope: &Scope<'s, E>,
     alloc: Global,
     registry: &'s Registry<H, C, S, O>,
-    stations: &'s mut [Station<H, C, S>],
+    stations: Vec<Station<H, C, S>>,
     task: Task,
-) -> Result<Vec<JoinHandle<Result<(), Fault>>>, Fault> {
+) -> Result<Vec<Running<H, C, S>>, Fault> {
     let mut running = Vec::new(alloc);
     for station in stations {
         running.push(start(rt, scope, alloc, registry, station, task)?)?;
@@ -69,11 +71,16 @@ fn start_all<
     Ok(running)
 }
 
-fn join_all<R: Threads>(rt: &R, running: Vec<JoinHandle<Result<(), Fault>>>) -> Result<(), Fault> {
+fn join_all<H: Ledger, C: Ledger, S: Setup, R: Threads>(
+    rt: &R,
+    alloc: Global,
+    running: Vec<Running<H, C, S>>,
+) -> Result<Vec<Station<H, C, S>>, Fault> {
+    let mut stations = Vec::new(alloc);
     for handle in running {
-        handle.join(rt)?;
+        stations.push(handle.join(rt)?)?;
     }
-    Ok(())
+    Ok(stations)
 }
 
 // All threads at once.
@@ -87,13 +94,17 @@ fn in_threads<
     rt: &R,
     alloc: Global,
     registry: &Registry<H, C, S, O>,
-    stations: &mut [Station<H, C, S>],
+    stations: Vec<Station<H, C, S>>,
     task: Task,
-) -> Result<(), Fault> {
-    thread::scope(thread::scope_env(), rt, move |scope| -> Result<(), Fault> {
-        let running = start_all(rt, scope, alloc, registry, stations, task)?;
-        join_all(rt, running)
-    })
+) -> Result<Vec<Station<H, C, S>>, Fault> {
+    thread::scope(
+        thread::scope_env(),
+        rt,
+        move |scope| -> Result<Vec<Station<H, C, S>>, Fault> {
+            let running = start_all(rt, scope, alloc, registry, stations, task)?;
+            join_all(rt, alloc, running)
+        },
+    )
 }
 
 // Each station's handles go to the next one, and those of the last to the first.
@@ -117,16 +128,17 @@ fn take_each_turn<
     rt: &R,
     alloc: Global,
     registry: &Registry<H, C, S, O>,
-    stations: &mut [Station<H, C, S>],
+    stations: Vec<Station<H, C, S>>,
     turns: &[Turn],
-) -> Result<(), Fault> {
+) -> Result<Vec<Station<H, C, S>>, Fault> {
+    let mut stations = stations;
     for turn in turns {
         match turn {
-            Turn::All(task) => in_threads(rt, alloc, registry, stations, *task)?,
-            Turn::HandOn => hand_on(alloc, stations),
+            Turn::All(task) => stations = in_threads(rt, alloc, registry, stations, *task)?,
+            Turn::HandOn => hand_on(alloc, &mut stations),
         }
     }
-    Ok(())
+    Ok(stations)
 }
 
 // The workers with no handle.
@@ -191,8 +203,8 @@ pub(crate) fn take_turns<
     turns: &[Turn],
     transcript: &mut Transcript,
 ) -> Result<Option<Part<H, C>>, Fail> {
-    let mut stations: Vec<Station<H, C, S>> = stations_of(alloc, workers)?;
-    take_each_turn(rt, alloc, registry, &mut stations, turns)?;
+    let stations: Vec<Station<H, C, S>> = stations_of(alloc, workers)?;
+    let stations = take_each_turn(rt, alloc, registry, stations, turns)?;
     note_closed(alloc, stations.as_slice(), &mut transcript.answers)?;
     leave(alloc, &mut transcript.counts, stations)
 }
