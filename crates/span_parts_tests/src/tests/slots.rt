@@ -86,7 +86,7 @@ fn shows(rt: &impl Abort, slots: &Slots<u32>, act: &Act<'_>) {
             same(rt, slots.next_id().map(Id::get), *want, "the next id");
         }
         Act::List(numbers) => lists(rt, slots, numbers),
-        _ => {}
+        Act::Put(..) | Act::Full(..) | Act::Remove(..) | Act::Write(..) | Act::Gone(..) => {}
     }
 }
 

@@ -55,8 +55,8 @@ fn add_root(rt: &impl Abort, alloc: Global, forest: &mut Forest, fields: &Fields
     made
 }
 
-// Copied: the field `k=1`.
-fn copied(rt: &impl Abort, alloc: Global) -> Fields {
+// Fields with a copy of the field `k=1`.
+fn copied_fields(rt: &impl Abort, alloc: Global) -> Fields {
     let one = [field(rt, alloc)];
     Fields::copy_of(alloc, &one).expect(rt, "memory")
 }
@@ -64,7 +64,7 @@ fn copied(rt: &impl Abort, alloc: Global) -> Fields {
 #[test]
 fn another_owner_keeps_its_fields(rt: HostRuntime) {
     let mut forest = pair(&rt, rt.alloc());
-    let fields = copied(&rt, rt.alloc());
+    let fields = copied_fields(&rt, rt.alloc());
     let made = add_root(&rt, rt.alloc(), &mut forest, &fields);
     let lengths = (fields_of(&forest, made), fields.len());
     same(&rt, lengths, (2, 1), "the span's and the owner's");
@@ -75,8 +75,8 @@ fn share(rt: &impl Abort, forest: &mut Forest, id: Id, fields: &Fields) {
     forest.share_fields(id, fields).expect(rt, "an open span");
 }
 
-// Moved in: the field `k=1`.
-fn moved(rt: &impl Abort, alloc: Global) -> Fields {
+// Fields into which a list of the field `k=1` was moved.
+fn moved_fields(rt: &impl Abort, alloc: Global) -> Fields {
     let mut list = Vec::new(alloc);
     list.push(field(rt, alloc)).expect(rt, "memory");
     Fields::new(alloc, list).expect(rt, "memory")
@@ -95,7 +95,7 @@ fn share_thrice(rt: &impl Abort, forest: &mut Forest, fields: &Fields) -> (usize
 #[test]
 fn a_span_shares_its_first_fields(rt: HostRuntime) {
     let mut forest = pair(&rt, rt.alloc());
-    let fields = moved(&rt, rt.alloc());
+    let fields = moved_fields(&rt, rt.alloc());
     let lengths = share_thrice(&rt, &mut forest, &fields);
     same(&rt, lengths, (1, 2, 1), "the spans' and the owner's");
 }

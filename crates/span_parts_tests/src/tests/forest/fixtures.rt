@@ -161,7 +161,7 @@ pub(crate) fn held(rt: &impl Abort, forest: &Forest, number: u64) -> Option<(u32
     }
 }
 
-/// A span is refused.
+// A span is refused.
 fn refuses(
     rt: &impl Abort,
     alloc: Global,
@@ -204,14 +204,16 @@ fn shows(rt: &impl Abort, alloc: Global, forest: &Forest, act: &Act<'_>) {
         }
         Act::Held(number, want) => same(rt, held(rt, forest, *number), *want, *number),
         Act::Next(want) => same(rt, next_number(forest), *want, "the next id"),
-        _ => {}
+        Act::Add(..) | Act::Refuse(..) | Act::Keep(..) | Act::Release(..) => {}
     }
 }
 
 fn does(rt: &impl Abort, alloc: Global, forest: &mut Forest, act: &Act<'_>) {
     match act {
         Act::Add(name, parent, bits) => {
-            add(rt, alloc, forest, name, Id::from_u64(*parent), *bits);
+            let next = next_number(forest);
+            let added = add(rt, alloc, forest, name, Id::from_u64(*parent), *bits);
+            same(rt, added.get(), next, "the id of a span");
         }
         Act::Refuse(parent, bits, fault) => refuses(rt, alloc, forest, (*parent, *bits), *fault),
         Act::Keep(number, holder, want) => keep(rt, forest, (*number, *holder), *want),

@@ -108,7 +108,7 @@ pub(crate) fn played(
     drain
 }
 
-// The three are taken one by one, and then none.
+// Nothing is there; three batches are sent, taken one by one, and then there is none.
 const THREE: [Act<'static>; 10] = [
     Act::Idle,
     Act::Send(Kind::OnEnter, &[0, 1], true),
