@@ -2,6 +2,6 @@
 use Rattle.std.specs.Prelude.{ℕ, Option, Some, None}
 
 -- one where there is a handle, else none
-abbrev pub units_in : {X : Type 0} → Option X → ℕ
+unfoldable pub units_in : {X : Type 0} → Option X → ℕ
 units_in None = 0
 units_in (Some handle) = 1

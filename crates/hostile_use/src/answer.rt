@@ -38,39 +38,40 @@ impl fmt::Display for Answer {
             Answer::Yes(yes) => write!(f, "{yes}"),
             Answer::Number(number) => write!(f, "{number}"),
             Answer::Span(id) => write!(f, "{id}"),
-            Answer::Spans(ids) => {
-                f.write_str("[")?;
-                for id in ids {
-                    write!(f, " {id}")?;
-                }
-                f.write_str(" ]")
-            }
-            Answer::Names(names) => {
-                f.write_str("[")?;
-                for name in names {
-                    write!(f, " {name}")?;
-                }
-                f.write_str(" ]")
-            }
+            Answer::Spans(ids) => write_all(f, ids.as_slice()),
+            Answer::Names(names) => write_all(f, names.as_slice()),
             Answer::Text(text) => f.write_str(text.as_str()),
-            Answer::Found(found) => {
-                let Found {
-                    name,
-                    parent,
-                    handles,
-                    entries,
-                    count,
-                } = found;
-                let parent = parent.map_or(0, Id::get);
-                write!(
-                    f,
-                    "{name} parent {parent} handles {handles} entries {entries} count {count}"
-                )
-            }
+            Answer::Found(found) => write_found(f, found),
             Answer::Held(handles, entries, count) => {
                 write!(f, "handles {handles} entries {entries} count {count}")
             }
             Answer::Refused(fault) => write!(f, "! {fault}"),
         }
     }
+}
+
+fn write_all<T: fmt::Display, W: fmt::Write>(
+    f: &mut fmt::Formatter<W>,
+    items: &[T],
+) -> fmt::Result {
+    f.write_str("[")?;
+    for item in items {
+        write!(f, " {item}")?;
+    }
+    f.write_str(" ]")
+}
+
+fn write_found<W: fmt::Write>(f: &mut fmt::Formatter<W>, found: &Found) -> fmt::Result {
+    let Found {
+        name,
+        parent,
+        handles,
+        entries,
+        count,
+    } = found;
+    let parent = parent.map_or(0, Id::get);
+    write!(
+        f,
+        "{name} parent {parent} handles {handles} entries {entries} count {count}"
+    )
 }

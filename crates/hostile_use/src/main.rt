@@ -37,12 +37,10 @@ fn run<R: Print + Threads + Wait + Sync>(
     rows: &[Row],
 ) -> io::Result<ExitCode> {
     for row in rows {
-        let stage = Stage {
-            rt,
-            row: *row,
-            marked,
-        };
-        match row.run(&stage, alloc) {
+        let stage = Stage::new(rt, *row, marked);
+        let ended = row.run(&stage, alloc);
+        stage.end()?;
+        match ended {
             Ok(()) => {}
             Err(Stop::Output(error)) => return Err(error),
             Err(Stop::Told) => return Ok(ExitCode::FAILURE),

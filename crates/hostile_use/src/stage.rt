@@ -2,6 +2,8 @@
 
 use crate::rows::Row;
 use crate::stop::Stop;
+use std::cell::Cell;
+use std::io;
 
 /// How often a call is made: more than once only where it was refused memory.
 pub(crate) const TRIES: u32 = 3;
@@ -21,14 +23,36 @@ pub(crate) enum Memory {
 pub(crate) struct Stage<'a, R> {
     pub(crate) rt: &'a R,
     /// The row whose calls are made.
-    pub(crate) row: Row,
+    row: Row,
     /// Whether marks are written.
-    pub(crate) marked: bool,
+    marked: bool,
+    /// Why a mark could not be written. The row goes on, and its end tells.
+    lost: Cell<Option<io::Error>>,
+}
+
+impl<'a, R> Stage<'a, R> {
+    /// The stage of a row.
+    pub(crate) fn new(rt: &'a R, row: Row, marked: bool) -> Stage<'a, R> {
+        Stage {
+            rt,
+            row,
+            marked,
+            lost: Cell::new(None),
+        }
+    }
+
+    /// The row is over: an error where a mark could not be written.
+    pub(crate) fn end(&self) -> io::Result<()> {
+        match self.lost.replace(None) {
+            Some(error) => Err(error),
+            None => Ok(()),
+        }
+    }
 }
 
 impl<'a, R: Print> Stage<'a, R> {
     /// A call begins.
-    pub(crate) fn begin(&self, memory: Memory) -> Result<(), Stop> {
+    pub(crate) fn begin(&self, memory: Memory) {
         match memory {
             Memory::Taken => self.mark(". call"),
             Memory::Untouched => self.mark(". no memory"),
@@ -36,8 +60,8 @@ impl<'a, R: Print> Stage<'a, R> {
     }
 
     /// The call is over.
-    pub(crate) fn over(&self) -> Result<(), Stop> {
-        self.mark(". over")
+    pub(crate) fn over(&self) {
+        self.mark(". over");
     }
 
     /// A refused call changed something that can be looked at.
@@ -62,10 +86,12 @@ impl<'a, R: Print> Stage<'a, R> {
         }
     }
 
-    fn mark(&self, text: &str) -> Result<(), Stop> {
-        if self.marked {
-            self.rt.println(text)?;
+    fn mark(&self, text: &str) {
+        if !self.marked {
+            return;
         }
-        Ok(())
+        if let Err(error) = self.rt.println(text) {
+            self.lost.set(Some(error));
+        }
     }
 }

@@ -62,59 +62,70 @@ pub(crate) fn note_of(
     kind: Kind,
     fields: &[(&str, &str)],
 ) -> Result<Note, AllocError> {
-    let of_event = kind == Kind::OnEvent;
-    let tail = if of_event {
-        Some((Level::Warn, ArcStr::from_str(alloc, "x\ny")?))
-    } else {
-        None
-    };
-    let (id, path) = if of_event { (0, "-") } else { (1, "a") };
+    let (id, path) = place_of(kind);
+    let path = ArcStr::from_str(alloc, path)?;
+    let fields = shared_fields_of(alloc, fields)?;
     Ok(Note {
         layer,
         kind,
         worker: 0,
         id,
-        path: ArcStr::from_str(alloc, path)?,
-        fields: shared_fields_of(alloc, fields)?,
-        tail,
+        path,
+        fields,
+        tail: tail_of(alloc, kind)?,
     })
 }
 
-/// The meta as text.
-pub(crate) fn meta_text(alloc: Global, meta: &Meta) -> Result<String, AllocError> {
+// The id and the path of such a note.
+fn place_of(kind: Kind) -> (u64, &'static str) {
+    if kind == Kind::OnEvent {
+        (0, "-")
+    } else {
+        (1, "a")
+    }
+}
+
+// What only the note of an event has.
+fn tail_of(alloc: Global, kind: Kind) -> Result<Option<(Level, ArcStr)>, AllocError> {
+    if kind == Kind::OnEvent {
+        Ok(Some((Level::Warn, ArcStr::from_str(alloc, "x\ny")?)))
+    } else {
+        Ok(None)
+    }
+}
+
+/// Adds the meta to a text.
+pub(crate) fn add_meta(text: &mut String, meta: &Meta) -> Result<(), AllocError> {
     let Meta {
         name,
         target,
         level,
     } = meta;
-    format!(in alloc; "{name} {target} {level}")
+    write!(text, "{name} {target} {level}")
 }
 
-/// The fields as text.
-pub(crate) fn fields_text(alloc: Global, fields: &[Field]) -> Result<String, AllocError> {
-    let mut text = String::new(alloc);
+/// Adds the fields to a text.
+pub(crate) fn add_fields(text: &mut String, fields: &[Field]) -> Result<(), AllocError> {
     for field in fields {
         let Field { key, value } = field;
-        let one = format!(in alloc; " {key}={value}")?;
-        text.push_str(one.as_str())?;
+        write!(text, " {key}={value}")?;
     }
-    Ok(text)
+    Ok(())
 }
 
-/// The entries of a stack, from the lowest, and what it answers of itself.
-pub(crate) fn stack_text(alloc: Global, stack: &SpanStack) -> Result<String, AllocError> {
+/// Adds the entries of a stack to a text, from the lowest, and what it answers of itself.
+pub(crate) fn add_stack(text: &mut String, stack: &SpanStack) -> Result<(), AllocError> {
     let (current, top) = (stack.current(), stack.top());
-    let mut text = format!(in alloc; "current {current:?} top {top:?}:")?;
+    write!(text, "current {current:?} top {top:?}:")?;
     for place in 0..stack.len() {
         let entry = stack.get(place);
-        let one = format!(in alloc; " {entry:?}")?;
-        text.push_str(one.as_str())?;
+        write!(text, " {entry:?}")?;
     }
-    Ok(text)
+    Ok(())
 }
 
-/// All that an open span shows.
-pub(crate) fn span_text(alloc: Global, span: &Span) -> Result<String, AllocError> {
+/// Adds all that an open span shows to a text.
+pub(crate) fn add_span(text: &mut String, span: &Span) -> Result<(), AllocError> {
     let Span {
         meta,
         fields,
@@ -124,9 +135,9 @@ pub(crate) fn span_text(alloc: Global, span: &Span) -> Result<String, AllocError
         entries,
         count,
     } = span;
-    let meta = meta_text(alloc, meta.as_meta())?;
-    let fields = fields_text(alloc, fields.as_slice())?;
-    format!(in alloc; "{meta}{fields} {parent:?} {bits:?} {handles} {entries} {count}\n")
+    add_meta(text, meta.as_meta())?;
+    add_fields(text, fields.as_slice())?;
+    write!(text, " {parent:?} {bits:?} {handles} {entries} {count}\n")
 }
 
 /// The bytes of a text.

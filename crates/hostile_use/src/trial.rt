@@ -12,35 +12,12 @@ pub(crate) trait Subject<A> {
     /// Makes a call. It takes no memory but what the call itself takes.
     fn call(&mut self, act: &A) -> Result<Answer, Fault>;
 
-    /// All that can be looked at, as text.
-    fn look(&self, alloc: Global) -> Result<String, AllocError>;
+    /// Adds all that can be looked at to a text.
+    fn look(&self, text: &mut String) -> Result<(), AllocError>;
 }
 
-/// A call, with the words in which its answer is told.
-#[derive(Drop)]
-pub(crate) struct Planned<'a, A> {
-    name: &'a str,
-    memory: Memory,
-    act: A,
-}
-
-/// A call that may take memory.
-pub(crate) fn takes<A>(name: &str, act: A) -> Planned<'_, A> {
-    Planned {
-        name,
-        memory: Memory::Taken,
-        act,
-    }
-}
-
-/// A call that takes no memory.
-pub(crate) fn takes_none<A>(name: &str, act: A) -> Planned<'_, A> {
-    Planned {
-        name,
-        memory: Memory::Untouched,
-        act,
-    }
-}
+/// A call: the words in which its answer is told, and whether it may take memory.
+pub(crate) type Planned<'a, A> = (&'a str, Memory, A);
 
 /// Makes all calls, and tells what they answer.
 pub(crate) fn perform<A, S: Subject<A>, R: Print>(
@@ -49,9 +26,9 @@ pub(crate) fn perform<A, S: Subject<A>, R: Print>(
     subject: &mut S,
     plan: &[Planned<'_, A>],
 ) -> Result<(), Stop> {
-    for planned in plan {
-        let answer = attempt(stage, alloc, subject, planned)?;
-        println!(stage.rt; "{}: {answer}", planned.name)?;
+    for (name, memory, act) in plan {
+        let answer = attempt(stage, alloc, subject, name, *memory, act)?;
+        println!(stage.rt; "{name}: {answer}")?;
     }
     Ok(())
 }
@@ -61,27 +38,46 @@ fn attempt<A, S: Subject<A>, R: Print>(
     stage: &Stage<R>,
     alloc: Global,
     subject: &mut S,
-    planned: &Planned<'_, A>,
+    name: &str,
+    memory: Memory,
+    act: &A,
 ) -> Result<Answer, Stop> {
     for _ in 0..TRIES {
-        let before = subject.look(alloc)?;
-        stage.begin(planned.memory)?;
-        let answer = subject.call(&planned.act);
-        stage.over()?;
+        let before = look_at(alloc, subject)?;
+        stage.begin(memory);
+        let answer = subject.call(act);
+        stage.over();
         let fault = match answer {
             Ok(answer) => return Ok(answer),
             Err(fault) => fault,
         };
-        if subject.look(alloc)?.as_str() != before.as_str() {
-            return Err(stage.changed(planned.name));
+        if is_changed(alloc, subject, before.as_str())? {
+            return Err(stage.changed(name));
         }
-        match (fault, planned.memory) {
-            (Fault::Memory, Memory::Taken) => {}
-            (Fault::Memory, Memory::Untouched) => return Err(stage.refused(planned.name)),
-            (fault, _) => return Ok(Answer::Refused(fault)),
+        if fault != Fault::Memory {
+            return Ok(Answer::Refused(fault));
+        }
+        if let Memory::Untouched = memory {
+            return Err(stage.refused(name));
         }
     }
-    Err(stage.refused_too_often(planned.name))
+    Err(stage.refused_too_often(name))
+}
+
+// All that can be looked at.
+fn look_at<A, S: Subject<A>>(alloc: Global, subject: &S) -> Result<String, AllocError> {
+    let mut text = String::new(alloc);
+    subject.look(&mut text)?;
+    Ok(text)
+}
+
+// Whether something else can be looked at than before.
+fn is_changed<A, S: Subject<A>>(
+    alloc: Global,
+    subject: &S,
+    before: &str,
+) -> Result<bool, AllocError> {
+    Ok(look_at(alloc, subject)?.as_str() != before)
 }
 
 /// Makes a value, and makes it again where memory was refused.
@@ -93,9 +89,9 @@ pub(crate) fn made<T: Drop, F: Fn() -> Result<T, Fault>, R: Print>(
     requires { F.IsAlwaysCallable make }
 {
     for _ in 0..TRIES {
-        stage.begin(Memory::Taken)?;
+        stage.begin(Memory::Taken);
         let value = make();
-        stage.over()?;
+        stage.over();
         match value {
             Ok(value) => return Ok(value),
             Err(Fault::Memory) => {}

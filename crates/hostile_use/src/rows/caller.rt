@@ -34,17 +34,11 @@ impl<H: Ledger, C: Ledger, S: Setup> Caller<H, C, S> {
             Act::New(meta, parent) => self.new_span(rt, registry, meta, *parent),
             Act::Clone(id) => self.clone_span(rt, registry, *id),
             Act::Enter(id) => self.enter(rt, registry, *id),
-            Act::Exit(id) => Ok(Answer::Yes(registry.exit(rt, &mut self.worker, *id)?)),
+            Act::Exit(id) => self.exit(rt, registry, *id),
             Act::Close(id) => self.try_close(rt, registry, *id),
             Act::Record(id, fields) => self.record(rt, registry, *id, fields),
-            Act::Event(meta, message) => {
-                registry.event(rt, &mut self.worker, meta, message, &[])?;
-                Ok(Answer::Done)
-            }
-            Act::Find(id) => {
-                let found = registry.find(rt, alloc, *id)?;
-                Ok(found.map_or(Answer::Nothing, Answer::Found))
-            }
+            Act::Event(meta, message) => self.event(rt, registry, meta, message),
+            Act::Find(id) => find(rt, alloc, registry, *id),
         }
     }
 
@@ -77,7 +71,9 @@ impl<H: Ledger, C: Ledger, S: Setup> Caller<H, C, S> {
         if !self.hands.has_place() {
             return Err(Fault::Full);
         }
-        let mut lent = self.hands.take(id).ok_or(Fault::Unknown)?;
+        let Some(mut lent) = self.hands.take(id) else {
+            return Err(Fault::Unknown);
+        };
         let cloned = registry.clone_span(rt, &mut self.worker, &mut lent.handle);
         self.hands.put(lent);
         let handle = cloned?;
@@ -91,10 +87,32 @@ impl<H: Ledger, C: Ledger, S: Setup> Caller<H, C, S> {
         registry: &Registry<H, C, S, O, A>,
         id: Id,
     ) -> Result<Answer, Fault> {
-        let mut lent = self.hands.take(id).ok_or(Fault::Unknown)?;
+        let Some(mut lent) = self.hands.take(id) else {
+            return Err(Fault::Unknown);
+        };
         let entered = registry.enter(rt, &mut self.worker, &mut lent.handle);
         self.hands.put(lent);
         Ok(Answer::Yes(entered?))
+    }
+
+    fn exit<O: Outlet, A: Admit, R: Wait>(
+        &mut self,
+        rt: &R,
+        registry: &Registry<H, C, S, O, A>,
+        id: Id,
+    ) -> Result<Answer, Fault> {
+        Ok(Answer::Yes(registry.exit(rt, &mut self.worker, id)?))
+    }
+
+    fn event<O: Outlet, A: Admit, R: Wait>(
+        &mut self,
+        rt: &R,
+        registry: &Registry<H, C, S, O, A>,
+        meta: &Meta,
+        message: &str,
+    ) -> Result<Answer, Fault> {
+        registry.event(rt, &mut self.worker, meta, message, &[])?;
+        Ok(Answer::Done)
     }
 
     fn record<O: Outlet, A: Admit, R: Wait>(
@@ -104,7 +122,9 @@ impl<H: Ledger, C: Ledger, S: Setup> Caller<H, C, S> {
         id: Id,
         fields: &[Field],
     ) -> Result<Answer, Fault> {
-        let mut lent = self.hands.take(id).ok_or(Fault::Unknown)?;
+        let Some(mut lent) = self.hands.take(id) else {
+            return Err(Fault::Unknown);
+        };
         let recorded = registry.record(rt, &mut self.worker, &mut lent.handle, fields);
         self.hands.put(lent);
         recorded?;
@@ -118,7 +138,9 @@ impl<H: Ledger, C: Ledger, S: Setup> Caller<H, C, S> {
         registry: &Registry<H, C, S, O, A>,
         id: Id,
     ) -> Result<Answer, Fault> {
-        let held = self.hands.take(id).ok_or(Fault::Unknown)?;
+        let Some(held) = self.hands.take(id) else {
+            return Err(Fault::Unknown);
+        };
         match registry.try_close(rt, &mut self.worker, held.into_handle()) {
             Ok(closed) => Ok(Answer::Yes(closed)),
             Err((handle, fault)) => {
@@ -129,7 +151,20 @@ impl<H: Ledger, C: Ledger, S: Setup> Caller<H, C, S> {
     }
 }
 
+fn find<H: Ledger, C: Ledger, S: Setup, O: Outlet, A: Admit, R: Wait>(
+    rt: &R,
+    alloc: Global,
+    registry: &Registry<H, C, S, O, A>,
+    id: Id,
+) -> Result<Answer, Fault> {
+    match registry.find(rt, alloc, id)? {
+        Some(found) => Ok(Answer::Found(found)),
+        None => Ok(Answer::Nothing),
+    }
+}
+
 /// The one worker, with no handle.
+#[tactic(auto, unfolding(crate::specs::Units::units_in))]
 pub(crate) fn caller_of<H: Ledger, C: Ledger, S: Setup>(
     workers: Vec<Worker<H, C>>,
 ) -> Caller<H, C, S>

@@ -20,17 +20,18 @@ pub(crate) fn whole<H: Ledger, C: Ledger, S: Setup, R: Print>(
 {
     let Caller { worker, hands } = caller;
     let Hands { first, second } = hands;
-    stage.begin(Memory::Untouched)?;
+    stage.begin(Memory::Untouched);
     let accepted = worker.accepted();
     let share = with(worker.leave(), first);
     let share = with(share, second);
     let units = share.units();
-    stage.over()?;
+    stage.over();
     println!(stage.rt; "share: units {units} accepted {accepted}")?;
     Ok(share)
 }
 
 // A share with that of a handle.
+#[tactic(auto, unfolding(crate::specs::Units::units_in))]
 fn with<H: Ledger, C: Ledger, S: Setup>(
     share: Share<H, C>,
     held: Option<Held<H, C, S>>,
@@ -39,6 +40,7 @@ fn with<H: Ledger, C: Ledger, S: Setup>(
     ensures handles { result.handle_parts ≡ share.handle_parts + units_in held }
     ensures calls { result.call_parts ≡ share.call_parts }
     ensures units { result.units ≡ share.units + units_in held }
+    ensures few { result.units ≤ share.units + 1 }
 {
     let _accepted = share.accepted();
     match held {
@@ -48,7 +50,7 @@ fn with<H: Ledger, C: Ledger, S: Setup>(
 }
 
 /// Tells how a registry ended. A line may be missed where memory was refused; then it is counted.
-pub(crate) fn tell<R: Print>(stage: &Stage<R>, report: &Report) -> Result<(), Stop> {
+pub(crate) fn tell_end<R: Print>(stage: &Stage<R>, report: &Report) -> Result<(), Stop> {
     let Report {
         left,
         handles,

@@ -36,6 +36,7 @@ pub(crate) struct Hands<H: Ledger, C: Ledger, S: Setup> {
 
 impl<H: Ledger, C: Ledger, S: Setup> Hands<H, C, S> {
     /// Whether there is place for one more.
+    #[tactic(auto, unfolding(crate::specs::Units::units_in))]
     pub(crate) fn has_place(&self) -> bool
         ensures { IsTrue result ↔ (units_in self.now.first + units_in self.now.second < 2) }
     {
@@ -43,9 +44,11 @@ impl<H: Ledger, C: Ledger, S: Setup> Hands<H, C, S> {
     }
 
     /// Takes out a handle of this id.
+    #[tactic(auto, unfolding(crate::specs::Units::units_in))]
     pub(crate) fn take(&mut self, id: Id) -> Option<Held<H, C, S>>
         ensures taken { OnSome result (units_in self.new.first + units_in self.new.second + 1
             ≡ units_in self.old.first + units_in self.old.second) }
+        ensures room { OnSome result (units_in self.new.first + units_in self.new.second < 2) }
         ensures none { IfNone result (self.new ≡ self.old) }
     {
         if self
@@ -66,6 +69,7 @@ impl<H: Ledger, C: Ledger, S: Setup> Hands<H, C, S> {
     }
 
     /// Puts a handle where there is place.
+    #[tactic(auto, unfolding(crate::specs::Units::units_in))]
     pub(crate) fn put(&mut self, held: Held<H, C, S>)
         requires { units_in self.old.first + units_in self.old.second < 2 }
         ensures { units_in self.new.first + units_in self.new.second

@@ -1,14 +1,15 @@
 //! A registry whose outlet keeps the lines, with one worker.
-ghost use Rattle.std.specs.Prelude.{◌≡◌, [], None, vec_len, sum_by};
+ghost use Rattle.std.specs.Prelude.{◌≡◌, [], None, vec_len, sum_by, IfOk};
 
 use crate::rows::Row;
 use crate::rows::acts::{Act, Names};
 use crate::rows::caller::caller_of;
-use crate::rows::ending::{tell, whole};
+use crate::rows::ending::{tell_end, whole};
 use crate::rows::on_registry::OnRegistry;
-use crate::stage::{Memory, Stage};
+use crate::stage::Memory::Taken;
+use crate::stage::Stage;
 use crate::stop::Stop;
-use crate::trial::{Planned, perform, takes};
+use crate::trial::{Planned, perform};
 use span_id::{Checked, Id, Limits};
 use span_layers::{Admit, Filters, Say, Tellers};
 use span_outlet::{Kept, ParentOf};
@@ -47,12 +48,7 @@ fn on_outlet<V: Say, R: Print + Wait>(
     let Ok(checked) = limits.check() else {
         return Err(Stop::Memory);
     };
-    stage.begin(Memory::Taken)?;
-    let table = SeatTable::new(alloc, checked.limits().slots);
-    stage.over()?;
-    let Ok(table) = table else {
-        return Err(Stop::Memory);
-    };
+    let table = table_of(stage, alloc, &checked)?;
     named::<Brand, Brand, Brand, V, R>(
         stage,
         alloc,
@@ -64,6 +60,19 @@ fn on_outlet<V: Say, R: Print + Wait>(
         Blank::new(1),
         table,
     )
+}
+
+// The table of handles.
+fn table_of<R: Print>(stage: &Stage<R>, alloc: Global, checked: &Checked) -> Result<SeatTable, Stop>
+    ensures { IfOk result (λ table. table.words ≡ checked.now.slots) }
+{
+    stage.begin(Taken);
+    let table = SeatTable::new(alloc, checked.limits().slots);
+    stage.over();
+    match table {
+        Ok(table) => Ok(table),
+        Err(_) => Err(Stop::Memory),
+    }
 }
 
 // Generic in the registry's names, which the caller picks.
@@ -85,11 +94,11 @@ fn named<H: Ledger, C: Ledger, S: Setup, V: Say, R: Print + Wait>(
     requires calls { (calls.name ≡ C.name) × (calls.parts ≡ C.parts) × (C.parts ≡ 1) }
     requires table { (table ≡ S.table) × (table.words ≡ checked.now.slots) }
 {
-    stage.begin(Memory::Taken)?;
+    stage.begin(Taken);
     let made = Registry::<H, C, S, Kept<V>>::new(
         alloc, checked, filters, outlet, handles, calls, table,
     );
-    stage.over()?;
+    stage.over();
     let Ok((registry, workers)) = made else {
         return Err(Stop::Memory);
     };
@@ -114,13 +123,7 @@ fn called<H: Ledger, C: Ledger, S: Setup, V: Say, A: Admit, R: Print + Wait>(
         registry,
         caller: caller_of(workers),
     };
-    let names = Names::new(alloc)?;
-    if row == Row::GivenUp {
-        let new = takes("new a", Act::New(&names.a, ParentOf::Root));
-        perform(stage, alloc, &mut subject, &[new])?;
-    } else {
-        perform(stage, alloc, &mut subject, &every_call(&names))?;
-    }
+    make_calls(stage, alloc, row, &mut subject)?;
     let OnRegistry {
         rt: _,
         alloc: _,
@@ -128,25 +131,40 @@ fn called<H: Ledger, C: Ledger, S: Setup, V: Say, A: Admit, R: Print + Wait>(
         caller,
     } = subject;
     let share = whole(stage, caller)?;
-    stage.begin(Memory::Taken)?;
+    stage.begin(Taken);
     let report = registry.finish_kept(share);
-    stage.over()?;
-    tell(stage, &report)
+    stage.over();
+    tell_end(stage, &report)
+}
+
+fn make_calls<H: Ledger, C: Ledger, S: Setup, V: Say, A: Admit, R: Print + Wait>(
+    stage: &Stage<R>,
+    alloc: Global,
+    row: Row,
+    subject: &mut OnRegistry<'_, H, C, S, Kept<V>, A, R>,
+) -> Result<(), Stop> {
+    let names = Names::new(alloc)?;
+    if row == Row::GivenUp {
+        let new = ("new a", Taken, Act::New(&names.a, ParentOf::Root));
+        perform(stage, alloc, subject, &[new])
+    } else {
+        perform(stage, alloc, subject, &every_call(&names))
+    }
 }
 
 // Each call once or twice.
 fn every_call<'a>(names: &'a Names) -> [Planned<'a, Act<'a>>; 10] {
     let one = Id::pack(0, 0);
     [
-        takes("new a", Act::New(&names.a, ParentOf::Root)),
-        takes("clone 1", Act::Clone(one)),
-        takes("enter 1", Act::Enter(one)),
-        takes("record 1", Act::Record(one, names.fields.as_slice())),
-        takes("event m", Act::Event(&names.event, "m")),
-        takes("find 1", Act::Find(one)),
-        takes("close 1", Act::Close(one)),
-        takes("exit 1", Act::Exit(one)),
-        takes("close 1", Act::Close(one)),
-        takes("find 1", Act::Find(one)),
+        ("new a", Taken, Act::New(&names.a, ParentOf::Root)),
+        ("clone 1", Taken, Act::Clone(one)),
+        ("enter 1", Taken, Act::Enter(one)),
+        ("record 1", Taken, Act::Record(one, names.fields.as_slice())),
+        ("event m", Taken, Act::Event(&names.event, "m")),
+        ("find 1", Taken, Act::Find(one)),
+        ("close 1", Taken, Act::Close(one)),
+        ("exit 1", Taken, Act::Exit(one)),
+        ("close 1", Taken, Act::Close(one)),
+        ("find 1", Taken, Act::Find(one)),
     ]
 }

@@ -5,8 +5,8 @@ use crate::stage::{Memory, Stage, TRIES};
 use crate::stop::Stop;
 use crate::texts::{everything, meta_of, note_of, shown};
 use crate::trial::made;
-use span_id::{Fault, Level};
-use span_layers::{Filters, Form, Kind, Layer, Layers, Note, Tellers, admits, text};
+use span_id::{Fault, Level, Meta};
+use span_layers::{Filters, Form, Kind, Layer, Layers, Note, Rule, Tellers, admits, text};
 use std::alloc::Global;
 
 /// Adds a layer. One that was refused memory comes back as it was, and is added again.
@@ -18,60 +18,55 @@ pub(crate) fn add<R: Print>(
     let (style, pairs) = (layer.style, layer.rule.pairs.len());
     let mut layer = layer;
     for _ in 0..TRIES {
-        stage.begin(Memory::Taken)?;
+        stage.begin(Memory::Taken);
         let added = layers.add(layer);
-        stage.over()?;
-        match added {
+        stage.over();
+        let (back, fault) = match added {
             Ok(number) => return Ok(Answer::Number(number as u64)),
-            Err((back, fault)) => {
-                if back.style != style || back.rule.pairs.len() != pairs {
-                    return Err(stage.changed("add"));
-                }
-                if fault != Fault::Memory {
-                    return Ok(Answer::Refused(fault));
-                }
-                layer = back;
-            }
+            Err(refused) => refused,
+        };
+        if back.style != style || back.rule.pairs.len() != pairs {
+            return Err(stage.changed("add"));
         }
+        if fault != Fault::Memory {
+            return Ok(Answer::Refused(fault));
+        }
+        layer = back;
     }
     Err(stage.refused_too_often("add"))
 }
 
 /// Splits the layers, and tells what both parts answer.
 pub(crate) fn tell<R: Print>(stage: &Stage<R>, alloc: Global, layers: Layers) -> Result<(), Stop> {
-    stage.begin(Memory::Untouched)?;
+    stage.begin(Memory::Untouched);
     let (filters, tellers) = layers.split();
-    stage.over()?;
-    ask(stage, alloc, &filters)?;
+    stage.over();
+    tell_parts(stage, alloc, &filters, &tellers)
+}
+
+fn tell_parts<R: Print>(
+    stage: &Stage<R>,
+    alloc: Global,
+    filters: &Filters,
+    tellers: &Tellers,
+) -> Result<(), Stop> {
+    ask(stage, alloc, filters)?;
     println!(stage.rt; "tellers: {}", tellers.len())?;
+    let none: &[(&str, &str)] = &[];
+    let one: &[(&str, &str)] = &[("k", "1")];
+    let two: &[(&str, &str)] = &[("k", "2")];
+    let both: &[(&str, &str)] = &[("k", "1"), ("k", "2")];
+    let notes = [
+        (Kind::OnNew, one),
+        (Kind::OnRecord, two),
+        (Kind::OnEvent, none),
+        (Kind::OnClose, both),
+    ];
     for layer in 0..2 {
-        let one: &[(&str, &str)] = &[("k", "1")];
-        let two: &[(&str, &str)] = &[("k", "2")];
-        write(
-            stage,
-            alloc,
-            &tellers,
-            &note_of(alloc, layer, Kind::OnNew, one)?,
-        )?;
-        write(
-            stage,
-            alloc,
-            &tellers,
-            &note_of(alloc, layer, Kind::OnRecord, two)?,
-        )?;
-        write(
-            stage,
-            alloc,
-            &tellers,
-            &note_of(alloc, layer, Kind::OnEvent, &[])?,
-        )?;
-        let both: &[(&str, &str)] = &[("k", "1"), ("k", "2")];
-        write(
-            stage,
-            alloc,
-            &tellers,
-            &note_of(alloc, layer, Kind::OnClose, both)?,
-        )?;
+        for (kind, fields) in notes {
+            let note = note_of(alloc, layer, kind, fields)?;
+            write(stage, alloc, tellers, &note)?;
+        }
     }
     Ok(())
 }
@@ -80,12 +75,21 @@ pub(crate) fn tell<R: Print>(stage: &Stage<R>, alloc: Global, layers: Layers) ->
 fn ask<R: Print>(stage: &Stage<R>, alloc: Global, filters: &Filters) -> Result<(), Stop> {
     let meta = meta_of(alloc, "a", Level::Info)?;
     let rule = everything(alloc)?;
-    stage.begin(Memory::Untouched)?;
+    ask_of(stage, filters, &meta, &rule)
+}
+
+fn ask_of<R: Print>(
+    stage: &Stage<R>,
+    filters: &Filters,
+    meta: &Meta,
+    rule: &Rule,
+) -> Result<(), Stop> {
+    stage.begin(Memory::Untouched);
     let len = filters.len();
-    let bits = filters.bits(&meta);
+    let bits = filters.bits(meta);
     let wants = 0 < len && filters.want(0, Kind::OnNew);
-    let is_admitted = admits(&rule, &meta);
-    stage.over()?;
+    let is_admitted = admits(rule, meta);
+    stage.over();
     println!(stage.rt; "filters: {len}, bits {}, {wants}, {is_admitted}", bits.0)?;
     Ok(())
 }

@@ -3,10 +3,11 @@ ghost use Rattle.std.specs.Prelude.{◌≡◌, ◌<◌, []};
 
 use crate::answer::Answer;
 use crate::rows::acts::{Act, Names};
-use crate::stage::{Memory, Stage};
+use crate::stage::Memory::{Taken, Untouched};
+use crate::stage::Stage;
 use crate::stop::Stop;
-use crate::texts::{span_text, stack_text};
-use crate::trial::{Planned, Subject, perform, takes, takes_none};
+use crate::texts::{add_span, add_stack};
+use crate::trial::{Planned, Subject, perform};
 use span_core::Core;
 use span_id::{Checked, Fault, Id, Limits};
 use span_layers::{Filters, Say, Tellers};
@@ -56,17 +57,25 @@ fn on_outlet<V: Say, R: Print>(
 ) -> Result<(), Stop>
     requires { outlet.sent ≡ [] }
 {
-    stage.begin(Memory::Taken)?;
+    stage.begin(Taken);
     let made = Core::new(alloc, checked, filters, outlet);
-    stage.over()?;
+    stage.over();
     let Ok(core) = made else {
         return Err(Stop::Memory);
     };
     if core.limits().workers == 0 {
         return Err(Stop::Memory);
     }
+    make_calls(stage, alloc, &mut OnCore { core })
+}
+
+fn make_calls<V: Say, R: Print>(
+    stage: &Stage<R>,
+    alloc: Global,
+    subject: &mut OnCore<V>,
+) -> Result<(), Stop> {
     let names = Names::new(alloc)?;
-    perform(stage, alloc, &mut OnCore { core }, &plan(&names))
+    perform(stage, alloc, subject, &plan(&names))
 }
 
 // A span inside another, and one that is entered nine times.
@@ -76,38 +85,47 @@ fn plan<'a>(names: &'a Names) -> [Planned<'a, Ask<'a>>; 29] {
     // The third span gets the slot of the first.
     let third = Id::pack(0, 1);
     [
-        takes("new a", Ask::Call(Act::New(&names.a, ParentOf::Root))),
-        takes("clone 1", Ask::Call(Act::Clone(one))),
-        takes("enter 1", Ask::Call(Act::Enter(one))),
-        takes(
+        (
+            "new a",
+            Taken,
+            Ask::Call(Act::New(&names.a, ParentOf::Root)),
+        ),
+        ("clone 1", Taken, Ask::Call(Act::Clone(one))),
+        ("enter 1", Taken, Ask::Call(Act::Enter(one))),
+        (
             "new b inside",
+            Taken,
             Ask::Call(Act::New(&names.b, ParentOf::Current)),
         ),
-        takes("record 2", Ask::Call(Act::Record(two, fields))),
-        takes("event m", Ask::Call(Act::Event(&names.event, "m"))),
-        takes_none("find 1", Ask::Call(Act::Find(one))),
-        takes_none("find 2", Ask::Call(Act::Find(two))),
-        takes("close 1", Ask::Call(Act::Close(one))),
-        takes("close 1", Ask::Call(Act::Close(one))),
-        takes_none("top", Ask::Top),
-        takes_none("total", Ask::Total),
-        takes("exit 1", Ask::Call(Act::Exit(one))),
-        takes_none("len", Ask::Len),
-        takes("close 2", Ask::Call(Act::Close(two))),
-        takes_none("len", Ask::Len),
-        takes("new a", Ask::Call(Act::New(&names.a, ParentOf::Root))),
-        takes("enter it", Ask::Call(Act::Enter(third))),
-        takes("enter it, 2", Ask::Call(Act::Enter(third))),
-        takes("enter it, 3", Ask::Call(Act::Enter(third))),
-        takes("enter it, 4", Ask::Call(Act::Enter(third))),
-        takes("enter it, 5", Ask::Call(Act::Enter(third))),
-        takes("enter it, 6", Ask::Call(Act::Enter(third))),
-        takes("enter it, 7", Ask::Call(Act::Enter(third))),
-        takes("enter it, 8", Ask::Call(Act::Enter(third))),
-        takes("enter it, 9", Ask::Call(Act::Enter(third))),
-        takes_none("calls", Ask::Calls),
-        takes_none("batches", Ask::Batches),
-        takes_none("notes", Ask::Notes),
+        ("record 2", Taken, Ask::Call(Act::Record(two, fields))),
+        ("event m", Taken, Ask::Call(Act::Event(&names.event, "m"))),
+        ("find 1", Untouched, Ask::Call(Act::Find(one))),
+        ("find 2", Untouched, Ask::Call(Act::Find(two))),
+        ("close 1", Taken, Ask::Call(Act::Close(one))),
+        ("close 1", Taken, Ask::Call(Act::Close(one))),
+        ("top", Untouched, Ask::Top),
+        ("total", Untouched, Ask::Total),
+        ("exit 1", Taken, Ask::Call(Act::Exit(one))),
+        ("len", Untouched, Ask::Len),
+        ("close 2", Taken, Ask::Call(Act::Close(two))),
+        ("len", Untouched, Ask::Len),
+        (
+            "new a",
+            Taken,
+            Ask::Call(Act::New(&names.a, ParentOf::Root)),
+        ),
+        ("enter it", Taken, Ask::Call(Act::Enter(third))),
+        ("enter it, 2", Taken, Ask::Call(Act::Enter(third))),
+        ("enter it, 3", Taken, Ask::Call(Act::Enter(third))),
+        ("enter it, 4", Taken, Ask::Call(Act::Enter(third))),
+        ("enter it, 5", Taken, Ask::Call(Act::Enter(third))),
+        ("enter it, 6", Taken, Ask::Call(Act::Enter(third))),
+        ("enter it, 7", Taken, Ask::Call(Act::Enter(third))),
+        ("enter it, 8", Taken, Ask::Call(Act::Enter(third))),
+        ("enter it, 9", Taken, Ask::Call(Act::Enter(third))),
+        ("calls", Untouched, Ask::Calls),
+        ("batches", Untouched, Ask::Batches),
+        ("notes", Untouched, Ask::Notes),
     ]
 }
 
@@ -128,23 +146,24 @@ impl<'a, V: Say> Subject<Ask<'a>> for OnCore<V> {
         })
     }
 
-    fn look(&self, alloc: Global) -> Result<String, AllocError> {
+    fn look(&self, text: &mut String) -> Result<(), AllocError> {
         let core = &self.core;
         let (len, total, calls) = (core.len(), core.total(), core.calls());
         let (made, closed) = (core.made(), core.closed());
         let (kept, batches) = (core.outlet(), core.outlet().batches().len());
         let (lines, refused) = (kept.all(), kept.refused());
-        let stack = stack_text(alloc, core.stack(0))?;
-        let mut text = format!(in alloc;
-            "{len} {total} {calls} {made} {closed} {batches} {lines:?} {refused} {stack}\n"
+        write!(
+            text,
+            "{len} {total} {calls} {made} {closed} {batches} {lines:?} {refused} "
         )?;
+        add_stack(text, core.stack(0))?;
+        text.push_str("\n")?;
         for id in [Id::pack(0, 0), Id::pack(1, 0), Id::pack(0, 1)] {
             if let Some(span) = core.find(id) {
-                let one = span_text(alloc, span)?;
-                text.push_str(one.as_str())?;
+                add_span(text, span)?;
             }
         }
-        Ok(text)
+        Ok(())
     }
 }
 

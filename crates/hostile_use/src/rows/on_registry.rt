@@ -27,18 +27,28 @@ impl<'r, 'b, H: Ledger, C: Ledger, S: Setup, O: Outlet, A: Admit, R: Wait> Subje
         self.caller.call(self.rt, self.alloc, &self.registry, act)
     }
 
-    fn look(&self, alloc: Global) -> Result<String, AllocError> {
+    fn look(&self, text: &mut String) -> Result<(), AllocError> {
         let worker = &self.caller.worker;
         let (number, accepted) = (worker.number(), worker.accepted());
         let (first, second) = self.caller.hands.ids();
-        let mut text = format!(in alloc; "{number} {accepted} {first} {second}\n")?;
+        write!(text, "{number} {accepted} {first} {second}\n")?;
         for id in [Id::pack(0, 0), Id::pack(1, 0), Id::pack(0, 1)] {
-            let Ok(found) = self.registry.find(self.rt, alloc, id) else {
-                return Err(AllocError);
-            };
-            let one = format!(in alloc; "{found:?}\n")?;
-            text.push_str(one.as_str())?;
+            add_found(self.rt, self.alloc, &self.registry, id, text)?;
         }
-        Ok(text)
+        Ok(())
+    }
+}
+
+// Adds what the registry finds of a span.
+fn add_found<H: Ledger, C: Ledger, S: Setup, O: Outlet, A: Admit, R: Wait>(
+    rt: &R,
+    alloc: Global,
+    registry: &Registry<H, C, S, O, A>,
+    id: Id,
+    text: &mut String,
+) -> Result<(), AllocError> {
+    match registry.find(rt, alloc, id) {
+        Ok(found) => write!(text, "{found:?}\n"),
+        Err(_) => Err(AllocError),
     }
 }

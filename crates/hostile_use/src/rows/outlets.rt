@@ -11,26 +11,31 @@ use std::alloc::{AllocError, Global};
 
 /// Puts a batch with one note into each outlet, and tells what they show.
 pub(crate) fn run<R: Print>(stage: &Stage<R>, alloc: Global, tellers: Tellers) -> Result<(), Stop> {
+    put_in_ring(stage, alloc)?;
+    stage.begin(Memory::Untouched);
+    let mut kept = Kept::new(alloc, tellers);
+    stage.over();
+    put(stage, alloc, Memory::Taken, &mut kept)?;
+    stage.begin(Memory::Untouched);
+    let (batches, told) = (kept.batches().len(), kept.all().len() as u64);
+    let notes = kept.refused().saturating_add(told);
+    stage.over();
+    println!(stage.rt; "kept: batches {batches} lines and missed {notes}")?;
+    Ok(())
+}
+
+fn put_in_ring<R: Print>(stage: &Stage<R>, alloc: Global) -> Result<(), Stop> {
     let Ok(checked) = Limits::default().check() else {
         return Err(Stop::Memory);
     };
-    stage.begin(Memory::Taken)?;
+    stage.begin(Memory::Taken);
     let ends = Ring::pair(alloc, &checked);
-    stage.over()?;
+    stage.over();
     let Ok((mut ring, _tap)) = ends else {
         return Err(Stop::Memory);
     };
-    put(stage, Memory::Untouched, &mut ring, batch(alloc)?)?;
+    put(stage, alloc, Memory::Untouched, &mut ring)?;
     println!(stage.rt; "ring: times full {}", ring.times_full())?;
-    stage.begin(Memory::Untouched)?;
-    let mut kept = Kept::new(alloc, tellers);
-    stage.over()?;
-    put(stage, Memory::Taken, &mut kept, batch(alloc)?)?;
-    stage.begin(Memory::Untouched)?;
-    let (batches, told) = (kept.batches().len(), kept.all().len() as u64);
-    let notes = kept.refused().saturating_add(told);
-    stage.over()?;
-    println!(stage.rt; "kept: batches {batches} lines and missed {notes}")?;
     Ok(())
 }
 
@@ -51,21 +56,23 @@ fn batch(alloc: Global) -> Result<Batch, AllocError> {
 // Asks for room, which may take memory, and puts a batch, which may not.
 fn put<O: Outlet, R: Print>(
     stage: &Stage<R>,
+    alloc: Global,
     memory: Memory,
     outlet: &mut O,
-    batch: Batch,
 ) -> Result<(), Stop>
     requires { O.sent outlet.old ≡ [] }
 {
+    let batch = batch(alloc)?;
     for _ in 0..TRIES {
-        stage.begin(memory)?;
+        stage.begin(memory);
         let room = outlet.room();
-        stage.over()?;
+        stage.over();
         match room {
             Ok(true) => {
-                stage.begin(Memory::Untouched)?;
+                stage.begin(Memory::Untouched);
                 outlet.put(batch);
-                return stage.over();
+                stage.over();
+                return Ok(());
             }
             Ok(false) => return Err(stage.refused("room")),
             Err(_) => {}

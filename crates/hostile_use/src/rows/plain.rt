@@ -3,7 +3,7 @@
 use crate::stage::{Memory, Stage};
 use crate::stop::Stop;
 use crate::texts::{field_of, meta_of};
-use span_id::{Bits, Fault, Id, Level, Limits};
+use span_id::{Bits, Fault, Field, Id, Level, Limits, Meta};
 use span_run::{Counted, RunFault};
 use span_storm::{Gate, Open};
 use std::alloc::Global;
@@ -13,7 +13,13 @@ use std::io;
 pub(crate) fn run<R: Print>(stage: &Stage<R>, alloc: Global) -> Result<(), Stop> {
     ids(stage)?;
     names(stage, alloc)?;
-    stage.begin(Memory::Untouched)?;
+    limits(stage)?;
+    devices(stage)
+}
+
+// The limits that are there without a word, and some that are none.
+fn limits<R: Print>(stage: &Stage<R>) -> Result<(), Stop> {
+    stage.begin(Memory::Untouched);
     let most = Limits::default()
         .check()
         .map(|checked| checked.limits().slots);
@@ -22,26 +28,31 @@ pub(crate) fn run<R: Print>(stage: &Stage<R>, alloc: Global) -> Result<(), Stop>
         ..Limits::default()
     };
     let refused = none.check().map(|checked| checked.limits().slots);
-    stage.over()?;
+    stage.over();
     println!(stage.rt; "check: {most:?} {refused:?}")?;
-    stage.begin(Memory::Untouched)?;
+    Ok(())
+}
+
+// Counted devices, and what decides in a storm.
+fn devices<R: Print>(stage: &Stage<R>) -> Result<(), Stop> {
+    stage.begin(Memory::Untouched);
     let counted = Counted::new(io::sink());
     let (calls, failed) = (counted.calls(), counted.failed());
     let goes_on = Open.before(0, 1);
     let status = RunFault::Memory.status();
-    stage.over()?;
+    stage.over();
     println!(stage.rt; "counted: {calls} {failed}, open: {goes_on}, status: {status}")?;
     Ok(())
 }
 
 // Ids and sets of layers.
 fn ids<R: Print>(stage: &Stage<R>) -> Result<(), Stop> {
-    stage.begin(Memory::Untouched)?;
+    stage.begin(Memory::Untouched);
     let id = Id::pack(5, 3);
     let parts = (id.get(), id.slot(), id.generation());
     let (none, first, old) = (Id::from_u64(0), Id::from_u64(1), Id::from_v1(65537));
     let bits = (Bits(2).has(0), Bits(2).has(1), Bits(2).has(64));
-    stage.over()?;
+    stage.over();
     println!(stage.rt; "pack: {parts:?}, from: {none:?} {first:?} {old:?}, has: {bits:?}")?;
     Ok(())
 }
@@ -50,10 +61,14 @@ fn ids<R: Print>(stage: &Stage<R>) -> Result<(), Stop> {
 fn names<R: Print>(stage: &Stage<R>, alloc: Global) -> Result<(), Stop> {
     let meta = meta_of(alloc, "a b", Level::Warn)?;
     let field = field_of(alloc, "k", "v")?;
-    stage.begin(Memory::Untouched)?;
+    words(stage, &meta, &field)
+}
+
+fn words<R: Print>(stage: &Stage<R>, meta: &Meta, field: &Field) -> Result<(), Stop> {
+    stage.begin(Memory::Untouched);
     let fit = (meta.fit(), field.fit());
     let words = (meta.level.name(), Fault::BadName.text());
-    stage.over()?;
+    stage.over();
     println!(stage.rt; "fit: {fit:?}, words: {words:?}")?;
     Ok(())
 }

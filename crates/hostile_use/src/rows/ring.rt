@@ -1,18 +1,19 @@
 //! A registry over a ring, with one worker, and the drain of the ring.
-ghost use Rattle.std.specs.Prelude.{◌≡◌, [], Some, vec_len, sum_by};
+ghost use Rattle.std.specs.Prelude.{◌≡◌, [], Some, vec_len, sum_by, IfOk};
 
 use crate::answer::Answer;
 use crate::rows::Row;
 use crate::rows::acts::{Act, Names};
 use crate::rows::caller::caller_of;
-use crate::rows::ending::{tell, whole};
+use crate::rows::ending::{tell_end, whole};
 use crate::rows::on_registry::OnRegistry;
-use crate::stage::{Memory, Stage};
+use crate::stage::Memory::{Taken, Untouched};
+use crate::stage::Stage;
 use crate::stop::Stop;
-use crate::trial::{Planned, Subject, perform, takes, takes_none};
+use crate::trial::{Planned, Subject, perform};
 use span_id::{Checked, Fault, Id, Limits};
 use span_layers::{Admit, Filters, Say, Tellers};
-use span_outlet::{Drain, ParentOf, Ring};
+use span_outlet::{Drain, ParentOf, Ring, Tap};
 use span_registry::{HANDLE_PARTS, Registry, SeatTable, Setup, Worker};
 use std::alloc::{AllocError, Global};
 use std::marker::Brand;
@@ -54,11 +55,11 @@ impl<'r, 'b, H: Ledger, C: Ledger, S: Setup, V: Say, A: Admit, R: Wait> Subject<
         })
     }
 
-    fn look(&self, alloc: Global) -> Result<String, AllocError> {
-        let registry = self.registry.look(alloc)?;
+    fn look(&self, text: &mut String) -> Result<(), AllocError> {
+        self.registry.look(text)?;
         let (taken, refused) = (self.drain.taken(), self.drain.refused());
         let lines = self.drain.all();
-        format!(in alloc; "{registry}{taken} {refused} {lines:?}\n")
+        write!(text, "{taken} {refused} {lines:?}\n")
     }
 }
 
@@ -79,16 +80,10 @@ pub(crate) fn run<R: Print + Wait>(
     let Ok(checked) = limits.check() else {
         return Err(Stop::Memory);
     };
-    stage.begin(Memory::Taken)?;
-    let ends = Ring::pair(alloc, &checked);
-    let table = SeatTable::new(alloc, checked.limits().slots);
-    stage.over()?;
-    let (Ok((ring, tap)), Ok(table)) = (ends, table) else {
-        return Err(Stop::Memory);
-    };
-    stage.begin(Memory::Untouched)?;
+    let (ring, tap, table) = parts(stage, alloc, &checked)?;
+    stage.begin(Untouched);
     let drain = Drain::new(alloc, tap, tellers);
-    stage.over()?;
+    stage.over();
     named::<Brand, Brand, Brand, _, R>(
         stage,
         alloc,
@@ -101,6 +96,28 @@ pub(crate) fn run<R: Print + Wait>(
         Blank::new(1),
         table,
     )
+}
+
+// Both ends of the ring, and the table of handles.
+fn parts<R: Print>(
+    stage: &Stage<R>,
+    alloc: Global,
+    checked: &Checked,
+) -> Result<(Ring, Tap, SeatTable), Stop>
+    ensures pair { IfOk result (λ parts. (parts.0.name ≡ parts.1) × (parts.0.sent ≡ [])) }
+    ensures table { IfOk result (λ parts. parts.2.words ≡ checked.now.slots) }
+{
+    stage.begin(Taken);
+    let ends = Ring::pair(alloc, checked);
+    let table = SeatTable::new(alloc, checked.limits().slots);
+    stage.over();
+    let Ok((ring, tap)) = ends else {
+        return Err(Stop::Memory);
+    };
+    let Ok(table) = table else {
+        return Err(Stop::Memory);
+    };
+    Ok((ring, tap, table))
 }
 
 // Generic in the registry's names, which the caller picks.
@@ -124,9 +141,9 @@ fn named<H: Ledger, C: Ledger, S: Setup, V: Say, R: Print + Wait>(
     requires calls { (calls.name ≡ C.name) × (calls.parts ≡ C.parts) × (C.parts ≡ 1) }
     requires table { (table ≡ S.table) × (table.words ≡ checked.now.slots) }
 {
-    stage.begin(Memory::Taken)?;
+    stage.begin(Taken);
     let made = Registry::<H, C, S, Ring>::new(alloc, checked, filters, ring, handles, calls, table);
-    stage.over()?;
+    stage.over();
     let Ok((registry, workers)) = made else {
         return Err(Stop::Memory);
     };
@@ -156,12 +173,7 @@ fn called<H: Ledger, C: Ledger, S: Setup, V: Say, A: Admit, R: Print + Wait>(
         },
         drain,
     };
-    let names = Names::new(alloc)?;
-    if row == Row::FullRing {
-        perform(stage, alloc, &mut subject, &full_ring(&names))?;
-    } else {
-        perform(stage, alloc, &mut subject, &every_call(&names))?;
-    }
+    make_calls(stage, alloc, row, &mut subject)?;
     let OnRing {
         registry: OnRegistry {
             rt: _,
@@ -172,23 +184,41 @@ fn called<H: Ledger, C: Ledger, S: Setup, V: Say, A: Admit, R: Print + Wait>(
         drain,
     } = subject;
     let share = whole(stage, caller)?;
-    stage.begin(Memory::Taken)?;
+    stage.begin(Taken);
     let report = registry.finish(share, drain);
-    stage.over()?;
-    tell(stage, &report)
+    stage.over();
+    tell_end(stage, &report)
+}
+
+fn make_calls<H: Ledger, C: Ledger, S: Setup, V: Say, A: Admit, R: Print + Wait>(
+    stage: &Stage<R>,
+    alloc: Global,
+    row: Row,
+    subject: &mut OnRing<'_, H, C, S, V, A, R>,
+) -> Result<(), Stop> {
+    let names = Names::new(alloc)?;
+    if row == Row::FullRing {
+        perform(stage, alloc, subject, &full_ring(&names))
+    } else {
+        perform(stage, alloc, subject, &every_call(&names))
+    }
 }
 
 // A ring of one place: a call that finds it full changes nothing, and is made again after a step.
 fn full_ring<'a>(names: &'a Names) -> [Planned<'a, Ask<'a>>; 7] {
     let one = Id::pack(0, 0);
     [
-        takes("new a", Ask::Call(Act::New(&names.a, ParentOf::Root))),
-        takes("clone 1", Ask::Call(Act::Clone(one))),
-        takes("close 1", Ask::Call(Act::Close(one))),
-        takes("step", Ask::Step),
-        takes_none("step", Ask::Step),
-        takes("close 1", Ask::Call(Act::Close(one))),
-        takes_none("taken", Ask::Taken),
+        (
+            "new a",
+            Taken,
+            Ask::Call(Act::New(&names.a, ParentOf::Root)),
+        ),
+        ("clone 1", Taken, Ask::Call(Act::Clone(one))),
+        ("close 1", Taken, Ask::Call(Act::Close(one))),
+        ("step", Taken, Ask::Step),
+        ("step", Untouched, Ask::Step),
+        ("close 1", Taken, Ask::Call(Act::Close(one))),
+        ("taken", Untouched, Ask::Taken),
     ]
 }
 
@@ -197,25 +227,30 @@ fn every_call<'a>(names: &'a Names) -> [Planned<'a, Ask<'a>>; 17] {
     let (one, two) = (Id::pack(0, 0), Id::pack(1, 0));
     let fields = names.fields.as_slice();
     [
-        takes("new a", Ask::Call(Act::New(&names.a, ParentOf::Root))),
-        takes("enter 1", Ask::Call(Act::Enter(one))),
-        takes("step", Ask::Step),
-        takes_none("step", Ask::Step),
-        takes(
+        (
+            "new a",
+            Taken,
+            Ask::Call(Act::New(&names.a, ParentOf::Root)),
+        ),
+        ("enter 1", Taken, Ask::Call(Act::Enter(one))),
+        ("step", Taken, Ask::Step),
+        ("step", Untouched, Ask::Step),
+        (
             "new b inside",
+            Taken,
             Ask::Call(Act::New(&names.b, ParentOf::Current)),
         ),
-        takes("record 2", Ask::Call(Act::Record(two, fields))),
-        takes("event m", Ask::Call(Act::Event(&names.event, "m"))),
-        takes_none("step", Ask::Step),
-        takes("close 1", Ask::Call(Act::Close(one))),
-        takes("clone 2", Ask::Call(Act::Clone(two))),
-        takes("close 2", Ask::Call(Act::Close(two))),
-        takes("exit 1", Ask::Call(Act::Exit(one))),
-        takes("find 2", Ask::Call(Act::Find(two))),
-        takes("close 2", Ask::Call(Act::Close(two))),
-        takes("step", Ask::Step),
-        takes_none("taken", Ask::Taken),
-        takes_none("lines and missed", Ask::Lines),
+        ("record 2", Taken, Ask::Call(Act::Record(two, fields))),
+        ("event m", Taken, Ask::Call(Act::Event(&names.event, "m"))),
+        ("step", Untouched, Ask::Step),
+        ("close 1", Taken, Ask::Call(Act::Close(one))),
+        ("clone 2", Taken, Ask::Call(Act::Clone(two))),
+        ("close 2", Taken, Ask::Call(Act::Close(two))),
+        ("exit 1", Taken, Ask::Call(Act::Exit(one))),
+        ("find 2", Taken, Ask::Call(Act::Find(two))),
+        ("close 2", Taken, Ask::Call(Act::Close(two))),
+        ("step", Taken, Ask::Step),
+        ("taken", Untouched, Ask::Taken),
+        ("lines and missed", Untouched, Ask::Lines),
     ]
 }

@@ -1,9 +1,10 @@
 //! A table of two slots, each of which gives one id.
 
 use crate::answer::Answer;
+use crate::stage::Memory::{Taken, Untouched};
 use crate::stage::Stage;
 use crate::stop::Stop;
-use crate::trial::{Subject, made, perform, takes, takes_none};
+use crate::trial::{Planned, Subject, made, perform};
 use span_id::{Fault, Id, Limits};
 use span_slots::Slots;
 use std::alloc::{AllocError, Global};
@@ -32,26 +33,30 @@ pub(crate) fn run<R: Print>(stage: &Stage<R>, alloc: Global) -> Result<(), Stop>
         return Err(Stop::Memory);
     };
     let mut slots = made(stage, "new", || Slots::<u32>::new(alloc, &checked))?;
+    perform(stage, alloc, &mut slots, &plan())
+}
+
+// Both slots are taken, written and given back.
+fn plan() -> [Planned<'static, Act>; 16] {
     let (first, second) = (Id::pack(0, 0), Id::pack(1, 0));
-    let plan = [
-        takes_none("next id", Act::NextId),
-        takes_none("insert 7", Act::Insert(7)),
-        takes_none("insert 8", Act::Insert(8)),
-        takes_none("insert 9", Act::Insert(9)),
-        takes("ids", Act::Ids),
-        takes_none("get 1", Act::Get(first)),
-        takes_none("write 6 under 1", Act::Set(first, 6)),
-        takes_none("remove 1", Act::Remove(first)),
-        takes_none("get 1", Act::Get(first)),
-        takes_none("remove 1", Act::Remove(first)),
-        takes_none("insert 9", Act::Insert(9)),
-        takes_none("get 2", Act::Get(second)),
-        takes_none("len", Act::Len),
-        takes_none("free", Act::Free),
-        takes_none("next id", Act::NextId),
-        takes("ids", Act::Ids),
-    ];
-    perform(stage, alloc, &mut slots, &plan)
+    [
+        ("next id", Untouched, Act::NextId),
+        ("insert 7", Untouched, Act::Insert(7)),
+        ("insert 8", Untouched, Act::Insert(8)),
+        ("insert 9", Untouched, Act::Insert(9)),
+        ("ids", Taken, Act::Ids),
+        ("get 1", Untouched, Act::Get(first)),
+        ("write 6 under 1", Untouched, Act::Set(first, 6)),
+        ("remove 1", Untouched, Act::Remove(first)),
+        ("get 1", Untouched, Act::Get(first)),
+        ("remove 1", Untouched, Act::Remove(first)),
+        ("insert 9", Untouched, Act::Insert(9)),
+        ("get 2", Untouched, Act::Get(second)),
+        ("len", Untouched, Act::Len),
+        ("free", Untouched, Act::Free),
+        ("next id", Untouched, Act::NextId),
+        ("ids", Taken, Act::Ids),
+    ]
 }
 
 impl Subject<Act> for Slots<u32> {
@@ -71,16 +76,15 @@ impl Subject<Act> for Slots<u32> {
         })
     }
 
-    fn look(&self, alloc: Global) -> Result<String, AllocError> {
+    fn look(&self, text: &mut String) -> Result<(), AllocError> {
         let (len, free) = (self.len(), self.free());
         let next = self.next_id().map_or(0, Id::get);
-        let mut text = format!(in alloc; "{len} {free} {next}:")?;
+        write!(text, "{len} {free} {next}:")?;
         for slot in 0..3 {
             let found = self.get(Id::pack(slot, 0)).copied();
-            let one = format!(in alloc; " {found:?}")?;
-            text.push_str(one.as_str())?;
+            write!(text, " {found:?}")?;
         }
-        Ok(text)
+        Ok(())
     }
 }
 

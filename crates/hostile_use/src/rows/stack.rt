@@ -2,10 +2,11 @@
 ghost use Rattle.std.specs.Prelude.{◌≤◌};
 
 use crate::answer::Answer;
+use crate::stage::Memory::{Taken, Untouched};
 use crate::stage::Stage;
 use crate::stop::Stop;
-use crate::texts::stack_text;
-use crate::trial::{Subject, perform, takes, takes_none};
+use crate::texts::add_stack;
+use crate::trial::{Planned, Subject, perform};
 use span_id::{Fault, Id};
 use span_stack::SpanStack;
 use std::alloc::{AllocError, Global};
@@ -37,28 +38,32 @@ pub(crate) fn run<R: Print>(stage: &Stage<R>, alloc: Global) -> Result<(), Stop>
         stack: SpanStack::new(alloc),
         room: 0,
     };
+    perform(stage, alloc, &mut stack, &plan())
+}
+
+// The first span is entered again while it is open, and both are left.
+fn plan() -> [Planned<'static, Act>; 18] {
     let (one, two) = (Id::pack(0, 0), Id::pack(1, 0));
-    let plan = [
-        takes("reserve 9", Act::Reserve(9)),
-        takes_none("push 1", Act::Push(one)),
-        takes_none("push 2", Act::Push(two)),
-        takes_none("push 1", Act::Push(one)),
-        takes_none("current", Act::Current),
-        takes_none("top", Act::Top),
-        takes_none("walk, first", Act::Walk(0)),
-        takes_none("walk, second", Act::Walk(1)),
-        takes_none("walk, third", Act::Walk(2)),
-        takes_none("pop 2", Act::Pop(two)),
-        takes_none("current", Act::Current),
-        takes_none("has 2", Act::Has(two)),
-        takes_none("pop 2", Act::Pop(two)),
-        takes_none("pop 1", Act::Pop(one)),
-        takes_none("pop 1", Act::Pop(one)),
-        takes_none("pop 1", Act::Pop(one)),
-        takes_none("current", Act::Current),
-        takes_none("len", Act::Len),
-    ];
-    perform(stage, alloc, &mut stack, &plan)
+    [
+        ("reserve 9", Taken, Act::Reserve(9)),
+        ("push 1", Untouched, Act::Push(one)),
+        ("push 2", Untouched, Act::Push(two)),
+        ("push 1", Untouched, Act::Push(one)),
+        ("current", Untouched, Act::Current),
+        ("top", Untouched, Act::Top),
+        ("walk, first", Untouched, Act::Walk(0)),
+        ("walk, second", Untouched, Act::Walk(1)),
+        ("walk, third", Untouched, Act::Walk(2)),
+        ("pop 2", Untouched, Act::Pop(two)),
+        ("current", Untouched, Act::Current),
+        ("has 2", Untouched, Act::Has(two)),
+        ("pop 2", Untouched, Act::Pop(two)),
+        ("pop 1", Untouched, Act::Pop(one)),
+        ("pop 1", Untouched, Act::Pop(one)),
+        ("pop 1", Untouched, Act::Pop(one)),
+        ("current", Untouched, Act::Current),
+        ("len", Untouched, Act::Len),
+    ]
 }
 
 impl Subject<Act> for Reserved {
@@ -79,8 +84,8 @@ impl Subject<Act> for Reserved {
         })
     }
 
-    fn look(&self, alloc: Global) -> Result<String, AllocError> {
-        stack_text(alloc, &self.stack)
+    fn look(&self, text: &mut String) -> Result<(), AllocError> {
+        add_stack(text, &self.stack)
     }
 }
 

@@ -66,9 +66,9 @@ fn once<R: Print + Threads + Wait + Sync>(
     let Ok(_) = layers.add(layer) else {
         return Err(Stop::Memory);
     };
-    stage.begin(Memory::Taken)?;
+    stage.begin(Memory::Taken);
     let ended = storm(stage.rt, alloc, 2, 1, layers, &Open);
-    stage.over()?;
+    stage.over();
     Ok(ended)
 }
 
@@ -84,10 +84,10 @@ fn everything(alloc: Global) -> Result<Rule, AllocError>
 // Tells the numbers of a storm. Showing them takes no memory.
 fn tell<R: Print>(stage: &Stage<R>, report: &Report) -> Result<(), Stop> {
     let mut output = Counted::new(io::sink());
-    stage.begin(Memory::Untouched)?;
+    stage.begin(Memory::Untouched);
     let shown = show(2, 1, report, &mut output).is_ok();
     let failed = output.failed();
-    stage.over()?;
+    stage.over();
     let told = report.lines.len() as u64;
     let notes = report.refused.saturating_add(told);
     println!(stage.rt;
