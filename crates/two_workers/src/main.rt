@@ -37,33 +37,39 @@ fn main(rt: HostRuntime) -> io::Result<ExitCode> {
 }
 
 /// How a registry ended that had two layers: one that is told of all that happens to spans, as plain text, and one that
-/// is told of events, as JSON. The closures' contracts are what `Hooks::new` asks for.
+/// is told of events, as JSON.
 fn with_two_layers<R: Threads + Wait + Sync>(rt: &R, alloc: Global) -> Result<Report, Fault> {
     let mut layers = Layers::new(alloc);
     for (form, spans) in [(Form::Compact, FmtSpan::FULL), (Form::Json, FmtSpan::NONE)] {
-        let admit = Box::new(
-            alloc,
-            |rule: &Rule, meta: &Meta| -> bool
-                ensures { result
-                    ≡ is_admitted (pairs_of rule.now) (string_bytes meta.now.target) meta.now.level }
-            { admits(rule, meta) },
-        )?;
-        let say = Box::new(
-            alloc,
-            |alloc: Global, form: Form, note: &Note| -> Result<Vec<u8>, AllocError>
-                ensures { ForOk result (λ text. text.items ≡ text_of form (plain_note note.now)) }
-            { text(alloc, form, note) },
-        )?;
-        let layer = Layer {
-            style: Style { form, spans },
-            rule: everything(alloc)?,
-            hooks: Hooks::new(admit, say),
-        };
+        let layer = layer_of(alloc, Style { form, spans })?;
         if let Err((_, fault)) = layers.add(layer) {
             return Err(fault);
         }
     }
     visited(rt, alloc, layers)
+}
+
+// A layer that admits everything. The closures' contracts are what `Hooks::new` asks for.
+fn layer_of(alloc: Global, style: Style) -> Result<Layer, Fault> {
+    let rule = everything(alloc)?;
+    let admit = Box::new(
+        alloc,
+        |rule: &Rule, meta: &Meta| -> bool
+            ensures { result
+                ≡ is_admitted (pairs_of rule.now) (string_bytes meta.now.target) meta.now.level }
+        { admits(rule, meta) },
+    )?;
+    let say = Box::new(
+        alloc,
+        |alloc: Global, form: Form, note: &Note| -> Result<Vec<u8>, AllocError>
+            ensures { ForOk result (λ text. text.items ≡ text_of form (plain_note note.now)) }
+        { text(alloc, form, note) },
+    )?;
+    Ok(Layer {
+        style,
+        rule,
+        hooks: Hooks::new(admit, say),
+    })
 }
 
 // The rule that admits everything.
