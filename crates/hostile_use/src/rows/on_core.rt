@@ -84,19 +84,13 @@ fn plan<'a>(names: &'a Names) -> [Planned<'a, Ask<'a>>; 29] {
     let fields = names.fields.as_slice();
     // The third span gets the slot of the first.
     let third = Id::pack(0, 1);
+    let (new_a, enter_third) = (Act::New(&names.a, ParentOf::Root), Act::Enter(third));
+    let new_b = Act::New(&names.b, ParentOf::Current);
     [
-        (
-            "new a",
-            Taken,
-            Ask::Call(Act::New(&names.a, ParentOf::Root)),
-        ),
+        ("new a", Taken, Ask::Call(new_a)),
         ("clone 1", Taken, Ask::Call(Act::Clone(one))),
         ("enter 1", Taken, Ask::Call(Act::Enter(one))),
-        (
-            "new b inside",
-            Taken,
-            Ask::Call(Act::New(&names.b, ParentOf::Current)),
-        ),
+        ("new b inside", Taken, Ask::Call(new_b)),
         ("record 2", Taken, Ask::Call(Act::Record(two, fields))),
         ("event m", Taken, Ask::Call(Act::Event(&names.event, "m"))),
         ("find 1", Untouched, Ask::Call(Act::Find(one))),
@@ -109,20 +103,16 @@ fn plan<'a>(names: &'a Names) -> [Planned<'a, Ask<'a>>; 29] {
         ("len", Untouched, Ask::Len),
         ("close 2", Taken, Ask::Call(Act::Close(two))),
         ("len", Untouched, Ask::Len),
-        (
-            "new a",
-            Taken,
-            Ask::Call(Act::New(&names.a, ParentOf::Root)),
-        ),
-        ("enter it", Taken, Ask::Call(Act::Enter(third))),
-        ("enter it, 2", Taken, Ask::Call(Act::Enter(third))),
-        ("enter it, 3", Taken, Ask::Call(Act::Enter(third))),
-        ("enter it, 4", Taken, Ask::Call(Act::Enter(third))),
-        ("enter it, 5", Taken, Ask::Call(Act::Enter(third))),
-        ("enter it, 6", Taken, Ask::Call(Act::Enter(third))),
-        ("enter it, 7", Taken, Ask::Call(Act::Enter(third))),
-        ("enter it, 8", Taken, Ask::Call(Act::Enter(third))),
-        ("enter it, 9", Taken, Ask::Call(Act::Enter(third))),
+        ("new a", Taken, Ask::Call(new_a)),
+        ("enter it", Taken, Ask::Call(enter_third)),
+        ("enter it, 2", Taken, Ask::Call(enter_third)),
+        ("enter it, 3", Taken, Ask::Call(enter_third)),
+        ("enter it, 4", Taken, Ask::Call(enter_third)),
+        ("enter it, 5", Taken, Ask::Call(enter_third)),
+        ("enter it, 6", Taken, Ask::Call(enter_third)),
+        ("enter it, 7", Taken, Ask::Call(enter_third)),
+        ("enter it, 8", Taken, Ask::Call(enter_third)),
+        ("enter it, 9", Taken, Ask::Call(enter_third)),
         ("calls", Untouched, Ask::Calls),
         ("batches", Untouched, Ask::Batches),
         ("notes", Untouched, Ask::Notes),
