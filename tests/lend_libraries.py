@@ -8,25 +8,17 @@ these would prove all of it again. Here nothing can have changed since: the copy
 It fails where the tree has others than the gate's, or where rt is otherwise made than this knows. Then the copy is as it
 was, and has to be built from nothing.
 """
-import importlib.machinery
-import importlib.util
 import os
 import shutil
 import sys
 
+from toolchain import load
+
 ABOVE = "span_ffi"
 
 
-def toolchain():
-    """The module by which rt knows crates and what they are made from."""
-    loader = importlib.machinery.SourceFileLoader("rt", os.path.realpath(shutil.which("rt")))
-    module = importlib.util.module_from_spec(importlib.util.spec_from_loader("rt", loader))
-    loader.exec_module(module)
-    return module.rtlib
-
-
 def lend(root, copy):
-    rtlib = toolchain()
+    rtlib = load().rtlib
     crate = rtlib.Crate(f"{copy}/crates/{ABOVE}", copy, {})
     lent = [(f"{root}/crates/{it.name}/out/rlib", f"{it.folder}/out/rlib", it.stamp()) for it in crate.below()]
     if any(not os.path.isdir(kept) or os.path.exists(f"{kept}/stamp") for kept, _, _ in lent):
