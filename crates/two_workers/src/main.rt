@@ -106,10 +106,16 @@ fn visited<R: Threads + Wait + Sync>(
 
 /// Prints the lines, sorted, and then how the registry ended.
 fn print(rt: &HostRuntime, report: Report) -> io::Result<()> {
+    let mut report = report;
+    report
+        .lines
+        .sort_unstable_by(|one: &Line, other: &Line| one.text.cmp(&other.text));
+    write_report(rt, &report)
+}
+
+fn write_report(rt: &HostRuntime, report: &Report) -> io::Result<()> {
     let mut out = rt.stdout();
-    let mut lines = report.lines;
-    lines.sort_unstable_by(|one: &Line, other: &Line| one.text.cmp(&other.text));
-    for line in &lines {
+    for line in &report.lines {
         out.write_all(line.text.as_slice())?;
         out.write_all(b"\n")?;
     }
