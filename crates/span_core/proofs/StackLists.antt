@@ -1,7 +1,7 @@
 -- One of several stacks changes.
-use Rattle.std.proofs.Common.{◌≡◌, ℕ, ◌<◌, List, [], ◌∷◌, ◌++◌, length, get_or, set, Result, Ok, Err, sym, ap, ◌∙◌}
+use Rattle.std.proofs.Common.{◌≡◌, ℕ, ◌+◌, ◌<◌, List, replicate, [], ◌∷◌, ◌++◌, length, get_or, set, Result, Ok, Err, sym, ap, ◌∙◌}
 use Rattle.std.specs.Prelude.{OnOk, OnErr}
-use Rattle.std.proofs.lemmas.List.{get_or-map, map-set}
+use Rattle.std.proofs.lemmas.List.{get_or-map, map-set, map-append, replicate-append-replicate}
 use Rattle.std.proofs.Math.Seq.{map-set_same}
 use Rattle.span_id.specs.declared.fault.Fault.{Fault}
 use Rattle.span_stack.specs.Stack.{Stack, without_last, ids_of_each}
@@ -29,3 +29,10 @@ pub popped_at : (stacks : List Stack) (w id : ℕ) (old new : Stack) → w < len
     → ids_of_each (set stacks w new) ≡ set (ids_of_each stacks) w (without_last (get_or (ids_of_each stacks) w []) id)
 popped_at stacks w id old new within at popped =
     map-set (λ (s : Stack). s.ids) stacks w new ∙ ap (λ ids. set (ids_of_each stacks) w ids) (popped ∙ ap (λ ids. without_last ids id) (sym (ids_at stacks w old within at)))
+
+-- one more empty stack
+pub empty_more : (stacks after : List Stack) (stack : Stack) (n : ℕ) → ids_of_each stacks ≡ replicate n [] → after ≡ stacks ++ stack ∷ [] → stack.ids ≡ [] → ids_of_each after ≡ replicate (n + 1) []
+empty_more stacks after stack n so_far more none =
+    ap ids_of_each more ∙ map-append (λ (s : Stack). s.ids) stacks (stack ∷ [])
+    ∙ (λ j. so_far j ++ none j ∷ [])
+    ∙ replicate-append-replicate n 1 []
