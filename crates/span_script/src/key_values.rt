@@ -72,12 +72,12 @@ pub fn level(line: &Value) -> Result<Level, Reason>
 pub fn level_in(value: &Value) -> Option<Level>
     ensures { result ≡ level_in (view value.now) }
 {
-    match value.as_str() {
-        Some("ERROR") => Some(Level::Error),
-        Some("WARN") => Some(Level::Warn),
-        Some("INFO") => Some(Level::Info),
-        Some("DEBUG") => Some(Level::Debug),
-        Some("TRACE") => Some(Level::Trace),
+    match value.as_str()? {
+        "ERROR" => Some(Level::Error),
+        "WARN" => Some(Level::Warn),
+        "INFO" => Some(Level::Info),
+        "DEBUG" => Some(Level::Debug),
+        "TRACE" => Some(Level::Trace),
         _ => None,
     }
 }

@@ -3,9 +3,10 @@ ghost use Rattle.std.specs.Prelude.{◌≡◌, ◌<◌, ℕ, IfOk, Result};
 ghost use Rattle.std.specs.Option.{option_map};
 ghost use Rattle.serde_json.specs.View.{view};
 ghost use Rattle.span_script.specs.Reason.{Answers, AnswersOrStops};
-ghost use Rattle.span_script.specs.Operation.{json_of, op_named, op_of, is_setup, operation_of, limits_of, layer_of, new_of};
+ghost use Rattle.span_script.specs.Operation.{json_of, op_named, op_of, is_setup, operation_of, keys_of, limits_of, layer_of, new_of};
 ghost use Rattle.span_script.specs.Operation.{on_span_of, record_of, event_of, find_of, find_old_of};
 ghost use Rattle.span_script.specs.Views.{operation_seen, op_seen, stage_seen, NamesWorker};
+ghost use Rattle.span_script.specs.inside.Rests.{named_of, said_of};
 
 use crate::fields::fields;
 use crate::key::Key;
@@ -16,7 +17,7 @@ use crate::reason::Reason;
 use crate::rules::rule;
 use crate::stop::Stop;
 use serde_json::Value;
-use span_id::{Id, Limits};
+use span_id::{Id, Level, Limits};
 use span_layers::Style;
 use std::alloc::Global;
 use std::sync::ArcStr;
@@ -86,9 +87,24 @@ pub fn operation<'v>(
     if !line.is_object() {
         return Err(Stop::Refused(Reason::NotObject));
     }
-    match op_in(line)? {
+    with_op(alloc, line, workers, stage, op_in(line)?)
+}
+
+/// What a line with this op asks for.
+fn with_op<'v>(
+    alloc: Global,
+    line: &'v Value,
+    workers: usize,
+    stage: Stage,
+    op: Op,
+) -> Result<Operation<'v>, Stop>
+    ensures meant { AnswersOrStops operation_seen result
+        (keys_of workers (stage_seen stage) (view line.now) (op_seen op)) }
+    ensures worker { 0 < workers → IfOk result (λ operation. NamesWorker operation workers) }
+{
+    match op {
         Op::Limits => match stage {
-            Stage::AtStart => Ok(limits(line)?),
+            Stage::AtStart => limits(line),
             Stage::InSetup | Stage::Running => Err(Stop::Refused(Reason::LateLine)),
         },
         Op::Layer => match stage {
@@ -96,10 +112,10 @@ pub fn operation<'v>(
             Stage::Running => Err(Stop::Refused(Reason::LateLine)),
         },
         Op::New => new_span(alloc, line, workers),
-        Op::OnSpan(call) => Ok(on_span(line, workers, call)?),
+        Op::OnSpan(call) => on_span(line, workers, call),
         Op::Record => record(alloc, line, workers),
         Op::Event => event(alloc, line, workers),
-        Op::Find => Ok(find(line)?),
+        Op::Find => find(line),
     }
 }
 
@@ -135,16 +151,20 @@ fn op_named(name: &str) -> Option<Op>
 
 /// The limits that a line asks for, the default where it gives none. They may be out of their ranges.
 #[tactic(auto, unfolding(crate::specs::Operation::limits_of))]
-fn limits<'v>(line: &Value) -> Result<Operation<'v>, Reason>
-    ensures meant { Answers operation_seen result (limits_of (view line.now)) }
+fn limits<'v>(line: &Value) -> Result<Operation<'v>, Stop>
+    ensures meant { AnswersOrStops operation_seen result (limits_of (view line.now)) }
     ensures worker { (workers : ℕ) → IfOk result (λ operation. NamesWorker operation workers) }
 {
     let default = Limits::default();
+    let slots = limit(line, Key::Slots, default.slots)?;
+    let last_generation = limit(line, Key::LastGeneration, default.last_generation)?;
+    let max_count = limit(line, Key::MaxCount, default.max_count)?;
+    let workers = limit(line, Key::Workers, default.workers)?;
     Ok(Operation::Limits(Limits {
-        slots: limit(line, Key::Slots, default.slots)?,
-        last_generation: limit(line, Key::LastGeneration, default.last_generation)?,
-        max_count: limit(line, Key::MaxCount, default.max_count)?,
-        workers: limit(line, Key::Workers, default.workers)?,
+        slots,
+        last_generation,
+        max_count,
+        workers,
         ring: default.ring,
     }))
 }
@@ -173,6 +193,22 @@ fn new_span<'v>(alloc: Global, line: &'v Value, workers: usize) -> Result<Operat
     let name = required_text(line, Key::Name)?;
     let target = text(line, Key::Target, "app")?;
     let level = level(line)?;
+    named_span(alloc, line, workers, name, target, level)
+}
+
+/// The new span of this name, target and level that a line asks for.
+fn named_span<'v>(
+    alloc: Global,
+    line: &'v Value,
+    workers: usize,
+    name: &'v str,
+    target: &str,
+    level: Level,
+) -> Result<Operation<'v>, Stop>
+    ensures meant { AnswersOrStops operation_seen result
+        (named_of workers (view line.now) name.now target.now level) }
+    ensures worker { 0 < workers → IfOk result (λ operation. NamesWorker operation workers) }
+{
     let parent = match parent(line) {
         Ok(parent) => parent,
         Err(reason) => return Err(Stop::Refused(reason)),
@@ -180,8 +216,9 @@ fn new_span<'v>(alloc: Global, line: &'v Value, workers: usize) -> Result<Operat
     let fields = fields(alloc, line)?;
     let label = text(line, Key::Label, name)?;
     let worker = worker(line, workers)?;
+    let meta = meta(alloc, name, target, level)?;
     Ok(Operation::New(NewSpan {
-        meta: meta(alloc, name, target, level)?,
+        meta,
         fields,
         parent,
         label,
@@ -191,8 +228,8 @@ fn new_span<'v>(alloc: Global, line: &'v Value, workers: usize) -> Result<Operat
 
 /// The call on a span that a line asks for.
 #[tactic(auto, unfolding(crate::specs::Operation::on_span_of))]
-fn on_span(line: &Value, workers: usize, call: SpanCall) -> Result<Operation<'_>, Reason>
-    ensures meant { Answers operation_seen result (on_span_of workers call (view line.now)) }
+fn on_span(line: &Value, workers: usize, call: SpanCall) -> Result<Operation<'_>, Stop>
+    ensures meant { AnswersOrStops operation_seen result (on_span_of workers call (view line.now)) }
     ensures worker { 0 < workers → IfOk result (λ operation. NamesWorker operation workers) }
 {
     match span(line) {
@@ -200,7 +237,7 @@ fn on_span(line: &Value, workers: usize, call: SpanCall) -> Result<Operation<'_>
             let worker = worker(line, workers)?;
             Ok(Operation::OnSpan { call, span, worker })
         }
-        Err(reason) => Err(reason),
+        Err(reason) => Err(Stop::Refused(reason)),
     }
 }
 
@@ -232,11 +269,29 @@ fn event<'v>(alloc: Global, line: &Value, workers: usize) -> Result<Operation<'v
     let message = required_text(line, Key::Message)?;
     let target = text(line, Key::Target, "app")?;
     let level = level(line)?;
+    said(alloc, line, workers, message, target, level)
+}
+
+/// The event of this message, target and level that a line asks for.
+fn said<'v>(
+    alloc: Global,
+    line: &Value,
+    workers: usize,
+    message: &str,
+    target: &str,
+    level: Level,
+) -> Result<Operation<'v>, Stop>
+    ensures meant { AnswersOrStops operation_seen result
+        (said_of workers (view line.now) message.now target.now level) }
+    ensures worker { 0 < workers → IfOk result (λ operation. NamesWorker operation workers) }
+{
     let fields = fields(alloc, line)?;
     let worker = worker(line, workers)?;
+    let meta = meta(alloc, "event", target, level)?;
+    let message = ArcStr::from_str(alloc, message)?;
     Ok(Operation::Event(NewEvent {
-        meta: meta(alloc, "event", target, level)?,
-        message: ArcStr::from_str(alloc, message)?,
+        meta,
+        message,
         fields,
         worker,
     }))
@@ -244,8 +299,8 @@ fn event<'v>(alloc: Global, line: &Value, workers: usize) -> Result<Operation<'v
 
 /// The look-up that a line asks for: by `span`, or by `old`, an id of the older layout.
 #[tactic(auto, unfolding(crate::specs::Operation::find_of))]
-fn find(line: &Value) -> Result<Operation<'_>, Reason>
-    ensures meant { Answers operation_seen result (find_of (view line.now)) }
+fn find(line: &Value) -> Result<Operation<'_>, Stop>
+    ensures meant { AnswersOrStops operation_seen result (find_of (view line.now)) }
     ensures worker { (workers : ℕ) → IfOk result (λ operation. NamesWorker operation workers) }
 {
     let old = line.get(Key::Old.text());
@@ -255,19 +310,19 @@ fn find(line: &Value) -> Result<Operation<'_>, Reason>
         return find_old(old);
     }
     match span(line) {
-        Ok(_) if old.is_some() => Err(Reason::BadKey(Key::Old)),
+        Ok(_) if old.is_some() => Err(Stop::Refused(Reason::BadKey(Key::Old))),
         Ok(span) => Ok(Operation::Find(span)),
-        Err(reason) => Err(reason),
+        Err(reason) => Err(Stop::Refused(reason)),
     }
 }
 
 /// The look-up of the span that had this id in the older layout.
-fn find_old<'v>(value: &Value) -> Result<Operation<'v>, Reason>
-    ensures meant { Answers operation_seen result (find_old_of (view value.now)) }
+fn find_old<'v>(value: &Value) -> Result<Operation<'v>, Stop>
+    ensures meant { AnswersOrStops operation_seen result (find_old_of (view value.now)) }
     ensures worker { (workers : ℕ) → IfOk result (λ operation. NamesWorker operation workers) }
 {
     match value.as_u64().and_then(Id::from_v1) {
         Some(id) => Ok(Operation::Find(SpanKey::Id(id))),
-        None => Err(Reason::BadKey(Key::Old)),
+        None => Err(Stop::Refused(Reason::BadKey(Key::Old))),
     }
 }
