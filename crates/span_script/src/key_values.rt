@@ -6,7 +6,7 @@ ghost use Rattle.serde_json.specs.View.{view};
 ghost use Rattle.span_id.specs.declared.level.Level.TheVariants.{Info};
 ghost use Rattle.span_layers.specs.FmtSpan.{bits_of};
 ghost use Rattle.span_layers.specs.declared.form.Form.TheVariants.{Compact};
-ghost use Rattle.span_script.specs.Operation.{required, optional, limit_in, worker_in, level_in, form_in, kinds_in};
+ghost use Rattle.span_script.specs.Operation.{required, optional, limit_in, worker_in, level_in, level_named, form_in, kinds_in};
 ghost use Rattle.span_script.specs.Operation.{span_key_in, parent_in, current};
 ghost use Rattle.span_script.specs.Reason.{Answers};
 ghost use Rattle.span_script.specs.Views.{key_seen, parent_seen};
@@ -72,7 +72,14 @@ pub fn level(line: &Value) -> Result<Level, Reason>
 pub fn level_in(value: &Value) -> Option<Level>
     ensures { result ≡ level_in (view value.now) }
 {
-    match value.as_str()? {
+    level_named(value.as_str()?)
+}
+
+/// The level of this name.
+fn level_named(name: &str) -> Option<Level>
+    ensures { result ≡ level_named name.now }
+{
+    match name {
         "ERROR" => Some(Level::Error),
         "WARN" => Some(Level::Warn),
         "INFO" => Some(Level::Info),
