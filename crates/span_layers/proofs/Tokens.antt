@@ -1,5 +1,5 @@
 -- The tokens of a note's JSON value are those of its members, one behind the other.
-use Rattle.std.proofs.Common.{◌≡◌, ◌++◌, ◌∷◌, [], Option, Some, None, map, codes, refl, ap}
+use Rattle.std.proofs.Common.{◌≡◌, ◌++◌, ◌∷◌, Option, Some, None, map, codes, refl, ap, append_assoc}
 use Rattle.json.specs.Token.{Token}
 use Rattle.json.specs.Tree.{json_tokens, members_tokens}
 use Rattle.serde_json.specs.Data.{Members, no_members, member, array, number, string, unsigned}
@@ -7,7 +7,7 @@ use Rattle.serde_json.specs.View.{items_of}
 use Rattle.serde_json.specs.Written.{outline, members_outline}
 use Rattle.span_layers.specs.Note.{Told, PlainNote, kind_name, shown}
 use Rattle.span_layers.specs.Text.{field_value, json_value, with_told}
-use Rattle.span_layers.specs.inside.Tokens.{member_tokens, told_tokens}
+use Rattle.span_layers.specs.inside.Tokens.{member_tokens, told_tokens, start_tokens, end_tokens}
 
 -- the level and the message, where they are told, stand in front of what follows
 told_then : (told : Option Told) (rest : Members) → members_tokens (members_outline (with_told told rest)) ≡ told_tokens told ++ members_tokens (members_outline rest)
@@ -15,15 +15,10 @@ told_then None rest = refl
 told_then (Some told) rest = refl
 
 pub note_tokens : (note : PlainNote) → json_tokens (outline (json_value note))
-    ≡ Token.begin_object ∷ (member_tokens (codes "fields") (array (items_of (map field_value note.fields)))
-    ++ (member_tokens (codes "id") (number (unsigned note.id))
-    ++ (member_tokens (codes "kind") (string (kind_name note.kind))
-    ++ (told_tokens (shown note.kind note.tail)
-    ++ (member_tokens (codes "path") (string note.path)
-    ++ (member_tokens (codes "worker") (number (unsigned note.worker)) ++ Token.end_object ∷ []))))))
+    ≡ start_tokens note ++ (told_tokens (shown note.kind note.tail) ++ end_tokens note)
 note_tokens note =
     let last = member (codes "path") (string note.path) (member (codes "worker") (number (unsigned note.worker)) no_members) in
-    ap
+    rw append_assoc (ap
     (λ tokens. Token.begin_object ∷ (member_tokens (codes "fields") (array (items_of (map field_value note.fields)))
     ++ (member_tokens (codes "id") (number (unsigned note.id)) ++ (member_tokens (codes "kind") (string (kind_name note.kind)) ++ tokens))))
-    (told_then (shown note.kind note.tail) last)
+    (told_then (shown note.kind note.tail) last))

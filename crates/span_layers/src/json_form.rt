@@ -5,7 +5,7 @@ ghost use Rattle.json.specs.Tree.{json_tokens};
 ghost use Rattle.serde_json.specs.Written.{compact_text, outline};
 ghost use Rattle.span_layers.specs.Note.{plain_note};
 ghost use Rattle.span_layers.specs.Text.{json_value};
-ghost use Rattle.span_layers.specs.inside.Tokens.{Appends};
+ghost use Rattle.span_layers.specs.inside.Tokens.{Appends, start_tokens, end_tokens};
 
 mod members;
 mod pairs;
@@ -38,11 +38,27 @@ pub(crate) fn json_text(alloc: Global, note: &Note) -> Result<Vec<u8>, AllocErro
 fn write_note(out: &mut Writer, note: &Note) -> Result<(), AllocError>
     ensures { Appends result out.old out.new (json_tokens (outline (json_value (plain_note note.now)))) }
 {
+    write_start(out, note)?;
+    write_told(out, note)?;
+    write_end(out, note)
+}
+
+// Writes the bracket and the members up to the kind.
+#[tactic(auto, using(std::proofs::Common::append_assoc))]
+fn write_start(out: &mut Writer, note: &Note) -> Result<(), AllocError>
+    ensures { Appends result out.old out.new (start_tokens (plain_note note.now)) }
+{
     out.begin_object()?;
     write_fields(out, note.fields.as_slice())?;
     write_number(out, "id", note.id)?;
-    write_text(out, "kind", note.kind.name())?;
-    write_told(out, note)?;
+    write_text(out, "kind", note.kind.name())
+}
+
+// Writes the members from the path on, and the bracket.
+#[tactic(auto, using(std::proofs::Common::append_assoc))]
+fn write_end(out: &mut Writer, note: &Note) -> Result<(), AllocError>
+    ensures { Appends result out.old out.new (end_tokens (plain_note note.now)) }
+{
     write_text(out, "path", note.path.as_str())?;
     write_number(out, "worker", u64::from(note.worker))?;
     out.end_object()
