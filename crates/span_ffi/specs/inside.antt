@@ -2,3 +2,5 @@
 pub mod RegistryOwned
 pub mod ReaderOwned
 pub mod Parents
+pub mod Adding
+pub mod Giving

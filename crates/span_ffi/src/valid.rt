@@ -4,7 +4,7 @@ ghost use Rattle.span_ffi.specs.Data.{BeginsWithText, IsMeta, behind_meta, AreFi
 ghost use Rattle.span_ffi.specs.Opening.{AreRules, behind_rules, AreLayers};
 
 use crate::data::{SpanField, SpanLayer, SpanMeta, SpanRule};
-use crate::reading::split_text;
+use crate::reading::{split_text, split_two};
 
 // The bytes behind the name and the target, where they are there.
 fn behind_meta<'b>(meta: &SpanMeta, bytes: &'b [u8]) -> Option<&'b [u8]>
@@ -14,8 +14,7 @@ fn behind_meta<'b>(meta: &SpanMeta, bytes: &'b [u8]) -> Option<&'b [u8]>
     if meta.level > 4 {
         return None;
     }
-    let (_, left) = split_text(bytes, meta.name_len)?;
-    let (_, behind) = split_text(left, meta.target_len)?;
+    let (_, _, behind) = split_two(bytes, meta.name_len, meta.target_len)?;
     Some(behind)
 }
 
@@ -25,8 +24,7 @@ fn behind_field<'b>(field: &SpanField, bytes: &'b [u8]) -> Option<&'b [u8]>
         × BeginsWithText field.now.value_len (drop field.now.key_len bytes.now)) }
     ensures behind { IfSome result (λ behind. behind.now ≡ behind_field field.now bytes.now) }
 {
-    let (_, left) = split_text(bytes, field.key_len)?;
-    let (_, behind) = split_text(left, field.value_len)?;
+    let (_, _, behind) = split_two(bytes, field.key_len, field.value_len)?;
     Some(behind)
 }
 

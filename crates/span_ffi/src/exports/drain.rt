@@ -3,6 +3,7 @@ ghost use Rattle.std.specs.Prelude.{◌≡◌, Some, None, is_some, if◌then◌
 ghost use Rattle.span_ffi.specs.Status.{meaning};
 ghost use Rattle.span_ffi.specs.Ends.{Ends, Keeps};
 ghost use Rattle.span_ffi.specs.Lines.{GivesLine, KeepsLength, CountsLines};
+ghost use Rattle.span_ffi.specs.inside.Giving.{GivesFirst};
 
 use crate::drain_handle::SpanDrain;
 use crate::exports::texts::write_text;
@@ -17,6 +18,16 @@ fn give_line(lines: &mut Lines, layer: &mut u32, into: &mut [u8], len: &mut usiz
     ensures len { KeepsLength (Some result) len.old len.new }
 {
     lines.fill();
+    give_first(lines, layer, into, len)
+}
+
+// Gives the first line that waits already out.
+fn give_first(lines: &mut Lines, layer: &mut u32, into: &mut [u8], len: &mut usize) -> Status
+    ensures line { GivesFirst layer.new into.old into.new len.new lines.old result lines.new }
+    ensures layer { Keeps (Some result) layer.old layer.new }
+    ensures into { Keeps (Some result) into.old into.new }
+    ensures len { KeepsLength (Some result) len.old len.new }
+{
     let Some(line) = lines.peek() else {
         return Status::NoLine;
     };
