@@ -1,7 +1,7 @@
 //! The making of a registry and of the other end of its ring, from what C passes.
 //!
 //! Where one of the `read_` functions gives None, the data say nothing, or memory is refused.
-ghost use Rattle.std.specs.Prelude.{◌≡◌, ◌≤◌, ◌↔◌, [], Some, take, drop, length, IsOk, IsSome, IfSome, OnSome, IfOk, IfErr};
+ghost use Rattle.std.specs.Prelude.{◌≡◌, ◌≤◌, ◌↔◌, ◌++◌, ◌∷◌, [], true, Some, map, take, drop, IsOk, IsSome, IfSome, OnSome, IfOk, IfErr};
 ghost use Rattle.span_id.specs.Limits.{AreInRange};
 ghost use Rattle.span_layers.specs.Rule.{pair_of, pairs_of};
 ghost use Rattle.span_layers.specs.Filter.{filter_of};
@@ -10,7 +10,7 @@ ghost use Rattle.span_layers.specs.Layers.{filters_in, forms_in};
 ghost use Rattle.span_outlet.specs.Ring.{places_of};
 ghost use Rattle.span_core.specs.World.{empty_world};
 ghost use Rattle.span_ffi.specs.Data.{BeginsWithText, said_level};
-ghost use Rattle.span_ffi.specs.Opening.{AreRules, said_pairs, behind_rules, said_form, AreLayers, said_filters, said_forms, said_limits, AreNew, WhyNone};
+ghost use Rattle.span_ffi.specs.Opening.{AreRules, said_pairs, behind_rules, said_form, IsLayer, AreLayers, said_filters, said_forms, said_limits, AreNew, WhyNone};
 
 use crate::callsites::Callsites;
 use crate::data::{SpanLayer, SpanLimits, SpanRule};
@@ -22,28 +22,51 @@ use crate::valid::are_layers;
 use bitflags::Flags;
 use span_core::Core;
 use span_id::{Checked, Fault, Level, Limits};
-use span_layers::{ByForm, ByRule, FmtSpan, Form, Hooks, Layer, Layers, MAX_LAYERS, Rule, Style};
+use span_layers::{
+    ByForm, ByRule, Filters, FmtSpan, Form, Hooks, Layer, Layers, MAX_LAYERS, Rule, Style,
+};
 use span_outlet::{LineReader, Ring};
 use std::alloc::Global;
 
 // Layers with no closures.
 type PlainLayers = Layers<ByRule, ByForm>;
 
-// A prefix with its level, and the bytes behind it.
-fn read_pair<'b>(
+// Adds the pair of a rule, and gives the bytes behind its prefix.
+fn add_pair<'b>(
     alloc: Global,
     rule: &SpanRule,
     bytes: &'b [u8],
-) -> Option<((String, Level), &'b [u8])>
+    pairs: &mut Vec<(String, Level)>,
+) -> Option<&'b [u8]>
     ensures level { OnSome result (rule.now.level ≤ 4) }
     ensures begins { OnSome result (BeginsWithText rule.now.prefix_len bytes.now) }
-    ensures pair { IfSome result (λ read. pair_of read.0
-        ≡ (take rule.now.prefix_len bytes.now, said_level rule.now.level)) }
-    ensures behind { IfSome result (λ read. read.1.now ≡ drop rule.now.prefix_len bytes.now) }
+    ensures pair { OnSome result (map pair_of pairs.new.items ≡ map pair_of pairs.old.items
+        ++ (take rule.now.prefix_len bytes.now, said_level rule.now.level) ∷ []) }
+    ensures behind { IfSome result (λ behind. behind.now ≡ drop rule.now.prefix_len bytes.now) }
 {
     let level = read_level(rule.level)?;
-    let (prefix, left) = read_text(alloc, bytes, rule.prefix_len)?;
-    Some(((prefix, level), left))
+    let (prefix, behind) = read_text(alloc, bytes, rule.prefix_len)?;
+    pairs.push((prefix, level)).ok()?;
+    Some(behind)
+}
+
+// Adds the pairs of rules, and gives the bytes behind their prefixes.
+fn add_pairs<'b>(
+    alloc: Global,
+    rules: &[SpanRule],
+    bytes: &'b [u8],
+    pairs: &mut Vec<(String, Level)>,
+) -> Option<&'b [u8]>
+    ensures are { OnSome result (AreRules rules.now bytes.now) }
+    ensures pairs { OnSome result (map pair_of pairs.new.items
+        ≡ map pair_of pairs.old.items ++ said_pairs rules.now bytes.now) }
+    ensures behind { IfSome result (λ behind. behind.now ≡ behind_rules rules.now bytes.now) }
+{
+    let mut left = bytes;
+    for rule in rules {
+        left = add_pair(alloc, rule, left, pairs)?;
+    }
+    Some(left)
 }
 
 // The rule of these pairs, and the bytes behind their prefixes.
@@ -52,15 +75,8 @@ fn read_rule<'b>(alloc: Global, rules: &[SpanRule], bytes: &'b [u8]) -> Option<(
     ensures pairs { IfSome result (λ read. pairs_of read.0 ≡ said_pairs rules.now bytes.now) }
     ensures behind { IfSome result (λ read. read.1.now ≡ behind_rules rules.now bytes.now) }
 {
-    let mut left = bytes;
     let mut pairs = Vec::new(alloc);
-    for rule in rules {
-        let (pair, behind) = read_pair(alloc, rule, left)?;
-        left = behind;
-        if pairs.push(pair).is_err() {
-            return None;
-        }
-    }
+    let left = add_pairs(alloc, rules, bytes, &mut pairs)?;
     Some((Rule { pairs }, left))
 }
 
@@ -103,6 +119,55 @@ fn read_layer<'b>(
     Some((Layer { style, rule, hooks }, left))
 }
 
+// Adds a layer with the first of the rules for its own, and gives the other rules, and the bytes behind the prefixes.
+fn add_layer<'r, 'b>(
+    alloc: Global,
+    layer: &SpanLayer,
+    rules: &'r [SpanRule],
+    bytes: &'b [u8],
+    read: &mut PlainLayers,
+) -> Option<(&'r [SpanRule], &'b [u8])>
+    ensures is { OnSome result (IsLayer layer.now rules.now bytes.now) }
+    ensures filter { OnSome result (filters_in read.new ≡ filters_in read.old
+        ++ (record { pairs = said_pairs (take layer.now.rules rules.now) bytes.now; spans = layer.now.kinds }) ∷ []) }
+    ensures form { OnSome result (forms_in read.new ≡ forms_in read.old ++ said_form layer.now.form ∷ []) }
+    ensures rules { IfSome result (λ left. left.0.now ≡ drop layer.now.rules rules.now) }
+    ensures behind { IfSome result (λ left. left.1.now
+        ≡ behind_rules (take layer.now.rules rules.now) bytes.now) }
+{
+    let (own, others) = rules.split_at_checked(layer.rules as usize)?;
+    let (layer, behind) = read_layer(alloc, layer, own, bytes)?;
+    if read.add(layer).is_err() {
+        return None;
+    }
+    Some((others, behind))
+}
+
+// Adds the layers, with all rules and all bytes. No: the data say nothing, or memory is refused.
+fn add_layers(
+    alloc: Global,
+    layers: &[SpanLayer],
+    rules: &[SpanRule],
+    bytes: &[u8],
+    read: &mut PlainLayers,
+) -> bool
+    ensures are { result ≡ true → AreLayers layers.now rules.now bytes.now }
+    ensures filters { result ≡ true → filters_in read.new
+        ≡ filters_in read.old ++ said_filters layers.now rules.now bytes.now }
+    ensures forms { result ≡ true → forms_in read.new ≡ forms_in read.old ++ said_forms layers.now }
+{
+    let mut rules_left = rules;
+    let mut left = bytes;
+    for item in layers {
+        let Some((others, behind)) = add_layer(alloc, item, rules_left, left, read) else {
+            return false;
+        };
+        rules_left = others;
+        left = behind;
+    }
+    rules_left.is_empty() && left.is_empty()
+}
+
 // The layers, with all rules and all bytes.
 fn read_layers(
     alloc: Global,
@@ -110,24 +175,12 @@ fn read_layers(
     rules: &[SpanRule],
     bytes: &[u8],
 ) -> Option<PlainLayers>
-    requires { length layers.now ≤ 64 }
     ensures are { OnSome result (AreLayers layers.now rules.now bytes.now) }
     ensures filters { IfSome result (λ read. filters_in read ≡ said_filters layers.now rules.now bytes.now) }
     ensures forms { IfSome result (λ read. forms_in read ≡ said_forms layers.now) }
 {
     let mut read = Layers::new(alloc);
-    let mut rules_left = rules;
-    let mut left = bytes;
-    for item in layers {
-        let (own, others) = rules_left.split_at_checked(item.rules as usize)?;
-        let (layer, behind) = read_layer(alloc, item, own, left)?;
-        rules_left = others;
-        left = behind;
-        if read.add(layer).is_err() {
-            return None;
-        }
-    }
-    if !(rules_left.is_empty() && left.is_empty()) {
+    if !add_layers(alloc, layers, rules, bytes, &mut read) {
         return None;
     }
     Some(read)
@@ -149,35 +202,67 @@ fn read_limits(limits: &SpanLimits) -> Result<Checked, Fault>
     limits.check()
 }
 
-// A registry with these layers, and the other end of its ring. The only error is `Memory`.
-fn make(alloc: Global, checked: &Checked, layers: PlainLayers) -> Result<(Registry, Reader), Fault>
-    ensures core { IfOk result (λ made. made.0.core ≡ record {
+// A registry with this end of a ring, in a box. The only error is `Memory`.
+fn box_registry(
+    alloc: Global,
+    checked: &Checked,
+    filters: Filters<ByRule>,
+    ring: Ring,
+) -> Result<Box<Registry>, Fault>
+    requires { ring.sent ≡ [] }
+    ensures registry { IfOk result (λ boxed. boxed.value ≡ record {
+      core = record {
+        limits = checked.now;
+        rules = filters.rules;
+        world = empty_world checked.now.workers;
+        sent = [];
+        times_full = ring.times_full;
+        forms = [];
+        name = Some ring.name;
+      };
+      callsites = [];
+    }) }
+    ensures memory { IfErr result (λ fault. fault ≡ Fault.Memory) }
+{
+    let core = Core::new(alloc, checked, filters, ring)?;
+    let callsites = Callsites::new(alloc);
+    let boxed = Box::new(alloc, Registry { core, callsites })?;
+    Ok(boxed)
+}
+
+// A registry with these layers, and the other end of its ring, each in a box. The only error is `Memory`.
+fn make(
+    alloc: Global,
+    checked: &Checked,
+    layers: PlainLayers,
+) -> Result<(Box<Registry>, Box<Reader>), Fault>
+    ensures core { IfOk result (λ made. made.0.value.core ≡ record {
       limits = checked.now;
       rules = filters_in layers;
       world = empty_world checked.now.workers;
       sent = [];
       times_full = 0;
       forms = [];
-      name = Some made.1.name;
+      name = Some made.1.value.name;
     }) }
-    ensures callsites { IfOk result (λ made. made.0.callsites ≡ []) }
-    ensures reader { IfOk result (λ made. made.1 ≡ record {
-      name = made.1.name;
+    ensures callsites { IfOk result (λ made. made.0.value.callsites ≡ []) }
+    ensures reader { IfOk result (λ made. made.1.value ≡ record {
+      name = made.1.value.name;
       looks = 0;
       forms = forms_in layers;
       taken = [];
       waiting = [];
       refused = 0;
     }) }
-    ensures places { IfOk result (λ made. places_of made.1.name ≡ checked.now.ring) }
+    ensures places { IfOk result (λ made. places_of made.1.value.name ≡ checked.now.ring) }
     ensures memory { IfErr result (λ fault. fault ≡ Fault.Memory) }
 {
-    let (filters, tellers) = layers.split();
     let (ring, tap) = Ring::pair(alloc, checked)?;
-    let core = Core::new(alloc, checked, filters, ring)?;
+    let (filters, tellers) = layers.split();
     let lines = LineReader::new(alloc, tap, tellers);
-    let callsites = Callsites::new(alloc);
-    Ok((Registry { core, callsites }, Reader { lines }))
+    let registry = box_registry(alloc, checked, filters, ring)?;
+    let reader = Box::new(alloc, Reader { lines })?;
+    Ok((registry, reader))
 }
 
 /// A new registry and the other end of its ring, each in a box.
@@ -199,17 +284,8 @@ pub(crate) fn open(
     if layers.len() > MAX_LAYERS {
         return Err(Status::Refused(Fault::TooManyLayers));
     }
-    let Some(layers) = read_layers(alloc, layers, rules, bytes) else {
-        return Err(unread(are_layers(layers, rules, bytes)));
-    };
-    let Ok((registry, reader)) = make(alloc, &checked, layers) else {
-        return Err(Status::Refused(Fault::Memory));
-    };
-    let Ok(registry) = Box::new(alloc, registry) else {
-        return Err(Status::Refused(Fault::Memory));
-    };
-    let Ok(reader) = Box::new(alloc, reader) else {
-        return Err(Status::Refused(Fault::Memory));
-    };
-    Ok((registry, reader))
+    match read_layers(alloc, layers, rules, bytes) {
+        Some(read) => make(alloc, &checked, read).map_err(Status::Refused),
+        None => Err(unread(are_layers(layers, rules, bytes))),
+    }
 }
