@@ -80,8 +80,10 @@ impl SpanDrain {
         ensures empty { self.new.held ≡ None }
     {
         let taken = mem::replace(self, SpanDrain::empty(alloc));
-        let parts = taken.into_parts()?;
-        Some(parts.into_box())
+        match taken.into_parts() {
+            Some(parts) => Some(parts.into_box()),
+            None => None,
+        }
     }
 
     /// Puts a reader into an empty handle.

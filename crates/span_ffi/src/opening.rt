@@ -44,10 +44,16 @@ fn add_pair<'b>(
         ++ (take rule.now.prefix_len bytes.now, said_level rule.now.level) ∷ []) }
     ensures behind { IfSome result (λ behind. behind.now ≡ drop rule.now.prefix_len bytes.now) }
 {
-    let level = read_level(rule.level)?;
-    let (prefix, behind) = read_text(alloc, bytes, rule.prefix_len)?;
-    pairs.push((prefix, level)).ok()?;
-    Some(behind)
+    let Some(level) = read_level(rule.level) else {
+        return None;
+    };
+    let Some((prefix, behind)) = read_text(alloc, bytes, rule.prefix_len) else {
+        return None;
+    };
+    match pairs.push((prefix, level)) {
+        Ok(()) => Some(behind),
+        Err(_) => None,
+    }
 }
 
 // Adds the pairs of rules, and gives the bytes behind their prefixes.
@@ -64,7 +70,10 @@ fn add_pairs<'b>(
 {
     let mut left = bytes;
     for rule in rules {
-        left = add_pair(alloc, rule, left, pairs)?;
+        let Some(behind) = add_pair(alloc, rule, left, pairs) else {
+            return None;
+        };
+        left = behind;
     }
     Some(left)
 }
@@ -76,8 +85,10 @@ fn read_rule<'b>(alloc: Global, rules: &[SpanRule], bytes: &'b [u8]) -> Option<(
     ensures behind { IfSome result (λ read. read.1.now ≡ behind_rules rules.now bytes.now) }
 {
     let mut pairs = Vec::new(alloc);
-    let left = add_pairs(alloc, rules, bytes, &mut pairs)?;
-    Some((Rule { pairs }, left))
+    match add_pairs(alloc, rules, bytes, &mut pairs) {
+        Some(left) => Some((Rule { pairs }, left)),
+        None => None,
+    }
 }
 
 // How and of what a layer writes.
@@ -113,8 +124,12 @@ fn read_layer<'b>(
     ensures style { IfSome result (λ read. read.0.style.form ≡ said_form layer.now.form) }
     ensures behind { IfSome result (λ read. read.1.now ≡ behind_rules own.now bytes.now) }
 {
-    let style = read_style(layer)?;
-    let (rule, left) = read_rule(alloc, own, bytes)?;
+    let Some(style) = read_style(layer) else {
+        return None;
+    };
+    let Some((rule, left)) = read_rule(alloc, own, bytes) else {
+        return None;
+    };
     let hooks = Hooks::by_rule_and_form();
     Some((Layer { style, rule, hooks }, left))
 }
@@ -135,12 +150,16 @@ fn add_layer<'r, 'b>(
     ensures behind { IfSome result (λ left. left.1.now
         ≡ behind_rules (take layer.now.rules rules.now) bytes.now) }
 {
-    let (own, others) = rules.split_at_checked(layer.rules as usize)?;
-    let (layer, behind) = read_layer(alloc, layer, own, bytes)?;
-    if read.add(layer).is_err() {
+    let Some((own, others)) = rules.split_at_checked(layer.rules as usize) else {
         return None;
+    };
+    let Some((layer, behind)) = read_layer(alloc, layer, own, bytes) else {
+        return None;
+    };
+    match read.add(layer) {
+        Ok(_) => Some((others, behind)),
+        Err(_) => None,
     }
-    Some((others, behind))
 }
 
 // Adds the layers, with all rules and all bytes. No: the data say nothing, or memory is refused.

@@ -80,8 +80,10 @@ impl SpanRegistry {
         ensures empty { self.new.held ≡ None }
     {
         let taken = mem::replace(self, SpanRegistry::empty(alloc));
-        let parts = taken.into_parts()?;
-        Some(parts.into_box())
+        match taken.into_parts() {
+            Some(parts) => Some(parts.into_box()),
+            None => None,
+        }
     }
 
     /// Puts a registry into an empty handle.

@@ -51,7 +51,9 @@ fn read_callsite(alloc: Global, meta: &SpanMeta, texts: &[u8]) -> Option<SharedM
     ensures is { OnSome result (IsCallsite meta.now texts.now) }
     ensures meta { IfSome result (λ read. read ≡ said_meta meta.now texts.now) }
 {
-    let (read, behind) = read_meta(alloc, meta, texts)?;
+    let Some((read, behind)) = read_meta(alloc, meta, texts) else {
+        return None;
+    };
     if behind.is_empty() { Some(read) } else { None }
 }
 
