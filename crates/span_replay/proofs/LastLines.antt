@@ -87,3 +87,7 @@ pub tidied_runs : (a b c d : Known) (state : State) (workers : ℕ) (core core' 
 tidied_runs a b c d state workers core core' new labels left r all made same kept closed is ok err =
     runs_after a b d (last_part state) (from_labels core labels) r (exits_sent a b state core labels (all_exits a b state workers core all made) same)
     (runs_after b c d (from_labels core labels) (last_line new) r (closes_sent b c core new labels (subst (λ x. AreMade (closed_labels x labels) new b c) kept closed)) (line_runs c d new left r is ok err))
+
+-- the labels may be named otherwise
+pub with_labels : (state : State) (labels : Bound) (a b : Known) (r : Result ℕ RunFault) → labels ≡ state.labels → Runs (last_part (record state { labels = labels })) a b r → Runs (last_part state) a b r
+with_labels state labels a b r same p = subst (λ names. Runs (last_part (record state { labels = names })) a b r) same p

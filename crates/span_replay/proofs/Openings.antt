@@ -52,7 +52,7 @@ opened_at_call hooks hooks' number a b c whole state new rest line tail value e 
 
 -- ---- a script from its first line
 
-script_runs : (hooks hooks' : ℕ) (first : State) (a b : Known) (lines : List (List ℕ)) (r : Result ℕ RunFault) → hooks' ≡ hooks → first ≡ first_state → Runs (run hooks' 1 first lines) a b r
+pub script_runs : (hooks hooks' : ℕ) (first : State) (a b : Known) (lines : List (List ℕ)) (r : Result ℕ RunFault) → hooks' ≡ hooks → first ≡ first_state → Runs (run hooks' 1 first lines) a b r
     → Runs (run hooks 1 first_state lines) a b r
 script_runs hooks hooks' first a b lines r e same p =
     subst (λ state. Runs (run hooks 1 state lines) a b r) same (subst (λ h. Runs (run h 1 first lines) a b r) e p)
@@ -62,12 +62,10 @@ same_opened : (limits limits' : Limits) (rules rules' : List Filter) (forms form
 same_opened limits limits' rules rules' forms forms' stage l r f =
     ap (λ x. opened_state x rules' forms' stage) l ∙ ap (λ x. opened_state limits x forms' stage) r ∙ ap (λ x. opened_state limits rules x stage) f
 
--- what is left is run with the limits and the layers that the first lines gave
-pub rest_runs : (hooks hooks' number : ℕ) (first : State) (limits limits' : Limits) (rules rules' : List Filter) (forms forms' : List Form) (stage : Stage) (a b c : Known) (lines : List (List ℕ)) (value : Option Data) (tail : List ℕ)
-    (r : Result ℕ RunFault) → hooks' ≡ hooks → first ≡ first_state → limits' ≡ limits → rules' ≡ rules → forms' ≡ forms
-    → Sent a b (run hooks' 1 first lines) (resumed_run hooks' number (opened_state limits rules forms stage) value tail)
-    → ((h : ℕ) (at : Stage) → Runs (resumed_run h number (opened_state limits' rules' forms' at) value tail) b c r)
-    → Runs (run hooks 1 first_state lines) a c r
-rest_runs hooks hooks' number first limits limits' rules rules' forms forms' stage a b c lines value tail r e same l u f s p =
-    script_runs hooks hooks' first a c lines r e same
-    (runs_after a b c _ _ r s (subst (λ state. Runs (resumed_run hooks' number state value tail) b c r) (same_opened limits limits' rules rules' forms forms' stage l u f) (p hooks' stage)))
+-- what is left runs with the limits and the layers that the first lines gave
+pub opened_runs : (hooks number : ℕ) (limits limits' : Limits) (rules rules' : List Filter) (forms forms' : List Form) (stage : Stage) (value : Option Data) (lines : List ℕ) (a b : Known) (r : Result ℕ RunFault)
+    → limits' ≡ limits → rules' ≡ rules → forms' ≡ forms
+    → Runs (resumed_run hooks number (opened_state limits' rules' forms' stage) value lines) a b r
+    → Runs (resumed_run hooks number (opened_state limits rules forms stage) value lines) a b r
+opened_runs hooks number limits limits' rules rules' forms forms' stage value lines a b r l u f p =
+    subst (λ state. Runs (resumed_run hooks number state value lines) a b r) (same_opened limits limits' rules rules' forms forms' stage l u f) p

@@ -19,7 +19,7 @@ use Rattle.span_run.specs.declared.fault.RunFault.{RunFault}
 use Rattle.span_replay.proofs.Openings.{when_some}
 use Rattle.span_replay.proofs.Resumed.{staged, value_same}
 use Rattle.span_run.proofs.Fronts.{Known}
-use Rattle.span_replay.proofs.Written.{sent_none, sent_trans, fails_after, runs_after, turned_more, turned_fails, loop_ends}
+use Rattle.span_replay.proofs.Written.{sent_none, sent_trans, fails_after, turned_more, turned_fails, loop_ends}
 
 -- no line is left
 pub none_left : {A : Type 0} (seen : A → Data) (hooks number : ℕ) (state : State) (stage : Stage) (value : Option A) (lines : List ℕ) (a : Known) → value ≡ None → lines ≡ []
@@ -78,18 +78,10 @@ at_opening : (limits : Limits) (rules : List Filter) (forms : List Form) (stage 
     → record { core = core; labels = labels; stage = stage } ≡ opened_state limits rules forms stage
 at_opening limits rules forms stage core labels e none = λ i. record { core = e i; labels = none i; stage = stage }
 
--- all lines ran, and the tidying ended as it did
-pub rest_tidied : (hooks number : ℕ) (limits : Limits) (rules : List Filter) (forms : List Form) (stage : Stage) (core : CoreView) (labels : Bound) (value : Option Data) (lines : List ℕ) (last : Transcript) (a b c : Known) (r : Result ℕ RunFault)
+-- it runs as what is left is meant to
+pub made_runs : (hooks number : ℕ) (limits : Limits) (rules : List Filter) (forms : List Form) (stage : Stage) (core : CoreView) (labels : Bound) (value : Option Data) (lines : List ℕ) (a b : Known) (r : Result ℕ RunFault)
     → core ≡ (opened_state limits rules forms stage).core → labels ≡ []
-    → Sent a b (resumed_run hooks number (record { core = core; labels = labels; stage = stage }) value lines) last → Runs last b c r
-    → Runs (resumed_run hooks number (opened_state limits rules forms stage) value lines) a c r
-rest_tidied hooks number limits rules forms stage core labels value lines last a b c r e none s p =
-    runs_after a b c _ last r (subst (λ state. Sent a b (resumed_run hooks number state value lines) last) (at_opening limits rules forms stage core labels e none) s) p
-
--- a line ended the run
-pub rest_stops : (hooks number : ℕ) (limits : Limits) (rules : List Filter) (forms : List Form) (stage : Stage) (core : CoreView) (labels : Bound) (value : Option Data) (lines : List ℕ) (a b : Known) (fault : RunFault)
-    → core ≡ (opened_state limits rules forms stage).core → labels ≡ []
-    → Fails (resumed_run hooks number (record { core = core; labels = labels; stage = stage }) value lines) a b fault
-    → Fails (resumed_run hooks number (opened_state limits rules forms stage) value lines) a b fault
-rest_stops hooks number limits rules forms stage core labels value lines a b fault e none p =
-    subst (λ state. Fails (resumed_run hooks number state value lines) a b fault) (at_opening limits rules forms stage core labels e none) p
+    → Runs (resumed_run hooks number (record { core = core; labels = labels; stage = stage }) value lines) a b r
+    → Runs (resumed_run hooks number (opened_state limits rules forms stage) value lines) a b r
+made_runs hooks number limits rules forms stage core labels value lines a b r e none p =
+    subst (λ state. Runs (resumed_run hooks number state value lines) a b r) (at_opening limits rules forms stage core labels e none) p

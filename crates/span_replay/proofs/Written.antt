@@ -1,5 +1,5 @@
 -- What goes out in a run, piece after piece.
-use Rattle.std.proofs.Common.{◌≡◌, ℕ, ◌+◌, ◌<◌, List, [], ◌∷◌, ◌++◌, length, refl, ap, sym, ◌∙◌, subst, append_assoc, Some, None, Result, Ok, Err, IfSome, IfErr, arith, length-append}
+use Rattle.std.proofs.Common.{◌≡◌, ℕ, ◌+◌, ◌<◌, ◌≤◌, List, [], ◌∷◌, ◌++◌, length, refl, ap, sym, ◌∙◌, subst, append_assoc, Some, None, Result, Ok, Err, IfSome, IfErr, arith, length-append}
 use Rattle.std.specs.Io.KnownBytes.{Appends, Consumes}
 use Rattle.std.proofs.KnownBytes.{Appends-nil, Appends-trans, Appends-kept, Keeps-refl}
 use Rattle.std.proofs.lemmas.Bool.{lt-leb}
@@ -114,7 +114,7 @@ always : {P : List ℕ → Type 0} (i : Known) → ((xs : List ℕ) → P xs) �
 always None f = tt
 always (Some xs) f = f xs
 
-empty_front : (a : Known) (text : List ℕ) → AppendsFront a a text
+pub empty_front : (a : Known) (text : List ℕ) → AppendsFront a a text
 empty_front a text = record { front = []; rest = text; whole = refl; taken = Appends-nil a }
 
 -- the reading failed, and nothing was written
@@ -125,6 +125,15 @@ unread_runs hooks i j a Memory p = always i (λ xs. empty_front a (meaning hooks
 unread_runs hooks i j a (Device side) p = always i (λ xs. empty_front a (meaning hooks xs).text)
 unread_runs hooks i j a (Refused fault) p = absurd p
 unread_runs hooks i j a (Held party) p = absurd p
+
+-- a run that ends with a fault answers no number
+pub none_told : (i : Known) → IfSome i (λ xs. Unit {0})
+none_told None = tt
+none_told (Some xs) = tt
+
+-- nothing was read
+pub no_more_reads : (calls : ℕ) → calls ≤ calls + 16777217
+no_more_reads calls = omega arith
 
 -- ---- where the reader failed
 

@@ -10,7 +10,7 @@ use std::io;
 use std::io::Write;
 
 /// What a call answers.
-#[derive(Clone, Copy, Debug, PartialEq, Eq)]
+#[derive(Clone, Copy)]
 pub enum Answer {
     /// The limits stand.
     Limits,
@@ -31,7 +31,7 @@ pub enum Answer {
 }
 
 /// A span that was looked up.
-#[derive(Clone, Copy, Debug)]
+#[derive(Clone, Copy)]
 pub struct Found<'s> {
     pub name: &'s str,
     /// The number of the parent's id, or 0.

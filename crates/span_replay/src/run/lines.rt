@@ -9,14 +9,14 @@ ghost use Rattle.span_script.specs.Operation.{Stage, is_setup, running};
 ghost use Rattle.span_script.specs.Reason.{StopsFor};
 ghost use Rattle.span_replay.specs.Replayed.{Fails, Runs};
 ghost use Rattle.span_run.specs.RunFault.{EndsAsCounted};
-ghost use Rattle.span_replay.specs.inside.Running.{IsWritten, core_in, labels_in, state_at};
+ghost use Rattle.span_replay.specs.inside.Running.{IsWritten, state_at};
 ghost use Rattle.span_script.specs.Script.{lines_of, most_bytes};
 ghost use Rattle.span_replay.specs.inside.Turns.{HasTurned, Sent, TurnFails, opened_state, resumed_run};
 
 use crate::run::fault::at_line;
 use crate::run::opening::Rest;
 use crate::run::script::Script;
-use crate::run::tidying::{Remains, tidy};
+use crate::run::tidying::{Remains, let_go, tidy};
 use serde_json::Value;
 use span_id::Checked;
 use span_layers::{Filters, Say};
@@ -49,11 +49,58 @@ pub fn run_rest<V: Say, W: Write>(
     ensures counts { EndsAsCounted 0 0 (failed_of output.old) (failed_of output.new) result }
     ensures flushes { flushes_of output.new ≡ flushes_of output.old }
 {
-    let Ok(mut script) = Script::new(alloc, checked, filters, kept) else {
-        return Err(RunFault::Memory);
-    };
-    match run_first(alloc, rest, &mut script, text, output) {
-        Ok(()) => tidy(alloc, script, remains, text, output),
+    match Script::new(alloc, checked, filters, kept) {
+        Ok(script) => run_to_end(alloc, script, rest, remains, text, output),
+        Err(_) => Err(RunFault::Memory),
+    }
+}
+
+/// Runs what is left of a script, and then frees what it kept, or leaves it where the run ended well.
+fn run_to_end<V: Say, W: Write>(
+    alloc: Global,
+    mut script: Script<V>,
+    rest: &Rest<'_>,
+    remains: Remains,
+    text: &mut Vec<u8>,
+    output: &mut Counted<W>,
+) -> Result<u64, RunFault>
+    requires failed { failed_of output.old < 2 ^ 63 }
+    requires written { IsWritten script }
+    requires call { IfSome rest.now.value (λ value. is_setup (view value) ≡ false) }
+    requires done { IfNone rest.now.value (rest.now.lines.now ≡ []) }
+    requires place { rest.now.number + length rest.now.lines.now ≤ most_bytes + 1 }
+    ensures runs { (hooks : ℕ) (stage : Stage) →
+        Runs (resumed_run hooks rest.now.number (state_at script stage) (option_map view rest.now.value)
+        rest.now.lines.now) (W.contents (inner_of output.old)) (W.contents (inner_of output.new)) result }
+    ensures counts { EndsAsCounted 0 0 (failed_of output.old) (failed_of output.new) result }
+    ensures flushes { flushes_of output.new ≡ flushes_of output.old }
+{
+    let ended = run_and_tidy(alloc, rest, &mut script, text, output);
+    let_go(script, remains, ended.is_ok());
+    ended
+}
+
+/// Runs what is left of a script, and then the tidying.
+fn run_and_tidy<V: Say, W: Write>(
+    alloc: Global,
+    rest: &Rest<'_>,
+    script: &mut Script<V>,
+    text: &mut Vec<u8>,
+    output: &mut Counted<W>,
+) -> Result<u64, RunFault>
+    requires failed { failed_of output.old < 2 ^ 63 }
+    requires written { IsWritten script.old }
+    requires call { IfSome rest.now.value (λ value. is_setup (view value) ≡ false) }
+    requires done { IfNone rest.now.value (rest.now.lines.now ≡ []) }
+    requires place { rest.now.number + length rest.now.lines.now ≤ most_bytes + 1 }
+    ensures runs { (hooks : ℕ) (stage : Stage) →
+        Runs (resumed_run hooks rest.now.number (state_at script.old stage) (option_map view rest.now.value)
+        rest.now.lines.now) (W.contents (inner_of output.old)) (W.contents (inner_of output.new)) result }
+    ensures counts { EndsAsCounted 0 0 (failed_of output.old) (failed_of output.new) result }
+    ensures flushes { flushes_of output.new ≡ flushes_of output.old }
+{
+    match run_first(alloc, rest, script, text, output) {
+        Ok(()) => tidy(alloc, script, text, output),
         Err(fault) => Err(fault),
     }
 }

@@ -1,5 +1,5 @@
 //! The lines of a script before the first call.
-ghost use Rattle.std.specs.Prelude.{◌≡◌, ◌+◌, ◌^◌, ◌<◌, ◌≤◌, [], false, length, IfOk, IfErr, IfSome, IfNone, OnOk};
+ghost use Rattle.std.specs.Prelude.{◌≡◌, ◌+◌, ◌^◌, ◌<◌, ◌≤◌, [], false, length, true, IfOk, IfErr, IfSome, IfNone, OnOk};
 ghost use Rattle.std.specs.Option.{option_map};
 ghost use Rattle.std.specs.Io.KnownBytes.{Keeps};
 ghost use Rattle.serde_json.specs.View.{view};
@@ -108,18 +108,68 @@ fn open_line<W: Write>(
     if is_skipped(line) {
         return Ok(None);
     }
-    let value = match json_value(alloc, line) {
-        Ok(value) => value,
-        Err(stop) => return Err(at_line(number, stop)),
-    };
+    match json_value(alloc, line) {
+        Ok(value) => open_value(alloc, number, value, setup, text, output),
+        Err(stop) => Err(at_line(number, stop)),
+    }
+}
+
+/// Runs the line of a JSON value, or answers the value where its op is neither `limits` nor `layer`.
+fn open_value<W: Write>(
+    alloc: Global,
+    number: u64,
+    value: Value,
+    setup: &mut Setup,
+    text: &mut Vec<u8>,
+    output: &mut Counted<W>,
+) -> Result<Option<Value>, RunFault>
+    requires { failed_of output.old < 2 ^ 63 }
+    ensures turned { IfOk result
+        (λ left. IfNone left (HasTurned (value_turn (hooks_in setup.old) (setup_state setup.old) (view value))
+        (setup_state setup.new)
+        (W.contents (inner_of output.old)) (W.contents (inner_of output.new)))) }
+    ensures same { IfOk result (λ left. IfSome left (λ left. setup_state setup.new ≡ setup_state setup.old)) }
+    ensures kept { IfOk result
+        (λ left. IfSome left (λ left. Keeps (W.contents (inner_of output.old)) (W.contents (inner_of output.new)))) }
+    ensures value { IfOk result (λ left. IfSome left (λ left. view left ≡ view value)) }
+    ensures call { IfOk result (λ left. IfSome left (λ left. is_setup (view left) ≡ false)) }
+    ensures hooks { OnOk result (hooks_in setup.new ≡ hooks_in setup.old) }
+    ensures err { IfErr result (TurnFails (value_turn (hooks_in setup.old) (setup_state setup.old) (view value)) number
+        (W.contents (inner_of output.old)) (W.contents (inner_of output.new))) }
+    ensures counts { EndsAsCounted 0 0 (failed_of output.old) (failed_of output.new) result }
+    ensures flushes { flushes_of output.new ≡ flushes_of output.old }
+{
     if !is_setup(&value) {
         return Ok(Some(value));
     }
-    if let Err(stop) = setup.run(alloc, &value, text) {
-        return Err(at_line(number, stop));
-    }
-    match write_text(output, text.as_slice()) {
+    match set_up(alloc, number, &value, setup, text, output) {
         Ok(()) => Ok(None),
         Err(fault) => Err(fault),
+    }
+}
+
+/// Runs the line of `limits` or `layer` that has this JSON value, and writes its answer.
+fn set_up<W: Write>(
+    alloc: Global,
+    number: u64,
+    value: &Value,
+    setup: &mut Setup,
+    text: &mut Vec<u8>,
+    output: &mut Counted<W>,
+) -> Result<(), RunFault>
+    requires failed { failed_of output.old < 2 ^ 63 }
+    requires line { is_setup (view value.now) ≡ true }
+    ensures turned { OnOk result (HasTurned (value_turn (hooks_in setup.old) (setup_state setup.old) (view value.now))
+        (setup_state setup.new) (W.contents (inner_of output.old)) (W.contents (inner_of output.new))) }
+    ensures hooks { OnOk result (hooks_in setup.new ≡ hooks_in setup.old) }
+    ensures err { IfErr result
+        (TurnFails (value_turn (hooks_in setup.old) (setup_state setup.old) (view value.now)) number
+        (W.contents (inner_of output.old)) (W.contents (inner_of output.new))) }
+    ensures counts { EndsAsCounted 0 0 (failed_of output.old) (failed_of output.new) result }
+    ensures flushes { flushes_of output.new ≡ flushes_of output.old }
+{
+    match setup.run(alloc, value, text) {
+        Ok(()) => write_text(output, text.as_slice()),
+        Err(stop) => Err(at_line(number, stop)),
     }
 }

@@ -1,15 +1,21 @@
 //! Running a whole script: reading it, its lines, the tidying and the last line, and writing out.
-ghost use Rattle.std.specs.Prelude.{◌≡◌, ◌+◌, ◌^◌, ◌<◌, ◌≤◌, IfOk, IfErr, IfSome, OnOk, length, vec_len};
+ghost use Rattle.std.specs.Prelude.{◌≡◌, ◌+◌, ◌^◌, ◌<◌, ◌≤◌, ℕ, [], false, IfOk, IfErr, IfSome, IfNone, OnOk};
+ghost use Rattle.std.specs.Prelude.{length, vec_len};
+ghost use Rattle.std.specs.Option.{option_map};
 ghost use Rattle.std.specs.Io.KnownBytes.{IsAtEnd};
+ghost use Rattle.serde_json.specs.View.{view};
 ghost use Rattle.span_run.specs.Counted.{inner_of, calls_of, failed_of, flushes_of, flushed_of};
 ghost use Rattle.span_replay.specs.Meaning.{run};
 ghost use Rattle.span_replay.specs.Replayed.{FlushesOnce, IsReplayed, IsWhole, KeepsUnread, Runs};
 ghost use Rattle.span_run.specs.RunFault.{EndsAsCounted};
+ghost use Rattle.span_script.specs.Operation.{is_setup};
 ghost use Rattle.span_script.specs.Script.{lines_of, most_bytes};
 ghost use Rattle.span_replay.specs.State.{first_state};
+ghost use Rattle.span_replay.specs.inside.Setup.{hooks_in, setup_state};
+ghost use Rattle.span_replay.specs.inside.Turns.{resumed_run};
 
 use crate::run::lines::run_rest;
-use crate::run::opening::open;
+use crate::run::opening::{Rest, open};
 use crate::run::setup::Setup;
 use crate::run::tidying::Remains;
 use span_layers::Hooks;
@@ -108,15 +114,53 @@ fn run_script<W: Write>(
     ensures counts { EndsAsCounted 0 0 (failed_of output.old) (failed_of output.new) result }
     ensures flushes { flushes_of output.new ≡ flushes_of output.old }
 {
-    let mut setup = Setup::new(alloc, hooks);
+    let setup = Setup::new(alloc, hooks);
     let mut text = Vec::new(alloc);
-    let rest = match open(alloc, script, &mut setup, &mut text, output) {
-        Ok(rest) => rest,
-        Err(fault) => return Err(fault),
-    };
+    run_all(alloc, script, setup, remains, &mut text, output)
+}
+
+/// Runs all lines of a script from this set-up on.
+fn run_all<W: Write>(
+    alloc: Global,
+    script: &[u8],
+    mut setup: Setup,
+    remains: Remains,
+    text: &mut Vec<u8>,
+    output: &mut Counted<W>,
+) -> Result<u64, RunFault>
+    requires failed { failed_of output.old < 2 ^ 63 }
+    requires fits { length script.now ≤ most_bytes }
+    ensures runs { Runs (run (hooks_in setup) 1 (setup_state setup) (lines_of script.now))
+        (W.contents (inner_of output.old)) (W.contents (inner_of output.new)) result }
+    ensures counts { EndsAsCounted 0 0 (failed_of output.old) (failed_of output.new) result }
+    ensures flushes { flushes_of output.new ≡ flushes_of output.old }
+{
+    match open(alloc, script, &mut setup, text, output) {
+        Ok(rest) => run_opened(alloc, setup, &rest, remains, text, output),
+        Err(fault) => Err(fault),
+    }
+}
+
+/// Runs what is left of a script, with the limits and the layers that its first lines gave.
+fn run_opened<W: Write>(
+    alloc: Global,
+    setup: Setup,
+    rest: &Rest<'_>,
+    remains: Remains,
+    text: &mut Vec<u8>,
+    output: &mut Counted<W>,
+) -> Result<u64, RunFault>
+    requires failed { failed_of output.old < 2 ^ 63 }
+    requires call { IfSome rest.now.value (λ value. is_setup (view value) ≡ false) }
+    requires done { IfNone rest.now.value (rest.now.lines.now ≡ []) }
+    requires place { rest.now.number + length rest.now.lines.now ≤ most_bytes + 1 }
+    ensures runs { (hooks : ℕ) →
+        Runs (resumed_run hooks rest.now.number (setup_state setup) (option_map view rest.now.value) rest.now.lines.now)
+        (W.contents (inner_of output.old)) (W.contents (inner_of output.new)) result }
+    ensures counts { EndsAsCounted 0 0 (failed_of output.old) (failed_of output.new) result }
+    ensures flushes { flushes_of output.new ≡ flushes_of output.old }
+{
     let (checked, filters, tellers) = setup.split();
     let kept = Kept::new(alloc, tellers);
-    run_rest(
-        alloc, &checked, filters, kept, &rest, remains, &mut text, output,
-    )
+    run_rest(alloc, &checked, filters, kept, rest, remains, text, output)
 }

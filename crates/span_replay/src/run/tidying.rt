@@ -34,35 +34,56 @@ pub enum Remains {
     Left,
 }
 
+/// Frees what a run kept, or leaves it to the system where that is asked for and the run ended well.
+pub fn let_go<V: Say>(script: Script<V>, remains: Remains, ended_well: bool) {
+    if ended_well && remains == Remains::Left {
+        mem::forget(script);
+    }
+}
+
 /// Leaves what is entered, worker by worker, closes what the labels name, label by label, and writes how many spans
 /// are left open, which is the answer.
 pub fn tidy<V: Say, W: Write>(
     alloc: Global,
-    mut script: Script<V>,
-    remains: Remains,
+    script: &mut Script<V>,
     text: &mut Vec<u8>,
     output: &mut Counted<W>,
 ) -> Result<u64, RunFault>
     requires failed { failed_of output.old < 2 ^ 63 }
-    requires written { IsWritten script }
-    ensures runs { (stage : Stage) → Runs (last_part (state_at script stage))
+    requires written { IsWritten script.old }
+    ensures runs { (stage : Stage) → Runs (last_part (state_at script.old stage))
         (W.contents (inner_of output.old)) (W.contents (inner_of output.new)) result }
     ensures counts { EndsAsCounted 0 0 (failed_of output.old) (failed_of output.new) result }
     ensures flushes { flushes_of output.new ≡ flushes_of output.old }
 {
-    if let Err(fault) = leave_all(alloc, &mut script, text, output) {
-        return Err(fault);
-    }
     let labels = mem::replace(&mut script.labels, Labels::new(alloc));
-    if let Err(fault) = close_all(alloc, &mut script, &labels, text, output) {
+    let ended = leave_and_close(alloc, script, &labels, text, output);
+    script.labels = labels;
+    ended
+}
+
+/// Leaves what is entered, closes what these labels name, and writes how many spans are left open.
+fn leave_and_close<V: Say, W: Write>(
+    alloc: Global,
+    script: &mut Script<V>,
+    labels: &Labels,
+    text: &mut Vec<u8>,
+    output: &mut Counted<W>,
+) -> Result<u64, RunFault>
+    requires failed { failed_of output.old < 2 ^ 63 }
+    requires written { IsWritten script.old }
+    ensures runs { (stage : Stage) → Runs (last_part (record { core = core_in script.old; labels = labels.now; stage = stage }))
+        (W.contents (inner_of output.old)) (W.contents (inner_of output.new)) result }
+    ensures counts { EndsAsCounted 0 0 (failed_of output.old) (failed_of output.new) result }
+    ensures flushes { flushes_of output.new ≡ flushes_of output.old }
+{
+    if let Err(fault) = leave_all(alloc, script, text, output) {
         return Err(fault);
     }
-    let left = script.open_spans();
-    if remains == Remains::Left {
-        mem::forget(script);
-        mem::forget(labels);
+    if let Err(fault) = close_all(alloc, script, labels, text, output) {
+        return Err(fault);
     }
-    finish(left, text, output)
+    finish(script.open_spans(), text, output)
 }
 
 /// Leaves what the workers have entered, worker by worker, the last entry first.

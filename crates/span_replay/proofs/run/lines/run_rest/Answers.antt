@@ -1,9 +1,9 @@
-use Rattle.span_script.specs.Operation.{running}
-use Rattle.span_replay.proofs.RestRuns.{rest_tidied, rest_stops}
+use Rattle.span_replay.proofs.RestRuns.{made_runs}
+use Rattle.span_replay.proofs.Written.{empty_front}
 use Rattle.span_replay.proofs.run.lines.run_rest.Goals as goal
 
-pub returns-in-Ok-run_first-clause-runs : goal.returns-in-Ok-run_first-clause-runs
-returns-in-Ok-run_first-clause-runs g c = λ hooks stage. rest_tidied hooks _ _ _ _ stage _ _ _ _ _ _ _ _ _ c.in-Ok.ensures.core c.in-Ok.ensures.labels (c.in-Ok-run_first.ensures.sent hooks stage) (c.tidy.ensures.runs running)
+pub returns-in-Ok-clause-runs : goal.returns-in-Ok-clause-runs
+returns-in-Ok-clause-runs g c = λ hooks stage. made_runs hooks _ _ _ _ stage _ _ _ _ _ _ _ c.in-Ok.ensures.core c.in-Ok.ensures.labels (c.run_to_end.ensures.runs hooks stage)
 
 pub returns-in-Err-clause-runs : goal.returns-in-Err-clause-runs
-returns-in-Err-clause-runs g c = λ hooks stage. rest_stops hooks _ _ _ _ stage _ _ _ _ _ _ _ c.in-Ok.ensures.core c.in-Ok.ensures.labels (c.in-Err.ensures.err hooks stage)
+returns-in-Err-clause-runs g c = λ hooks stage. empty_front _ _

@@ -1,21 +1,18 @@
 use Rattle.std.proofs.Common.{rules}
-use Rattle.span_replay.proofs.LineTurns.{read_line, json_stops, line_stops, stop_fails, turn_written, turn_begun}
+use Rattle.serde_json.specs.View.{view}
+use Rattle.span_replay.specs.inside.Setup.{hooks_in, setup_state}
+use Rattle.span_replay.proofs.LineRuns.{opened_turned, opened_value, opened_fault}
+use Rattle.span_replay.proofs.LineTurns.{read_line, json_stops, stop_fails}
 use Rattle.span_replay.proofs.run.opening.open_line.Goals as goal
+
+pub returns-in-Ok-clause-turned : goal.returns-in-Ok-clause-turned
+returns-in-Ok-clause-turned g c = opened_turned _ _ _ _ _ _ (read_line _ _ _ _ (search rules) c.in-Ok.ensures) c.open_value.ensures.turned
+
+pub returns-in-Ok-clause-value : goal.returns-in-Ok-clause-value
+returns-in-Ok-clause-value g c = opened_value view (hooks_in c.args.setup.now) (setup_state c.args.setup.now) c.args.line.now _ _ (read_line _ _ _ _ (search rules) c.in-Ok.ensures) c.open_value.ensures.value
+
+pub returns-in-Ok-clause-err : goal.returns-in-Ok-clause-err
+returns-in-Ok-clause-err g c = opened_fault _ _ _ _ _ _ (read_line _ _ _ _ (search rules) c.in-Ok.ensures) c.open_value.ensures.err
 
 pub returns-in-Err-clause-err : goal.returns-in-Err-clause-err
 returns-in-Err-clause-err g c = stop_fails _ _ _ _ _ (json_stops _ _ _ _ (search rules) c.in-Err.ensures) c.at_line.ensures
-
-pub returns-then-not-is_setup-clause-value : goal.returns-then-not-is_setup-clause-value
-returns-then-not-is_setup-clause-value g c = read_line _ _ _ _ (search rules) c.in-Ok.ensures
-
-pub returns-in-Err-run-clause-err : goal.returns-in-Err-run-clause-err
-returns-in-Err-run-clause-err g c =
-    stop_fails _ _ _ _ _ (line_stops _ _ _ (read_line _ _ _ _ (search rules) c.in-Ok.ensures) c.in-Err-run.ensures.err) c.at_line-in-Err-run.ensures
-
-pub returns-in-Ok-write_text-clause-turned : goal.returns-in-Ok-write_text-clause-turned
-returns-in-Ok-write_text-clause-turned g c =
-    turn_written _ _ _ _ _ _ _ (read_line _ _ _ _ (search rules) c.in-Ok.ensures) c.in_default.ensures.ok c.as_slice.ensures.value c.in-Ok-write_text.ensures.ok
-
-pub returns-clause-err : goal.returns-clause-err
-returns-clause-err g c =
-    turn_begun _ _ _ _ _ _ _ _ _ _ (read_line _ _ _ _ (search rules) c.in-Ok.ensures) c.in_default.ensures.ok c.as_slice.ensures.value c.in-Err-write_text.ensures.device c.in-Err-write_text.ensures.front

@@ -1,0 +1,5 @@
+use Rattle.span_replay.proofs.Written.{runs_after}
+use Rattle.span_replay.proofs.run.replay.run_all.Goals as goal
+
+pub returns-in-Ok-clause-runs : goal.returns-in-Ok-clause-runs
+returns-in-Ok-clause-runs g c = runs_after _ _ _ _ _ _ c.in-Ok.ensures.sent (c.run_opened.ensures.runs _)
