@@ -5,6 +5,7 @@ pub mod Tracked
 pub mod Exits
 pub mod ClosedLabels
 pub mod Fits
+pub mod Flushes
 pub mod Turns
 pub mod Left
 pub mod BoundLabels

@@ -1,7 +1,7 @@
 -- What is written for a call: the lines that the history has more of, and the answer.
-use Rattle.std.proofs.Common.{◌≡◌, ℕ, ◌+◌, ◌≤◌, Bool, true, false, not, if◌then◌else◌, List, [], ◌∷◌, ◌++◌, length, drop, flat_map, Option, Result, Ok, Err, refl, sym, ap, subst, ◌∙◌, arith, rules, append_assoc, append-nil, length-append, ◌&&◌, ◌-◌, map, take}
+use Rattle.std.proofs.Common.{◌≡◌, ℕ, ◌+◌, ◌<◌, ◌≤◌, Bool, true, false, not, if◌then◌else◌, List, [], ◌∷◌, ◌++◌, length, drop, get_or, flat_map, Option, Result, Ok, Err, refl, sym, ap, subst, ◌∙◌, arith, rules, append_assoc, append-nil, length-append, ◌&&◌, ◌-◌, map, take}
 use Rattle.std.specs.Prelude.{IfErr, IsErrAnd, OnOk, ⊤}
-use Rattle.std.proofs.lemmas.List.{take_rest, drop_all, drop-map}
+use Rattle.std.proofs.lemmas.List.{drop_more, take_rest, drop_all, drop-map}
 use Rattle.std.specs.List.{enumerate_from}
 use Rattle.span_id.specs.declared.limits.Limits.{Limits}
 use Rattle.span_layers.specs.declared.form.Form.{Form}
@@ -158,6 +158,16 @@ turn_new (Ok _) meant state new label request answer mid written text text' is m
 turn_new (Err stop) meant state new label request answer mid written text text' is made all same text_is memory = stops meant state new text text' stop memory
 
 -- ---- the outlet's lines
+
+-- one line more is written, of those that are left
+pub note_more : (lines : List Line) (at : ℕ) (line : Line) (text text' whole : List ℕ) → at < length lines → line ≡ get_or lines at line → text' ≡ text ++ note_line (plain_line line)
+    → text ++ flat_map note_line (map plain_line (drop at lines)) ≡ whole → text' ++ flat_map note_line (map plain_line (drop (at + 1) lines)) ≡ whole
+note_more lines at line text text' whole low is wrote so_far =
+    let left : drop at lines ≡ line ∷ drop (at + 1) lines = drop_more lines at line low ∙ ap (λ x. x ∷ drop (at + 1) lines) (sym is) in
+    ap (λ x. x ++ flat_map note_line (map plain_line (drop (at + 1) lines))) wrote
+    ∙ append_assoc text (note_line (plain_line line)) (flat_map note_line (map plain_line (drop (at + 1) lines)))
+    ∙ ap (λ rest. text ++ flat_map note_line (map plain_line rest)) (sym left)
+    ∙ so_far
 
 pub all_written : (lines : List Line) (meant : List PlainLine) (refusals from at : ℕ) (text text' : List ℕ)
     → refusals ≡ 0 → (refusals ≡ 0 → map plain_line lines ≡ meant)

@@ -38,6 +38,8 @@ pub enum Remains {
 pub fn let_go<V: Say>(script: Script<V>, remains: Remains, ended_well: bool) {
     if ended_well && remains == Remains::Left {
         mem::forget(script);
+    } else {
+        drop(script);
     }
 }
 

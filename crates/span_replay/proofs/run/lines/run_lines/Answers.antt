@@ -1,5 +1,6 @@
 use Rattle.std.proofs.Common.{rules, arith, refl, ◌∙◌, drop_of_length-le}
 use Rattle.span_replay.proofs.Written.{sent_none, loop_more, loop_fails, loop_ends}
+use Rattle.span_replay.proofs.Flushes.{fails_from}
 use Rattle.span_replay.proofs.run.lines.run_lines.Goals as goal
 
 pub loop-rest-init : goal.loop-rest-init
@@ -23,3 +24,9 @@ loop-rest-preserved g c =
 
 pub returns-clause-sent : goal.returns-clause-sent
 returns-clause-sent g c = λ hooks. loop_ends hooks _ _ _ _ _ _ (c.loop-rest.invariant.sent hooks) (drop_of_length-le c.loop-rest.rest.now {i = 0} (search rules))
+
+pub returns-in-Err-clause-counts : goal.returns-in-Err-clause-counts
+returns-in-Err-clause-counts g c = fails_from _ _ _ _ c.loop-rest.invariant.failed c.in-Err.ensures.counts
+
+pub returns-in-Err-clause-flushes : goal.returns-in-Err-clause-flushes
+returns-in-Err-clause-flushes g c = c.in-Err.ensures.flushes ∙ c.loop-rest.invariant.flushes

@@ -1,5 +1,5 @@
 use Rattle.std.proofs.Common.{◌≡◌, arith}
-use Rattle.span_replay.proofs.WrittenCalls.{all_written}
+use Rattle.span_replay.proofs.WrittenCalls.{all_written, note_more}
 use Rattle.span_replay.proofs.run.script.write_notes.Goals as goal
 
 pub returns-clause-text : goal.returns-clause-text
@@ -8,3 +8,6 @@ returns-clause-text g c =
     let few = c.if-refused-gt0.false in
     let none : c.args.kept.now.refused ≡ 0 = omega (arith, refusals, few) in
     all_written _ _ _ _ _ _ _ none c.all-lines.ensures.whole c.loop-line-test.false c.loop-line.invariant
+
+pub loop-line-preserved : goal.loop-line-preserved
+loop-line-preserved g c = note_more _ _ _ _ _ _ c.loop-line-test.true c.line-item.is c.in_ok-write_note.ensures c.loop-line.invariant

@@ -1,5 +1,6 @@
 use Rattle.std.proofs.Common.{◌∙◌, refl}
 use Rattle.span_replay.proofs.Tidied.{part_none, one_made, one_fails, none_left, next_call, no_call}
+use Rattle.span_replay.proofs.Flushes.{fails_from}
 use Rattle.span_replay.proofs.run.tidying.call_all.Goals as goal
 
 pub loop-id-init : goal.loop-id-init
@@ -24,3 +25,9 @@ loop-id-preserved g c =
 
 pub returns-clause-made : goal.returns-clause-made
 returns-clause-made g c = none_left _ _ _ _ _ c.loop-id.invariant.made (no_call _ _ _ c.loop-id-test.false)
+
+pub returns-in-Err-clause-counts : goal.returns-in-Err-clause-counts
+returns-in-Err-clause-counts g c = fails_from _ _ _ _ c.loop-id.invariant.failed c.in-Err.ensures.counts
+
+pub returns-in-Err-clause-flushes : goal.returns-in-Err-clause-flushes
+returns-in-Err-clause-flushes g c = c.in-Err.ensures.flushes ∙ c.loop-id.invariant.flushes

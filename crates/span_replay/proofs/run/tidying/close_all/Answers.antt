@@ -4,6 +4,7 @@ use Rattle.span_replay.specs.inside.Turns.{ArePartlyMade}
 use Rattle.span_replay.specs.Written.{closes, each_written}
 use Rattle.span_run.proofs.Fronts.{Known}
 use Rattle.span_replay.proofs.Tidied.{part_none, each_made, each_fails, each_ends, closes_made, made_as, fails_as}
+use Rattle.span_replay.proofs.Flushes.{fails_from}
 use Rattle.span_replay.proofs.run.tidying.close_all.Goals as goal
 
 none_closed : (a : Known) (core : CoreView) (all ids : List ℕ) → ids ≡ all → ArePartlyMade a a (each_written closes core all) (each_written closes core ids)
@@ -34,3 +35,9 @@ loop-id-preserved g c = record {
 
 pub returns-clause-made : goal.returns-clause-made
 returns-clause-made g c = each_ends closes _ _ _ _ _ c.loop-id.invariant.made c.in-None.ensures.steps.0
+
+pub returns-in-Err-clause-counts : goal.returns-in-Err-clause-counts
+returns-in-Err-clause-counts g c = fails_from _ _ _ _ c.loop-id.invariant.failed c.in-Err.ensures.counts
+
+pub returns-in-Err-clause-flushes : goal.returns-in-Err-clause-flushes
+returns-in-Err-clause-flushes g c = c.in-Err.ensures.flushes ∙ c.loop-id.invariant.flushes

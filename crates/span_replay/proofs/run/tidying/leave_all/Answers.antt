@@ -5,6 +5,7 @@ use Rattle.span_replay.specs.inside.Turns.{ArePartlyMade}
 use Rattle.span_replay.specs.Written.{exits, each_written}
 use Rattle.span_run.proofs.Fronts.{Known}
 use Rattle.span_replay.proofs.Tidied.{part_none, each_made, each_fails, each_ends, one_worker, no_worker, exits_made, made_as, fails_as}
+use Rattle.span_replay.proofs.Flushes.{fails_from}
 use Rattle.span_replay.proofs.run.tidying.leave_all.Goals as goal
 
 none_left_yet : (a : Known) (core : CoreView) (workers : ℕ) → ArePartlyMade a a (each_written exits core (range_with_len 0 workers)) (each_written exits core (range_with_len 0 (workers - 0)))
@@ -37,3 +38,9 @@ loop-worker-preserved g c = record {
 
 pub returns-clause-made : goal.returns-clause-made
 returns-clause-made g c = each_ends exits _ _ _ _ _ c.loop-worker.invariant.made (no_worker _ _ c.loop-worker-test.false)
+
+pub returns-in-Err-clause-counts : goal.returns-in-Err-clause-counts
+returns-in-Err-clause-counts g c = fails_from _ _ _ _ c.loop-worker.invariant.failed c.in-Err.ensures.counts
+
+pub returns-in-Err-clause-flushes : goal.returns-in-Err-clause-flushes
+returns-in-Err-clause-flushes g c = c.in-Err.ensures.flushes ∙ c.loop-worker.invariant.flushes

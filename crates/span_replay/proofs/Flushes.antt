@@ -1,0 +1,83 @@
+-- The one flush at the end of a run: what stands before it and after it, and the failed calls that are counted.
+use Rattle.std.proofs.Common.{◌≡◌, ℕ, ◌+◌, List, [], ◌++◌, Bool, Some, None, Ok, Err, IfSome, sym, ◌∙◌, subst, append-nil, inr}
+use Rattle.std.specs.Io.KnownBytes.{Appends, Keeps}
+use Rattle.std.proofs.KnownBytes.{Appends-kept}
+use Rattle.span_run.specs.Counted.{one_more}
+use Rattle.span_run.specs.Device.{AppendsFront}
+use Rattle.span_run.specs.RunFault.{FailsAsCounted}
+use Rattle.span_run.specs.declared.fault.RunFault.{RunFault}
+use Rattle.span_run.specs.declared.fault.RunFault.TheVariants.{Script, Device}
+use Rattle.span_run.specs.declared.fault.Side.TheVariants.{Write}
+use Rattle.span_run.proofs.Fronts.{Known}
+use Rattle.span_replay.specs.Meaning.{meaning}
+use Rattle.span_replay.specs.Replayed.{Fails, FlushesOnce, IsWhole, KeepsUnread, Runs}
+use Rattle.span_script.specs.declared.reason.Reason.{Reason}
+
+-- ---- a run that ended well, or at a fault of the script, has written the whole text
+
+pub whole_ok : (hooks : ℕ) (i a b : Known) (left : ℕ) → IfSome i (λ bytes. Runs (meaning hooks bytes) a b (Ok left)) → IsWhole hooks i a b
+whole_ok hooks None a b left p = tt
+whole_ok hooks (Some bytes) a b left p = p.1
+
+-- the fault is one of the script
+at_script : (hooks : ℕ) (i a b : Known) (e : RunFault) (number : ℕ) (reason : Reason) → e ≡ Script number reason → IfSome i (λ bytes. Fails (meaning hooks bytes) a b e)
+    → IfSome i (λ bytes. Fails (meaning hooks bytes) a b (Script number reason))
+at_script hooks i a b e number reason is p = subst (λ fault. IfSome i (λ bytes. Fails (meaning hooks bytes) a b fault)) is p
+
+text_whole : (hooks : ℕ) (i a b : Known) (number : ℕ) (reason : Reason) → IfSome i (λ bytes. Fails (meaning hooks bytes) a b (Script number reason)) → IsWhole hooks i a b
+text_whole hooks None a b number reason p = tt
+text_whole hooks (Some bytes) a b number reason p = p.1
+
+pub whole_script : (hooks : ℕ) (i a b : Known) (e : RunFault) (number : ℕ) (reason : Reason) → e ≡ Script number reason → IfSome i (λ bytes. Fails (meaning hooks bytes) a b e) → IsWhole hooks i a b
+whole_script hooks i a b e number reason is p = text_whole hooks i a b number reason (at_script hooks i a b e number reason is p)
+
+pub whole_kept : (hooks : ℕ) (i a b c : Known) → IsWhole hooks i a b → Keeps b c → IsWhole hooks i a c
+whole_kept hooks None a b c p k = tt
+whole_kept hooks (Some bytes) a b c p k = Appends-kept a b c _ p k
+
+-- ---- the flush keeps it
+
+pub ok_kept : (hooks : ℕ) (i a b c : Known) (left : ℕ) → IfSome i (λ bytes. Runs (meaning hooks bytes) a b (Ok left)) → Keeps b c → IfSome i (λ bytes. Runs (meaning hooks bytes) a c (Ok left))
+ok_kept hooks None a b c left p k = tt
+ok_kept hooks (Some bytes) a b c left p k = (p.0, Appends-kept a b c _ p.1 k)
+
+script_stands : (hooks : ℕ) (i a b c : Known) (number : ℕ) (reason : Reason) → IfSome i (λ bytes. Fails (meaning hooks bytes) a b (Script number reason)) → Keeps b c
+    → IfSome i (λ bytes. Fails (meaning hooks bytes) a c (Script number reason))
+script_stands hooks None a b c number reason p k = tt
+script_stands hooks (Some bytes) a b c number reason p k = (p.0, Appends-kept a b c _ p.1 k)
+
+pub script_kept : (hooks : ℕ) (i a b c : Known) (e : RunFault) (number : ℕ) (reason : Reason) → e ≡ Script number reason → IfSome i (λ bytes. Fails (meaning hooks bytes) a b e) → Keeps b c
+    → IfSome i (λ bytes. Fails (meaning hooks bytes) a c (Script number reason))
+script_kept hooks i a b c e number reason is p k = script_stands hooks i a b c number reason (at_script hooks i a b e number reason is p) k
+
+-- no call of a device has failed where the script is at fault
+pub script_counts : (reads reads' writes writes' : ℕ) (e : RunFault) (number : ℕ) (reason : Reason) → e ≡ Script number reason → FailsAsCounted reads reads' writes writes' e → (reads' ≡ reads) × (writes' ≡ writes)
+script_counts reads reads' writes writes' e number reason is p = subst (FailsAsCounted reads reads' writes writes') is p
+
+-- ---- the flush fails
+
+whole_front : (a b : Known) (text : List ℕ) → Appends a b text → AppendsFront a b text
+whole_front a b text p = record { front = text; rest = []; whole = sym (append-nil text); taken = p }
+
+device_fails : (hooks : ℕ) (i a b : Known) → IsWhole hooks i a b → IfSome i (λ bytes. Fails (meaning hooks bytes) a b (Device Write))
+device_fails hooks None a b p = tt
+device_fails hooks (Some bytes) a b p = whole_front a b _ p
+
+pub flush_fails : (hooks : ℕ) (i a b : Known) (e : RunFault) → IsWhole hooks i a b → e ≡ Device Write → IfSome i (λ bytes. Fails (meaning hooks bytes) a b e)
+flush_fails hooks i a b e p d = subst (λ fault. IfSome i (λ bytes. Fails (meaning hooks bytes) a b fault)) (sym d) (device_fails hooks i a b p)
+
+pub flush_once : {Whole : Type 0} (flushes flushes' : ℕ) (flushed : Bool) (e : RunFault) → Whole → flushes' ≡ one_more flushes → e ≡ Device Write → FlushesOnce Whole flushes flushes' flushed (Err e)
+flush_once {Whole} flushes flushes' flushed e p once d = subst (λ fault. FlushesOnce Whole flushes flushes' flushed (Err fault)) (sym d) (inr (p, once))
+
+pub flush_read : (a b : Known) (e : RunFault) → e ≡ Device Write → KeepsUnread a b e
+flush_read a b e d = subst (KeepsUnread a b) (sym d) tt
+
+pub flush_counts : (reads reads' writes writes' writes'' : ℕ) (e : RunFault) → reads' ≡ reads → writes' ≡ writes → FailsAsCounted 0 0 writes' writes'' e → e ≡ Device Write → FailsAsCounted reads reads' writes writes'' e
+flush_counts reads reads' writes writes' writes'' e r w p d =
+    let one : writes'' ≡ writes' + 1 = (subst (FailsAsCounted 0 0 writes' writes'') d p).1 in
+    subst (FailsAsCounted reads reads' writes writes'') (sym d) (r, subst (λ n. writes'' ≡ n + 1) w one)
+
+-- ---- the calls that failed before
+
+pub fails_from : (writes writes' writes'' : ℕ) (e : RunFault) → writes' ≡ writes → FailsAsCounted 0 0 writes' writes'' e → FailsAsCounted 0 0 writes writes'' e
+fails_from writes writes' writes'' e same p = subst (λ n. FailsAsCounted 0 0 n writes'' e) same p
