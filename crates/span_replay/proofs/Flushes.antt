@@ -1,13 +1,13 @@
 -- The one flush at the end of a run: what stands before it and after it, and the failed calls that are counted.
-use Rattle.std.proofs.Common.{◌≡◌, ℕ, ◌+◌, List, [], ◌++◌, Bool, Some, None, Ok, Err, IfSome, sym, ◌∙◌, subst, append-nil, inr}
+use Rattle.std.proofs.Common.{◌≡◌, ℕ, ◌+◌, List, [], ◌++◌, Bool, Some, None, Result, Ok, Err, IfSome, arith, sym, ◌∙◌, subst, append-nil, inr}
 use Rattle.std.specs.Io.KnownBytes.{Appends, Keeps}
 use Rattle.std.proofs.KnownBytes.{Appends-kept}
 use Rattle.span_run.specs.Counted.{one_more}
 use Rattle.span_run.specs.Device.{AppendsFront}
-use Rattle.span_run.specs.RunFault.{FailsAsCounted}
+use Rattle.span_run.specs.RunFault.{EndsAsCounted, FailsAsCounted}
 use Rattle.span_run.specs.declared.fault.RunFault.{RunFault}
-use Rattle.span_run.specs.declared.fault.RunFault.TheVariants.{Script, Device}
-use Rattle.span_run.specs.declared.fault.Side.TheVariants.{Write}
+use Rattle.span_run.specs.declared.fault.RunFault.TheVariants.{Script, Memory, Device, Refused, Held}
+use Rattle.span_run.specs.declared.fault.Side.TheVariants.{Read, Write}
 use Rattle.span_run.proofs.Fronts.{Known}
 use Rattle.span_replay.specs.Meaning.{meaning}
 use Rattle.span_replay.specs.Replayed.{Fails, FlushesOnce, IsWhole, KeepsUnread, Runs}
@@ -81,3 +81,16 @@ flush_counts reads reads' writes writes' writes'' e r w p d =
 
 pub fails_from : (writes writes' writes'' : ℕ) (e : RunFault) → writes' ≡ writes → FailsAsCounted 0 0 writes' writes'' e → FailsAsCounted 0 0 writes writes'' e
 fails_from writes writes' writes'' e same p = subst (λ n. FailsAsCounted 0 0 n writes'' e) same p
+
+pub ends_from : {T : Type 0} (writes writes' writes'' : ℕ) (result : Result T RunFault) → writes' ≡ writes → EndsAsCounted 0 0 writes' writes'' result → EndsAsCounted 0 0 writes writes'' result
+ends_from writes writes' writes'' result same p = subst (λ n. EndsAsCounted 0 0 n writes'' result) same p
+
+-- no read has failed
+pub ends_read : {T : Type 0} (reads reads' writes writes' : ℕ) (result : Result T RunFault) → reads' ≡ reads → EndsAsCounted 0 0 writes writes' result → EndsAsCounted reads reads' writes writes' result
+ends_read reads reads' writes writes' (Ok value) same p = (same, p.1)
+ends_read reads reads' writes writes' (Err (Script number reason)) same p = (same, p.1)
+ends_read reads reads' writes writes' (Err Memory) same p = (same, p.1)
+ends_read reads reads' writes writes' (Err (Device Read)) same p = absurd (omega (arith, p.0))
+ends_read reads reads' writes writes' (Err (Device Write)) same p = (same, p.1)
+ends_read reads reads' writes writes' (Err (Refused fault)) same p = p
+ends_read reads reads' writes writes' (Err (Held party)) same p = p

@@ -120,7 +120,7 @@ written_call (Ok _) old request answer mid new written text text' made all same 
 written_call (Err stop) old request answer mid new written text text' made all same is = tt
 
 -- where memory is wanted, it is that that stops the run
-stops : (meant : Result Turn Reason) (old new : State) (text text' : List ℕ) (stop : Stop) → stop ≡ Memory → StopsAs meant old text new text' stop
+pub stops : (meant : Result Turn Reason) (old new : State) (text text' : List ℕ) (stop : Stop) → stop ≡ Memory → StopsAs meant old text new text' stop
 stops meant old new text text' stop is = subst (StopsAs meant old text new text') (sym is) tt
 
 pub turn_made : (result : Result ⊤ Stop) (meant : Result Turn Reason) (state new : State) (request : call.Request) (answer : Answer) (mid : CoreView) (written : ℕ) (text text' : List ℕ)

@@ -133,8 +133,10 @@ impl<V: Say> Script<V> {
         ensures labels { labels_in self.new ≡ labels_in self.old }
         ensures memory { IfErr result (λ stop. stop ≡ Stop.Memory) }
     {
-        let answer = calls::call(&mut self.core, call, worker, id)?;
-        self.answer(answer, text)
+        match calls::call(&mut self.core, call, worker, id) {
+            Ok(answer) => self.answer(answer, text),
+            Err(stop) => Err(stop),
+        }
     }
 
     /// The ids of the worker's entries, the topmost first. The only error is `Memory`.
@@ -202,8 +204,10 @@ impl<V: Say> Script<V> {
     {
         let id = id_of(&self.labels, span)?;
         let worker = worker_number(worker, self.workers);
-        let answer = calls::call(&mut self.core, call, worker, id)?;
-        self.answer(answer, text)
+        match calls::call(&mut self.core, call, worker, id) {
+            Ok(answer) => self.answer(answer, text),
+            Err(stop) => Err(stop),
+        }
     }
 
     // Adds fields to a span.
@@ -224,8 +228,10 @@ impl<V: Say> Script<V> {
     {
         let id = id_of(&self.labels, span)?;
         let worker = worker_number(worker, self.workers);
-        let answer = calls::record(&mut self.core, worker, id, fields)?;
-        self.answer(answer, text)
+        match calls::record(&mut self.core, worker, id, fields) {
+            Ok(answer) => self.answer(answer, text),
+            Err(stop) => Err(stop),
+        }
     }
 
     // Tells an event.
@@ -239,8 +245,10 @@ impl<V: Say> Script<V> {
         ensures workers { self.new.workers ≡ self.old.workers }
     {
         let worker = worker_number(event.worker, self.workers);
-        let answer = calls::event(&mut self.core, event, worker)?;
-        self.answer(answer, text)
+        match calls::event(&mut self.core, event, worker) {
+            Ok(answer) => self.answer(answer, text),
+            Err(stop) => Err(stop),
+        }
     }
 
     // Looks a span up.
