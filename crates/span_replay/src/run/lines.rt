@@ -247,14 +247,13 @@ fn call<V: Say>(
         (λ stop. (hooks : ℕ) → StopsFor (value_turn hooks (state_at script.old running) (view line.now)) stop) }
 {
     text.clear();
-    let operation = match operation(
+    match operation(
         alloc,
         line,
         script.workers as usize,
         span_script::Stage::Running,
     ) {
-        Ok(operation) => operation,
-        Err(stop) => return Err(stop),
-    };
-    script.run(alloc, &operation, text)
+        Ok(operation) => script.run(alloc, operation, text),
+        Err(stop) => Err(stop),
+    }
 }

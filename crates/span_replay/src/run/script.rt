@@ -87,28 +87,28 @@ impl<V: Say> Script<V> {
     pub fn run(
         &mut self,
         alloc: Global,
-        operation: &Operation<'_>,
+        operation: Operation<'_>,
         text: &mut Vec<u8>,
     ) -> Result<(), Stop>
-        requires call { IsCall operation.now }
-        requires worker { NamesWorker operation.now self.old.workers }
+        requires call { IsCall operation }
+        requires worker { NamesWorker operation self.old.workers }
         requires written { IsWritten self.old }
         ensures turn { (hooks : ℕ) (stage : Stage) →
-            RunsAs (turn_of hooks (state_at self.old stage) (operation_seen operation.now)) (state_at self.old stage)
+            RunsAs (turn_of hooks (state_at self.old stage) (operation_seen operation.entry)) (state_at self.old stage)
             text.old.items (state_at self.new stage) text.new.items result }
         ensures written { OnOk result (IsWritten self.new) }
         ensures workers { self.new.workers ≡ self.old.workers }
     {
         match operation {
-            Operation::New(new) => self.make(alloc, new, text),
-            Operation::OnSpan { call, span, worker } => self.on_span(*call, span, *worker, text),
+            Operation::New(new) => self.make(alloc, &new, text),
+            Operation::OnSpan { call, span, worker } => self.on_span(call, &span, worker, text),
             Operation::Record {
                 span,
                 fields,
                 worker,
-            } => self.record(span, fields, *worker, text),
-            Operation::Event(event) => self.tell(event, text),
-            Operation::Find(span) => self.find(span, text),
+            } => self.record(&span, &fields, worker, text),
+            Operation::Event(event) => self.tell(&event, text),
+            Operation::Find(span) => self.find(&span, text),
             Operation::Limits(_) => unreachable!(),
             Operation::Layer(_) => unreachable!(),
         }
@@ -181,7 +181,10 @@ impl<V: Say> Script<V> {
         if self.is_taken(new.label) {
             return Err(Stop::Refused(Reason::LabelTaken));
         }
-        let answer = calls::new_span(&mut self.core, new, worker, parent)?;
+        let answer = match calls::new_span(&mut self.core, new, worker, parent) {
+            Ok(answer) => answer,
+            Err(stop) => return Err(stop),
+        };
         self.give_label(alloc, new.label, &answer)?;
         self.answer(answer, text)
     }

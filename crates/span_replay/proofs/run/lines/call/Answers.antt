@@ -9,8 +9,8 @@ returns-in-Err-clause-err g c = λ hooks. read_stops hooks _ _ _ _ refl c.requir
 pub run-requires-clause-call : goal.run-requires-clause-call
 run-requires-clause-call g c = is_call _ _ _ c.in-Ok.ensures.meant
 
-pub returns-clause-turned : goal.returns-clause-turned
-returns-clause-turned g c = call_ran _ _ _ _ _ _ _ _ refl refl c.requires.workers c.in-Ok.ensures.meant c.clear.ensures.items (λ hooks. c.run.ensures.turn hooks running)
+pub returns-in-Ok-clause-turned : goal.returns-in-Ok-clause-turned
+returns-in-Ok-clause-turned g c = call_ran _ _ _ _ _ _ _ _ refl refl c.requires.workers c.in-Ok.ensures.meant c.clear.ensures.items (λ hooks. c.run.ensures.turn hooks running)
 
-pub returns-clause-err : goal.returns-clause-err
-returns-clause-err g c = call_failed _ _ _ _ _ _ _ _ refl c.requires.workers c.in-Ok.ensures.meant (λ hooks. c.run.ensures.turn hooks running)
+pub returns-in-Ok-clause-err : goal.returns-in-Ok-clause-err
+returns-in-Ok-clause-err g c = call_failed _ _ _ _ _ _ _ _ refl c.requires.workers c.in-Ok.ensures.meant (λ hooks. c.run.ensures.turn hooks running)
