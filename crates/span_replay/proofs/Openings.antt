@@ -14,7 +14,7 @@ use Rattle.span_replay.specs.State.{State, first_state}
 use Rattle.span_replay.specs.inside.Turns.{HasTurned, Sent, TurnFails, opened_state, resumed_run}
 use Rattle.span_run.specs.declared.fault.RunFault.{RunFault}
 use Rattle.span_run.proofs.Fronts.{Known}
-use Rattle.span_replay.proofs.Written.{runs_after, loop_more, loop_fails}
+use Rattle.span_replay.proofs.Written.{loop_more, loop_fails}
 
 pub when_some : {A : Type 0} → (P : A → Type 0) (o : Option A) (value : A) → o ≡ Some value → IfSome o P → P value
 when_some P o value e h = subst (λ x. IfSome x P) e h

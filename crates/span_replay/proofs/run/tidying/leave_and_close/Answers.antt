@@ -1,4 +1,4 @@
-use Rattle.std.proofs.Common.{◌∙◌, refl}
+use Rattle.std.proofs.Common.{refl}
 use Rattle.span_replay.proofs.LastLines.{exits_fail, closes_fail, tidied_runs}
 use Rattle.span_replay.proofs.run.tidying.leave_and_close.Goals as goal
 
