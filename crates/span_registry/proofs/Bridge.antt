@@ -8,7 +8,7 @@ use Rattle.span_id.specs.Id.{slot_of, IsId}
 use Rattle.span_id.specs.Meta.{KeyValue, PlainMeta}
 use Rattle.span_forest.specs.declared.span.Holder.{Holder}
 use Rattle.span_forest.specs.declared.span.Holder.TheVariants.{Handle, Entry}
-use Rattle.span_forest.specs.Node.{Node, with_fields}
+use Rattle.span_forest.specs.Node.{Node}
 use Rattle.span_forest.specs.Spans.{Spans, find, IsOpen, with_change, with_node}
 use Rattle.span_forest.specs.Live.{stands_in, is_live}
 use Rattle.span_forest.specs.Holders.{IsHeld, held_in, with_more, with_less}
@@ -26,7 +26,7 @@ use Rattle.span_core.specs.Core.{CoreView, IsAccepted}
 use Rattle.span_core.proofs.Legal.{whole}
 use Rattle.span_core.proofs.Holds.{handles-released_same, handles-released_other, handles-left}
 use Rattle.span_seats.specs.RootView.{among}
-use Rattle.span_seats.specs.OpenSpans.{OpenSpans, IsSound, IsAdded, IsCloned, IsReleased}
+use Rattle.span_seats.specs.OpenSpans.{IsSound, IsAdded, IsCloned, IsReleased}
 use Rattle.span_registry.specs.inside.Seated.{spans_seen}
 
 -- no two open ids have one slot, and each is in the layout

@@ -1,3 +1,4 @@
 pub mod Bridge
 pub mod Seats
+pub mod Free
 pub mod Totals

@@ -1,17 +1,17 @@
 -- Each call keeps the seats and the core agreed. `r` is the root's view before the call, `r₁`, `r₂` .. after its steps.
 use Rattle.std.proofs.Common.{◌≡◌, ◌≢◌, ℕ, ◌+◌, ◌<◌, Bool, true, false, cond, List, length, Option, Some, refl, sym, ap, ◌∙◌, subst, true≢false}
-use Rattle.std.specs.Prelude.{if◌then◌else◌, IfSome}
+use Rattle.std.specs.Prelude.{IfSome}
 use Rattle.span_id.specs.Id.{slot_of, generation_of}
 use Rattle.span_id.specs.Meta.{KeyValue, PlainMeta}
 use Rattle.span_id.specs.declared.fault.Fault.{Fault}
-use Rattle.span_id.specs.declared.fault.Fault.TheVariants.{Unknown, Backlog, Memory}
+use Rattle.span_id.specs.declared.fault.Fault.TheVariants.{Unknown}
 use Rattle.span_forest.specs.declared.span.Holder.TheVariants.{Handle, Entry}
 use Rattle.span_forest.specs.Node.{with_fields}
 use Rattle.span_forest.specs.Spans.{Spans, find, IsOpen, with_change}
 use Rattle.span_forest.specs.Holders.{held_in, with_more}
 use Rattle.span_forest.specs.Keep.{with_holder}
 use Rattle.span_forest.specs.Release.{closing_list, spans_left}
-use Rattle.span_outlet.specs.Request.{Request, clone_span, cloned, new_span, made, try_close, released, enter, entered, exit, exited, record_fields, recorded, event, told}
+use Rattle.span_outlet.specs.Request.{Request, clone_span, cloned, try_close, released, enter, entered, exit, exited, record_fields, recorded, event, told}
 use Rattle.span_core.specs.World.{World}
 use Rattle.span_core.specs.Step.{closed_by_exit, stays_inside, is_open}
 use Rattle.span_core.specs.History.{IsLegal}

@@ -1,7 +1,7 @@
--- What each accepted call does to the number of handles that all spans have.
-use Rattle.std.proofs.Common.{◌≡◌, ℕ, ◌+◌, Bool, List, Option, arith}
+-- What each accepted call does to the number of batches, and to the number of handles that all spans have.
+use Rattle.std.proofs.Common.{◌≡◌, ℕ, ◌+◌, Bool, List, length, Option, ap, ◌∙◌, arith}
+use Rattle.std.proofs.lemmas.List.{length-append}
 use Rattle.span_id.specs.Meta.{KeyValue, PlainMeta}
-use Rattle.span_forest.specs.declared.span.Holder.TheVariants.{Handle}
 use Rattle.span_forest.specs.Count.{total_handles}
 use Rattle.span_outlet.specs.Request.{Request, Answer, new_span, made, clone_span, cloned, try_close, released, enter, entered, exit, exited, record_fields, recorded, event, told}
 use Rattle.span_core.specs.History.{IsLegal}
@@ -9,6 +9,10 @@ use Rattle.span_core.specs.Handles.{handles_given_out, handles_given_back}
 use Rattle.span_core.specs.Core.{CoreView, IsAccepted}
 use Rattle.span_core.proofs.Legal.{whole}
 use Rattle.span_core.proofs.Follows.{handles_step}
+
+-- an accepted call is one more batch
+pub one_more_sent : (core new : CoreView) (request : Request) (answer : Answer) → IsAccepted core request answer new → length new.sent ≡ length core.sent + 1
+one_more_sent core new request answer accepted = ap length accepted.sent ∙ length-append core.sent _
 
 module _ (core new : CoreView) (legal : IsLegal core.rules core.limits.workers core.sent core.world) (worker : ℕ) where
   handles_after : (request : Request) (answer : Answer) → IsAccepted core request answer new → total_handles new.world.spans + handles_given_back request ≡ total_handles core.world.spans + handles_given_out request

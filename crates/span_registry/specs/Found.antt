@@ -1,5 +1,5 @@
 -- What is answered of an open span.
-use Rattle.std.specs.Prelude.{◌≡◌, ℕ, Option, string_bytes}
+use Rattle.std.specs.Prelude.{◌≡◌, ℕ, string_bytes}
 use Rattle.span_registry.specs.declared.found.Found.{Found}
 use Rattle.span_forest.specs.Node.{Node}
 

@@ -1,5 +1,4 @@
 -- What the seats see of a core. No public clause cites it.
-use Rattle.std.specs.Prelude.{ℕ}
 use Rattle.span_forest.specs.declared.span.Holder.TheVariants.{Handle}
 use Rattle.span_forest.specs.Spans.{Spans, find}
 use Rattle.span_forest.specs.Holders.{held_in}

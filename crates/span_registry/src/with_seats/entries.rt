@@ -15,7 +15,6 @@ use span_outlet::Outlet;
 use span_seats::{HandleSeat, RootSeat, TableName};
 
 // A worker enters the span of a handle: the seat that was shown comes back.
-#[tactic(auto, using(crate::proofs::Totals::same_entered))]
 pub(crate) fn enter<T: TableName, O: Outlet, A>(
     core: &mut Core<O, A>,
     root: &mut RootSeat<T>,
@@ -49,7 +48,6 @@ pub(crate) fn enter<T: TableName, O: Outlet, A>(
 }
 
 // A worker leaves a span, which may close it and spans above it.
-#[tactic(auto, using(crate::proofs::Totals::same_exited))]
 pub(crate) fn exit<T: TableName, O: Outlet, A>(
     core: &mut Core<O, A>,
     root: &mut RootSeat<T>,

@@ -21,7 +21,6 @@ use span_seats::laws::two_handles_have_two_numbers;
 use span_seats::{HandleSeat, RootSeat, TableName};
 
 // One more handle: the seat that was shown comes back, and where the call is accepted one more.
-#[tactic(auto, using(crate::proofs::Totals::one_more_cloned))]
 pub(crate) fn clone_span<T: TableName, O: Outlet, A>(
     core: &mut Core<O, A>,
     root: &mut RootSeat<T>,
@@ -56,7 +55,6 @@ pub(crate) fn clone_span<T: TableName, O: Outlet, A>(
 }
 
 // Fields appended: the seat that was shown comes back.
-#[tactic(auto, using(crate::proofs::Totals::same_recorded))]
 pub(crate) fn record<T: TableName, O: Outlet, A>(
     core: &mut Core<O, A>,
     root: &mut RootSeat<T>,
@@ -93,7 +91,6 @@ pub(crate) fn record<T: TableName, O: Outlet, A>(
 }
 
 // A handle given back: where the call is refused its seat comes back.
-#[tactic(auto, using(crate::proofs::Totals::one_less_released))]
 pub(crate) fn try_close<T: TableName, O: Outlet, A>(
     core: &mut Core<O, A>,
     root: &mut RootSeat<T>,

@@ -19,7 +19,6 @@ use span_outlet::{Outlet, ParentOf};
 use span_seats::{HandleSeat, RootSeat, TableName};
 
 // A new span: its id, and the seat of its one handle.
-#[tactic(auto, using(crate::proofs::Totals::one_more_made))]
 pub(crate) fn new_span<T: TableName, O: Outlet, A: Admit>(
     core: &mut Core<O, A>,
     root: &mut RootSeat<T>,

@@ -1,5 +1,6 @@
 use Rattle.span_registry.proofs.Bridge.{sound_of}
 use Rattle.span_registry.proofs.Seats.{shown_handles, shown_words, exited_may_close, seated_exited}
+use Rattle.span_registry.proofs.Totals.{same_exited, one_more_sent}
 use Rattle.span_registry.proofs.with_seats.entries.exit.Goals as goal
 
 pub exit_with-requires-clause-may : goal.exit_with-requires-clause-may
@@ -16,3 +17,9 @@ returns-in-Ok-clause-seated g c =
     c.exit_with.new.self c.in-Ok.ensures.accepted c.exit_with.new.state
     (shown_handles _ _ c.args.root.now c.exit_with.new.state shown.lent_is shown.left_is shown.called.0)
     (shown_words _ _ c.args.root.now c.exit_with.new.state _ _ shown.lent_is shown.left_is shown.list_is shown.called.1.1)
+
+pub returns-in-Ok-clause-handles : goal.returns-in-Ok-clause-handles
+returns-in-Ok-clause-handles g c = same_exited _ _ c.calls.ensures.legal _ _ _ c.in-Ok.ensures.accepted
+
+pub returns-in-Ok-clause-calls : goal.returns-in-Ok-clause-calls
+returns-in-Ok-clause-calls g c = one_more_sent _ _ _ _ c.in-Ok.ensures.accepted

@@ -2,7 +2,8 @@ use Rattle.std.proofs.Common.{ap, ◌∙◌}
 use Rattle.span_core.proofs.Deciding.{handle_from}
 use Rattle.span_seats.specs.RootView.{with_number}
 use Rattle.span_registry.proofs.Bridge.{sound_of}
-use Rattle.span_registry.proofs.Seats.{shown_handles, shown_words, span_is_held, seated_back, seated_released, released_may_close, seated_refused, never_unknown}
+use Rattle.span_registry.proofs.Seats.{shown_handles, shown_words, span_is_held, seated_back, seated_released, released_may_close, seated_refused, never_unknown, joined_opens, joined_id}
+use Rattle.span_registry.proofs.Totals.{one_less_released, one_more_sent}
 use Rattle.span_registry.proofs.with_seats.handles.try_close.Goals as goal
 
 pub try_close_with-done-requires-clause-may : goal.try_close_with-done-requires-clause-may
@@ -27,3 +28,15 @@ returns-in-Err-clause-seated g c =
 pub returns-in-Err-clause-never_unknown : goal.returns-in-Err-clause-never_unknown
 returns-in-Err-clause-never_unknown g c =
     never_unknown _ _ _ _ (handle_from c.args.core.now.world.spans c.args.id (span_is_held c.args.core.now c.args.root.now c.join.new.self c.args.seat c.args.id c.requires.seated c.join.ensures.in_set c.requires.shown c.join.ensures.root)) c.in-Err.ensures.refused
+
+pub returns-in-Ok-clause-handles : goal.returns-in-Ok-clause-handles
+returns-in-Ok-clause-handles g c = one_less_released _ _ c.calls.ensures.legal _ _ _ c.in-Ok.ensures.accepted
+
+pub returns-in-Ok-clause-calls : goal.returns-in-Ok-clause-calls
+returns-in-Ok-clause-calls g c = one_more_sent _ _ _ _ c.in-Ok.ensures.accepted
+
+pub split-requires : goal.split-requires
+split-requires g c = joined_opens c.args.root.now c.try_close_with-done.new.state _ _ (c.in-Err.ensures.not_shown ∙ c.join.ensures.root) c.join.ensures.is_open
+
+pub returns-in-Err-clause-back : goal.returns-in-Err-clause-back
+returns-in-Err-clause-back g c = c.split.ensures.id ∙ joined_id c.args.root.now c.try_close_with-done.new.state _ _ (c.in-Err.ensures.not_shown ∙ c.join.ensures.root) ∙ c.requires.shown

@@ -1,5 +1,7 @@
+use Rattle.std.proofs.Common.{◌∙◌}
 use Rattle.span_registry.proofs.Bridge.{sound_of, added_of}
 use Rattle.span_registry.proofs.Seats.{some_of, new_slot, new_free, new_opens, new_id, seated_new}
+use Rattle.span_registry.proofs.Totals.{one_more_made, one_more_sent}
 use Rattle.span_registry.proofs.with_seats.spans.new_span.Goals as goal
 
 pub mark_open-requires-clause-slot : goal.mark_open-requires-clause-slot
@@ -41,3 +43,17 @@ returns-clause-slot g c =
     let made = some_of _ _ _ c.in-Some.is c.in_ok-id.ensures.made in
     let added = added_of _ _ _ _ _ _ _ c.calls.ensures.legal m.one_slot m.in_range made in
     λ id is. added.free id is
+
+pub returns-clause-given : goal.returns-clause-given
+returns-clause-given g c =
+    let l = c.each_slot_has_one_open_span.ensures in
+    let m = c.each_slot_has_one_open_span-2.ensures in
+    let made = some_of _ _ _ c.in-Some.is c.in_ok-id.ensures.made in
+    let added = added_of _ _ _ _ _ _ _ c.calls.ensures.legal m.one_slot m.in_range made in
+    c.split-seat.ensures.id ∙ new_id c.args.core.now c.new_span-new.new.self _ (sound_of _ l.one_slot l.in_layout) added c.args.root.now c.requires.seated c.mark_open.new.self c.mark_open.ensures
+
+pub returns-clause-handles : goal.returns-clause-handles
+returns-clause-handles g c = one_more_made _ _ c.calls.ensures.legal _ _ _ _ _ (some_of _ _ _ c.in-Some.is c.in_ok-id.ensures.made)
+
+pub returns-clause-calls : goal.returns-clause-calls
+returns-clause-calls g c = one_more_sent _ _ _ _ (some_of _ _ _ c.in-Some.is c.in_ok-id.ensures.made)

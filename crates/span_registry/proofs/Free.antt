@@ -1,0 +1,111 @@
+-- What holds whenever the lock is free: what a call has from it, and why it holds again after the call.
+use Rattle.std.proofs.Common.{◌≡◌, ℕ, ◌+◌, ◌^◌, ◌<◌, Option, Some, None, List, length, refl, sym, ap, ◌∙◌, subst, arith}
+use Rattle.span_id.specs.declared.fault.Fault.{Fault}
+use Rattle.span_id.specs.declared.limits.Limits.{Limits}
+use Rattle.span_layers.specs.Filter.{Filter}
+use Rattle.span_forest.specs.declared.span.Holder.TheVariants.{Handle}
+use Rattle.span_forest.specs.Node.{Node}
+use Rattle.span_forest.specs.Spans.{find}
+use Rattle.span_forest.specs.Count.{total_handles}
+use Rattle.span_forest.specs.Holders.{held_in}
+use Rattle.span_outlet.specs.Outlet.{RingName}
+use Rattle.span_outlet.specs.Request.{Request, Answer}
+use Rattle.span_core.specs.History.{IsLegal}
+use Rattle.span_core.specs.Core.{CoreView, IsAccepted, IsRefused, IsNotWanted}
+use Rattle.span_seats.specs.declared.view.RootView.{RootView}
+use Rattle.span_seats.specs.RootView.{handle_count}
+use Rattle.span_registry.specs.inside.Seated.{AreSeated}
+use Rattle.span_registry.specs.Locked.{HoldsWhenFree}
+
+module _ {limits : Limits} {rules : List Filter} {ring : Option RingName} {handle_parts call_parts handles calls : ℕ} {root : RootView} {core : CoreView} (free : HoldsWhenFree limits rules ring handle_parts call_parts handles calls root core) where
+  -- the root and the core agree
+  pub free_seated : AreSeated root core
+  free_seated = record {
+    counted = λ id. counted id (find core.world.spans id) refl;
+    sized = free.words;
+    opened = free.open_words;
+    vacant = free.other_words;
+  }
+    where
+      counted : (id : ℕ) (o : Option Node) → find core.world.spans id ≡ o → handle_count id root.handles ≡ held_in Handle (find core.world.spans id)
+      counted id None is = free.other_sets id is ∙ ap (held_in Handle) (sym is)
+      counted id (Some node) is = free.open_sets id node is ∙ ap (held_in Handle) (sym is)
+
+  -- a worker's number is below the number of workers
+  pub free_worker : {number : ℕ} → number < call_parts → number < core.limits.workers
+  free_worker {number} below = subst (λ (parts : ℕ). number < parts) free.call_parts_are below
+
+  -- there is room for one more call in the book
+  pub free_room : {sent_after : ℕ} → sent_after ≡ length core.sent + 1 → sent_after < 2 ^ 64 → calls + 1 < 2 ^ 64
+  free_room more fits = subst (λ (n : ℕ). n < 2 ^ 64) (more ∙ ap (λ n. n + 1) (sym free.calls_are)) fits
+
+  -- the same core, with another root that agrees with it
+  pub free_same : {after : RootView} → AreSeated after core → HoldsWhenFree limits rules ring handle_parts call_parts handles calls after core
+  free_same seated = record {
+    limits_are = free.limits_are;
+    rules_are = free.rules_are;
+    ring_is = free.ring_is;
+    legal = free.legal;
+    calls_are = free.calls_are;
+    handles_are = free.handles_are;
+    open_sets = λ id node is. seated.counted id ∙ ap (held_in Handle) is;
+    other_sets = λ id is. seated.counted id ∙ ap (held_in Handle) is;
+    words = seated.sized;
+    open_words = seated.opened;
+    other_words = seated.vacant;
+    handle_parts_fit = free.handle_parts_fit;
+    call_parts_are = free.call_parts_are;
+  }
+
+  -- a call was refused
+  pub free_refused : {request : Request} {fault : Fault} {after : RootView} {new : CoreView} → IsRefused core request fault new → AreSeated after new
+      → HoldsWhenFree limits rules ring handle_parts call_parts handles calls after new
+  free_refused refused seated = record {
+    limits_are = ap (λ (v : CoreView). v.limits) refused.unchanged ∙ free.limits_are;
+    rules_are = ap (λ (v : CoreView). v.rules) refused.unchanged ∙ free.rules_are;
+    ring_is = ap (λ (v : CoreView). v.name) refused.unchanged ∙ free.ring_is;
+    legal = subst (λ (v : CoreView). IsLegal v.rules v.limits.workers v.sent v.world) (sym refused.unchanged) free.legal;
+    calls_are = free.calls_are ∙ ap (λ (v : CoreView). length v.sent) (sym refused.unchanged);
+    handles_are = free.handles_are ∙ ap (λ (v : CoreView). total_handles v.world.spans) (sym refused.unchanged);
+    open_sets = λ id node is. seated.counted id ∙ ap (held_in Handle) is;
+    other_sets = λ id is. seated.counted id ∙ ap (held_in Handle) is;
+    words = seated.sized;
+    open_words = seated.opened;
+    other_words = seated.vacant;
+    handle_parts_fit = free.handle_parts_fit;
+    call_parts_are = free.call_parts_are ∙ ap (λ (v : CoreView). v.limits.workers) (sym refused.unchanged);
+  }
+
+  -- a new span was not wanted
+  pub free_not_wanted : {request : Request} {after : RootView} {new : CoreView} → IsNotWanted core request new → AreSeated after new
+      → HoldsWhenFree limits rules ring handle_parts call_parts handles calls after new
+  free_not_wanted {request} {after} {new} none seated =
+      subst (λ (v : CoreView). HoldsWhenFree limits rules ring handle_parts call_parts handles calls after v) (sym none.same) (free_same (subst (λ (v : CoreView). AreSeated after v) none.same seated))
+
+  -- a call was accepted, and the books moved with it
+  pub free_accepted : {request : Request} {answer : Answer} {after : RootView} {new : CoreView} {handles_after calls_after : ℕ} → IsAccepted core request answer new → AreSeated after new
+      → IsLegal new.rules new.limits.workers new.sent new.world → handles_after ≡ total_handles new.world.spans → length new.sent ≡ length core.sent + 1 → calls_after ≡ calls + 1
+      → HoldsWhenFree limits rules ring handle_parts call_parts handles_after calls_after after new
+  free_accepted accepted seated legal handles_are more counted = record {
+    limits_are = accepted.limits ∙ free.limits_are;
+    rules_are = accepted.rules ∙ free.rules_are;
+    ring_is = accepted.name ∙ free.ring_is;
+    legal = legal;
+    calls_are = counted ∙ ap (λ n. n + 1) free.calls_are ∙ sym more;
+    handles_are = handles_are;
+    open_sets = λ id node is. seated.counted id ∙ ap (held_in Handle) is;
+    other_sets = λ id is. seated.counted id ∙ ap (held_in Handle) is;
+    words = seated.sized;
+    open_words = seated.opened;
+    other_words = seated.vacant;
+    handle_parts_fit = free.handle_parts_fit;
+    call_parts_are = free.call_parts_are ∙ ap (λ (l : Limits). l.workers) (sym accepted.limits);
+  }
+
+-- the book of handles after a unit has joined it
+pub one_more_total : {book total book_after total_after : ℕ} → book ≡ total → total_after ≡ total + 1 → book_after ≡ book + 1 → book_after ≡ total_after
+one_more_total is more given = omega arith
+
+-- the book of handles after a unit has left it
+pub one_less_total : {book total book_after total_after : ℕ} → book ≡ total → total_after + 1 ≡ total → book_after + 1 ≡ book → book_after ≡ total_after
+one_less_total is less taken = omega arith
