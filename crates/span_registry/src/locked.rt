@@ -1,11 +1,13 @@
 //! What lies under the lock.
-ghost use Rattle.std.specs.Prelude.{◌≡◌};
+ghost use Rattle.std.specs.Prelude.{◌≡◌, ◌^◌, ◌<◌, [], IfErr};
 
 use crate::setup::Setup;
 use span_core::Core;
-use span_layers::Admitters;
+use span_id::{Checked, Fault};
+use span_layers::{Admitters, Filters};
 use span_outlet::Outlet;
-use span_seats::RootSeat;
+use span_seats::{RootSeat, SeatTable};
+use std::alloc::Global;
 use std::marker::{Model, PhantomData};
 use std::sync::ledger::{Book, Ledger};
 
@@ -39,5 +41,34 @@ impl<H: Ledger, C: Ledger, S: Setup, O: Outlet, A> Locked<H, C, S, O, A> {
         ensures { result.now ≡ self.now }
     {
         &self.core
+    }
+}
+
+impl<H: Ledger, C: Ledger, S: Setup, O: Outlet + Drop, F: Drop> Locked<H, C, S, O, Admitters<F>> {
+    // No span is open, no handle is out and no call was accepted. The only error is `Memory`.
+    pub(crate) fn new(
+        alloc: Global,
+        checked: &Checked,
+        filters: Filters<F>,
+        outlet: O,
+        handles: Book<H>,
+        calls: Book<C>,
+        table: SeatTable,
+    ) -> Result<Locked<H, C, S, O, Admitters<F>>, Fault>
+        requires sent { O.sent outlet ≡ [] }
+        requires setup { (checked.now ≡ S.limits) × (filters.rules ≡ S.rules) × (O.name outlet ≡ S.ring) }
+        requires handles { (handles.total ≡ 0) × (H.parts < 2 ^ 64) }
+        requires calls { (calls.total ≡ 0) × (C.parts ≡ checked.now.workers) }
+        requires table { (table ≡ S.table) × (table.words ≡ checked.now.slots) }
+        ensures { IfErr result (λ fault. fault ≡ Fault.Memory) }
+    {
+        let core = Core::new(alloc, checked, filters, outlet)?;
+        Ok(Locked {
+            core,
+            root: table.named::<S>(),
+            handles,
+            calls,
+            setup: PhantomData,
+        })
     }
 }

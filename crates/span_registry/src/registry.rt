@@ -8,14 +8,12 @@ mod finish;
 use crate::locked::Locked;
 use crate::setup::Setup;
 use crate::worker::Worker;
-use span_core::Core;
 use span_id::{Checked, Fault};
 use span_layers::{Admitters, Filters};
 use span_outlet::Outlet;
 use span_seats::SeatTable;
 use std::alloc::Global;
-use std::marker::PhantomData;
-use std::sync::ledger::{Blank, Book, Ledger};
+use std::sync::ledger::{Blank, Ledger};
 use std::sync::{Mutex, ledger};
 
 /// The parts of a registry's ledger of handles: at most so many handles can be out at a time.
@@ -70,14 +68,15 @@ impl<H: Ledger, C: Ledger, S: Setup, O: Outlet + Drop, F: Drop> Registry<H, C, S
         let (handle_book, handle_parts) = handles.open::<H>();
         let (call_book, call_parts) = calls.open::<C>();
         let workers = new_workers(alloc, checked.limits().workers, handle_parts, call_parts)?;
-        let core = Core::new(alloc, checked, filters, outlet)?;
-        let locked = Locked {
-            core,
-            root: table.named::<S>(),
-            handles: handle_book,
-            calls: call_book,
-            setup: PhantomData,
-        };
+        let locked = Locked::new(
+            alloc,
+            checked,
+            filters,
+            outlet,
+            handle_book,
+            call_book,
+            table,
+        )?;
         let registry = Registry {
             locked: Mutex::new(locked),
         };
@@ -104,11 +103,27 @@ fn new_workers<H: Ledger, C: Ledger>(
     let mut calls = calls;
     let mut all = Vec::with_capacity(alloc, workers as usize)?;
     for number in 0..workers - 1 {
-        let some_handles = handles.split_off(WORKER_PARTS, 0);
-        let one_call = calls.split_off(1, 0);
-        all.push_reserved(Worker::new(number, WORKER_PARTS, some_handles, one_call));
+        all.push_reserved(split_worker(number, &mut handles, &mut calls));
     }
     let rest = HANDLE_PARTS - WORKER_PARTS * (u64::from(workers) - 1);
     all.push_reserved(Worker::new(workers - 1, rest, handles, calls));
     Ok(all)
+}
+
+// The worker of this number, with its parts of the two ledgers.
+fn split_worker<H: Ledger, C: Ledger>(
+    number: u32,
+    handles: &mut ledger::Share<H>,
+    calls: &mut ledger::Share<C>,
+) -> Worker<H, C>
+    requires number { number < C.parts }
+    requires handles { (WORKER_PARTS < handles.old.parts) × (handles.old.amount ≡ 0) }
+    requires calls { (1 < calls.old.parts) × (calls.old.amount ≡ 0) }
+    ensures worker { result ≡ record { number = number; accepted = 0; spare = WORKER_PARTS } }
+    ensures handles { (handles.new.parts + WORKER_PARTS ≡ handles.old.parts) × (handles.new.amount ≡ 0) }
+    ensures calls { (calls.new.parts + 1 ≡ calls.old.parts) × (calls.new.amount ≡ 0) }
+{
+    let some_handles = handles.split_off(WORKER_PARTS, 0);
+    let one_call = calls.split_off(1, 0);
+    Worker::new(number, WORKER_PARTS, some_handles, one_call)
 }
