@@ -1,11 +1,11 @@
 //! Handles.
-ghost use Rattle.std.specs.Prelude.{◌≡◌};
+ghost use Rattle.std.specs.Prelude.{◌≡◌, Some, IsSome};
 ghost use Rattle.span_registry.specs.Share.{ShareView};
 
 use crate::setup::Setup;
 use crate::share::Share;
 use span_id::Id;
-use span_seats::HandleSeat;
+use span_seats::{HandleSeat, TableName};
 use std::marker::Model;
 use std::sync::ledger;
 use std::sync::ledger::Ledger;
@@ -62,4 +62,15 @@ impl<H: Ledger, C: Ledger, S: Setup> Handle<H, C, S> {
             calls: no_calls,
         }
     }
+}
+
+// Takes a handle's seat for a call. No call is running on the handle, so the seat is there.
+pub(crate) fn take_seat<T: TableName>(seat: &mut Option<HandleSeat<T>>) -> HandleSeat<T>
+    requires { IsSome seat.old }
+    ensures { seat.old ≡ Some result }
+{
+    let Some(taken) = seat.take() else {
+        unreachable!()
+    };
+    taken
 }

@@ -8,7 +8,7 @@ ghost use Rattle.span_core.specs.Core.{IsAccepted, IsRefused};
 ghost use Rattle.span_registry.specs.Worker.{after_call};
 
 use crate::books::count_call;
-use crate::handle::Handle;
+use crate::handle::{Handle, take_seat};
 use crate::locked::Locked;
 use crate::setup::Setup;
 use crate::with_seats;
@@ -37,9 +37,7 @@ pub fn enter<H: Ledger, C: Ledger, S: Setup, O: Outlet, A>(
     ensures keeps_id { handle.new.id ≡ handle.old.id }
 {
     let id = handle.id;
-    let Some(seat) = handle.seat.take() else {
-        unreachable!()
-    };
+    let seat = take_seat(&mut handle.seat);
     let Locked {
         core,
         root,

@@ -9,6 +9,7 @@ ghost use Rattle.span_core.specs.Core.{IsAccepted, IsRefused};
 ghost use Rattle.span_registry.specs.Worker.{after_call};
 
 use crate::books::{count_call, make_handle, take_back};
+use crate::handle::take_seat;
 use crate::locked::Locked;
 use crate::setup::Setup;
 use crate::with_seats;
@@ -44,9 +45,7 @@ pub fn clone_span<H: Ledger, C: Ledger, S: Setup, O: Outlet, A>(
         return Err(Fault::CountFull);
     }
     let id = handle.id;
-    let Some(seat) = handle.seat.take() else {
-        unreachable!()
-    };
+    let seat = take_seat(&mut handle.seat);
     let Locked {
         core,
         root,

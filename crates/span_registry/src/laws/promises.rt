@@ -6,6 +6,7 @@ ghost use Rattle.span_forest.specs.Holders.{IsHeld};
 ghost use Rattle.span_id.specs.Id.{slot_of};
 ghost use Rattle.span_core.specs.History.{IsLegal};
 
+use crate::handle::take_seat;
 use crate::locked::Locked;
 use crate::setup::Setup;
 use crate::with_seats;
@@ -37,9 +38,7 @@ pub fn a_handles_span_is_open<H: Ledger, C: Ledger, S: Setup, O: Outlet, A>(
     ensures same { locked.new ≡ locked.old }
     ensures keeps_id { handle.new.id ≡ handle.old.id }
 {
-    let Some(seat) = handle.seat.take() else {
-        unreachable!()
-    };
+    let seat = take_seat(&mut handle.seat);
     let back = with_seats::handles::show(&locked.core, &mut locked.root, handle.id, seat);
     handle.seat = Some(back);
 }
@@ -55,9 +54,8 @@ pub fn two_handles_have_two_numbers<H: Ledger, C: Ledger, S: Setup, O: Outlet, A
     ensures same { locked.new ≡ locked.old }
     ensures keep_ids { (first.new.id ≡ first.old.id) × (second.new.id ≡ second.old.id) }
 {
-    let (Some(one), Some(other)) = (first.seat.take(), second.seat.take()) else {
-        unreachable!()
-    };
+    let one = take_seat(&mut first.seat);
+    let other = take_seat(&mut second.seat);
     let (one, other) = with_seats::handles::show_two(&locked.core, &mut locked.root, one, other);
     first.seat = Some(one);
     second.seat = Some(other);
