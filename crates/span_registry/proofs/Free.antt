@@ -39,6 +39,12 @@ module _ {limits : Limits} {rules : List Filter} {ring : Option RingName} {handl
   pub free_room : {sent_after : ℕ} → sent_after ≡ length core.sent + 1 → sent_after < 2 ^ 64 → calls + 1 < 2 ^ 64
   free_room more fits = subst (λ (n : ℕ). n < 2 ^ 64) (more ∙ ap (λ n. n + 1) (sym free.calls_are)) fits
 
+  -- the history is legal under the rules and limits that the registry was made with
+  pub free_legal : IsLegal rules limits.workers core.sent core.world
+  free_legal =
+      subst (λ (r : List Filter). IsLegal r limits.workers core.sent core.world) free.rules_are
+      (subst (λ (l : Limits). IsLegal core.rules l.workers core.sent core.world) free.limits_are free.legal)
+
   -- the same core, with another root that agrees with it
   pub free_same : {after : RootView} → AreSeated after core → HoldsWhenFree limits rules ring handle_parts call_parts handles calls after core
   free_same seated = record {
