@@ -9,7 +9,7 @@ use crate::stop::Stop;
 use crate::texts::{add_span, add_stack};
 use crate::trial::{Planned, Subject, perform};
 use span_core::Core;
-use span_id::{Checked, Fault, Id, Limits};
+use span_id::{Checked, Fault, Id, Limits, Meta};
 use span_layers::{Filters, Say, Tellers};
 use span_outlet::{Kept, ParentOf};
 use std::alloc::{AllocError, Global};
@@ -84,13 +84,11 @@ fn plan<'a>(names: &'a Names) -> [Planned<'a, Ask<'a>>; 29] {
     let fields = names.fields.as_slice();
     // The third span gets the slot of the first.
     let third = Id::pack(0, 1);
-    let (new_a, enter_third) = (Act::New(&names.a, ParentOf::Root), Act::Enter(third));
-    let new_b = Act::New(&names.b, ParentOf::Current);
     [
-        ("new a", Taken, Ask::Call(new_a)),
+        ("new a", Taken, new(&names.a, ParentOf::Root)),
         ("clone 1", Taken, Ask::Call(Act::Clone(one))),
         ("enter 1", Taken, Ask::Call(Act::Enter(one))),
-        ("new b inside", Taken, Ask::Call(new_b)),
+        ("new b inside", Taken, new(&names.b, ParentOf::Current)),
         ("record 2", Taken, Ask::Call(Act::Record(two, fields))),
         ("event m", Taken, Ask::Call(Act::Event(&names.event, "m"))),
         ("find 1", Untouched, Ask::Call(Act::Find(one))),
@@ -103,20 +101,24 @@ fn plan<'a>(names: &'a Names) -> [Planned<'a, Ask<'a>>; 29] {
         ("len", Untouched, Ask::Len),
         ("close 2", Taken, Ask::Call(Act::Close(two))),
         ("len", Untouched, Ask::Len),
-        ("new a", Taken, Ask::Call(new_a)),
-        ("enter it", Taken, Ask::Call(enter_third)),
-        ("enter it, 2", Taken, Ask::Call(enter_third)),
-        ("enter it, 3", Taken, Ask::Call(enter_third)),
-        ("enter it, 4", Taken, Ask::Call(enter_third)),
-        ("enter it, 5", Taken, Ask::Call(enter_third)),
-        ("enter it, 6", Taken, Ask::Call(enter_third)),
-        ("enter it, 7", Taken, Ask::Call(enter_third)),
-        ("enter it, 8", Taken, Ask::Call(enter_third)),
-        ("enter it, 9", Taken, Ask::Call(enter_third)),
+        ("new a", Taken, new(&names.a, ParentOf::Root)),
+        ("enter it", Taken, Ask::Call(Act::Enter(third))),
+        ("enter it, 2", Taken, Ask::Call(Act::Enter(third))),
+        ("enter it, 3", Taken, Ask::Call(Act::Enter(third))),
+        ("enter it, 4", Taken, Ask::Call(Act::Enter(third))),
+        ("enter it, 5", Taken, Ask::Call(Act::Enter(third))),
+        ("enter it, 6", Taken, Ask::Call(Act::Enter(third))),
+        ("enter it, 7", Taken, Ask::Call(Act::Enter(third))),
+        ("enter it, 8", Taken, Ask::Call(Act::Enter(third))),
+        ("enter it, 9", Taken, Ask::Call(Act::Enter(third))),
         ("calls", Untouched, Ask::Calls),
         ("batches", Untouched, Ask::Batches),
         ("notes", Untouched, Ask::Notes),
     ]
+}
+
+fn new<'a>(meta: &'a Meta, parent: ParentOf) -> Ask<'a> {
+    Ask::Call(Act::New(meta, parent))
 }
 
 impl<'a, V: Say> Subject<Ask<'a>> for OnCore<V> {
