@@ -22,8 +22,6 @@ use Rattle.span_outlet.specs.Batch.{PlainBatch}
 use Rattle.span_core.specs.Happening.{notes_of_all, close_of, at_span, event_at}
 use Rattle.span_core.specs.NextId.{SlotsUsed, with_closed, slots_after}
 use Rattle.span_core.specs.inside.Sound.{IsSound, forest_with}
-use Rattle.span_core.specs.History.{issued}
-use Rattle.span_core.proofs.Accepted.{step_clone, step_record, step_close, step_enter, step_exit, step_event}
 use Rattle.span_core.proofs.Soundness.{sound_quiet, sound_more, same_but_spans}
 use Rattle.span_core.proofs.Worlds.{world_kept_handle, world_changed, world_released_handle, world_entered, world_left, world_left_still, inside-set}
 
@@ -40,7 +38,11 @@ sound_clone limits rules forest new_forest stacks calls old mid new worker id no
     sound_quiet limits rules forest new_forest stacks stacks calls old mid new (record { request = clone_span worker id; answer = cloned; notes = notes }) sound refl refl
     (same_but_spans forest new_forest _ forest_is) refl
     (subst (λ (spans : Spans). IsWorld (record { spans = spans; stacks = stacks })) (sym spans_are) (world_kept_handle forest.spans id stacks sound.world))
-    (step_clone rules (issued old) forest.spans new_forest.spans stacks worker id notes within held spans_are none)
+    (record {
+      within = within;
+      changes = record { held = held; after = λ j. record { spans = spans_are j; stacks = stacks } };
+      notes_are = none;
+    })
     same sent
 
 pub sound_record : (limits : Limits) (rules : List Filter) (forest new_forest : ForestView) (stacks : List (List ℕ)) (calls : ℕ) (old mid new : List PlainBatch) (worker id : ℕ) (fields : List KeyValue) (written : Request) (notes : List PlainNote)
@@ -57,7 +59,11 @@ sound_record limits rules forest new_forest stacks calls old mid new worker id f
     sound_quiet limits rules forest new_forest stacks stacks calls old mid new (record { request = record_fields worker id fields; answer = recorded; notes = notes }) sound refl refl
     (same_but_spans forest new_forest _ forest_is) refl
     (subst (λ (spans : Spans). IsWorld (record { spans = spans; stacks = stacks })) (sym spans_are) (world_changed (with_fields fields) (λ node. refl) forest.spans id stacks sound.world))
-    (step_record rules (issued old) forest.spans new_forest.spans stacks worker id fields notes within held spans_are notes_are)
+    (record {
+      within = within;
+      changes = record { held = held; after = λ j. record { spans = spans_are j; stacks = stacks } };
+      notes_are = notes_are;
+    })
     same (sent ∙ ap (λ (request : Request). mid ++ (record { request = request; answer = recorded; notes = notes }) ∷ []) written_is)
 
 -- the slots that a release frees, and nothing else, changed
@@ -90,7 +96,11 @@ sound_close limits rules forest new_forest stacks calls old mid new worker id cl
     (λ x fits low. inl (rw given_is at low))
     refl
     (subst (λ (spans : Spans). IsWorld (record { spans = spans; stacks = stacks })) (sym spans_are) (world_released_handle forest.spans id stacks sound.world))
-    (step_close rules (issued old) forest.spans new_forest.spans stacks worker id closed notes within held closed_are spans_are notes_are)
+    (record {
+      within = within;
+      changes = record { held = held; closed_are = closed_are; after = λ j. record { spans = spans_are j; stacks = stacks } };
+      notes_are = notes_are;
+    })
     same sent
 
 -- a span that is held is open
@@ -121,7 +131,11 @@ sound_enter limits rules forest new_forest stacks new_stacks calls old mid new w
     (subst (λ (w : World). IsWorld w)
     (λ j. record { spans = (ap (λ b. cond b (with_holder forest.spans id Entry) forest.spans) (sym first_is) ∙ sym spans_are) j; stacks = (sym stacks_are) j })
     entered_world)
-    (step_enter rules (issued old) forest.spans new_forest.spans stacks new_stacks worker id first notes within held first_is spans_are stacks_are notes_are)
+    (record {
+      within = within;
+      changes = record { held = held; first_is = first_is; after = λ j. record { spans = spans_are j; stacks = stacks_are j } };
+      notes_are = notes_are;
+    })
     same sent
 
 -- a span that stands in a worker's stack is held by an entry
@@ -175,7 +189,15 @@ sound_exit limits rules forest new_forest stacks new_stacks calls old mid new wo
     (ap length stacks_are ∙ length-set stacks worker _)
     (subst (λ (w : World). IsWorld w) (λ j. record { spans = (sym spans_are) j; stacks = (sym stacks_are) j })
     (world_after_exit forest.spans stacks worker id stays within stands (sym stays_is) sound.world))
-    (step_exit rules (issued old) forest.spans new_forest.spans stacks new_stacks worker id stays closed notes within stands stays_is closed_are spans_are stacks_are notes_are)
+    (record {
+      within = within;
+      changes = record {
+        inside = stands;
+        closed_are = closed_are ∙ ap (λ b. cond b [] (closing_list forest.spans id Entry)) stays_is;
+        after = λ j. record { spans = (spans_are ∙ ap (λ b. cond b forest.spans (spans_left forest.spans id Entry)) stays_is) j; stacks = stacks_are j };
+      };
+      notes_are = notes_are;
+    })
     same sent
 
 pub sound_event : (limits : Limits) (rules : List Filter) (forest : ForestView) (stacks : List (List ℕ)) (calls : ℕ) (old mid new : List PlainBatch) (worker : ℕ) (meta : PlainMeta) (message : List ℕ) (fields : List KeyValue) (written : Request) (notes : List PlainNote)
@@ -188,6 +210,6 @@ pub sound_event : (limits : Limits) (rules : List Filter) (forest : ForestView) 
 sound_event limits rules forest stacks calls old mid new worker meta message fields written notes sound within notes_are written_is same sent =
     sound_quiet limits rules forest forest stacks stacks calls old mid new (record { request = event worker meta message fields; answer = told; notes = notes }) sound refl refl
     refl refl sound.world
-    (step_event rules (issued old) (record { spans = forest.spans; stacks = stacks }) worker meta message fields notes within notes_are)
+    (record { within = within; changes = refl; notes_are = notes_are })
     same
     (sent ∙ ap (λ (request : Request). mid ++ (record { request = request; answer = told; notes = notes }) ∷ []) written_is)

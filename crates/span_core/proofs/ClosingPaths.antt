@@ -1,6 +1,6 @@
 -- The notes of a chain of spans that close: how each tells the path at the next.
-use Rattle.std.proofs.Common.{◌≡◌, ◌≢◌, ℕ, zero, suc, ◌+◌, ◌<◌, ◌≤◌, Bool, true, false, cond, ◌&&◌, ◌||◌, List, [], ◌∷◌, ◌++◌, length, map, filter, reverse, replicate, take, drop, drop-cons, get_or, append_assoc, set, eqb, Option, Some, None, refl, sym, ap, ◌∙◌, subst, inl, inr, arith}
-use Rattle.std.specs.Prelude.{slice_get, flat_map, IfSome, IsSomeAnd}
+use Rattle.std.proofs.Common.{◌≡◌, ◌≢◌, ℕ, zero, suc, ◌+◌, ◌<◌, ◌≤◌, Bool, true, false, cond, ◌&&◌, ◌||◌, List, [], ◌∷◌, ◌++◌, length, map, filter, reverse, replicate, take, set, eqb, Option, Some, None, refl, sym, ap, ◌∙◌, subst, inl, inr, arith}
+use Rattle.std.specs.Prelude.{slice_get, IfSome, IsSomeAnd}
 use Rattle.std.specs.List.{list_any, range_with_len}
 use Rattle.std.specs.Option.{option_map_or}
 use Rattle.std.proofs.lemmas.Bool.{cases_Bool, cases_lt, true≢false, eqb-true, eq-eqb, ne_eqb}
@@ -18,7 +18,7 @@ use Rattle.span_forest.specs.Walk.{walk, walk_within, Ends}
 use Rattle.span_forest.specs.Path.{path, path_text, names_for, name_for}
 use Rattle.span_forest.proofs.Ranks.{walk_more}
 use Rattle.span_core.specs.Step.{is_open_parent}
-use Rattle.span_core.specs.Happening.{bits_in, close_of, is_told, note_of, notes_of, path_at}
+use Rattle.span_core.specs.Happening.{bits_in, close_of, is_told, note_of, path_at}
 use Rattle.span_core.specs.inside.Sound.{hears}
 use Rattle.span_core.specs.inside.ClosingPaths.{GoesOn, IsChain, TellsBelow, IsBelow, AreBelow, AreBelowFirst, place_in, AreAscending, with_left}
 use Rattle.span_core.specs.declared.notes.closing.Place.{Place}
@@ -314,21 +314,3 @@ pub below_next : (rules : List Filter) (spans : Spans) (notes : List PlainNote) 
     → GoesOn next closed → AreBelow rules spans notes (λ layer. next) places → AreBelowFirst rules spans notes closed places
 below_next rules spans notes next [] places on old = tt
 below_next rules spans notes next (id ∷ ids) places on old = subst (λ (o : Option ℕ). AreBelow rules spans notes (λ layer. o) places) on old
-
--- what a list has from a place on: the element there, and what it has from the next place on
-pub dropped : (ids : List ℕ) (i id : ℕ) → i < length ids → id ≡ get_or ids i id → drop i ids ≡ id ∷ drop (i + 1) ids
-dropped ids i id within is = drop-cons ids i id within ∙ (λ j. (sym is) j ∷ drop (one j) ids)
-  where
-    one : suc i ≡ i + 1
-    one = omega arith
-
--- the notes so far and those of the spans that are left are all, also once one more span is told of
-pub closes_more : (rules : List Filter) (spans : Spans) (worker id : ℕ) (left rest : List ℕ) (all before after : List PlainNote)
-    → left ≡ id ∷ rest
-    → before ++ flat_map (notes_of rules worker) (map (close_of spans) left) ≡ all
-    → after ≡ before ++ notes_of rules worker (close_of spans id)
-    → after ++ flat_map (notes_of rules worker) (map (close_of spans) rest) ≡ all
-closes_more rules spans worker id left rest all before after next so_far more =
-    ap (λ xs. xs ++ flat_map (notes_of rules worker) (map (close_of spans) rest)) more
-    ∙ append_assoc before (notes_of rules worker (close_of spans id)) (flat_map (notes_of rules worker) (map (close_of spans) rest))
-    ∙ ap (λ ids. before ++ flat_map (notes_of rules worker) (map (close_of spans) ids)) (sym next) ∙ so_far

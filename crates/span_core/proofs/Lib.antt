@@ -1,7 +1,6 @@
 pub mod Soundness
 pub mod Worlds
 pub mod StackLists
-pub mod Accepted
 pub mod Accepting
 pub mod Telling
 pub mod Texts

@@ -1,18 +1,15 @@
-use Rattle.std.proofs.Common.{rules, ◌≡◌, ◌∙◌, ◌<◌, ℕ, cond, List, [], ◌∷◌, true, length, get_or, sym, ap, map, refl, arith}
+use Rattle.std.proofs.Common.{◌≡◌, ◌∙◌, ◌<◌, ℕ, cond, List, [], ◌∷◌, true, length, get_or, sym, ap, map, refl, arith}
 use Rattle.span_layers.specs.declared.note.Kind.TheVariants.{OnExit}
 use Rattle.span_layers.specs.Note.{plain_note}
 use Rattle.span_forest.specs.declared.span.Holder.TheVariants.{Entry}
 use Rattle.span_forest.specs.Release.{closing_list}
 use Rattle.span_stack.specs.Stack.{Stack, has, without_last, ids_of_each}
-use Rattle.span_core.specs.Core.{CoreView, IsDue}
+use Rattle.span_core.specs.Core.{CoreView}
 use Rattle.span_core.specs.Happening.{at_span, close_of, notes_of_all}
 use Rattle.span_core.specs.Step.{closed_by_exit}
 use Rattle.span_core.proofs.Made.{none_made}
 use Rattle.span_core.proofs.Accepting.{sound_exit}
 use Rattle.span_core.proofs.Core.exit_with.Given as given
-use Rattle.span_forest.specs.Forest.{ForestView}
-use Rattle.span_outlet.specs.Request.{exit, exited}
-use Rattle.span_core.proofs.Accepted.{accepted, step_exit}
 use Rattle.span_core.proofs.Core.exit_with.Goals as goal
 use Rattle.span_core.proofs.Core.exit_with.Goals.{After-put}
 
@@ -35,29 +32,13 @@ told g c =
     c.in_ok-notes.ensures.notes
     ∙ ap (λ (ids : List ℕ). notes_of_all c.self.inside.rules c.args.worker (at_span c.self.inside.forest.spans OnExit c.args.id [] ∷ map (close_of c.self.inside.forest.spans) ids)) c.as_slice-2.ensures.value
 
-within : (g : given.Over) (c : After-put g) → c.args.worker < length (ids_of_each c.self.inside.stacks.items)
-within g c = omega (arith, c.requires.worker, ap (λ (v : CoreView). v.limits.workers) c.self.view_is, c.self.invariant.0.stacks_are)
-
 pub invariant_of-self-2 : goal.invariant_of-self-2
-invariant_of-self-2 g c = (
-  sound_exit _ _ _ _ _ _ _ _ _ _ c.args.worker c.args.id c.in-Some-stays_inside.stays _ _ c.self.invariant.0 (within g c) (stands g c) (stays g c)
-      c.in_ok-closing.ensures.list c.release_on_exit.ensures c.pop_at.ensures (told g c) c.in_ok-ask.ensures.sent c.put.ensures.sent,
-  none_made _ _ _ _ _ c.self.invariant.1 refl c.in_ok-ask.ensures.sent c.put.ensures.sent,
-)
-
-closed : (g : given.Over) (c : After-put g) → c.in_ok-closing.closing.items ≡ closed_by_exit c.args.self.now.world c.args.worker c.args.id
-closed g c =
-    c.in_ok-closing.ensures.list
-    ∙ ap (λ b. cond b [] (closing_list c.self.inside.forest.spans c.args.id Entry)) (stays g c)
-    ∙ ap (λ (v : CoreView). closed_by_exit v.world c.args.worker c.args.id) c.self.view_is
-
-pub returns-clause-accepted : goal.returns-clause-accepted
-returns-clause-accepted g c =
-    let due : IsDue c.args.self.now (exit c.args.worker c.args.id) = search rules in
-    accepted _ _ _ _ _ _ _ _ _ _ _ _ _ _ _ _ c.self.view_is due
-    (step_exit _ _ _ _ _ _ c.args.worker c.args.id c.in-Some-stays_inside.stays _ _ (within g c) (stands g c) (stays g c) c.in_ok-closing.ensures.list
-    (ap (λ (f : ForestView). f.spans) c.release_on_exit.ensures) c.pop_at.ensures (told g c))
-    refl (ap exited (closed g c)) c.in_ok-ask.ensures.sent c.put.ensures.sent c.in_ok-ask.ensures.times_full c.put.ensures.times_full c.in_ok-ask.ensures.forms c.put.ensures.forms c.in_ok-ask.ensures.name c.put.ensures.name
+invariant_of-self-2 g c =
+    let within : c.args.worker < length (ids_of_each c.self.inside.stacks.items) = omega (arith, c.requires.worker, ap (λ (v : CoreView). v.limits.workers) c.self.view_is, c.self.invariant.0.stacks_are) in (
+      sound_exit _ _ _ _ _ _ _ _ _ _ c.args.worker c.args.id c.in-Some-stays_inside.stays _ _ c.self.invariant.0 within (stands g c) (stays g c)
+          c.in_ok-closing.ensures.list c.release_on_exit.ensures c.pop_at.ensures (told g c) c.in_ok-ask.ensures.sent c.put.ensures.sent,
+      none_made _ _ _ _ _ c.self.invariant.1 refl c.in_ok-ask.ensures.sent c.put.ensures.sent,
+    )
 
 pub returns-clause-shown : goal.returns-clause-shown
 returns-clause-shown g c = record {
@@ -66,7 +47,9 @@ returns-clause-shown g c = record {
   answer = _;
   left = _;
   lent_is = refl;
-  list_is = c.as_slice-3.ensures.value ∙ closed g c;
+  list_is = c.as_slice-3.ensures.value ∙ c.in_ok-closing.ensures.list
+      ∙ ap (λ b. cond b [] (closing_list c.self.inside.forest.spans c.args.id Entry)) (stays g c)
+      ∙ ap (λ (v : CoreView). closed_by_exit v.world c.args.worker c.args.id) c.self.view_is;
   called = c.see.ensures;
   left_is = refl;
 }

@@ -9,7 +9,7 @@ use Rattle.span_layers.specs.Note.{plain_note}
 use Rattle.span_layers.specs.Filter.{admission_set}
 use Rattle.span_forest.specs.Node.{new_node}
 use Rattle.span_forest.specs.Spans.{find}
-use Rattle.span_forest.specs.Forest.{ForestView, table_of, next_span_id}
+use Rattle.span_forest.specs.Forest.{table_of, next_span_id}
 use Rattle.span_forest.specs.Add.{with_span}
 use Rattle.span_forest.specs.Live.{stands_in}
 use Rattle.span_stack.specs.Stack.{ids_of_each}
@@ -21,10 +21,9 @@ use Rattle.span_core.specs.inside.Sound.{first_note, hears}
 use Rattle.span_core.specs.NextId.{next_id}
 use Rattle.span_core.specs.inside.Given.{meta_given, fields_given}
 use Rattle.span_core.specs.inside.Lent.{span_request}
-use Rattle.span_core.specs.Core.{CoreView, is_parent_below_max}
+use Rattle.span_core.specs.Core.{CoreView}
 use Rattle.span_core.proofs.Legal.{stands_itself}
 use Rattle.span_core.proofs.Made.{few_made, one_made}
-use Rattle.span_core.proofs.Refusals.{always_added}
 use Rattle.span_core.proofs.NewSpans.{sound_new, step_new, new_notes, not_open, not_in_history}
 use Rattle.span_core.proofs.Core.make.Given as given
 use Rattle.span_core.proofs.Core.make.Goals as goal
@@ -123,17 +122,3 @@ returns-clause-made g c =
       forms = c.put.ensures.forms ∙ c.in_ok-ask.ensures.forms ∙ ap (λ (v : CoreView). v.forms) c.self.view_is;
       name = c.put.ensures.name ∙ c.in_ok-ask.ensures.name ∙ ap (λ (v : CoreView). v.name) c.self.view_is;
     }
-
-and_first : (p q : Bool) → (p && q) ≡ true → p ≡ true
-and_first true q h = refl
-and_first false q h = h
-
-pub unreachable-requires : goal.unreachable-requires
-unreachable-requires g c =
-    let forest_is = c.self.invariant.0.forest_is in
-    let parent = c.args.new.now.parent in
-    always_added c.self.inside.forest parent c.args.new.now.id _ c.in_default.ensures.refused
-    (subst (λ (v : CoreView). is_open_parent v.world.spans parent ≡ true) (sym c.self.view_is) c.requires.due.known)
-    (subst (λ k. is_parent_below_max k c.self.inside.forest.spans parent ≡ true) (sym (ap (λ (f : ForestView). f.max_count) forest_is))
-    (subst (λ (v : CoreView). is_parent_below_max v.limits.max_count v.world.spans parent ≡ true) (sym c.self.view_is) (and_first _ _ c.requires.due.counts)))
-    (ap next_span_id forest_is ∙ ap (λ (v : CoreView). next_id v.limits.slots v.limits.last_generation v.sent) c.self.view_is ∙ c.requires.next)
