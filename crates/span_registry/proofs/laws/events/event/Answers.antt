@@ -18,3 +18,9 @@ pub invariant_of-locked-2 : goal.invariant_of-locked-2
 invariant_of-locked-2 g c =
     free_accepted c.locked.invariant c.in-Ok.ensures.accepted c.in-Ok.ensures.seated c.in-Ok.ensures.legal
     (c.locked.invariant.handles_are ∙ sym c.in-Ok.ensures.handles) c.in-Ok.ensures.calls c.count_call.ensures.total
+
+pub returns-clause-step : goal.returns-clause-step
+returns-clause-step g c = rw (← c.locked.view_is, ← c.worker.view_is) c.in-Ok.ensures.accepted
+
+pub returns-in-Err-clause-refused : goal.returns-in-Err-clause-refused
+returns-in-Err-clause-refused g c = rw (← c.locked.view_is, ← c.worker.view_is) c.in-Err.ensures.refused
