@@ -3,5 +3,6 @@ pub mod RegistryBox
 pub mod ReaderBox
 pub mod Alike
 pub mod Found
+pub mod Read
 mod Examples
 mod DataExamples

@@ -243,9 +243,13 @@ fn box_registry(
     }) }
     ensures memory { IfErr result (λ fault. fault ≡ Fault.Memory) }
 {
-    let core = Core::new(alloc, checked, filters, ring)?;
+    let Ok(core) = Core::new(alloc, checked, filters, ring) else {
+        return Err(Fault::Memory);
+    };
     let callsites = Callsites::new(alloc);
-    let boxed = Box::new(alloc, Registry { core, callsites })?;
+    let Ok(boxed) = Box::new(alloc, Registry { core, callsites }) else {
+        return Err(Fault::Memory);
+    };
     Ok(boxed)
 }
 
@@ -276,11 +280,17 @@ fn make(
     ensures places { IfOk result (λ made. places_of made.1.value.name ≡ checked.now.ring) }
     ensures memory { IfErr result (λ fault. fault ≡ Fault.Memory) }
 {
-    let (ring, tap) = Ring::pair(alloc, checked)?;
+    let Ok((ring, tap)) = Ring::pair(alloc, checked) else {
+        return Err(Fault::Memory);
+    };
     let (filters, tellers) = layers.split();
     let lines = LineReader::new(alloc, tap, tellers);
-    let registry = box_registry(alloc, checked, filters, ring)?;
-    let reader = Box::new(alloc, Reader { lines })?;
+    let Ok(registry) = box_registry(alloc, checked, filters, ring) else {
+        return Err(Fault::Memory);
+    };
+    let Ok(reader) = Box::new(alloc, Reader { lines }) else {
+        return Err(Fault::Memory);
+    };
     Ok((registry, reader))
 }
 

@@ -1,13 +1,14 @@
 //! What a worker tells: more fields of a span, and events.
-ghost use Rattle.std.specs.Prelude.{◌≡◌, if◌then◌else◌, take, drop, IfSome, OnSome};
+ghost use Rattle.std.specs.Prelude.{◌≡◌, ◌<◌, if◌then◌else◌, take, drop, IfSome, OnSome};
 ghost use Rattle.std.specs.Arc.{arc_str_bytes};
 ghost use Rattle.span_id.specs.Meta.{plain_fields};
+ghost use Rattle.span_outlet.specs.Request.{event, told};
 ghost use Rattle.span_core.specs.Core.{are_keys};
 ghost use Rattle.span_ffi.specs.Status.{meaning};
 ghost use Rattle.span_ffi.specs.Registry.{OnCore, WithCallsites};
 ghost use Rattle.span_ffi.specs.Ends.{Ends};
-ghost use Rattle.span_ffi.specs.Data.{IsEvent, IsEventAt, said_meta, said_fields, behind_meta};
-ghost use Rattle.span_ffi.specs.Calls.{Records, Tells};
+ghost use Rattle.span_ffi.specs.Data.{IsEventAt, said_fields};
+ghost use Rattle.span_ffi.specs.Calls.{Records, Tells, AnswersData};
 ghost use Rattle.span_ffi.specs.Callsites.{TellsAt};
 
 use crate::callsites::Callsites;
@@ -100,33 +101,34 @@ fn event(
     if !has_worker(core, worker) {
         return Status::NoSuchWorker;
     }
-    let Some((meta, message, fields)) = read_event(alloc, meta, message_len, fields, texts) else {
-        return unread(is_event(meta, message_len, fields, texts));
-    };
-    match core.event_shared(worker, &meta, &message, &fields) {
-        Ok(()) => Status::Done,
-        Err(fault) => Status::Refused(fault),
+    match read_meta(alloc, meta, texts) {
+        Some((meta, rest)) => tell(alloc, core, worker, &meta, message_len, fields, rest),
+        None => unread(is_event(meta, message_len, fields, texts)),
     }
 }
 
-// The meta, the message and the fields of an event. None: the data say nothing, or memory is refused.
-fn read_event(
+// Tells an event of this meta; its message and its fields are read first.
+fn tell(
     alloc: Global,
-    meta: &SpanMeta,
+    core: &mut RingCore,
+    worker: u32,
+    meta: &SharedMeta,
     message_len: u32,
     fields: &[SpanField],
     texts: &[u8],
-) -> Option<(SharedMeta, ArcStr, Fields)>
-    ensures is { OnSome result (IsEvent meta.now message_len fields.now texts.now) }
-    ensures meta { IfSome result (λ event. event.0 ≡ said_meta meta.now texts.now) }
-    ensures message { IfSome result (λ event. arc_str_bytes event.1
-        ≡ take message_len (behind_meta meta.now texts.now)) }
-    ensures fields { IfSome result (λ event. event.2
-        ≡ said_fields fields.now (drop message_len (behind_meta meta.now texts.now))) }
+) -> Status
+    requires { worker < core.old.limits.workers }
+    ensures told { AnswersData worker (IsEventAt message_len fields.now texts.now)
+        (event worker meta.now (take message_len texts.now) (said_fields fields.now (drop message_len texts.now))) told
+        core.old result core.new }
 {
-    let (meta, rest) = read_meta(alloc, meta, texts)?;
-    let (message, fields) = read_told(alloc, message_len, fields, rest)?;
-    Some((meta, message, fields))
+    let Some((message, fields)) = read_told(alloc, message_len, fields, texts) else {
+        return unread(is_told(message_len, fields, texts));
+    };
+    match core.event_shared(worker, meta, &message, &fields) {
+        Ok(()) => Status::Done,
+        Err(fault) => Status::Refused(fault),
+    }
 }
 
 // The message and the fields of an event. None: the data say nothing, or memory is refused.
@@ -140,9 +142,13 @@ fn read_told(
     ensures message { IfSome result (λ told. arc_str_bytes told.0 ≡ take message_len texts.now) }
     ensures fields { IfSome result (λ told. told.1 ≡ said_fields fields.now (drop message_len texts.now)) }
 {
-    let (message, rest) = read_message(alloc, texts, message_len)?;
-    let fields = read_fields(alloc, fields, rest)?;
-    Some((message, fields))
+    let Some((message, rest)) = read_message(alloc, texts, message_len) else {
+        return None;
+    };
+    match read_fields(alloc, fields, rest) {
+        Some(fields) => Some((message, fields)),
+        None => None,
+    }
 }
 
 /// Tells an event. The texts are its name, its target, the message, and the keys and values, one after another.
@@ -190,15 +196,9 @@ fn tell_at(
     if !has_worker(core, worker) {
         return Status::NoSuchWorker;
     }
-    let Some(meta) = callsites.get(callsite) else {
-        return Status::NoSuchCallsite;
-    };
-    let Some((message, fields)) = read_told(alloc, message_len, fields, texts) else {
-        return unread(is_told(message_len, fields, texts));
-    };
-    match core.event_shared(worker, meta, &message, &fields) {
-        Ok(()) => Status::Done,
-        Err(fault) => Status::Refused(fault),
+    match callsites.get(callsite) {
+        Some(meta) => tell(alloc, core, worker, meta, message_len, fields, texts),
+        None => Status::NoSuchCallsite,
     }
 }
 

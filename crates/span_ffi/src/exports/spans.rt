@@ -52,8 +52,8 @@ fn read_parent(core: &RingCore, kind: u32, parent: u64) -> Option<ParentOf>
     }
 }
 
-/// The meta and the fields of a span. None: the data say nothing, or memory is refused.
-pub(super) fn read_span(
+// The meta and the fields of a span. None: the data say nothing, or memory is refused.
+fn read_span(
     alloc: Global,
     meta: &SpanMeta,
     fields: &[SpanField],
@@ -64,9 +64,13 @@ pub(super) fn read_span(
     ensures meta { IfSome result (λ span. span.0 ≡ said_meta meta.now texts.now) }
     ensures fields { IfSome result (λ span. span.1 ≡ said_fields fields.now (behind_meta meta.now texts.now)) }
 {
-    let (meta, rest) = read_meta(alloc, meta, texts)?;
-    let fields = read_fields(alloc, fields, rest)?;
-    Some((meta, fields))
+    let Some((meta, rest)) = read_meta(alloc, meta, texts) else {
+        return None;
+    };
+    match read_fields(alloc, fields, rest) {
+        Some(fields) => Some((meta, fields)),
+        None => None,
+    }
 }
 
 fn new_span(
