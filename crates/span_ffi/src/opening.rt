@@ -243,13 +243,9 @@ fn box_registry(
     }) }
     ensures memory { IfErr result (λ fault. fault ≡ Fault.Memory) }
 {
-    let Ok(core) = Core::new(alloc, checked, filters, ring) else {
-        return Err(Fault::Memory);
-    };
+    let core = Core::new(alloc, checked, filters, ring)?;
     let callsites = Callsites::new(alloc);
-    let Ok(boxed) = Box::new(alloc, Registry { core, callsites }) else {
-        return Err(Fault::Memory);
-    };
+    let boxed = Box::new(alloc, Registry { core, callsites })?;
     Ok(boxed)
 }
 
