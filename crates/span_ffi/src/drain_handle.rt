@@ -80,10 +80,8 @@ impl SpanDrain {
         ensures empty { self.new.held ≡ None }
     {
         let taken = mem::replace(self, SpanDrain::empty(alloc));
-        match taken.into_parts() {
-            Some(parts) => Some(parts.into_box()),
-            None => None,
-        }
+        let parts = taken.into_parts()?;
+        Some(parts.into_box())
     }
 
     /// Puts a reader into an empty handle.

@@ -44,12 +44,8 @@ fn add_pair<'b>(
         ++ (take rule.now.prefix_len bytes.now, said_level rule.now.level) ∷ []) }
     ensures behind { IfSome result (λ behind. behind.now ≡ drop rule.now.prefix_len bytes.now) }
 {
-    let Some(level) = read_level(rule.level) else {
-        return None;
-    };
-    let Some((prefix, behind)) = read_text(alloc, bytes, rule.prefix_len) else {
-        return None;
-    };
+    let level = read_level(rule.level)?;
+    let (prefix, behind) = read_text(alloc, bytes, rule.prefix_len)?;
     match pairs.push((prefix, level)) {
         Ok(()) => Some(behind),
         Err(_) => None,
@@ -70,9 +66,7 @@ fn add_pairs<'b>(
 {
     let mut left = bytes;
     for rule in rules {
-        let Some(behind) = add_pair(alloc, rule, left, pairs) else {
-            return None;
-        };
+        let behind = add_pair(alloc, rule, left, pairs)?;
         left = behind;
     }
     Some(left)
@@ -85,10 +79,8 @@ fn read_rule<'b>(alloc: Global, rules: &[SpanRule], bytes: &'b [u8]) -> Option<(
     ensures behind { IfSome result (λ read. read.1.now ≡ behind_rules rules.now bytes.now) }
 {
     let mut pairs = Vec::new(alloc);
-    match add_pairs(alloc, rules, bytes, &mut pairs) {
-        Some(left) => Some((Rule { pairs }, left)),
-        None => None,
-    }
+    let left = add_pairs(alloc, rules, bytes, &mut pairs)?;
+    Some((Rule { pairs }, left))
 }
 
 // How and of what a layer writes.
@@ -124,12 +116,8 @@ fn read_layer<'b>(
     ensures style { IfSome result (λ read. read.0.style.form ≡ said_form layer.now.form) }
     ensures behind { IfSome result (λ read. read.1.now ≡ behind_rules own.now bytes.now) }
 {
-    let Some(style) = read_style(layer) else {
-        return None;
-    };
-    let Some((rule, left)) = read_rule(alloc, own, bytes) else {
-        return None;
-    };
+    let style = read_style(layer)?;
+    let (rule, left) = read_rule(alloc, own, bytes)?;
     let hooks = Hooks::by_rule_and_form();
     Some((Layer { style, rule, hooks }, left))
 }
@@ -150,12 +138,8 @@ fn add_layer<'r, 'b>(
     ensures behind { IfSome result (λ left. left.1.now
         ≡ behind_rules (take layer.now.rules rules.now) bytes.now) }
 {
-    let Some((own, others)) = rules.split_at_checked(layer.rules as usize) else {
-        return None;
-    };
-    let Some((layer, behind)) = read_layer(alloc, layer, own, bytes) else {
-        return None;
-    };
+    let (own, others) = rules.split_at_checked(layer.rules as usize)?;
+    let (layer, behind) = read_layer(alloc, layer, own, bytes)?;
     match read.add(layer) {
         Ok(_) => Some((others, behind)),
         Err(_) => None,

@@ -43,9 +43,7 @@ pub(crate) fn split_text(bytes: &[u8], len: u32) -> Option<(&str, &[u8])>
     ensures text { IfSome result (λ split. split.0.now ≡ take len bytes.now) }
     ensures behind { IfSome result (λ split. split.1.now ≡ drop len bytes.now) }
 {
-    let Some((front, behind)) = bytes.split_at_checked(len as usize) else {
-        return None;
-    };
+    let (front, behind) = bytes.split_at_checked(len as usize)?;
     let Ok(text) = str::from_utf8(front) else {
         return None;
     };
@@ -64,12 +62,8 @@ pub(crate) fn split_two(
     ensures second { IfSome result (λ split. split.1.now ≡ take second_len (drop first_len bytes.now)) }
     ensures behind { IfSome result (λ split. split.2.now ≡ drop second_len (drop first_len bytes.now)) }
 {
-    let Some((first, left)) = split_text(bytes, first_len) else {
-        return None;
-    };
-    let Some((second, behind)) = split_text(left, second_len) else {
-        return None;
-    };
+    let (first, left) = split_text(bytes, first_len)?;
+    let (second, behind) = split_text(left, second_len)?;
     Some((first, second, behind))
 }
 
@@ -86,12 +80,8 @@ pub(crate) fn read_text(alloc: Global, bytes: &[u8], len: u32) -> Option<(String
     ensures text { IfSome result (λ read. string_bytes read.0 ≡ take len bytes.now) }
     ensures behind { IfSome result (λ read. read.1.now ≡ drop len bytes.now) }
 {
-    let Some((text, behind)) = split_text(bytes, len) else {
-        return None;
-    };
-    let Some(text) = copy_text(alloc, text) else {
-        return None;
-    };
+    let (text, behind) = split_text(bytes, len)?;
+    let text = copy_text(alloc, text)?;
     Some((text, behind))
 }
 
@@ -100,12 +90,8 @@ fn copy_two(alloc: Global, first: &str, second: &str) -> Option<(String, String)
     ensures first { IfSome result (λ copies. string_bytes copies.0 ≡ first.now) }
     ensures second { IfSome result (λ copies. string_bytes copies.1 ≡ second.now) }
 {
-    let Some(first) = copy_text(alloc, first) else {
-        return None;
-    };
-    let Some(second) = copy_text(alloc, second) else {
-        return None;
-    };
+    let first = copy_text(alloc, first)?;
+    let second = copy_text(alloc, second)?;
     Some((first, second))
 }
 
@@ -115,9 +101,7 @@ pub(crate) fn read_message(alloc: Global, bytes: &[u8], len: u32) -> Option<(Arc
     ensures text { IfSome result (λ read. arc_str_bytes read.0 ≡ take len bytes.now) }
     ensures behind { IfSome result (λ read. read.1.now ≡ drop len bytes.now) }
 {
-    let Some((text, behind)) = split_text(bytes, len) else {
-        return None;
-    };
+    let (text, behind) = split_text(bytes, len)?;
     let Ok(text) = ArcStr::from_str(alloc, text) else {
         return None;
     };
@@ -134,15 +118,9 @@ pub(crate) fn read_meta<'b>(
     ensures meta { IfSome result (λ read. read.0 ≡ said_meta meta.now bytes.now) }
     ensures behind { IfSome result (λ read. read.1.now ≡ behind_meta meta.now bytes.now) }
 {
-    let Some(level) = read_level(meta.level) else {
-        return None;
-    };
-    let Some((name, target, behind)) = split_two(bytes, meta.name_len, meta.target_len) else {
-        return None;
-    };
-    let Some(meta) = share_meta(alloc, level, name, target) else {
-        return None;
-    };
+    let level = read_level(meta.level)?;
+    let (name, target, behind) = split_two(bytes, meta.name_len, meta.target_len)?;
+    let meta = share_meta(alloc, level, name, target)?;
     Some((meta, behind))
 }
 
@@ -150,9 +128,7 @@ pub(crate) fn read_meta<'b>(
 fn share_meta(alloc: Global, level: Level, name: &str, target: &str) -> Option<SharedMeta>
     ensures { IfSome result (λ meta. meta ≡ record { name = name.now; target = target.now; level = level }) }
 {
-    let Some((name, target)) = copy_two(alloc, name, target) else {
-        return None;
-    };
+    let (name, target) = copy_two(alloc, name, target)?;
     let meta = Meta {
         name,
         target,
@@ -169,12 +145,8 @@ fn read_field<'b>(alloc: Global, field: &SpanField, bytes: &'b [u8]) -> Option<(
         ≡ (take field.now.key_len bytes.now, take field.now.value_len (drop field.now.key_len bytes.now))) }
     ensures behind { IfSome result (λ read. read.1.now ≡ behind_field field.now bytes.now) }
 {
-    let Some((key, value, behind)) = split_two(bytes, field.key_len, field.value_len) else {
-        return None;
-    };
-    let Some((key, value)) = copy_two(alloc, key, value) else {
-        return None;
-    };
+    let (key, value, behind) = split_two(bytes, field.key_len, field.value_len)?;
+    let (key, value) = copy_two(alloc, key, value)?;
     Some((Field { key, value }, behind))
 }
 
@@ -187,9 +159,7 @@ pub(crate) fn read_fields(alloc: Global, fields: &[SpanField], bytes: &[u8]) -> 
     if fields.is_empty() && bytes.is_empty() {
         return Some(Fields::none());
     }
-    let Some(list) = read_list(alloc, fields, bytes) else {
-        return None;
-    };
+    let list = read_list(alloc, fields, bytes)?;
     Fields::new(alloc, list).ok()
 }
 
@@ -235,9 +205,7 @@ fn add_field<'b>(
         ++ (take field.now.key_len bytes.now, take field.now.value_len (drop field.now.key_len bytes.now)) ∷ []) }
     ensures behind { IfSome result (λ behind. behind.now ≡ behind_field field.now bytes.now) }
 {
-    let Some((field, behind)) = read_field(alloc, field, bytes) else {
-        return None;
-    };
+    let (field, behind) = read_field(alloc, field, bytes)?;
     match read.push(field) {
         Ok(()) => Some(behind),
         Err(_) => None,

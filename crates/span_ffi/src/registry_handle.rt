@@ -80,10 +80,8 @@ impl SpanRegistry {
         ensures empty { self.new.held ≡ None }
     {
         let taken = mem::replace(self, SpanRegistry::empty(alloc));
-        match taken.into_parts() {
-            Some(parts) => Some(parts.into_box()),
-            None => None,
-        }
+        let parts = taken.into_parts()?;
+        Some(parts.into_box())
     }
 
     /// Puts a registry into an empty handle.

@@ -14,10 +14,8 @@ fn behind_meta<'b>(meta: &SpanMeta, bytes: &'b [u8]) -> Option<&'b [u8]>
     if meta.level > 4 {
         return None;
     }
-    match split_two(bytes, meta.name_len, meta.target_len) {
-        Some((_, _, behind)) => Some(behind),
-        None => None,
-    }
+    let (_, _, behind) = split_two(bytes, meta.name_len, meta.target_len)?;
+    Some(behind)
 }
 
 // The bytes behind a key and its value, where they are there.
@@ -26,10 +24,8 @@ fn behind_field<'b>(field: &SpanField, bytes: &'b [u8]) -> Option<&'b [u8]>
         × BeginsWithText field.now.value_len (drop field.now.key_len bytes.now)) }
     ensures behind { IfSome result (λ behind. behind.now ≡ behind_field field.now bytes.now) }
 {
-    match split_two(bytes, field.key_len, field.value_len) {
-        Some((_, _, behind)) => Some(behind),
-        None => None,
-    }
+    let (_, _, behind) = split_two(bytes, field.key_len, field.value_len)?;
+    Some(behind)
 }
 
 /// Whether the bytes are the texts of these fields.
@@ -91,9 +87,7 @@ fn behind_rules<'b>(rules: &[SpanRule], bytes: &'b [u8]) -> Option<&'b [u8]>
         if rule.level > 4 {
             return None;
         }
-        let Some((_, behind)) = split_text(left, rule.prefix_len) else {
-            return None;
-        };
+        let (_, behind) = split_text(left, rule.prefix_len)?;
         left = behind;
     }
     Some(left)

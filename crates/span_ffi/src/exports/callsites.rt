@@ -51,9 +51,7 @@ fn read_callsite(alloc: Global, meta: &SpanMeta, texts: &[u8]) -> Option<SharedM
     ensures is { OnSome result (IsCallsite meta.now texts.now) }
     ensures meta { IfSome result (λ read. read ≡ said_meta meta.now texts.now) }
 {
-    let Some((read, behind)) = read_meta(alloc, meta, texts) else {
-        return None;
-    };
+    let (read, behind) = read_meta(alloc, meta, texts)?;
     if behind.is_empty() { Some(read) } else { None }
 }
 

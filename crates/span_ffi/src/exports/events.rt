@@ -108,6 +108,7 @@ fn event(
 }
 
 // Tells an event of this meta; its message and its fields are read first.
+#[inline]
 fn tell(
     alloc: Global,
     core: &mut RingCore,
@@ -142,13 +143,9 @@ fn read_told(
     ensures message { IfSome result (λ told. arc_str_bytes told.0 ≡ take message_len texts.now) }
     ensures fields { IfSome result (λ told. told.1 ≡ said_fields fields.now (drop message_len texts.now)) }
 {
-    let Some((message, rest)) = read_message(alloc, texts, message_len) else {
-        return None;
-    };
-    match read_fields(alloc, fields, rest) {
-        Some(fields) => Some((message, fields)),
-        None => None,
-    }
+    let (message, rest) = read_message(alloc, texts, message_len)?;
+    let fields = read_fields(alloc, fields, rest)?;
+    Some((message, fields))
 }
 
 /// Tells an event. The texts are its name, its target, the message, and the keys and values, one after another.

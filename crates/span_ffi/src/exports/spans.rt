@@ -64,13 +64,9 @@ fn read_span(
     ensures meta { IfSome result (λ span. span.0 ≡ said_meta meta.now texts.now) }
     ensures fields { IfSome result (λ span. span.1 ≡ said_fields fields.now (behind_meta meta.now texts.now)) }
 {
-    let Some((meta, rest)) = read_meta(alloc, meta, texts) else {
-        return None;
-    };
-    match read_fields(alloc, fields, rest) {
-        Some(fields) => Some((meta, fields)),
-        None => None,
-    }
+    let (meta, rest) = read_meta(alloc, meta, texts)?;
+    let fields = read_fields(alloc, fields, rest)?;
+    Some((meta, fields))
 }
 
 fn new_span(
