@@ -4,8 +4,9 @@
 usage: lanes.py
 
 The gate starts a check only where what it guesses of its memory is free, and its guesses are two to three times what
-the checks take: on four processors with 12 GB free, one of them idles. Where each processor has 5 GB, which no check of
-this repository takes, that is their number. Else, and where rt is otherwise made than this knows, nothing is printed.
+the checks take, so that a processor often idles though memory is there. Where each processor has 5 GB, that is their
+number: no check of this repository takes more, and most take 2, which leaves room for what `./check` runs beside them.
+Else, and where rt is otherwise made than this knows, nothing is printed.
 """
 from toolchain import load
 

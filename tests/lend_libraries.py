@@ -27,6 +27,9 @@ def lend(root, copy):
         shutil.copytree(kept, to, symlinks=True)
         with open(f"{to}/stamp", "w", encoding="utf-8") as file:
             file.write(stamp)
+    # (at its end the gate puts back what was there before it)
+    if any(os.path.exists(f"{kept}/stamp") for kept, _, _ in lent):
+        return "the gate has ended meanwhile"
     if not all(it.is_built() for it in crate.below()):
         return "rt doesn't know them for built"
     return None

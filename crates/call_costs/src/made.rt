@@ -106,7 +106,7 @@ fn run_with<R: Threads + Wait + Sync>(
         Order::Chain { length } => chain(alloc, *length, layers),
         Order::Slow { places, rounds } => {
             let slowed = beside_a_slow_drain(rt, alloc, *places, *rounds, layers)?;
-            Ok(made_beside(&slowed))
+            Ok(made_of(&slowed))
         }
     }
 }
@@ -129,7 +129,7 @@ fn in_a_storm<R: Threads + Wait + Sync>(
     }
 }
 
-fn made_beside(slowed: &Slowed) -> Made {
+fn made_of(slowed: &Slowed) -> Made {
     let report = &slowed.report;
     Made {
         calls: report.calls,

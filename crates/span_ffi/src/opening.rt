@@ -1,6 +1,7 @@
 //! The making of a registry and of the other end of its ring, from what C passes.
 //!
-//! Where one of the `read_` functions gives None, the data say nothing, or memory is refused.
+//! Where one of the `read_` functions gives None, the data say nothing, there are more than 64 layers, or memory is
+//! refused.
 ghost use Rattle.std.specs.Prelude.{◌≡◌, ◌≤◌, ◌↔◌, ◌++◌, ◌∷◌, [], true, Some, map, take, drop, IsOk, IsSome, IfSome, OnSome, IfOk, IfErr};
 ghost use Rattle.span_id.specs.Limits.{AreInRange};
 ghost use Rattle.span_layers.specs.Rule.{pair_of, pairs_of};
@@ -46,10 +47,8 @@ fn add_pair<'b>(
 {
     let level = read_level(rule.level)?;
     let (prefix, behind) = read_text(alloc, bytes, rule.prefix_len)?;
-    match pairs.push((prefix, level)) {
-        Ok(()) => Some(behind),
-        Err(_) => None,
-    }
+    pairs.push((prefix, level)).ok()?;
+    Some(behind)
 }
 
 // Adds the pairs of rules, and gives the bytes behind their prefixes.
@@ -66,8 +65,7 @@ fn add_pairs<'b>(
 {
     let mut left = bytes;
     for rule in rules {
-        let behind = add_pair(alloc, rule, left, pairs)?;
-        left = behind;
+        left = add_pair(alloc, rule, left, pairs)?;
     }
     Some(left)
 }
@@ -140,10 +138,8 @@ fn add_layer<'r, 'b>(
 {
     let (own, others) = rules.split_at_checked(layer.rules as usize)?;
     let (layer, behind) = read_layer(alloc, layer, own, bytes)?;
-    match read.add(layer) {
-        Ok(_) => Some((others, behind)),
-        Err(_) => None,
-    }
+    read.add(layer).ok()?;
+    Some((others, behind))
 }
 
 // Adds the layers, with all rules and all bytes. No: the data say nothing, or memory is refused.
@@ -229,8 +225,7 @@ fn box_registry(
 {
     let core = Core::new(alloc, checked, filters, ring)?;
     let callsites = Callsites::new(alloc);
-    let boxed = Box::new(alloc, Registry { core, callsites })?;
-    Ok(boxed)
+    Ok(Box::new(alloc, Registry { core, callsites })?)
 }
 
 // A registry with these layers, and the other end of its ring, each in a box. The only error is `Memory`.

@@ -206,8 +206,6 @@ fn add_field<'b>(
     ensures behind { IfSome result (λ behind. behind.now ≡ behind_field field.now bytes.now) }
 {
     let (field, behind) = read_field(alloc, field, bytes)?;
-    match read.push(field) {
-        Ok(()) => Some(behind),
-        Err(_) => None,
-    }
+    read.push(field).ok()?;
+    Some(behind)
 }

@@ -26,7 +26,7 @@ pub text_ends : (meant : Result Turn Reason) (number : ℕ) (state : State) (tex
 text_ends meant number state text shown a b (Ok _) is same p d = tt
 text_ends meant number state text shown a b (Err e) is same p d = turn_begun meant meant number state text shown a b Write e refl is same d p
 
--- the text of a line was not written to its end
+-- the same, whatever the hooks are
 pub value_ends : (meant : ℕ → Result Turn Reason) (number : ℕ) (state : State) (text shown : List ℕ) (a b : Known) (r : Result ⊤ RunFault) → ((hooks : ℕ) → meant hooks ≡ Ok (record { text = text; state = state })) → shown ≡ text
     → OnErr r (AppendsFront a b shown) → IfErr r (λ e. e ≡ Device Write) → IfErr r (λ e. (hooks : ℕ) → TurnFails (meant hooks) number a b e)
 value_ends meant number state text shown a b (Ok _) is same p d = tt

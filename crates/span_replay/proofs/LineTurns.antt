@@ -31,9 +31,6 @@ pub json_stops : (hooks : ℕ) (state : State) (line : List ℕ) (stop : Stop) �
 json_stops hooks state line Memory k p = tt
 json_stops hooks state line (Refused reason) k p = bad_line hooks state line reason k p
 
-pub line_stops : (meant meant' : Result Turn Reason) (stop : Stop) → meant ≡ meant' → StopsFor meant' stop → StopsFor meant stop
-line_stops meant meant' stop e p = subst (λ m. StopsFor m stop) (sym e) p
-
 at_fault : (meant : Result Turn Reason) (number : ℕ) (a : Known) (stop : Stop) → StopsFor meant stop → TurnFails meant number a a (fault_at number stop)
 at_fault meant number a Memory p = Keeps-refl a
 at_fault meant number a (Refused reason) p = (refl, p, Keeps-refl a)

@@ -6,7 +6,7 @@ ghost use Rattle.span_script.specs.Reason.{Answers, AnswersOrStops};
 ghost use Rattle.span_script.specs.Operation.{json_of, op_named, op_of, is_setup, operation_of, keys_of, limits_of, layer_of, new_of};
 ghost use Rattle.span_script.specs.Operation.{on_span_of, record_of, event_of, find_of, find_old_of};
 ghost use Rattle.span_script.specs.Views.{operation_seen, op_seen, stage_seen, NamesWorker};
-ghost use Rattle.span_script.specs.inside.Rests.{named_of, said_of};
+ghost use Rattle.span_script.specs.inside.Rests.{named_span_of, said_event_of};
 
 use crate::fields::fields;
 use crate::key::Key;
@@ -206,7 +206,7 @@ fn named_span<'v>(
     level: Level,
 ) -> Result<Operation<'v>, Stop>
     ensures meant { AnswersOrStops operation_seen result
-        (named_of workers (view line.now) name.now target.now level) }
+        (named_span_of workers (view line.now) name.now target.now level) }
     ensures worker { 0 < workers → IfOk result (λ operation. NamesWorker operation workers) }
 {
     let parent = match parent(line) {
@@ -269,11 +269,11 @@ fn event<'v>(alloc: Global, line: &Value, workers: usize) -> Result<Operation<'v
     let message = required_text(line, Key::Message)?;
     let target = text(line, Key::Target, "app")?;
     let level = level(line)?;
-    said(alloc, line, workers, message, target, level)
+    said_event(alloc, line, workers, message, target, level)
 }
 
 /// The event of this message, target and level that a line asks for.
-fn said<'v>(
+fn said_event<'v>(
     alloc: Global,
     line: &Value,
     workers: usize,
@@ -282,7 +282,7 @@ fn said<'v>(
     level: Level,
 ) -> Result<Operation<'v>, Stop>
     ensures meant { AnswersOrStops operation_seen result
-        (said_of workers (view line.now) message.now target.now level) }
+        (said_event_of workers (view line.now) message.now target.now level) }
     ensures worker { 0 < workers → IfOk result (λ operation. NamesWorker operation workers) }
 {
     let fields = fields(alloc, line)?;

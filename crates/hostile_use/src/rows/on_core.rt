@@ -85,10 +85,10 @@ fn plan<'a>(names: &'a Names) -> [Planned<'a, Ask<'a>>; 29] {
     // The third span gets the slot of the first.
     let third = Id::pack(0, 1);
     [
-        ("new a", Taken, new(&names.a, ParentOf::Root)),
+        ("new a", Taken, new_span(&names.a, ParentOf::Root)),
         ("clone 1", Taken, Ask::Call(Act::Clone(one))),
         ("enter 1", Taken, Ask::Call(Act::Enter(one))),
-        ("new b inside", Taken, new(&names.b, ParentOf::Current)),
+        ("new b inside", Taken, new_span(&names.b, ParentOf::Current)),
         ("record 2", Taken, Ask::Call(Act::Record(two, fields))),
         ("event m", Taken, Ask::Call(Act::Event(&names.event, "m"))),
         ("find 1", Untouched, Ask::Call(Act::Find(one))),
@@ -101,7 +101,7 @@ fn plan<'a>(names: &'a Names) -> [Planned<'a, Ask<'a>>; 29] {
         ("len", Untouched, Ask::Len),
         ("close 2", Taken, Ask::Call(Act::Close(two))),
         ("len", Untouched, Ask::Len),
-        ("new a", Taken, new(&names.a, ParentOf::Root)),
+        ("new a", Taken, new_span(&names.a, ParentOf::Root)),
         ("enter it", Taken, Ask::Call(Act::Enter(third))),
         ("enter it, 2", Taken, Ask::Call(Act::Enter(third))),
         ("enter it, 3", Taken, Ask::Call(Act::Enter(third))),
@@ -117,7 +117,7 @@ fn plan<'a>(names: &'a Names) -> [Planned<'a, Ask<'a>>; 29] {
     ]
 }
 
-fn new<'a>(meta: &'a Meta, parent: ParentOf) -> Ask<'a> {
+fn new_span<'a>(meta: &'a Meta, parent: ParentOf) -> Ask<'a> {
     Ask::Call(Act::New(meta, parent))
 }
 

@@ -1,5 +1,5 @@
 //! New callsites: metas that are handed over once.
-ghost use Rattle.std.specs.Prelude.{◌≡◌, ◌≤◌, ◌^◌, ◌++◌, ◌∷◌, [], true, false, length, Some, IfOk, IfErr, OnOk, OnErr, OnSome, IfSome};
+ghost use Rattle.std.specs.Prelude.{◌≡◌, true, length, Some, IfOk, IfErr, OnOk, OnSome, IfSome};
 ghost use Rattle.span_id.specs.Name.{is_name};
 ghost use Rattle.span_ffi.specs.Status.{meaning};
 ghost use Rattle.span_ffi.specs.Ends.{Ends, Keeps};

@@ -21,7 +21,7 @@ fn give_line(lines: &mut Lines, layer: &mut u32, into: &mut [u8], len: &mut usiz
     give_first(lines, layer, into, len)
 }
 
-// Gives the first line that waits already out.
+// Gives out the first of the lines that wait already.
 fn give_first(lines: &mut Lines, layer: &mut u32, into: &mut [u8], len: &mut usize) -> Status
     ensures line { GivesFirst layer.new into.old into.new len.new lines.old result lines.new }
     ensures layer { Keeps (Some result) layer.old layer.new }

@@ -74,7 +74,8 @@ fn leave_and_close<V: Say, W: Write>(
 ) -> Result<u64, RunFault>
     requires failed { failed_of output.old < 2 ^ 63 }
     requires written { IsWritten script.old }
-    ensures runs { (stage : Stage) → Runs (last_part (record { core = core_in script.old; labels = labels.now; stage = stage }))
+    ensures runs { (stage : Stage) →
+        Runs (last_part (record { core = core_in script.old; labels = labels.now; stage = stage }))
         (W.contents (inner_of output.old)) (W.contents (inner_of output.new)) result }
     ensures counts { EndsAsCounted 0 0 (failed_of output.old) (failed_of output.new) result }
     ensures flushes { flushes_of output.new ≡ flushes_of output.old }
