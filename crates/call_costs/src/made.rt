@@ -1,5 +1,5 @@
 //! A run with its layers, and what came of it.
-ghost use Rattle.std.specs.Prelude.{◌≡◌, ◌≤◌, string_bytes, IfOk};
+ghost use Rattle.std.specs.Prelude.{◌≡◌, string_bytes, IfOk};
 ghost use Rattle.std.specs.Result.{ForOk};
 ghost use Rattle.span_layers.specs.Note.{plain_note};
 ghost use Rattle.span_layers.specs.Rule.{pairs_of, is_admitted};
@@ -10,9 +10,9 @@ use crate::chain::chain;
 use crate::core_loop::calls_on_core;
 use crate::order::Order;
 use crate::registry_loop::calls_on_registry;
-use crate::slow_drain::{Slowed, beside_a_slow_drain};
+use crate::slow_drain::beside_a_slow_drain;
 use span_id::{Fault, Level, Meta, copy_text};
-use span_layers::{FmtSpan, Form, Hooks, Layer, Layers, Note, Rule, Style, admits, text};
+use span_layers::{Form, Hooks, Layer, Layers, Note, Rule, Style, admits, text};
 use span_storm::{Open, storm};
 use std::alloc::{AllocError, Global};
 use std::sync::Wait;
@@ -28,49 +28,39 @@ pub struct Made {
     pub backlogs: u64,
 }
 
-/// Makes a run.
+/// Makes a run. Its layers write compact lines of everything. The closures' contracts are what `Hooks::new` asks for.
 pub fn run<R: Threads + Wait + Sync>(rt: &R, alloc: Global, order: &Order) -> Result<Made, Fault>
     requires { IsInRange order.now }
 {
-    run_with(rt, alloc, order, layers_of(alloc, order)?)
-}
-
-// The run's layers.
-fn layers_of(alloc: Global, order: &Order) -> Result<Layers, Fault> {
     let mut layers = Layers::new(alloc);
+    let more = order.texts_more();
     for _ in 0..order.layers() {
-        let layer = layer_of(alloc, order.spans(), order.texts_more())?;
+        let admit = Box::new(
+            alloc,
+            |rule: &Rule, meta: &Meta| -> bool
+                ensures { result
+                    ≡ is_admitted (pairs_of rule.now) (string_bytes meta.now.target) meta.now.level }
+            { admits(rule, meta) },
+        )?;
+        let say = Box::new(
+            alloc,
+            move |alloc: Global, form: Form, note: &Note| -> Result<Vec<u8>, AllocError>
+                ensures { ForOk result (λ text. text.items ≡ text_of form (plain_note note.now)) }
+            { slowly(alloc, form, note, more) },
+        )?;
+        let layer = Layer {
+            style: Style {
+                form: Form::Compact,
+                spans: order.spans(),
+            },
+            rule: everything(alloc)?,
+            hooks: Hooks::new(admit, say),
+        };
         if let Err((_, fault)) = layers.add(layer) {
             return Err(fault);
         }
     }
-    Ok(layers)
-}
-
-// A layer that writes compact lines of everything. The closures' contracts are what `Hooks::new` asks for.
-fn layer_of(alloc: Global, spans: FmtSpan, more: u32) -> Result<Layer, Fault> {
-    let rule = everything(alloc)?;
-    let admit = Box::new(
-        alloc,
-        |rule: &Rule, meta: &Meta| -> bool
-            ensures { result
-                ≡ is_admitted (pairs_of rule.now) (string_bytes meta.now.target) meta.now.level }
-        { admits(rule, meta) },
-    )?;
-    let say = Box::new(
-        alloc,
-        move |alloc: Global, form: Form, note: &Note| -> Result<Vec<u8>, AllocError>
-            ensures { ForOk result (λ text. text.items ≡ text_of form (plain_note note.now)) }
-        { slowly(alloc, form, note, more) },
-    )?;
-    Ok(Layer {
-        style: Style {
-            form: Form::Compact,
-            spans,
-        },
-        rule,
-        hooks: Hooks::new(admit, say),
-    })
+    run_with(rt, alloc, order, layers)
 }
 
 // The text of a note, which is made so many times more, so that it takes longer.
@@ -102,39 +92,25 @@ fn run_with<R: Threads + Wait + Sync>(
     match order {
         Order::Core(shape) => calls_on_core(alloc, shape, layers),
         Order::Registry(shape) => calls_on_registry(rt, alloc, shape, layers),
-        Order::Storm { workers, rounds } => in_a_storm(rt, alloc, *workers, *rounds),
+        Order::Storm { workers, rounds } => {
+            let none = Layers::new(alloc);
+            match storm(rt, alloc, *workers, *rounds, none, &Open) {
+                Ok(report) => Ok(Made {
+                    calls: report.calls,
+                    ..Made::default()
+                }),
+                Err(_) => Err(Fault::Memory),
+            }
+        }
         Order::Chain { length } => chain(alloc, *length, layers),
         Order::Slow { places, rounds } => {
             let slowed = beside_a_slow_drain(rt, alloc, *places, *rounds, layers)?;
-            Ok(made_of(&slowed))
+            Ok(Made {
+                calls: slowed.report.calls,
+                lines: slowed.report.lines.len() as u64,
+                left: slowed.report.left,
+                backlogs: slowed.backlogs,
+            })
         }
-    }
-}
-
-// A storm without layers.
-fn in_a_storm<R: Threads + Wait + Sync>(
-    rt: &R,
-    alloc: Global,
-    workers: u32,
-    rounds: u32,
-) -> Result<Made, Fault>
-    requires { (1 ≤ workers) × (workers ≤ 16) × (1 ≤ rounds) × (rounds ≤ 400) }
-{
-    match storm(rt, alloc, workers, rounds, Layers::new(alloc), &Open) {
-        Ok(report) => Ok(Made {
-            calls: report.calls,
-            ..Made::default()
-        }),
-        Err(_) => Err(Fault::Memory),
-    }
-}
-
-fn made_of(slowed: &Slowed) -> Made {
-    let report = &slowed.report;
-    Made {
-        calls: report.calls,
-        lines: report.lines.len() as u64,
-        left: report.left,
-        backlogs: slowed.backlogs,
     }
 }

@@ -16,6 +16,8 @@ use std::time::Clock;
 
 /// Makes the run that is ordered. Its layer admits everything and wants all kinds. It makes the text of each note and
 /// throws it away, so the drain counts the note as missed and its memory stays level however long the run is.
+///
+/// The closures' contracts are what `Hooks::new` asks for.
 pub fn soak<R: Threads + Wait + Clock + Sync>(
     rt: &R,
     alloc: Global,
@@ -25,17 +27,6 @@ pub fn soak<R: Threads + Wait + Clock + Sync>(
     ensures empty { IfOk result (λ soaked. (soaked.report.left ≡ 0) ↔ (soaked.report.entries ≡ 0)) }
     ensures balance { IfOk result (λ soaked. soaked.report.made ≡ soaked.report.closed + soaked.report.left) }
 {
-    let layer = layer_of(alloc)?;
-    let mut layers = Layers::new(alloc);
-    if let Err((_, fault)) = layers.add(layer) {
-        return Err(fault);
-    }
-    soak_with(rt, alloc, order, layers)
-}
-
-// The closures' contracts are what `Hooks::new` asks for.
-fn layer_of(alloc: Global) -> Result<Layer, Fault> {
-    let rule = everything(alloc)?;
     let admit = Box::new(
         alloc,
         |rule: &Rule, meta: &Meta| -> bool
@@ -52,19 +43,19 @@ fn layer_of(alloc: Global) -> Result<Layer, Fault> {
             Err(AllocError)
         },
     )?;
-    Ok(Layer {
+    let mut pairs = Vec::with_capacity(alloc, 1)?;
+    pairs.push_reserved((copy_text(alloc, "")?, Level::Trace));
+    let layer = Layer {
         style: Style {
             form: Form::Compact,
             spans: FmtSpan::FULL,
         },
-        rule,
+        rule: Rule { pairs },
         hooks: Hooks::new(admit, say),
-    })
-}
-
-// The rule that admits everything.
-fn everything(alloc: Global) -> Result<Rule, Fault> {
-    let mut pairs = Vec::with_capacity(alloc, 1)?;
-    pairs.push_reserved((copy_text(alloc, "")?, Level::Trace));
-    Ok(Rule { pairs })
+    };
+    let mut layers = Layers::new(alloc);
+    if let Err((_, fault)) = layers.add(layer) {
+        return Err(fault);
+    }
+    soak_with(rt, alloc, order, layers)
 }

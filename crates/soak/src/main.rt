@@ -38,23 +38,16 @@ fn main(rt: HostRuntime) -> io::Result<ExitCode> {
     tell(&rt, soak(&rt, rt.alloc(), &order))
 }
 
-// Tells how a run ended.
+// Tells how a run ended. How often there was no place is told on standard error, since it differs from run to run.
 fn tell(rt: &HostRuntime, ended: Result<Soaked, Fault>) -> io::Result<ExitCode> {
-    match ended {
-        Ok(soaked) => {
-            print(rt, &soaked)?;
-            Ok(ExitCode::SUCCESS)
-        }
+    let soaked = match ended {
+        Ok(soaked) => soaked,
         Err(fault) => {
             eprintln!(rt; "{fault}")?;
-            Ok(ExitCode::FAILURE)
+            return Ok(ExitCode::FAILURE);
         }
-    }
-}
-
-// How often there was no place is told on standard error, since it differs from run to run.
-fn print(rt: &HostRuntime, soaked: &Soaked) -> io::Result<()> {
-    let report = &soaked.report;
+    };
+    let report = soaked.report;
     println!(rt; "calls {}", report.calls)?;
     println!(rt; "made {}", report.made)?;
     println!(rt; "closed {}", report.closed)?;
@@ -65,5 +58,5 @@ fn print(rt: &HostRuntime, soaked: &Soaked) -> io::Result<()> {
     println!(rt; "lines {}", report.lines.len())?;
     println!(rt; "missed {}", report.refused)?;
     eprintln!(rt; "{} times no place", soaked.tally.backlogs)?;
-    Ok(())
+    Ok(ExitCode::SUCCESS)
 }

@@ -37,39 +37,33 @@ fn main(rt: HostRuntime) -> io::Result<ExitCode> {
 }
 
 /// How a registry ended that had two layers: one that is told of all that happens to spans, as plain text, and one that
-/// is told of events, as JSON.
+/// is told of events, as JSON. The closures' contracts are what `Hooks::new` asks for.
 fn with_two_layers<R: Threads + Wait + Sync>(rt: &R, alloc: Global) -> Result<Report, Fault> {
     let mut layers = Layers::new(alloc);
     for (form, spans) in [(Form::Compact, FmtSpan::FULL), (Form::Json, FmtSpan::NONE)] {
-        let layer = layer_of(alloc, Style { form, spans })?;
+        let admit = Box::new(
+            alloc,
+            |rule: &Rule, meta: &Meta| -> bool
+                ensures { result
+                    ≡ is_admitted (pairs_of rule.now) (string_bytes meta.now.target) meta.now.level }
+            { admits(rule, meta) },
+        )?;
+        let say = Box::new(
+            alloc,
+            |alloc: Global, form: Form, note: &Note| -> Result<Vec<u8>, AllocError>
+                ensures { ForOk result (λ text. text.items ≡ text_of form (plain_note note.now)) }
+            { text(alloc, form, note) },
+        )?;
+        let layer = Layer {
+            style: Style { form, spans },
+            rule: everything(alloc)?,
+            hooks: Hooks::new(admit, say),
+        };
         if let Err((_, fault)) = layers.add(layer) {
             return Err(fault);
         }
     }
     visited(rt, alloc, layers)
-}
-
-// A layer that admits everything. The closures' contracts are what `Hooks::new` asks for.
-fn layer_of(alloc: Global, style: Style) -> Result<Layer, Fault> {
-    let rule = everything(alloc)?;
-    let admit = Box::new(
-        alloc,
-        |rule: &Rule, meta: &Meta| -> bool
-            ensures { result
-                ≡ is_admitted (pairs_of rule.now) (string_bytes meta.now.target) meta.now.level }
-        { admits(rule, meta) },
-    )?;
-    let say = Box::new(
-        alloc,
-        |alloc: Global, form: Form, note: &Note| -> Result<Vec<u8>, AllocError>
-            ensures { ForOk result (λ text. text.items ≡ text_of form (plain_note note.now)) }
-        { text(alloc, form, note) },
-    )?;
-    Ok(Layer {
-        style,
-        rule,
-        hooks: Hooks::new(admit, say),
-    })
 }
 
 // The rule that admits everything.
@@ -106,16 +100,10 @@ fn visited<R: Threads + Wait + Sync>(
 
 /// Prints the lines, sorted, and then how the registry ended.
 fn print(rt: &HostRuntime, report: Report) -> io::Result<()> {
-    let mut report = report;
-    report
-        .lines
-        .sort_unstable_by(|one: &Line, other: &Line| one.text.cmp(&other.text));
-    write_report(rt, &report)
-}
-
-fn write_report(rt: &HostRuntime, report: &Report) -> io::Result<()> {
     let mut out = rt.stdout();
-    for line in &report.lines {
+    let mut lines = report.lines;
+    lines.sort_unstable_by(|one: &Line, other: &Line| one.text.cmp(&other.text));
+    for line in &lines {
         out.write_all(line.text.as_slice())?;
         out.write_all(b"\n")?;
     }

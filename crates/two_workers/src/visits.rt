@@ -1,5 +1,5 @@
 //! What the threads do with the registry.
-ghost use Rattle.std.specs.Prelude.{◌≡◌, ◌+◌, ◌≤◌, ◌∷◌, [], None, IfOk, vec_len};
+ghost use Rattle.std.specs.Prelude.{◌≡◌, ◌+◌, ◌≤◌, [], None, IfOk};
 ghost use Rattle.two_workers.specs.Visit.{IsBack};
 
 use span_id::{Checked, Fault, Level, Meta, copy_text};
@@ -51,37 +51,28 @@ pub fn visits<
     requires calls { (calls.name ≡ C.name) × (calls.parts ≡ C.parts) × (C.parts ≡ 3) }
     requires table { (table ≡ S.table) × (table.words ≡ checked.now.slots) }
 {
-    let request = meta(alloc, "request")?;
     let (registry, workers) = Registry::<H, C, S, Kept<V>>::new(
         alloc, checked, filters, outlet, handles, calls, table,
     )?;
-    let (own, first, second) = three(workers);
+    let mut workers = workers.into_iter();
+    let (Some(own), Some(first), Some(second), None) = (
+        workers.next(),
+        workers.next(),
+        workers.next(),
+        workers.next(),
+    ) else {
+        unreachable!()
+    };
+    let request = meta(alloc, "request")?;
     let whole = both(rt, &registry, &request, own, first, second)?;
     Ok(registry.finish_kept(whole))
 }
 
-// The workers of a registry that has three.
-fn three<H: Ledger, C: Ledger>(
-    workers: Vec<Worker<H, C>>,
-) -> (Worker<H, C>, Worker<H, C>, Worker<H, C>)
-    requires { vec_len workers ≡ 3 }
-    ensures { workers.items ≡ result.0 ∷ result.1 ∷ result.2 ∷ [] }
-{
-    let mut workers = workers;
-    let (Some(second), Some(first), Some(own)) = (workers.pop(), workers.pop(), workers.pop())
-    else {
-        unreachable!()
-    };
-    (own, first, second)
-}
-
 // A span's name at the level of information.
 fn meta(alloc: Global, name: &str) -> Result<Meta, Fault> {
-    let name = copy_text(alloc, name)?;
-    let target = copy_text(alloc, "app")?;
     Ok(Meta {
-        name,
-        target,
+        name: copy_text(alloc, name)?,
+        target: copy_text(alloc, "app")?,
         level: Level::Info,
     })
 }
