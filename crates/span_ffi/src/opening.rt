@@ -2,7 +2,8 @@
 //!
 //! Where one of the `read_` functions gives None, the data say nothing, there are more than 64 layers, or memory is
 //! refused.
-ghost use Rattle.std.specs.Prelude.{◌≡◌, ◌≤◌, ◌↔◌, ◌++◌, ◌∷◌, [], true, Some, map, take, drop, IsOk, IsSome, IfSome, OnSome, IfOk, IfErr};
+ghost use Rattle.std.specs.Prelude.{◌≡◌, ◌≤◌, ◌↔◌, ◌++◌, ◌∷◌, [], true, Some, map, take, drop};
+ghost use Rattle.std.specs.Prelude.{IsOk, IsSome, IfSome, OnSome, IfOk, IfErr};
 ghost use Rattle.span_id.specs.Limits.{AreInRange};
 ghost use Rattle.span_layers.specs.Rule.{pair_of, pairs_of};
 ghost use Rattle.span_layers.specs.Filter.{filter_of};
@@ -11,7 +12,8 @@ ghost use Rattle.span_layers.specs.Layers.{filters_in, forms_in};
 ghost use Rattle.span_outlet.specs.Ring.{places_of};
 ghost use Rattle.span_core.specs.World.{empty_world};
 ghost use Rattle.span_ffi.specs.Data.{BeginsWithText, said_level};
-ghost use Rattle.span_ffi.specs.Opening.{AreRules, said_pairs, behind_rules, said_form, IsLayer, AreLayers, said_filters, said_forms, said_limits, AreNew, WhyNone};
+ghost use Rattle.span_ffi.specs.Opening.{AreRules, said_pairs, behind_rules, said_form, IsLayer, AreLayers};
+ghost use Rattle.span_ffi.specs.Opening.{said_filters, said_forms, said_limits, AreNew, WhyNone};
 
 use crate::callsites::Callsites;
 use crate::data::{SpanLayer, SpanLimits, SpanRule};

@@ -3,4 +3,3 @@ pub mod Key
 pub mod Reason
 pub mod Operation
 pub mod Views
-pub mod inside

@@ -6,7 +6,6 @@ ghost use Rattle.span_script.specs.Reason.{Answers, AnswersOrStops};
 ghost use Rattle.span_script.specs.Operation.{json_of, op_named, op_of, is_setup, operation_of, keys_of, limits_of, layer_of, new_of};
 ghost use Rattle.span_script.specs.Operation.{on_span_of, record_of, event_of, find_of, find_old_of};
 ghost use Rattle.span_script.specs.Views.{operation_seen, op_seen, stage_seen, NamesWorker};
-ghost use Rattle.span_script.specs.inside.Rests.{named_span_of, said_event_of};
 
 use crate::fields::fields;
 use crate::key::Key;
@@ -17,7 +16,7 @@ use crate::reason::Reason;
 use crate::rules::rule;
 use crate::stop::Stop;
 use serde_json::Value;
-use span_id::{Id, Level, Limits};
+use span_id::{Id, Limits};
 use span_layers::Style;
 use std::alloc::Global;
 use std::sync::ArcStr;
@@ -193,22 +192,6 @@ fn new_span<'v>(alloc: Global, line: &'v Value, workers: usize) -> Result<Operat
     let name = required_text(line, Key::Name)?;
     let target = text(line, Key::Target, "app")?;
     let level = level(line)?;
-    named_span(alloc, line, workers, name, target, level)
-}
-
-/// The new span of this name, target and level that a line asks for.
-fn named_span<'v>(
-    alloc: Global,
-    line: &'v Value,
-    workers: usize,
-    name: &'v str,
-    target: &str,
-    level: Level,
-) -> Result<Operation<'v>, Stop>
-    ensures meant { AnswersOrStops operation_seen result
-        (named_span_of workers (view line.now) name.now target.now level) }
-    ensures worker { 0 < workers → IfOk result (λ operation. NamesWorker operation workers) }
-{
     let parent = match parent(line) {
         Ok(parent) => parent,
         Err(reason) => return Err(Stop::Refused(reason)),
@@ -216,9 +199,8 @@ fn named_span<'v>(
     let fields = fields(alloc, line)?;
     let label = text(line, Key::Label, name)?;
     let worker = worker(line, workers)?;
-    let meta = meta(alloc, name, target, level)?;
     Ok(Operation::New(NewSpan {
-        meta,
+        meta: meta(alloc, name, target, level)?,
         fields,
         parent,
         label,
@@ -269,29 +251,11 @@ fn event<'v>(alloc: Global, line: &Value, workers: usize) -> Result<Operation<'v
     let message = required_text(line, Key::Message)?;
     let target = text(line, Key::Target, "app")?;
     let level = level(line)?;
-    said_event(alloc, line, workers, message, target, level)
-}
-
-/// The event of this message, target and level that a line asks for.
-fn said_event<'v>(
-    alloc: Global,
-    line: &Value,
-    workers: usize,
-    message: &str,
-    target: &str,
-    level: Level,
-) -> Result<Operation<'v>, Stop>
-    ensures meant { AnswersOrStops operation_seen result
-        (said_event_of workers (view line.now) message.now target.now level) }
-    ensures worker { 0 < workers → IfOk result (λ operation. NamesWorker operation workers) }
-{
     let fields = fields(alloc, line)?;
     let worker = worker(line, workers)?;
-    let meta = meta(alloc, "event", target, level)?;
-    let message = ArcStr::from_str(alloc, message)?;
     Ok(Operation::Event(NewEvent {
-        meta,
-        message,
+        meta: meta(alloc, "event", target, level)?,
+        message: ArcStr::from_str(alloc, message)?,
         fields,
         worker,
     }))

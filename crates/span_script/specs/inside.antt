@@ -1,2 +1,0 @@
--- What only the proofs of this crate need: no public clause cites it.
-pub mod Rests
