@@ -119,6 +119,18 @@ impl ToldPaths {
         Ok(())
     }
 
+    // One more, whose text is told now.
+    fn keep(&mut self, path: ToldPath) -> Result<ArcStr, Fault>
+        ensures text { IfOk result (λ told. arc_str_bytes told ≡ arc_str_bytes path.text) }
+        ensures known { OnOk result ((told : List (List ℕ) → List ℕ) (spans : Spans) →
+            KnowsPath told spans path → Knows told spans self.old → Knows told spans self.new) }
+        ensures memory { IfErr result (λ fault. fault ≡ Fault.Memory) }
+    {
+        let told = path.text.clone()?;
+        self.push(path)?;
+        Ok(told)
+    }
+
     // Tells what was read at a place: by the text that was told, where it is the same, else by a new one.
     fn tell(&mut self, place: &Option<Id>, seen: PathText) -> Result<ArcStr, Fault>
         ensures text { IfOk result (λ told. arc_str_bytes told ≡ string_bytes seen.text) }
@@ -130,13 +142,11 @@ impl ToldPaths {
     {
         let PathText { text, same } = seen;
         let text = self.shared(text)?;
-        let told = text.clone()?;
-        self.push(ToldPath {
+        self.keep(ToldPath {
             place: *place,
             same,
             text,
-        })?;
-        Ok(told)
+        })
     }
 
     // A text to be shared: the one that was told, where it is the same.
@@ -204,13 +214,11 @@ pub(crate) fn same_text(alloc: Global, paths: &mut ToldPaths, text: &str) -> Res
         return Ok(same.clone()?);
     }
     let text = ArcStr::from_str(alloc, text)?;
-    let told = text.clone()?;
-    paths.push(ToldPath {
+    paths.keep(ToldPath {
         place: None,
         same: Bits(0),
         text,
-    })?;
-    Ok(told)
+    })
 }
 
 // The text of a layer's path at a place, and layers that see the same there.
