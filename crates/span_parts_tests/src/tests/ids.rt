@@ -38,9 +38,13 @@ fn reads_the_older_layout(rt: HostRuntime) {
 
 #[test]
 fn numbers_beyond_the_layout_are_no_ids(rt: HostRuntime) {
-    let none_old = [0, 4294967297, 72057594037927936, u64::MAX];
-    let none = [0, 72057594037927937, 1 << 63, u64::MAX];
-    for (number, old) in none.into_iter().zip(none_old) {
+    let cases = [
+        (0, 0),
+        (72057594037927937, 4294967297),
+        (1 << 63, 72057594037927936),
+        (u64::MAX, u64::MAX),
+    ];
+    for (number, old) in cases {
         holds(&rt, Id::from_u64(number).is_none(), number);
         holds(&rt, Id::from_v1(old).is_none(), old);
     }
@@ -166,9 +170,14 @@ fn extend(rt: &impl Abort, alloc: Global, fields: &mut Fields, value: &str) {
 
 fn are(rt: &impl Abort, fields: &Fields, values: &[&str]) {
     same(rt, fields.len(), values.len(), "how many fields");
-    for (field, value) in fields.as_slice().iter().zip(values) {
-        let pair = (field.key.as_str(), field.value.as_str());
-        same(rt, pair, ("k", *value), *value);
+    for (index, field) in fields.as_slice().iter().enumerate() {
+        same(rt, field.key.as_str(), "k", index);
+        same(
+            rt,
+            Some(field.value.as_str()),
+            values.get(index).copied(),
+            index,
+        );
     }
 }
 

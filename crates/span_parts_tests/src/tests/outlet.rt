@@ -3,4 +3,3 @@
 mod batches;
 mod drain;
 mod line_reader;
-mod ring;

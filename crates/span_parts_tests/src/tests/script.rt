@@ -42,74 +42,100 @@ fn compare(rt: &impl Abort, alloc: Global, stages: &[Stage], rows: &[Row]) {
     }
 }
 
-#[test]
-fn reads_layers(rt: HostRuntime) {
-    let rows = [
-        (
-            "{\"op\":\"layer\"}",
-            "Layer(NewLayer { style: Style { form: Compact, spans: FmtSpan(15) }, \
-             rule: Rule { pairs: [(\"\", Trace)] } })",
-        ),
-        (
-            "{\"op\":\"layer\",\"form\":\"compact\",\"spans\":0,\"rule\":[],\"w\":null}",
-            "Layer(NewLayer { style: Style { form: Compact, spans: FmtSpan(0) }, rule: Rule { pairs: [] } })",
-        ),
-        (
-            "{\"op\":\"layer\",\"form\":\"json\",\"spans\":15,\"rule\":[[\"a\",\"WARN\"],[\"\",\"ERROR\"],\
-             [\"a::b\",\"INFO\"],[\"a\",\"DEBUG\"]],\"w\":4}",
-            "Layer(NewLayer { style: Style { form: Json, spans: FmtSpan(15) }, \
-             rule: Rule { pairs: [(\"a\", Warn), (\"\", Error), (\"a::b\", Info), (\"a\", Debug)] } })",
-        ),
-        (
-            "{\"op\":\"limits\",\"spans\":16,\"op\":\"layer\",\"spans\":7,\"spans\":4,\"form\":7,\"form\":\"json\"}",
-            "Layer(NewLayer { style: Style { form: Json, spans: FmtSpan(4) }, \
-             rule: Rule { pairs: [(\"\", Trace)] } })",
-        ),
-    ];
-    compare(&rt, rt.alloc(), &[Stage::AtStart, Stage::InSetup], &rows);
-}
+/// Lines that name a layer.
+const LAYERS: [Row; 4] = [
+    (
+        "{\"op\":\"layer\"}",
+        "Layer(NewLayer { style: Style { form: Compact, spans: FmtSpan(15) }, \
+         rule: Rule { pairs: [(\"\", Trace)] } })",
+    ),
+    (
+        "{\"op\":\"layer\",\"form\":\"compact\",\"spans\":0,\"rule\":[],\"w\":null}",
+        "Layer(NewLayer { style: Style { form: Compact, spans: FmtSpan(0) }, rule: Rule { pairs: [] } })",
+    ),
+    (
+        "{\"op\":\"layer\",\"form\":\"json\",\"spans\":15,\"rule\":[[\"a\",\"WARN\"],[\"\",\"ERROR\"],\
+         [\"a::b\",\"INFO\"],[\"a\",\"DEBUG\"]],\"w\":4}",
+        "Layer(NewLayer { style: Style { form: Json, spans: FmtSpan(15) }, \
+         rule: Rule { pairs: [(\"a\", Warn), (\"\", Error), (\"a::b\", Info), (\"a\", Debug)] } })",
+    ),
+    (
+        "{\"op\":\"limits\",\"spans\":16,\"op\":\"layer\",\"spans\":7,\"spans\":4,\"form\":7,\"form\":\"json\"}",
+        "Layer(NewLayer { style: Style { form: Json, spans: FmtSpan(4) }, \
+         rule: Rule { pairs: [(\"\", Trace)] } })",
+    ),
+];
+
+/// Lines that write fields to a span.
+const RECORDS: [Row; 3] = [
+    (
+        "{\"op\":\"record\",\"span\":\"a\"}",
+        "Record { span: Label(\"a\"), fields: [], worker: 0 }",
+    ),
+    (
+        "{\"op\":\"record\",\"span\":1,\"fields\":[[\"k\",\"v\"],[\"\",\"\"],[\"k\",\"w\"]],\"w\":3}",
+        "Record { span: Id(Id { number: 1 }), fields: [Field { key: \"k\", value: \"v\" }, \
+         Field { key: \"\", value: \"\" }, Field { key: \"k\", value: \"w\" }], worker: 3 }",
+    ),
+    (
+        "{\"op\":\"record\",\"span\":null,\"span\":\"\",\"fields\":[],\"w\":9,\"w\":1}",
+        "Record { span: Label(\"\"), fields: [], worker: 1 }",
+    ),
+];
+
+/// Lines that tell an event.
+const EVENTS: [Row; 3] = [
+    (
+        "{\"op\":\"event\",\"message\":\"\"}",
+        "Event(NewEvent { meta: Meta { name: \"event\", target: \"app\", level: Info }, \
+         message: \"\", fields: [], worker: 0 })",
+    ),
+    (
+        "{\"op\":\"event\",\"w\":2,\"fields\":[[\"k\",\"v\"]],\"level\":\"TRACE\",\
+         \"target\":\"a::b\",\"message\":\"x\\ny\",\"name\":7}",
+        "Event(NewEvent { meta: Meta { name: \"event\", target: \"a::b\", level: Trace }, \
+         message: \"x\\ny\", fields: [Field { key: \"k\", value: \"v\" }], worker: 2 })",
+    ),
+    (
+        "{\"op\":\"event\",\"message\":\"m\",\"level\":\"info\",\"level\":\"ERROR\",\"target\":\"\"}",
+        "Event(NewEvent { meta: Meta { name: \"event\", target: \"\", level: Error }, \
+         message: \"m\", fields: [], worker: 0 })",
+    ),
+];
+
+/// Lines at fault in the setup.
+const LATE_IN_SETUP: [Row; 5] = [
+    ("{\"op\":\"limits\"}", "late line"),
+    ("{\"op\":\"limits\",\"slots\":null}", "late line"),
+    ("{\"op\":\"layers\"}", "no such op"),
+    ("{\"op\":\"layer\",\"form\":7}", "bad key form"),
+    ("{\"op\":\"close\",\"span\":1,\"w\":4}", "bad key w"),
+];
+
+/// Lines at fault when the script runs.
+const LATE_WHEN_RUNNING: [Row; 6] = [
+    ("{\"op\":\"limits\"}", "late line"),
+    ("{\"op\":\"layer\"}", "late line"),
+    ("{\"op\":\"layer\",\"form\":7}", "late line"),
+    ("{\"op\":\"layer\",\"op\":\"layers\"}", "no such op"),
+    ("[{\"op\":\"layer\"}]", "not an object"),
+    ("{\"op\":\"layer\"", "not JSON"),
+];
+
+/// The stages at which lines are read, and the lines.
+const READ: [(&[Stage], &[Row]); 5] = [
+    (&[Stage::AtStart, Stage::InSetup], &LAYERS),
+    (&[Stage::AtStart, Stage::Running], &RECORDS),
+    (&[Stage::AtStart, Stage::Running], &EVENTS),
+    (&[Stage::InSetup], &LATE_IN_SETUP),
+    (&[Stage::Running], &LATE_WHEN_RUNNING),
+];
 
 #[test]
-fn reads_records(rt: HostRuntime) {
-    let rows = [
-        (
-            "{\"op\":\"record\",\"span\":\"a\"}",
-            "Record { span: Label(\"a\"), fields: [], worker: 0 }",
-        ),
-        (
-            "{\"op\":\"record\",\"span\":1,\"fields\":[[\"k\",\"v\"],[\"\",\"\"],[\"k\",\"w\"]],\"w\":3}",
-            "Record { span: Id(Id { number: 1 }), fields: [Field { key: \"k\", value: \"v\" }, \
-             Field { key: \"\", value: \"\" }, Field { key: \"k\", value: \"w\" }], worker: 3 }",
-        ),
-        (
-            "{\"op\":\"record\",\"span\":null,\"span\":\"\",\"fields\":[],\"w\":9,\"w\":1}",
-            "Record { span: Label(\"\"), fields: [], worker: 1 }",
-        ),
-    ];
-    compare(&rt, rt.alloc(), &[Stage::AtStart, Stage::Running], &rows);
-}
-
-#[test]
-fn reads_events(rt: HostRuntime) {
-    let rows = [
-        (
-            "{\"op\":\"event\",\"message\":\"\"}",
-            "Event(NewEvent { meta: Meta { name: \"event\", target: \"app\", level: Info }, \
-             message: \"\", fields: [], worker: 0 })",
-        ),
-        (
-            "{\"op\":\"event\",\"w\":2,\"fields\":[[\"k\",\"v\"]],\"level\":\"TRACE\",\
-             \"target\":\"a::b\",\"message\":\"x\\ny\",\"name\":7}",
-            "Event(NewEvent { meta: Meta { name: \"event\", target: \"a::b\", level: Trace }, \
-             message: \"x\\ny\", fields: [Field { key: \"k\", value: \"v\" }], worker: 2 })",
-        ),
-        (
-            "{\"op\":\"event\",\"message\":\"m\",\"level\":\"info\",\"level\":\"ERROR\",\"target\":\"\"}",
-            "Event(NewEvent { meta: Meta { name: \"event\", target: \"\", level: Error }, \
-             message: \"m\", fields: [], worker: 0 })",
-        ),
-    ];
-    compare(&rt, rt.alloc(), &[Stage::AtStart, Stage::Running], &rows);
+fn reads_lines(rt: HostRuntime) {
+    for (stages, rows) in &READ {
+        compare(&rt, rt.alloc(), stages, rows);
+    }
 }
 
 /// The key at fault and the keys of a line, of each row.
@@ -140,11 +166,6 @@ const LAYER_KEYS: &str = r#"
     rule="spans":16,"spans":15,"rule":[],"rule":7
 "#;
 
-#[test]
-fn tells_bad_keys_of_layers(rt: HostRuntime) {
-    compare_keys(&rt, rt.alloc(), "layer", LAYER_KEYS);
-}
-
 const RECORD_KEYS: &str = r#"
     span="name":"a"
     span="span":null
@@ -162,11 +183,6 @@ const RECORD_KEYS: &str = r#"
     span="w":4,"fields":7
     fields="span":"a","w":4,"fields":7
 "#;
-
-#[test]
-fn tells_bad_keys_of_records(rt: HostRuntime) {
-    compare_keys(&rt, rt.alloc(), "record", RECORD_KEYS);
-}
 
 const EVENT_KEYS: &str = r#"
     message="name":"a"
@@ -189,8 +205,14 @@ const EVENT_KEYS: &str = r#"
 "#;
 
 #[test]
-fn tells_bad_keys_of_events(rt: HostRuntime) {
-    compare_keys(&rt, rt.alloc(), "event", EVENT_KEYS);
+fn tells_bad_keys(rt: HostRuntime) {
+    for (op, rows) in [
+        ("layer", LAYER_KEYS),
+        ("record", RECORD_KEYS),
+        ("event", EVENT_KEYS),
+    ] {
+        compare_keys(&rt, rt.alloc(), op, rows);
+    }
 }
 
 /// Reads a line of this op with the keys of each row and compares which key is at fault.
@@ -207,43 +229,24 @@ fn has_bad_key(rt: &impl Abort, alloc: Global, op: &str, keys: &str, key: &str) 
     asks(rt, alloc, Stage::AtStart, line.as_str(), wanted.as_str());
 }
 
-#[test]
-fn tells_late_lines(rt: HostRuntime) {
-    let rows = [
-        ("{\"op\":\"limits\"}", "late line"),
-        ("{\"op\":\"limits\",\"slots\":null}", "late line"),
-        ("{\"op\":\"layers\"}", "no such op"),
-        ("{\"op\":\"layer\",\"form\":7}", "bad key form"),
-        ("{\"op\":\"close\",\"span\":1,\"w\":4}", "bad key w"),
-    ];
-    compare(&rt, rt.alloc(), &[Stage::InSetup], &rows);
-    let rows = [
-        ("{\"op\":\"limits\"}", "late line"),
-        ("{\"op\":\"layer\"}", "late line"),
-        ("{\"op\":\"layer\",\"form\":7}", "late line"),
-        ("{\"op\":\"layer\",\"op\":\"layers\"}", "no such op"),
-        ("[{\"op\":\"layer\"}]", "not an object"),
-        ("{\"op\":\"layer\"", "not JSON"),
-    ];
-    compare(&rt, rt.alloc(), &[Stage::Running], &rows);
-}
+/// A line, and whether it belongs to the setup.
+const SETUP_LINES: [(&str, bool); 10] = [
+    ("{\"op\":\"limits\",\"slots\":null}", true),
+    ("{\"op\":\"layer\",\"form\":null}", true),
+    ("{\"op\":\"new\",\"op\":\"layer\"}", true),
+    ("{\"op\":\"layer\",\"op\":\"new\"}", false),
+    ("{\"op\":\"event\"}", false),
+    ("{\"op\":\"find\"}", false),
+    ("{\"op\":\"Layer\"}", false),
+    ("{\"op\":[\"layer\"]}", false),
+    ("{}", false),
+    ("\"layer\"", false),
+];
 
 #[test]
 fn knows_the_lines_of_the_setup(rt: HostRuntime) {
-    let rows = [
-        ("{\"op\":\"limits\",\"slots\":null}", true),
-        ("{\"op\":\"layer\",\"form\":null}", true),
-        ("{\"op\":\"new\",\"op\":\"layer\"}", true),
-        ("{\"op\":\"layer\",\"op\":\"new\"}", false),
-        ("{\"op\":\"event\"}", false),
-        ("{\"op\":\"find\"}", false),
-        ("{\"op\":\"Layer\"}", false),
-        ("{\"op\":[\"layer\"]}", false),
-        ("{}", false),
-        ("\"layer\"", false),
-    ];
-    for (line, wanted) in rows {
-        is_of_setup(&rt, rt.alloc(), line, wanted);
+    for (line, wanted) in &SETUP_LINES {
+        is_of_setup(&rt, rt.alloc(), line, *wanted);
     }
 }
 

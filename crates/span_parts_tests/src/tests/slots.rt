@@ -58,8 +58,8 @@ fn is_full(rt: &impl Abort, slots: &mut Slots<u32>, value: u32) {
 fn lists(rt: &impl Abort, slots: &Slots<u32>, numbers: &[u64]) {
     let ids = slots.ids().expect(rt, "memory");
     same(rt, ids.len(), numbers.len(), "how many ids");
-    for (id, number) in ids.iter().zip(numbers) {
-        same(rt, id.get(), *number, "an id of the table");
+    for (index, id) in ids.iter().enumerate() {
+        same(rt, Some(id.get()), numbers.get(index).copied(), index);
     }
 }
 
@@ -107,31 +107,88 @@ fn does(rt: &impl Abort, slots: &mut Slots<u32>, act: &Act<'_>) {
     }
 }
 
-// The acts are done in their order with a new table of so many slots, whose last generation is this one.
-fn plays(rt: &impl Abort, alloc: Global, limits: (u32, u32), acts: &[Act<'_>]) {
-    let (slots, last_generation) = limits;
+// The slots and the last generation of a new table, and what is done with it in this order.
+type Play = ((u32, u32), &'static [Act<'static>]);
+
+fn plays(rt: &impl Abort, alloc: Global, play: &Play) {
+    let ((slots, last_generation), acts) = *play;
     let mut slots = table(rt, alloc, slots, last_generation);
     for act in acts {
         does(rt, &mut slots, act);
     }
 }
 
+const PLAYS: [Play; 4] = [
+    // A slot at its last generation is retired.
+    (
+        (2, 0),
+        &[
+            Act::Put(7, 1),
+            Act::Put(8, 2),
+            Act::Full(9),
+            Act::List(&[1, 2]),
+            Act::Remove(1, Some(7)),
+            Act::Get(1, None),
+            Act::Remove(1, None),
+            Act::Full(9),
+            Act::Sizes(1, 0),
+            Act::Next(None),
+            Act::List(&[2]),
+        ],
+    ),
+    // The slot freed last comes first.
+    (
+        (4, 9),
+        &[
+            Act::Sizes(0, 4),
+            Act::Put(1, 1),
+            Act::Put(2, 2),
+            Act::Put(3, 3),
+            Act::Remove(2, Some(2)),
+            Act::Remove(1, Some(1)),
+            Act::Sizes(1, 3),
+            Act::Put(5, 16777217),
+            Act::Put(5, 16777218),
+            Act::Put(5, 4),
+            Act::Full(6),
+            Act::List(&[16777217, 16777218, 3, 4]),
+            Act::Get(3, Some(3)),
+            Act::Sizes(4, 0),
+        ],
+    ),
+    // A write changes one value.
+    (
+        (2, 1),
+        &[
+            Act::Put(1, 1),
+            Act::Put(2, 2),
+            Act::Write(1, 11),
+            Act::Get(1, Some(11)),
+            Act::Get(2, Some(2)),
+            Act::Remove(1, Some(11)),
+            Act::Gone(1),
+        ],
+    ),
+    // There are as many slots as ids have room for.
+    (
+        (16777216, 4294967295),
+        &[
+            Act::Sizes(0, 16777216),
+            Act::Put(1, 1),
+            Act::Put(2, 2),
+            Act::Remove(1, Some(1)),
+            Act::Sizes(1, 16777215),
+            Act::Put(3, 16777217),
+            Act::List(&[16777217, 2]),
+        ],
+    ),
+];
+
 #[test]
-fn a_slot_at_its_last_generation_is_retired(rt: HostRuntime) {
-    let acts = [
-        Act::Put(7, 1),
-        Act::Put(8, 2),
-        Act::Full(9),
-        Act::List(&[1, 2]),
-        Act::Remove(1, Some(7)),
-        Act::Get(1, None),
-        Act::Remove(1, None),
-        Act::Full(9),
-        Act::Sizes(1, 0),
-        Act::Next(None),
-        Act::List(&[2]),
-    ];
-    plays(&rt, rt.alloc(), (2, 0), &acts);
+fn tables_of_many_sizes(rt: HostRuntime) {
+    for play in &PLAYS {
+        plays(&rt, rt.alloc(), play);
+    }
 }
 
 #[test]
@@ -165,53 +222,4 @@ fn gives_and_takes_back(rt: &impl Abort, slots: &mut Slots<u32>, number: u64) {
     for act in &acts {
         does(rt, slots, act);
     }
-}
-
-#[test]
-fn the_slot_freed_last_comes_first(rt: HostRuntime) {
-    let acts = [
-        Act::Sizes(0, 4),
-        Act::Put(1, 1),
-        Act::Put(2, 2),
-        Act::Put(3, 3),
-        Act::Remove(2, Some(2)),
-        Act::Remove(1, Some(1)),
-        Act::Sizes(1, 3),
-        Act::Put(5, 16777217),
-        Act::Put(5, 16777218),
-        Act::Put(5, 4),
-        Act::Full(6),
-        Act::List(&[16777217, 16777218, 3, 4]),
-        Act::Get(3, Some(3)),
-        Act::Sizes(4, 0),
-    ];
-    plays(&rt, rt.alloc(), (4, 9), &acts);
-}
-
-#[test]
-fn a_write_changes_one_value(rt: HostRuntime) {
-    let acts = [
-        Act::Put(1, 1),
-        Act::Put(2, 2),
-        Act::Write(1, 11),
-        Act::Get(1, Some(11)),
-        Act::Get(2, Some(2)),
-        Act::Remove(1, Some(11)),
-        Act::Gone(1),
-    ];
-    plays(&rt, rt.alloc(), (2, 1), &acts);
-}
-
-#[test]
-fn as_many_slots_as_ids_have_room_for(rt: HostRuntime) {
-    let acts = [
-        Act::Sizes(0, 16777216),
-        Act::Put(1, 1),
-        Act::Put(2, 2),
-        Act::Remove(1, Some(1)),
-        Act::Sizes(1, 16777215),
-        Act::Put(3, 16777217),
-        Act::List(&[16777217, 2]),
-    ];
-    plays(&rt, rt.alloc(), (16777216, 4294967295), &acts);
 }

@@ -139,37 +139,47 @@ fn walks_from_nine_to_zero(rt: &impl Abort, alloc: Global, stack: &SpanStack) {
 fn grows_past_the_places_in_the_value(rt: HostRuntime) {
     let mut stack = SpanStack::new(rt.alloc());
     push_thirty(&rt, &mut stack);
-    holds(&rt, IN_PLACE < stack.len(), "the stack has grown");
-    same(&rt, stack.len(), 30, "the length");
-    same(&rt, stack.current(), Some(Id::pack(9, 0)), "current");
-    for slot in 0..10 {
-        pops(&rt, &mut stack, Id::pack(slot, 0), Some(false));
-    }
-    same(&rt, stack.len(), 20, "the length");
+    pops_ten(&rt, &mut stack);
     walks_from_nine_to_zero(&rt, rt.alloc(), &stack);
 }
 
-// A walk that looked for each entry among those below it would take minutes here.
+// Each of the ten spans is taken out once.
+fn pops_ten(rt: &impl Abort, stack: &mut SpanStack) {
+    holds(rt, IN_PLACE < stack.len(), "the stack has grown");
+    same(rt, stack.len(), 30, "the length");
+    same(rt, stack.current(), Some(Id::pack(9, 0)), "current");
+    for slot in 0..10 {
+        pops(rt, stack, Id::pack(slot, 0), Some(false));
+    }
+    same(rt, stack.len(), 20, "the length");
+}
+
 #[test]
 fn walks_a_deep_stack_at_once(rt: HostRuntime) {
     let mut stack = SpanStack::new(rt.alloc());
+    push_deep(&rt, &mut stack);
+    walks_often(&rt, &stack);
+    pops_the_last(&rt, &mut stack);
+}
+
+fn push_deep(rt: &impl Abort, stack: &mut SpanStack) {
     for slot in 0..30000 {
-        push(&rt, &mut stack, Id::pack(slot, 0), true);
+        push(rt, stack, Id::pack(slot, 0), true);
     }
+}
+
+// A walk that looked for each entry among those below it would take minutes here.
+fn walks_often(rt: &impl Abort, stack: &SpanStack) {
     for _ in 0..300 {
-        same(&rt, stack.walk().count(), 30000, "a walk");
+        same(rt, stack.walk().count(), 30000, "a walk");
     }
-    same(
-        &rt,
-        stack.walk().last(),
-        Some(Id::pack(0, 0)),
-        "the walk's end",
-    );
-    pops(&rt, &mut stack, Id::pack(29999, 0), Some(true));
-    holds(
-        &rt,
-        stack.has(Id::pack(0, 0)),
-        "the first span stands there",
-    );
-    same(&rt, stack.current(), Some(Id::pack(29998, 0)), "current");
+    let end = stack.walk().last();
+    same(rt, end, Some(Id::pack(0, 0)), "the walk's end");
+}
+
+fn pops_the_last(rt: &impl Abort, stack: &mut SpanStack) {
+    pops(rt, stack, Id::pack(29999, 0), Some(true));
+    let first = stack.has(Id::pack(0, 0));
+    holds(rt, first, "the first span stands there");
+    same(rt, stack.current(), Some(Id::pack(29998, 0)), "current");
 }

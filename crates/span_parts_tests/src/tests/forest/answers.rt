@@ -1,22 +1,74 @@
-//! Paths of layers, and what closes with what.
+//! Paths of layers, what closes with what, and refusals by limits.
 use crate::tests::compare::same;
-use crate::tests::forest::fixtures::{Act, id, next_number, played};
+use crate::tests::forest::fixtures::{Act, WIDE, forest, id, next_number, played, plays};
 use span_forest::{Forest, Holder};
 use span_id::{Bits, Fault, Id};
+use std::alloc::Global;
 use std::process::Abort;
 
+// The limits of a new forest, and what is done with it in this order.
+type Play = ((u32, u32, u32), &'static [Act<'static>]);
+
+const PLAYS: [Play; 4] = [
+    // A path names what the layer admits.
+    (
+        WIDE,
+        &[
+            Act::Add("a", 0, 1),
+            Act::Add("b", 1, 1),
+            Act::Path(0, 2, "a:b:"),
+            Act::Path(1, 2, ""),
+            Act::Add("c", 2, 2),
+            Act::Path(0, 3, "a:b:"),
+            Act::Path(1, 3, "c:"),
+        ],
+    ),
+    // A root closes after its child.
+    (
+        WIDE,
+        &[
+            Act::Add("a", 0, 1),
+            Act::Add("b", 1, 1),
+            Act::Release(2, Holder::Handle, "2"),
+            Act::Release(1, Holder::Handle, "1"),
+            Act::Sizes(0, 0),
+        ],
+    ),
+    // A slot that gave its last id gives no more.
+    (
+        (1, 0, 1),
+        &[
+            Act::Add("a", 0, 1),
+            Act::Release(1, Holder::Handle, "1"),
+            Act::Next(0),
+            Act::Refuse(0, 0, Fault::Full),
+        ],
+    ),
+    // Refusals in their order.
+    (
+        (1, 9, 1),
+        &[
+            Act::Add("a", 0, 1),
+            Act::Refuse(2, 1, Fault::Unknown),
+            Act::Refuse(1, 1, Fault::CountFull),
+            Act::Refuse(0, 1, Fault::Full),
+            Act::Keep(1, Holder::Entry, Err(Fault::CountFull)),
+            Act::Held(1, Some((1, 0, 1))),
+        ],
+    ),
+];
+
+fn plays_new(rt: &impl Abort, alloc: Global, play: &Play) {
+    let (limits, acts) = *play;
+    let mut forest = forest(rt, alloc, limits);
+    plays(rt, alloc, &mut forest, acts);
+}
+
 #[test]
-fn a_path_names_what_the_layer_admits(rt: HostRuntime) {
-    let acts = [
-        Act::Add("a", 0, 1),
-        Act::Add("b", 1, 1),
-        Act::Path(0, 2, "a:b:"),
-        Act::Path(1, 2, ""),
-        Act::Add("c", 2, 2),
-        Act::Path(0, 3, "a:b:"),
-        Act::Path(1, 3, "c:"),
-    ];
-    played(&rt, rt.alloc(), &acts);
+fn forests_of_few_spans(rt: HostRuntime) {
+    for play in &PLAYS {
+        plays_new(&rt, rt.alloc(), play);
+    }
 }
 
 // Whether this is the text of a path, and these of the first four layers see that path.
@@ -70,16 +122,4 @@ fn a_child_keeps_its_parent_open(rt: HostRuntime) {
     is_closed(&rt, &mut forest, id(&rt, 2));
     // The root's slot was freed last.
     same(&rt, next_number(&forest), 16777217, "the next id");
-}
-
-#[test]
-fn a_root_closes_after_its_child(rt: HostRuntime) {
-    let acts = [
-        Act::Add("a", 0, 1),
-        Act::Add("b", 1, 1),
-        Act::Release(2, Holder::Handle, "2"),
-        Act::Release(1, Holder::Handle, "1"),
-        Act::Sizes(0, 0),
-    ];
-    played(&rt, rt.alloc(), &acts);
 }

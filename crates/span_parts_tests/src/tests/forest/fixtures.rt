@@ -22,14 +22,12 @@ pub(crate) fn forest(
     Forest::new(alloc, &checked).expect(rt, "memory")
 }
 
-/// A forest that these tests don't fill.
-pub(crate) fn wide(rt: &impl Abort, alloc: Global) -> Forest {
-    forest(rt, alloc, (1024, 4294967295, 4294967295))
-}
+/// The limits of a forest that these tests don't fill.
+pub(crate) const WIDE: (u32, u32, u32) = (1024, 4294967295, 4294967295);
 
 /// A root `a` and its child `b`, which layer 0 admits.
 pub(crate) fn pair(rt: &impl Abort, alloc: Global) -> Forest {
-    let mut forest = wide(rt, alloc);
+    let mut forest = forest(rt, alloc, WIDE);
     add(rt, alloc, &mut forest, "a", None, 1);
     add(rt, alloc, &mut forest, "b", Id::from_u64(1), 1);
     forest
@@ -233,7 +231,7 @@ pub(crate) fn plays(rt: &impl Abort, alloc: Global, forest: &mut Forest, acts: &
 
 /// A forest that these tests don't fill, after the acts were done in their order.
 pub(crate) fn played(rt: &impl Abort, alloc: Global, acts: &[Act<'_>]) -> Forest {
-    let mut forest = wide(rt, alloc);
+    let mut forest = forest(rt, alloc, WIDE);
     plays(rt, alloc, &mut forest, acts);
     forest
 }

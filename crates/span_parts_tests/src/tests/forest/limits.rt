@@ -1,6 +1,6 @@
-//! Refusals by limits, a long chain, and as many roots as there are slots.
+//! A long chain, and as many roots as there are slots.
 use crate::tests::compare::{holds, same};
-use crate::tests::forest::fixtures::{Act, forest, id, named, plays, sizes};
+use crate::tests::forest::fixtures::{forest, id, named, sizes};
 use span_forest::{Forest, Holder};
 use span_id::{Bits, Fault, Fields, Id, SharedMeta};
 use std::alloc::Global;
@@ -16,32 +16,6 @@ fn add_of(
 ) -> Result<Id, Fault> {
     let shared = meta.share().expect(rt, "memory");
     forest.add(shared, Fields::none(), parent, bits)
-}
-
-#[test]
-fn a_slot_that_gave_its_last_id_gives_no_more(rt: HostRuntime) {
-    let mut forest = forest(&rt, rt.alloc(), (1, 0, 1));
-    let acts = [
-        Act::Add("a", 0, 1),
-        Act::Release(1, Holder::Handle, "1"),
-        Act::Next(0),
-        Act::Refuse(0, 0, Fault::Full),
-    ];
-    plays(&rt, rt.alloc(), &mut forest, &acts);
-}
-
-#[test]
-fn refusals_in_their_order(rt: HostRuntime) {
-    let mut forest = forest(&rt, rt.alloc(), (1, 9, 1));
-    let acts = [
-        Act::Add("a", 0, 1),
-        Act::Refuse(2, 1, Fault::Unknown),
-        Act::Refuse(1, 1, Fault::CountFull),
-        Act::Refuse(0, 1, Fault::Full),
-        Act::Keep(1, Holder::Entry, Err(Fault::CountFull)),
-        Act::Held(1, Some((1, 0, 1))),
-    ];
-    plays(&rt, rt.alloc(), &mut forest, &acts);
 }
 
 // Adds a child with this number and gives its parent's handle back.
@@ -80,8 +54,9 @@ fn closes_all(rt: &impl Abort, forest: &mut Forest, last: Id) {
     let closed = forest.release(last, Holder::Handle);
     let closed = closed.expect(rt, "a handle");
     same(rt, closed.len(), 65536, "the closing list");
-    for (id, number) in closed.iter().zip((1..65537).rev()) {
-        same(rt, id.get(), number, "a span that closes");
+    for (index, id) in closed.iter().enumerate() {
+        let number = 65536u64.checked_sub(index as u64);
+        same(rt, Some(id.get()), number, "a span that closes");
     }
 }
 
@@ -109,12 +84,19 @@ fn add_roots(rt: &impl Abort, alloc: Global, forest: &mut Forest) {
 fn more_roots_than_the_older_layout_had_slots(rt: HostRuntime) {
     let mut forest = forest(&rt, rt.alloc(), (65537, 0, 1));
     add_roots(&rt, rt.alloc(), &mut forest);
-    same(&rt, forest.len(), 65537, "the roots");
-    same(&rt, forest.next_id(), None, "the next id");
-    let last = forest.find(id(&rt, 65537)).is_some();
+    are_all_roots(&rt, &forest);
+}
+
+fn are_all_roots(rt: &impl Abort, forest: &Forest) {
+    same(rt, forest.len(), 65537, "the roots");
+    same(rt, forest.next_id(), None, "the next id");
     // In the older layout this number was the first slot at its second generation.
-    let old = Id::from_v1(65537).expect(&rt, "an id of the older layout");
-    same(&rt, old.get(), 16777217, "the number's id");
-    let other = forest.find(old).is_some();
-    same(&rt, (last, other), (true, false), "the last, and the other");
+    let old = Id::from_v1(65537).expect(rt, "an id of the older layout");
+    same(rt, old.get(), 16777217, "the number's id");
+    let found = (is_open(forest, id(rt, 65537)), is_open(forest, old));
+    same(rt, found, (true, false), "the last, and the other");
+}
+
+fn is_open(forest: &Forest, id: Id) -> bool {
+    forest.find(id).is_some()
 }

@@ -14,8 +14,9 @@ use std::alloc::{AllocError, Global};
 use std::process::Abort;
 use std::sync::ArcStr;
 
-/// Hooks that answer as `admits` and `text` do. They are handed out, so the closures state what they answer.
-fn hooks(alloc: Global) -> Result<Hooks, AllocError> {
+/// Hooks that answer as `admits` and `text` do, but the text of a new span is refused memory where `refuses_new` is so.
+/// They are handed out, so the closures state what they answer.
+pub(crate) fn hooks(alloc: Global, refuses_new: bool) -> Result<Hooks, AllocError> {
     Ok(Hooks::new(
         Box::new(
             alloc,
@@ -26,9 +27,14 @@ fn hooks(alloc: Global) -> Result<Hooks, AllocError> {
         )?,
         Box::new(
             alloc,
-            |alloc: Global, form: Form, note: &Note| -> Result<Vec<u8>, AllocError>
+            move |alloc: Global, form: Form, note: &Note| -> Result<Vec<u8>, AllocError>
                 ensures { ForOk result (λ text. text.items ≡ text_of form (plain_note note.now)) }
-            { text(alloc, form, note) },
+            {
+                match (refuses_new, note.kind) {
+                    (true, Kind::OnNew) => Err(AllocError),
+                    _ => text(alloc, form, note),
+                }
+            },
         )?,
     ))
 }
@@ -53,7 +59,7 @@ pub(crate) fn layer(
     Layer {
         style,
         rule: rule(alloc, &[(prefix, level)]).expect(rt, "memory"),
-        hooks: hooks(alloc).expect(rt, "memory"),
+        hooks: hooks(alloc, false).expect(rt, "memory"),
     }
 }
 

@@ -8,66 +8,81 @@ use std::alloc::Global;
 use std::process::Abort;
 
 /// The pairs of a rule, a target and a level, and whether the rule admits them.
-type Case<'a> = (&'a [(&'a str, Level)], &'a str, Level, bool);
+type Case = (&'static [(&'static str, Level)], &'static str, Level, bool);
 
-fn are_judged(rt: &impl Abort, alloc: Global, cases: &[Case<'_>]) {
-    for (pairs, target, level, want) in cases {
-        let rule = rule(alloc, pairs).expect(rt, "memory");
-        let meta = meta(alloc, target, *level).expect(rt, "memory");
-        let of = (pairs.len(), *level);
-        same(rt, (of, admits(&rule, &meta)), (of, *want), *target);
-    }
+const APP: &[(&str, Level)] = &[
+    ("app", Level::Error),
+    ("app.db", Level::Trace),
+    ("app", Level::Info),
+];
+
+// The longest prefix decides, and of equal ones the later.
+const LONGEST: [Case; 8] = [
+    (APP, "app", Level::Info, true),
+    (APP, "app", Level::Debug, false),
+    (APP, "app.db", Level::Debug, true),
+    (APP, "app.db.pool", Level::Trace, true),
+    (APP, "apple", Level::Info, true),
+    (APP, "ap", Level::Error, false),
+    (APP, "web", Level::Error, false),
+    (APP, "", Level::Error, false),
+];
+
+const NONE: &[(&str, Level)] = &[];
+
+const ONE: &[(&str, Level)] = &[("", Level::Error)];
+
+const LATER: &[(&str, Level)] = &[("", Level::Trace), ("", Level::Error)];
+
+// The empty rule, and the empty prefix.
+const EMPTY: [Case; 7] = [
+    (NONE, "", Level::Error, false),
+    (NONE, "app", Level::Error, false),
+    (ONE, "", Level::Error, true),
+    (ONE, "app", Level::Error, true),
+    (LATER, "", Level::Error, true),
+    (LATER, "app", Level::Error, true),
+    (LATER, "app", Level::Warn, false),
+];
+
+// Prefixes are bytes: U+00E9 is the bytes C3 A9, U+00E8 is C3 A8, and an `e` with U+0301 behind it is the bytes
+// 65 CC 81.
+const BYTES: [Case; 5] = [
+    (
+        &[("\u{e9}", Level::Trace)],
+        "\u{e9}t\u{e9}",
+        Level::Info,
+        true,
+    ),
+    (
+        &[("\u{e8}", Level::Trace)],
+        "\u{e9}t\u{e9}",
+        Level::Info,
+        false,
+    ),
+    (&[("e", Level::Trace)], "e\u{301}t", Level::Info, true),
+    (&[("e", Level::Trace)], "\u{e9}t", Level::Info, false),
+    (
+        &[("e\u{301}", Level::Trace)],
+        "e\u{300}",
+        Level::Info,
+        false,
+    ),
+];
+
+fn is_judged(rt: &impl Abort, alloc: Global, case: &Case) {
+    let (pairs, target, level, want) = *case;
+    let rule = rule(alloc, pairs).expect(rt, "memory");
+    let meta = meta(alloc, target, level).expect(rt, "memory");
+    let of = (pairs.len(), level);
+    same(rt, (of, admits(&rule, &meta)), (of, want), target);
 }
 
 #[test]
-fn longest_prefix_decides_and_of_equal_ones_the_later(rt: HostRuntime) {
-    let pairs: &[(&str, Level)] = &[
-        ("app", Level::Error),
-        ("app.db", Level::Trace),
-        ("app", Level::Info),
-    ];
-    let cases = [
-        (pairs, "app", Level::Info, true),
-        (pairs, "app", Level::Debug, false),
-        (pairs, "app.db", Level::Debug, true),
-        (pairs, "app.db.pool", Level::Trace, true),
-        (pairs, "apple", Level::Info, true),
-        (pairs, "ap", Level::Error, false),
-        (pairs, "web", Level::Error, false),
-        (pairs, "", Level::Error, false),
-    ];
-    are_judged(&rt, rt.alloc(), &cases);
-}
-
-#[test]
-fn empty_rule_and_empty_prefix(rt: HostRuntime) {
-    let none: &[(&str, Level)] = &[];
-    let one: &[(&str, Level)] = &[("", Level::Error)];
-    let later: &[(&str, Level)] = &[("", Level::Trace), ("", Level::Error)];
-    let cases = [
-        (none, "", Level::Error, false),
-        (none, "app", Level::Error, false),
-        (one, "", Level::Error, true),
-        (one, "app", Level::Error, true),
-        (later, "", Level::Error, true),
-        (later, "app", Level::Error, true),
-        (later, "app", Level::Warn, false),
-    ];
-    are_judged(&rt, rt.alloc(), &cases);
-}
-
-// U+00E9 is the bytes C3 A9, U+00E8 is C3 A8, and an `e` with U+0301 behind it is the bytes 65 CC 81.
-#[test]
-fn prefixes_are_bytes(rt: HostRuntime) {
-    let cases = [
-        ("\u{e9}", "\u{e9}t\u{e9}", true),
-        ("\u{e8}", "\u{e9}t\u{e9}", false),
-        ("e", "e\u{301}t", true),
-        ("e", "\u{e9}t", false),
-        ("e\u{301}", "e\u{300}", false),
-    ];
-    for (prefix, target, want) in cases {
-        let pairs: &[(&str, Level)] = &[(prefix, Level::Trace)];
-        are_judged(&rt, rt.alloc(), &[(pairs, target, Level::Info, want)]);
+fn rules_judge_targets_and_levels(rt: HostRuntime) {
+    for cases in [LONGEST.as_slice(), EMPTY.as_slice(), BYTES.as_slice()] {
+        for case in cases {
+            is_judged(&rt, rt.alloc(), case);
+        }
     }
 }

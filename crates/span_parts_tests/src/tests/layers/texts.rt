@@ -44,11 +44,9 @@ fn tail(
     }
 }
 
-fn are_written(rt: &impl Abort, alloc: Global, cases: &[Case<'_>]) {
-    for case in cases {
-        let note = note(alloc, case).expect(rt, "memory");
-        is_written(rt, alloc, &note, case.compact, case.json);
-    }
+fn case_is_written(rt: &impl Abort, alloc: Global, case: &Case<'_>) {
+    let note = note(alloc, case).expect(rt, "memory");
+    is_written(rt, alloc, &note, case.compact, case.json);
 }
 
 // Whether the note is written so in either form.
@@ -59,90 +57,72 @@ fn is_written(rt: &impl Abort, alloc: Global, note: &Note, compact: &str, json: 
     }
 }
 
-#[test]
-fn new_and_record(rt: HostRuntime) {
-    let cases = [
-        Case {
-            kind: Kind::OnNew,
-            id: 1,
-            path: "a",
-            fields: &[("k", "1")],
-            level: None,
-            message: "",
-            compact: "new 1 w0 a k=1",
-            json: r#"{"fields":[["k","1"]],"id":1,"kind":"new","path":"a","worker":0}"#,
-        },
-        Case {
-            kind: Kind::OnRecord,
-            id: 1,
-            path: "a",
-            fields: &[("k", "2")],
-            level: None,
-            message: "",
-            compact: "record 1 w0 a k=2",
-            json: r#"{"fields":[["k","2"]],"id":1,"kind":"record","path":"a","worker":0}"#,
-        },
-    ];
-    are_written(&rt, rt.alloc(), &cases);
-}
-
-#[test]
-fn event_and_close(rt: HostRuntime) {
-    let cases = [
-        Case {
-            kind: Kind::OnEvent,
-            id: 0,
-            path: "-",
-            fields: &[],
-            level: Some(Level::Warn),
-            message: "x\ny",
-            compact: r"event 0 w0 - WARN x\ny",
-            json: r#"{"fields":[],"id":0,"kind":"event","level":"WARN","message":"x\ny","path":"-","worker":0}"#,
-        },
-        Case {
-            kind: Kind::OnClose,
-            id: 1,
-            path: "a",
-            fields: &[("k", "1"), ("k", "2")],
-            level: None,
-            message: "",
-            compact: "close 1 w0 a k=1 k=2",
-            json: r#"{"fields":[["k","1"],["k","2"]],"id":1,"kind":"close","path":"a","worker":0}"#,
-        },
-    ];
-    are_written(&rt, rt.alloc(), &cases);
-}
-
-#[test]
-fn enter_and_exit(rt: HostRuntime) {
-    let cases = [
-        Case {
-            kind: Kind::OnEnter,
-            id: 72057594037927936,
-            path: "a:b:c",
-            fields: &[],
-            level: None,
-            message: "",
-            compact: "enter 72057594037927936 w0 a:b:c",
-            json: r#"{"fields":[],"id":72057594037927936,"kind":"enter","path":"a:b:c","worker":0}"#,
-        },
-        Case {
-            kind: Kind::OnExit,
-            id: 18446744073709551615,
-            path: "a",
-            fields: &[],
-            level: Some(Level::Error),
-            message: "not shown",
-            compact: "exit 18446744073709551615 w0 a",
-            json: r#"{"fields":[],"id":18446744073709551615,"kind":"exit","path":"a","worker":0}"#,
-        },
-    ];
-    are_written(&rt, rt.alloc(), &cases);
-}
-
-#[test]
-fn event_inside(rt: HostRuntime) {
-    let case = Case {
+const CASES: [Case<'static>; 11] = [
+    // New spans and records.
+    Case {
+        kind: Kind::OnNew,
+        id: 1,
+        path: "a",
+        fields: &[("k", "1")],
+        level: None,
+        message: "",
+        compact: "new 1 w0 a k=1",
+        json: r#"{"fields":[["k","1"]],"id":1,"kind":"new","path":"a","worker":0}"#,
+    },
+    Case {
+        kind: Kind::OnRecord,
+        id: 1,
+        path: "a",
+        fields: &[("k", "2")],
+        level: None,
+        message: "",
+        compact: "record 1 w0 a k=2",
+        json: r#"{"fields":[["k","2"]],"id":1,"kind":"record","path":"a","worker":0}"#,
+    },
+    // Events and closes.
+    Case {
+        kind: Kind::OnEvent,
+        id: 0,
+        path: "-",
+        fields: &[],
+        level: Some(Level::Warn),
+        message: "x\ny",
+        compact: r"event 0 w0 - WARN x\ny",
+        json: r#"{"fields":[],"id":0,"kind":"event","level":"WARN","message":"x\ny","path":"-","worker":0}"#,
+    },
+    Case {
+        kind: Kind::OnClose,
+        id: 1,
+        path: "a",
+        fields: &[("k", "1"), ("k", "2")],
+        level: None,
+        message: "",
+        compact: "close 1 w0 a k=1 k=2",
+        json: r#"{"fields":[["k","1"],["k","2"]],"id":1,"kind":"close","path":"a","worker":0}"#,
+    },
+    // Entries and exits.
+    Case {
+        kind: Kind::OnEnter,
+        id: 72057594037927936,
+        path: "a:b:c",
+        fields: &[],
+        level: None,
+        message: "",
+        compact: "enter 72057594037927936 w0 a:b:c",
+        json: r#"{"fields":[],"id":72057594037927936,"kind":"enter","path":"a:b:c","worker":0}"#,
+    },
+    Case {
+        kind: Kind::OnExit,
+        id: 18446744073709551615,
+        path: "a",
+        fields: &[],
+        level: Some(Level::Error),
+        message: "not shown",
+        compact: "exit 18446744073709551615 w0 a",
+        json: r#"{"fields":[],"id":18446744073709551615,"kind":"exit","path":"a","worker":0}"#,
+    },
+    // An event inside a span.
+    Case {
         kind: Kind::OnEvent,
         id: 2,
         path: "a:q",
@@ -151,40 +131,30 @@ fn event_inside(rt: HostRuntime) {
         message: "hi",
         compact: "event 2 w0 a:q INFO hi k=v",
         json: r#"{"fields":[["k","v"]],"id":2,"kind":"event","level":"INFO","message":"hi","path":"a:q","worker":0}"#,
-    };
-    are_written(&rt, rt.alloc(), &[case]);
-}
-
-#[test]
-fn events_outside(rt: HostRuntime) {
-    let cases = [
-        Case {
-            kind: Kind::OnEvent,
-            id: 0,
-            path: "-",
-            fields: &[("k", "")],
-            level: Some(Level::Debug),
-            message: "",
-            compact: "event 0 w0 - DEBUG  k=",
-            json: r#"{"fields":[["k",""]],"id":0,"kind":"event","level":"DEBUG","message":"","path":"-","worker":0}"#,
-        },
-        Case {
-            kind: Kind::OnEvent,
-            id: 0,
-            path: "-",
-            fields: &[],
-            level: None,
-            message: "",
-            compact: "event 0 w0 -",
-            json: r#"{"fields":[],"id":0,"kind":"event","path":"-","worker":0}"#,
-        },
-    ];
-    are_written(&rt, rt.alloc(), &cases);
-}
-
-#[test]
-fn escapes_in_messages(rt: HostRuntime) {
-    let case = Case {
+    },
+    // Events outside.
+    Case {
+        kind: Kind::OnEvent,
+        id: 0,
+        path: "-",
+        fields: &[("k", "")],
+        level: Some(Level::Debug),
+        message: "",
+        compact: "event 0 w0 - DEBUG  k=",
+        json: r#"{"fields":[["k",""]],"id":0,"kind":"event","level":"DEBUG","message":"","path":"-","worker":0}"#,
+    },
+    Case {
+        kind: Kind::OnEvent,
+        id: 0,
+        path: "-",
+        fields: &[],
+        level: None,
+        message: "",
+        compact: "event 0 w0 -",
+        json: r#"{"fields":[],"id":0,"kind":"event","path":"-","worker":0}"#,
+    },
+    // Escapes in messages.
+    Case {
         kind: Kind::OnEvent,
         id: 1,
         path: "a",
@@ -193,13 +163,9 @@ fn escapes_in_messages(rt: HostRuntime) {
         message: "back\\slash \"quoted\"\tand\r",
         compact: "event 1 w0 a TRACE back\\\\slash \"quoted\"\tand\\r k=\\n \\\\ crlf=\\r\\n",
         json: r#"{"fields":[["k","\n \\"],["crlf","\r\n"]],"id":1,"kind":"event","level":"TRACE","message":"back\\slash \"quoted\"\tand\r","path":"a","worker":0}"#,
-    };
-    are_written(&rt, rt.alloc(), &[case]);
-}
-
-#[test]
-fn escapes_in_values(rt: HostRuntime) {
-    let case = Case {
+    },
+    // Escapes in values.
+    Case {
         kind: Kind::OnRecord,
         id: 1,
         path: "a",
@@ -211,8 +177,14 @@ fn escapes_in_values(rt: HostRuntime) {
         message: "",
         compact: "record 1 w0 a control=\u{8}\u{c}\u{0}\u{1f}\u{7f}/ text=\u{e9}\u{65e5}\u{1f980}",
         json: "{\"fields\":[[\"control\",\"\\b\\f\\u0000\\u001f\u{7f}/\"],[\"text\",\"\u{e9}\u{65e5}\u{1f980}\"]],\"id\":1,\"kind\":\"record\",\"path\":\"a\",\"worker\":0}",
-    };
-    are_written(&rt, rt.alloc(), &[case]);
+    },
+];
+
+#[test]
+fn each_kind_in_both_forms(rt: HostRuntime) {
+    for case in &CASES {
+        case_is_written(&rt, rt.alloc(), case);
+    }
 }
 
 // The texts one behind the other, each as often as its number says.

@@ -1,43 +1,14 @@
 //! Layers, and batches of few notes.
-ghost use Rattle.std.specs.Prelude.{◌≡◌, ◌+◌, ◌-◌, ◌^◌, ◌<◌, ◌≤◌, [], length, string_bytes};
-ghost use Rattle.std.specs.Result.{ForOk};
-ghost use Rattle.span_layers.specs.Note.{plain_note};
-ghost use Rattle.span_layers.specs.Rule.{pairs_of, is_admitted};
-ghost use Rattle.span_layers.specs.Text.{text_of};
+ghost use Rattle.std.specs.Prelude.{◌≡◌, ◌+◌, ◌-◌, ◌^◌, ◌<◌, ◌≤◌, [], length};
 
 use crate::tests::compare::same;
-use span_id::{Fields, Id, Limits, Meta};
-use span_layers::{
-    FmtSpan, Form, Hooks, Kind, Layer, Layers, Note, Rule, Style, Tellers, admits, text,
-};
+use crate::tests::layers::fixtures::hooks;
+use span_id::{Fields, Id, Limits};
+use span_layers::{FmtSpan, Form, Kind, Layer, Layers, Note, Rule, Style, Tellers};
 use span_outlet::{Batch, Call, Drain, Line, Outlet, Reply, Ring, Tap};
 use std::alloc::{AllocError, Global};
 use std::process::Abort;
 use std::sync::ArcStr;
-
-// Hooks whose text of a new span is refused memory.
-fn hooks(alloc: Global) -> Result<Hooks, AllocError> {
-    Ok(Hooks::new(
-        Box::new(
-            alloc,
-            |rule: &Rule, meta: &Meta| -> bool
-                ensures { result
-                    ≡ is_admitted (pairs_of rule.now) (string_bytes meta.now.target) meta.now.level }
-            { admits(rule, meta) },
-        )?,
-        Box::new(
-            alloc,
-            |alloc: Global, form: Form, note: &Note| -> Result<Vec<u8>, AllocError>
-                ensures { ForOk result (λ text. text.items ≡ text_of form (plain_note note.now)) }
-            {
-                match note.kind {
-                    Kind::OnNew => Err(AllocError),
-                    _ => text(alloc, form, note),
-                }
-            },
-        )?,
-    ))
-}
 
 /// Tellers of layers with these forms. Notes of new spans are refused memory.
 pub(crate) fn tellers(rt: &impl Abort, alloc: Global, forms: &[Form]) -> Tellers {
@@ -51,7 +22,7 @@ pub(crate) fn tellers(rt: &impl Abort, alloc: Global, forms: &[Form]) -> Tellers
             rule: Rule {
                 pairs: Vec::new(alloc),
             },
-            hooks: hooks(alloc).expect(rt, "memory"),
+            hooks: hooks(alloc, true).expect(rt, "memory"),
         };
         let _number = layers.add(layer).ok().expect(rt, "a layer");
     }

@@ -52,20 +52,20 @@ fn counts<V>(drain: &Drain<V>) -> (u64, u64) {
     (drain.taken(), drain.refused())
 }
 
-/// What is done with a ring and its drain, and what is wanted of it.
+// What is done with a ring and its drain, and what is wanted of it.
 #[derive(Clone, Copy)]
-pub(crate) enum Act<'a> {
-    /// A call is sent whose layers are told; whether there is room for its batch.
+enum Act<'a> {
+    // A call is sent whose layers are told; whether there is room for its batch.
     Send(Kind, &'a [u32], bool),
-    /// How often the ring was full.
+    // How often the ring was full.
     TimesFull(u64),
-    /// A step of the drain tells and misses so many notes.
+    // A step of the drain tells and misses so many notes.
     Step(usize, usize),
-    /// A step of the drain finds no batch.
+    // A step of the drain finds no batch.
     Idle,
-    /// How many batches were taken, and how many notes missed.
+    // How many batches were taken, and how many notes missed.
     Count(u64, u64),
-    /// All lines.
+    // All lines.
     Lines(&'a str),
 }
 
@@ -95,14 +95,8 @@ fn plays(rt: &impl Abort, alloc: Global, ring: &mut Ring, drain: &mut Drain, act
     }
 }
 
-/// A drain of a ring of so many places that writes in these forms, after the acts were done in their order.
-pub(crate) fn played(
-    rt: &impl Abort,
-    alloc: Global,
-    places: u32,
-    forms: &[Form],
-    acts: &[Act<'_>],
-) -> Drain {
+// A drain of a ring of so many places that writes in these forms, after the acts were done in their order.
+fn played(rt: &impl Abort, alloc: Global, places: u32, forms: &[Form], acts: &[Act<'_>]) -> Drain {
     let (mut ring, mut drain) = opened(rt, alloc, places, forms);
     plays(rt, alloc, &mut ring, &mut drain, acts);
     drain
@@ -150,29 +144,61 @@ fn the_lines_of_each_layer(rt: HostRuntime) {
     }
 }
 
-#[test]
-fn a_note_whose_text_is_refused_memory(rt: HostRuntime) {
-    let acts = [
-        Act::Send(Kind::OnNew, &[0], true),
-        Act::Send(Kind::OnClose, &[0], true),
-        Act::Step(0, 1),
-        Act::Step(1, 0),
-        Act::Idle,
-        Act::Lines("1 0 0 close 1 w0 a\n"),
-        Act::Count(2, 1),
-    ];
-    played(&rt, rt.alloc(), 8, &[Form::Compact], &acts);
-}
+// The places of a ring, and what is done in this order with it and a drain that writes in the compact form.
+const PLAYS: [(u32, &[Act<'static>]); 4] = [
+    // A note's text is refused memory.
+    (
+        8,
+        &[
+            Act::Send(Kind::OnNew, &[0], true),
+            Act::Send(Kind::OnClose, &[0], true),
+            Act::Step(0, 1),
+            Act::Step(1, 0),
+            Act::Idle,
+            Act::Lines("1 0 0 close 1 w0 a\n"),
+            Act::Count(2, 1),
+        ],
+    ),
+    // Layers have no teller.
+    (
+        8,
+        &[
+            Act::Send(Kind::OnEnter, &[1, 0, 7], true),
+            Act::Step(1, 2),
+            Act::Lines("0 1 0 enter 1 w0 a\n"),
+            Act::Count(1, 2),
+        ],
+    ),
+    // A ring of one place.
+    (
+        1,
+        &[
+            Act::Send(Kind::OnEnter, &[0], true),
+            Act::Send(Kind::OnExit, &[0], false),
+            Act::Send(Kind::OnExit, &[0], false),
+            Act::TimesFull(2),
+            Act::Step(1, 0),
+            Act::Send(Kind::OnExit, &[0], true),
+            Act::TimesFull(2),
+        ],
+    ),
+    // A ring of two places.
+    (
+        2,
+        &[
+            Act::Send(Kind::OnEnter, &[0], true),
+            Act::Send(Kind::OnExit, &[0], true),
+            Act::Send(Kind::OnExit, &[0], false),
+            Act::TimesFull(1),
+        ],
+    ),
+];
 
 #[test]
-fn notes_of_a_layer_without_a_teller(rt: HostRuntime) {
-    let acts = [
-        Act::Send(Kind::OnEnter, &[1, 0, 7], true),
-        Act::Step(1, 2),
-        Act::Lines("0 1 0 enter 1 w0 a\n"),
-        Act::Count(1, 2),
-    ];
-    played(&rt, rt.alloc(), 8, &[Form::Compact], &acts);
+fn rings_and_drains_of_one_form(rt: HostRuntime) {
+    for (places, acts) in &PLAYS {
+        played(&rt, rt.alloc(), *places, &[Form::Compact], acts);
+    }
 }
 
 #[test]
@@ -192,4 +218,18 @@ fn takes_the_last(rt: &impl Abort, drain: &mut Drain, ring: &mut Ring, taken: u6
 {
     drain.last(ring);
     same(rt, counts(drain).0, taken, "taken");
+}
+
+// What it is given may go to another thread.
+fn crosses_threads<T: Send>(value: T) -> T {
+    value
+}
+
+#[test]
+fn the_ends_cross_threads(rt: HostRuntime) {
+    let (ring, drain) = opened(&rt, rt.alloc(), 1, &[Form::Compact]);
+    let ring: Ring = crosses_threads(ring);
+    let drain: Drain = crosses_threads(drain);
+    let counts = (ring.times_full(), drain.taken());
+    same(&rt, counts, (0, 0), "times full, and taken");
 }

@@ -110,8 +110,8 @@ fn plays<V: Say>(
     }
 }
 
-// The acts are done with a ring of so many places, and a reader of it that writes in these forms.
-fn plays_new(rt: &impl Abort, alloc: Global, places: u32, forms: &[Form], acts: &[Act<'_>]) {
+fn plays_new(rt: &impl Abort, alloc: Global, play: &Play) {
+    let (places, forms, acts) = *play;
     let (mut ring, mut reader) = opened(rt, alloc, places, forms);
     plays(rt, alloc, &mut ring, &mut reader, acts);
 }
@@ -122,31 +122,70 @@ const THREE_LINES: &str = r#"0 0 0 {"fields":[],"id":1,"kind":"enter","path":"a"
 2 1 0 {"fields":[],"id":1,"kind":"exit","path":"a","worker":0}
 "#;
 
-#[test]
-fn lines_of_three_batches(rt: HostRuntime) {
-    let acts = [
-        Act::StandAt(0, 0),
-        Act::Send(Kind::OnEnter, &[0, 1], true),
-        Act::Send(Kind::OnEnter, &[], true),
-        Act::Send(Kind::OnExit, &[1, 0], true),
-        Act::Read(THREE_LINES),
-        Act::StandAt(3, 0),
-    ];
-    plays_new(&rt, rt.alloc(), 8, &FORMS, &acts);
-}
+// The places of a ring, the forms in which a reader of it writes, and what is done in this order.
+type Play = (u32, &'static [Form], &'static [Act<'static>]);
+
+const PLAYS: [Play; 4] = [
+    // Lines of three batches.
+    (
+        8,
+        &FORMS,
+        &[
+            Act::StandAt(0, 0),
+            Act::Send(Kind::OnEnter, &[0, 1], true),
+            Act::Send(Kind::OnEnter, &[], true),
+            Act::Send(Kind::OnExit, &[1, 0], true),
+            Act::Read(THREE_LINES),
+            Act::StandAt(3, 0),
+        ],
+    ),
+    // A line that waits is looked at and given out.
+    (
+        8,
+        &[Form::Compact],
+        &[
+            Act::Send(Kind::OnEnter, &[0, 0], true),
+            Act::Send(Kind::OnExit, &[0], true),
+            Act::Wait(0),
+            Act::Wait(1),
+            Act::Peek(1),
+            Act::Read("1 0 0 exit 1 w0 a\n"),
+            Act::StandAt(2, 0),
+        ],
+    ),
+    // Batches' texts are refused memory.
+    (
+        8,
+        &[Form::Compact],
+        &[
+            Act::Send(Kind::OnNew, &[0], true),
+            Act::Send(Kind::OnNew, &[0, 0], true),
+            Act::Send(Kind::OnClose, &[0, 7], true),
+            Act::Fill(3, 4),
+            Act::Read("2 0 0 close 1 w0 a\n"),
+            Act::StandAt(3, 4),
+        ],
+    ),
+    // A place is used again.
+    (
+        1,
+        &[Form::Compact],
+        &[
+            Act::Send(Kind::OnEnter, &[0], true),
+            Act::Send(Kind::OnExit, &[0], false),
+            Act::Read("0 0 0 enter 1 w0 a\n"),
+            Act::Send(Kind::OnExit, &[0], true),
+            Act::Read("1 0 0 exit 1 w0 a\n"),
+            Act::StandAt(2, 0),
+        ],
+    ),
+];
 
 #[test]
-fn a_line_that_waits_is_looked_at_and_given_out(rt: HostRuntime) {
-    let acts = [
-        Act::Send(Kind::OnEnter, &[0, 0], true),
-        Act::Send(Kind::OnExit, &[0], true),
-        Act::Wait(0),
-        Act::Wait(1),
-        Act::Peek(1),
-        Act::Read("1 0 0 exit 1 w0 a\n"),
-        Act::StandAt(2, 0),
-    ];
-    plays_new(&rt, rt.alloc(), 8, &[Form::Compact], &acts);
+fn rings_and_their_readers(rt: HostRuntime) {
+    for play in &PLAYS {
+        plays_new(&rt, rt.alloc(), play);
+    }
 }
 
 // The line at this place of the first batch waits, however often the reader is filled, and then it's given out.
@@ -167,32 +206,6 @@ fn has_none<V>(rt: &impl Abort, reader: &LineReader<V>, taken: u64) {
 fn fills_to<V: Say>(rt: &impl Abort, reader: &mut LineReader<V>, taken: u64, refused: u64) {
     let stands = (reader.fill(), counts(reader));
     same(rt, stands, (true, (taken, refused)), "taken and refused");
-}
-
-#[test]
-fn batches_whose_texts_are_refused_memory(rt: HostRuntime) {
-    let acts = [
-        Act::Send(Kind::OnNew, &[0], true),
-        Act::Send(Kind::OnNew, &[0, 0], true),
-        Act::Send(Kind::OnClose, &[0, 7], true),
-        Act::Fill(3, 4),
-        Act::Read("2 0 0 close 1 w0 a\n"),
-        Act::StandAt(3, 4),
-    ];
-    plays_new(&rt, rt.alloc(), 8, &[Form::Compact], &acts);
-}
-
-#[test]
-fn a_place_that_is_used_again(rt: HostRuntime) {
-    let acts = [
-        Act::Send(Kind::OnEnter, &[0], true),
-        Act::Send(Kind::OnExit, &[0], false),
-        Act::Read("0 0 0 enter 1 w0 a\n"),
-        Act::Send(Kind::OnExit, &[0], true),
-        Act::Read("1 0 0 exit 1 w0 a\n"),
-        Act::StandAt(2, 0),
-    ];
-    plays_new(&rt, rt.alloc(), 1, &[Form::Compact], &acts);
 }
 
 // Whether a line waits once the reader was filled beside the ring.
