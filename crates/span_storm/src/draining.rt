@@ -1,5 +1,5 @@
 //! The drain's thread.
-ghost use Rattle.std.specs.Prelude.{◌≡◌, IfOk};
+ghost use Rattle.std.specs.Prelude.{◌≡◌, IfOk, IfSome};
 ghost use Rattle.span_outlet.specs.Drain.{DrainView};
 ghost use Rattle.span_storm.specs.inside.Back.{IsSameDrain};
 
@@ -27,22 +27,22 @@ impl<V> Promise<Result<Drain<V>, Stopped>> for BackAgain<V> {
     ghost kept_by = { λ back result. IfOk result (λ drain. IsSameDrain back.drain.value drain) };
 }
 
-/// The drain in its thread, or why there is no thread.
+/// The drain in its thread, if one could be made.
 #[derive(Drop)]
 pub(crate) struct Draining<V> {
     drain: Snapshot<Drain<V>>,
-    running: Result<PromisedHandle<Result<Drain<V>, Stopped>, BackAgain<V>>, Stopped>,
+    running: Option<PromisedHandle<Result<Drain<V>, Stopped>, BackAgain<V>>>,
 }
 
 impl<V> Model for Draining<V> {
-    ghost use Rattle.std.specs.Prelude.{◌≡◌, IfOk};
+    ghost use Rattle.std.specs.Prelude.{◌≡◌, IfSome};
     ghost use Rattle.span_outlet.specs.Drain.{DrainView};
 
     ghost Value = { DrainView };
 
     ghost view = { λ draining. draining.drain.value };
 
-    ghost invariant = { λ draining. IfOk draining.running (λ handle.
+    ghost invariant = { λ draining. IfSome draining.running (λ handle.
         handle.promise.drain.value ≡ draining.drain.value) };
 }
 
@@ -53,8 +53,8 @@ impl<V: Drop> Draining<V> {
     {
         let Draining { drain: _, running } = self;
         match running {
-            Ok(handle) => handle.join(rt),
-            Err(fault) => Err(fault),
+            Some(handle) => handle.join(rt),
+            None => Err(Stopped::Memory),
         }
     }
 }
@@ -86,17 +86,13 @@ pub(crate) fn start_drain<
             ensures { IfOk result (λ back. IsSameDrain drain back) }
         { step_beside(rt, gate, party, drain, all_back) },
     );
-    let running = match started {
-        Ok(handle) => Ok(handle),
-        Err(_) => Err(Stopped::Memory),
-    };
     Draining {
         drain: went,
-        running,
+        running: started.ok(),
     }
 }
 
-// Steps until all workers have come back, if the drain isn't held.
+// Lets the drain step, if it isn't held.
 fn step_beside<V: Say, G: Gate, R: Wait>(
     rt: &R,
     gate: &G,
@@ -110,10 +106,18 @@ fn step_beside<V: Say, G: Gate, R: Wait>(
         return Err(Stopped::Held(party));
     }
     let mut drain = drain;
+    step_until(rt, &mut drain, all_back);
+    Ok(drain)
+}
+
+// Steps until all workers have come back.
+fn step_until<V: Say, R: Wait>(rt: &R, drain: &mut Drain<V>, all_back: &AtomicBool)
+    ensures { IsSameDrain drain.old drain.new }
+{
     for _ in rt.forever() {
         if drain.step().is_none() {
             if all_back.load(Ordering::SeqCst) {
-                return Ok(drain);
+                return;
             }
             thread::yield_now();
         }

@@ -7,7 +7,7 @@ use span_id::{Fault, Level, Meta, copy_text};
 use std::alloc::Global;
 
 /// The metas of all rounds, made once.
-#[derive(Debug, Drop)]
+#[derive(Drop)]
 pub(crate) struct Metas {
     pub(crate) job: Meta,
     pub(crate) step: Meta,

@@ -1,5 +1,5 @@
 //! The workers' threads.
-ghost use Rattle.std.specs.Prelude.{◌≡◌, true, IfOk};
+ghost use Rattle.std.specs.Prelude.{◌≡◌, true, IfOk, IfSome};
 ghost use Rattle.span_storm.specs.Storm.{wants_jobs};
 ghost use Rattle.span_storm.specs.inside.Back.{ComesBack, PartyView};
 
@@ -28,23 +28,23 @@ impl<H: Ledger, C: Ledger> Promise<Result<Share<H, C>, Stopped>> for Back<H, C> 
     ghost kept_by = { λ back result. IfOk result (λ share. ComesBack back.worker.value back.rounds share) };
 }
 
-/// A worker in its thread, or why there is no thread.
+/// A worker in its thread, if one could be made.
 #[derive(Drop)]
 pub(crate) struct Party<H: Ledger, C: Ledger> {
     worker: Snapshot<Worker<H, C>>,
     rounds: u32,
-    running: Result<PromisedHandle<Result<Share<H, C>, Stopped>, Back<H, C>>, Stopped>,
+    running: Option<PromisedHandle<Result<Share<H, C>, Stopped>, Back<H, C>>>,
 }
 
 impl<H: Ledger, C: Ledger> Model for Party<H, C> {
-    ghost use Rattle.std.specs.Prelude.{◌≡◌, IfOk};
+    ghost use Rattle.std.specs.Prelude.{◌≡◌, IfSome};
     ghost use Rattle.span_storm.specs.inside.Back.{PartyView};
 
     ghost Value = { PartyView };
 
     ghost view = { λ party. record { worker = party.worker.value; rounds = party.rounds } };
 
-    ghost invariant = { λ party. IfOk party.running (λ handle.
+    ghost invariant = { λ party. IfSome party.running (λ handle.
         (handle.promise.worker.value ≡ party.worker.value) × (handle.promise.rounds ≡ party.rounds)) };
 }
 
@@ -59,8 +59,8 @@ impl<H: Ledger, C: Ledger> Party<H, C> {
             running,
         } = self;
         match running {
-            Ok(handle) => handle.join(rt),
-            Err(fault) => Err(fault),
+            Some(handle) => handle.join(rt),
+            None => Err(Stopped::Memory),
         }
     }
 }
@@ -98,13 +98,9 @@ pub(crate) fn start<
             ensures { IfOk result (λ share. ComesBack worker rounds share) }
         { work(rt, registry, gate, metas, worker, rounds) },
     );
-    let running = match started {
-        Ok(handle) => Ok(handle),
-        Err(_) => Err(Stopped::Memory),
-    };
     Party {
         worker: went,
         rounds,
-        running,
+        running: started.ok(),
     }
 }

@@ -11,7 +11,7 @@ use crate::held::Held;
 use crate::metas::Metas;
 use crate::stopped::Stopped;
 use span_id::Meta;
-use span_registry::{ParentOf, Registry, Ring, Setup, Share, Worker};
+use span_registry::{Handle, ParentOf, Registry, Ring, Setup, Share, Worker};
 use std::sync::Wait;
 use std::sync::ledger::Ledger;
 
@@ -34,7 +34,7 @@ pub(crate) fn work<H: Ledger, C: Ledger, S: Setup, G: Gate, R: Wait>(
     Ok(worker.leave())
 }
 
-// Nine calls: a job, of which there are two handles for a time, and a step inside it.
+// Nine calls: a job, of which there are two handles for a time, and what is made inside it.
 fn round<H: Ledger, C: Ledger, S: Setup, G: Gate, R: Wait>(
     rt: &R,
     registry: &Registry<H, C, S, Ring>,
@@ -52,8 +52,26 @@ fn round<H: Ledger, C: Ledger, S: Setup, G: Gate, R: Wait>(
         Ok(handle) => Held { handle },
         Err(fault) => return Err(Stopped::Refused(fault)),
     };
+    inside(rt, registry, gate, metas, worker, &mut job.handle)?;
+    close(rt, registry, gate, worker, other)?;
+    close(rt, registry, gate, worker, job)
+}
+
+// Five calls: the worker enters the job, tells the event, makes a step and closes it, and leaves the job.
+fn inside<H: Ledger, C: Ledger, S: Setup, G: Gate, R: Wait>(
+    rt: &R,
+    registry: &Registry<H, C, S, Ring>,
+    gate: &G,
+    metas: &Metas,
+    worker: &mut Worker<H, C>,
+    job: &mut Handle<H, C, S>,
+) -> Result<(), Stopped>
+    requires { wants_jobs S.rules ≡ true }
+    ensures accepted { OnOk result (worker.new.accepted ≡ worker.old.accepted + 5) }
+    ensures spare { OnOk result (worker.new.spare ≡ worker.old.spare) }
+{
     ask(gate, worker)?;
-    if let Err(fault) = registry.enter(rt, worker, &mut job.handle) {
+    if let Err(fault) = registry.enter(rt, worker, job) {
         return Err(Stopped::Refused(fault));
     }
     ask(gate, worker)?;
@@ -63,11 +81,10 @@ fn round<H: Ledger, C: Ledger, S: Setup, G: Gate, R: Wait>(
     let step = open(rt, registry, gate, worker, &metas.step, ParentOf::Current)?;
     close(rt, registry, gate, worker, step)?;
     ask(gate, worker)?;
-    if let Err(fault) = registry.exit(rt, worker, job.handle.id()) {
-        return Err(Stopped::Refused(fault));
+    match registry.exit(rt, worker, job.id()) {
+        Ok(_closed) => Ok(()),
+        Err(fault) => Err(Stopped::Refused(fault)),
     }
-    close(rt, registry, gate, worker, other)?;
-    close(rt, registry, gate, worker, job)
 }
 
 // Asks whether the worker may make its next call: all calls before it were accepted.

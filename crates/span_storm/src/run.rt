@@ -2,10 +2,10 @@
 ghost use Rattle.std.specs.Prelude.{◌≡◌, ◌+◌, ◌*◌, ◌<◌, ◌≤◌, ◌↔◌, [], Some, true, IfOk, IfErr};
 ghost use Rattle.span_layers.specs.Layers.{filters_in, forms_in};
 ghost use Rattle.span_storm.specs.Storm.{IsStormEnd, IsStormFault, storm_limits, wants_jobs};
+ghost use Rattle.span_storm.specs.inside.Back.{Adds};
 
 use crate::gate::Gate;
 use crate::metas::Metas;
-use crate::stopped::Stopped;
 use crate::threads::in_threads;
 use span_id::{Checked, Limits};
 use span_layers::{Filters, Layers, Say};
@@ -56,31 +56,51 @@ pub fn storm<G: Gate + Sync, R: Threads + Wait + Sync>(
     let Ok(checked) = limits.check() else {
         unreachable!()
     };
+    match Metas::new(alloc) {
+        Ok(metas) => with_metas(rt, alloc, &checked, rounds, layers, gate, &metas),
+        Err(_) => Err(RunFault::Memory),
+    }
+}
+
+// Makes what a registry is made of, and picks its names.
+fn with_metas<G: Gate + Sync, R: Threads + Wait + Sync>(
+    rt: &R,
+    alloc: Global,
+    checked: &Checked,
+    rounds: u32,
+    layers: Layers,
+    gate: &G,
+    metas: &Metas,
+) -> Result<Report, RunFault>
+    requires workers { checked.now.workers ≤ 16 }
+    requires rounds { rounds ≤ 400 }
+    requires wanted { wants_jobs (filters_in layers) ≡ true }
+    ensures numbers { IfOk result (λ report. Adds checked.now.workers rounds report) }
+    ensures ended { IfOk result (λ report.
+        IsStormEnd checked.now (filters_in layers) (forms_in layers) report) }
+    ensures faults { IfErr result IsStormFault }
+{
     let Ok(table) = SeatTable::new(alloc, checked.limits().slots) else {
         return Err(RunFault::Memory);
     };
-    let Ok((ring, tap)) = Ring::pair(alloc, &checked) else {
+    let Ok((ring, tap)) = Ring::pair(alloc, checked) else {
         return Err(RunFault::Memory);
     };
     let (filters, tellers) = layers.split();
-    let drain = Drain::new(alloc, tap, tellers);
-    let ended = run::<Brand, Brand, Brand, _, _, _>(
+    run::<Brand, Brand, Brand, _, _, _>(
         rt,
         alloc,
         rounds,
         gate,
-        &checked,
+        metas,
+        checked,
         filters,
         ring,
-        drain,
+        Drain::new(alloc, tap, tellers),
         Blank::new(HANDLE_PARTS),
-        Blank::new(u64::from(workers)),
+        Blank::new(u64::from(checked.limits().workers)),
         table,
-    );
-    match ended {
-        Ok(report) => Ok(report),
-        Err(stopped) => Err(stopped.fault()),
-    }
+    )
 }
 
 // Makes the registry, lets its workers run, and ends it. It is generic in the registry's names, so that its caller
@@ -97,6 +117,7 @@ fn run<
     alloc: Global,
     rounds: u32,
     gate: &G,
+    metas: &Metas,
     checked: &Checked,
     filters: Filters,
     ring: Ring,
@@ -104,7 +125,7 @@ fn run<
     handles: Blank,
     calls: Blank,
     table: SeatTable,
-) -> Result<Report, Stopped>
+) -> Result<Report, RunFault>
     requires workers { checked.now.workers ≤ 16 }
     requires rounds { rounds ≤ 400 }
     requires setup { (checked.now ≡ S.limits) × (filters.rules ≡ S.rules) × (Some ring.name ≡ S.ring) }
@@ -113,19 +134,17 @@ fn run<
     requires handles { (handles.name ≡ H.name) × (handles.parts ≡ H.parts) × (H.parts ≡ HANDLE_PARTS) }
     requires calls { (calls.name ≡ C.name) × (calls.parts ≡ C.parts) × (C.parts ≡ checked.now.workers) }
     requires table { (table ≡ S.table) × (table.words ≡ checked.now.slots) }
-    ensures calls { IfOk result (λ report. report.calls ≡ 9 * (checked.now.workers * rounds)) }
-    ensures handles { IfOk result (λ report. report.handles ≡ 0) }
-    ensures empty { IfOk result (λ report. (report.left ≡ 0) ↔ ((report.handles ≡ 0) × (report.entries ≡ 0))) }
-    ensures balance { IfOk result (λ report. report.made ≡ report.closed + report.left) }
+    ensures numbers { IfOk result (λ report. Adds checked.now.workers rounds report) }
     ensures ended { IfOk result (λ report. IsStormEnd S.limits S.rules drain.forms report) }
+    ensures faults { IfErr result IsStormFault }
 {
-    let Ok(metas) = Metas::new(alloc) else {
-        return Err(Stopped::Memory);
-    };
     let made = Registry::<H, C, S, Ring>::new(alloc, checked, filters, ring, handles, calls, table);
     let Ok((registry, workers)) = made else {
-        return Err(Stopped::Memory);
+        return Err(RunFault::Memory);
     };
-    let (whole, drain) = in_threads(rt, alloc, &registry, gate, &metas, workers, rounds, drain)?;
-    Ok(registry.finish(whole, drain))
+    let back = in_threads(rt, alloc, &registry, gate, metas, workers, rounds, drain);
+    match back {
+        Ok((whole, drain)) => Ok(registry.finish(whole, drain)),
+        Err(stopped) => Err(stopped.fault()),
+    }
 }

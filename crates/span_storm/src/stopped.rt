@@ -5,7 +5,7 @@ use span_id::Fault;
 use span_run::RunFault;
 
 /// Why a party of a storm stopped, or couldn't begin.
-#[derive(Clone, Copy, Debug, PartialEq, Eq)]
+#[derive(Clone, Copy)]
 pub enum Stopped {
     /// Its thread couldn't be made, or memory was refused outside its calls.
     Memory,

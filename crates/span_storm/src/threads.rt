@@ -1,7 +1,7 @@
 //! All threads of a storm, and what comes back of them.
-ghost use Rattle.std.specs.Prelude.{◌≡◌, ◌+◌, ◌*◌, ◌^◌, ◌<◌, ◌≤◌, true, IfOk, All, map, length, vec_len, sum_by};
+ghost use Rattle.std.specs.Prelude.{◌≡◌, ◌+◌, ◌*◌, ◌^◌, ◌<◌, ◌≤◌, true, IfOk, All, map, length, vec_len, sum_by, Ok};
 ghost use Rattle.span_storm.specs.Storm.{wants_jobs};
-ghost use Rattle.span_storm.specs.inside.Back.{both_shares, Fit, Gathers, HasAll, IsSameDrain};
+ghost use Rattle.span_storm.specs.inside.Back.{AreReady, BothBack, both_shares, Fit, Gathers, HasAll};
 
 use crate::draining::start_drain;
 use crate::gate::Gate;
@@ -36,12 +36,8 @@ pub(crate) fn in_threads<
     rounds: u32,
     drain: Drain<V>,
 ) -> Result<(Share<H, C>, Drain<V>), Stopped>
-    requires wanted { wants_jobs S.rules ≡ true }
-    requires some { (0 < vec_len workers) × (vec_len workers ≤ 16) }
-    requires rounds { rounds ≤ 400 }
-    requires new { All (λ worker. worker.accepted ≡ 0) workers.items }
-    ensures whole { IfOk result (λ back. HasAll workers.items rounds back.0) }
-    ensures drain { IfOk result (λ back. IsSameDrain drain back.1) }
+    requires { AreReady S.rules (vec_len workers) workers.items rounds }
+    ensures { IfOk result (λ back. BothBack workers.items rounds drain back.0 back.1) }
 {
     let all_back = AtomicBool::new(false);
     let flag = &all_back;
@@ -49,20 +45,30 @@ pub(crate) fn in_threads<
         thread::scope_env(),
         rt,
         move |scope| -> Result<(Share<H, C>, Drain<V>), Stopped>
-            requires wanted { wants_jobs S.rules ≡ true }
-            requires some { (0 < vec_len workers) × (vec_len workers ≤ 16) }
-            requires rounds { rounds ≤ 400 }
-            requires new { All (λ worker. worker.accepted ≡ 0) workers.items }
-            ensures whole { IfOk result (λ back. HasAll workers.items rounds back.0) }
-            ensures drain { IfOk result (λ back. IsSameDrain drain back.1) }
+            requires { AreReady S.rules (vec_len workers) workers.items rounds }
+            ensures { IfOk result (λ back. BothBack workers.items rounds drain back.0 back.1) }
         {
             let draining = start_drain(rt, scope, gate, workers.len() as u32, drain, flag);
             let whole = run_workers(rt, scope, alloc, registry, gate, metas, workers, rounds);
             flag.store(true, Ordering::SeqCst);
             let drain = draining.join(rt);
-            Ok((whole?, drain?))
+            both_back(whole, drain)
         },
     )
+}
+
+// The whole share and the drain, or the fault of the first that has one.
+fn both_back<H: Ledger, C: Ledger, V: Drop>(
+    whole: Result<Share<H, C>, Stopped>,
+    drain: Result<Drain<V>, Stopped>,
+) -> Result<(Share<H, C>, Drain<V>), Stopped>
+    ensures whole { IfOk result (λ back. whole ≡ Ok back.0) }
+    ensures drain { IfOk result (λ back. drain ≡ Ok back.1) }
+{
+    match (whole, drain) {
+        (Ok(whole), Ok(drain)) => Ok((whole, drain)),
+        (Err(fault), _) | (_, Err(fault)) => Err(fault),
+    }
 }
 
 // Starts the workers and joins them.
@@ -84,10 +90,7 @@ fn run_workers<
     workers: Vec<Worker<H, C>>,
     rounds: u32,
 ) -> Result<Share<H, C>, Stopped>
-    requires wanted { wants_jobs S.rules ≡ true }
-    requires some { (0 < vec_len workers) × (vec_len workers ≤ 16) }
-    requires rounds { rounds ≤ 400 }
-    requires new { All (λ worker. worker.accepted ≡ 0) workers.items }
+    requires { AreReady S.rules (vec_len workers) workers.items rounds }
     ensures { IfOk result (λ whole. HasAll workers.items rounds whole) }
 {
     let parties = start_all(rt, scope, alloc, registry, gate, metas, workers, rounds)?;

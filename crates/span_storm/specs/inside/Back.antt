@@ -1,8 +1,11 @@
 -- What comes back of the threads of a storm: no public clause cites it.
-use Rattle.std.specs.Prelude.{◌≡◌, ℕ, ◌+◌, ◌*◌, ◌^◌, ◌<◌, List, length, sum_by, Result, Ok, Err, IfOk}
+use Rattle.std.specs.Prelude.{◌≡◌, ℕ, ◌+◌, ◌*◌, ◌^◌, ◌<◌, ◌≤◌, ◌↔◌, true, List, length, sum_by, All, Result, Ok, Err, IfOk}
+use Rattle.span_layers.specs.Filter.{Filter}
 use Rattle.span_outlet.specs.Drain.{DrainView}
 use Rattle.span_registry.specs.Worker.{WorkerView}
 use Rattle.span_registry.specs.Share.{ShareView, joined}
+use Rattle.span_registry.specs.declared.report.Report.{Report}
+use Rattle.span_storm.specs.Storm.{wants_jobs}
 use Rattle.span_storm.specs.declared.stopped.Stopped.{Stopped}
 
 -- a worker that makes so many rounds
@@ -16,6 +19,14 @@ pub record ComesBack (worker : WorkerView) (rounds : ℕ) (share : ShareView) : 
   pub accepted : share.accepted ≡ worker.accepted + 9 * rounds
   pub handle_parts : share.handle_parts ≡ worker.spare
   pub call_parts : share.call_parts ≡ 1
+
+-- so many workers that have made no call may begin on so many rounds
+pub record AreReady (rules : List Filter) (count : ℕ) (workers : List WorkerView) (rounds : ℕ) : Type 0 where
+  pub wanted : wants_jobs rules ≡ true
+  pub some : 0 < count
+  pub few : count ≤ 16
+  pub few_rounds : rounds ≤ 400
+  pub new : All (λ worker. worker.accepted ≡ 0) workers
 
 -- the shares of these workers together, each of which has come back
 pub record HasAll (workers : List WorkerView) (rounds : ℕ) (share : ShareView) : Type 0 where
@@ -41,7 +52,20 @@ both_shares (Ok one) (Ok other) = Ok (joined one other)
 abbrev pub Fit : Result ShareView Stopped → Result ShareView Stopped → Type 0
 Fit one other = IfOk one (λ a. IfOk other (λ b. (a.units + b.units < 2 ^ 64) × (a.accepted + b.accepted < 2 ^ 64)))
 
+-- The numbers of a report of so many workers and rounds: nine calls for each round of each worker, each handle given
+-- back, and each span closed or left.
+pub record Adds (workers rounds : ℕ) (report : Report) : Type 0 where
+  pub calls : report.calls ≡ 9 * (workers * rounds)
+  pub handles : report.handles ≡ 0
+  pub empty : (report.left ≡ 0) ↔ (report.entries ≡ 0)
+  pub balance : report.made ≡ report.closed + report.left
+
 -- the drain of the same ring, which writes in the same forms
 pub record IsSameDrain (went back : DrainView) : Type 0 where
   pub name : back.name ≡ went.name
   pub forms : back.forms ≡ went.forms
+
+-- the whole share of these workers and the drain that went with them
+pub record BothBack (workers : List WorkerView) (rounds : ℕ) (went : DrainView) (share : ShareView) (back : DrainView) : Type 0 where
+  pub whole : HasAll workers rounds share
+  pub drain : IsSameDrain went back

@@ -16,5 +16,5 @@ storm_end limits rules forms drain report same end = record {
   told = subst (λ f. Tells end.core f report) same end.told;
 }
 
-pub returns-clause-ended : goal.returns-clause-ended
-returns-clause-ended g c = storm_end _ _ _ _ _ c.in_ok-whole.ensures.drain.forms c.finish.ensures.ended
+pub returns-in-Ok-back-clause-ended : goal.returns-in-Ok-back-clause-ended
+returns-in-Ok-back-clause-ended g c = storm_end _ _ _ _ _ c.in-Ok-back.ensures.drain.forms c.finish.ensures.ended

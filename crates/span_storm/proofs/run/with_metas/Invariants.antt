@@ -1,5 +1,5 @@
 use Rattle.std.specs.Prelude.{Some}
-use Rattle.span_storm.proofs.run.storm.Given as goal
+use Rattle.span_storm.proofs.run.with_metas.Given as goal
 
 abbrev pub ghosts-run-H-Ledger : goal.ghosts-run-H-Ledger
 ghosts-run-H-Ledger g a = record { name = a.handles.name; parts = a.handles.parts }
