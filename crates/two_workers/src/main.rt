@@ -2,19 +2,13 @@
 //! two layers write of it are printed, sorted, since either thread may come first.
 #![tactic(auto)]
 
-ghost use Rattle.std.specs.Prelude.{◌≡◌, string_bytes};
-ghost use Rattle.std.specs.Result.{ForOk};
-ghost use Rattle.span_layers.specs.Note.{plain_note};
-ghost use Rattle.span_layers.specs.Rule.{pairs_of, is_admitted};
-ghost use Rattle.span_layers.specs.Text.{text_of};
-
 mod visits;
 
 use crate::visits::visits;
-use span_id::{Fault, Level, Limits, Meta, copy_text};
-use span_layers::{FmtSpan, Form, Hooks, Layer, Layers, Note, Rule, Style, admits, text};
+use span_id::{Fault, Level, Limits, copy_text};
+use span_layers::{ByForm, ByRule, FmtSpan, Form, Hooks, Layer, Layers, Rule, Style};
 use span_registry::{HANDLE_PARTS, Kept, Line, Report, SeatTable};
-use std::alloc::{AllocError, Global};
+use std::alloc::Global;
 use std::io;
 use std::io::Write;
 use std::marker::Brand;
@@ -37,33 +31,26 @@ fn main(rt: HostRuntime) -> io::Result<ExitCode> {
 }
 
 /// How a registry ended that had two layers: one that is told of all that happens to spans, as plain text, and one that
-/// is told of events, as JSON. The closures' contracts are what `Hooks::new` asks for.
+/// is told of events, as JSON.
 fn with_two_layers<R: Threads + Wait + Sync>(rt: &R, alloc: Global) -> Result<Report, Fault> {
     let mut layers = Layers::new(alloc);
     for (form, spans) in [(Form::Compact, FmtSpan::FULL), (Form::Json, FmtSpan::NONE)] {
-        let admit = Box::new(
-            alloc,
-            |rule: &Rule, meta: &Meta| -> bool
-                ensures { result
-                    ≡ is_admitted (pairs_of rule.now) (string_bytes meta.now.target) meta.now.level }
-            { admits(rule, meta) },
-        )?;
-        let say = Box::new(
-            alloc,
-            |alloc: Global, form: Form, note: &Note| -> Result<Vec<u8>, AllocError>
-                ensures { ForOk result (λ text. text.items ≡ text_of form (plain_note note.now)) }
-            { text(alloc, form, note) },
-        )?;
-        let layer = Layer {
-            style: Style { form, spans },
-            rule: everything(alloc)?,
-            hooks: Hooks::new(admit, say),
-        };
-        if let Err((_, fault)) = layers.add(layer) {
-            return Err(fault);
-        }
+        add(alloc, &mut layers, Style { form, spans })?;
     }
     visited(rt, alloc, layers)
+}
+
+// Adds a layer that admits everything. It needs no closure, since it applies its rule and writes its notes as all do.
+fn add(alloc: Global, layers: &mut Layers<ByRule, ByForm>, style: Style) -> Result<(), Fault> {
+    let layer = Layer {
+        style,
+        rule: everything(alloc)?,
+        hooks: Hooks::by_rule_and_form(),
+    };
+    match layers.add(layer) {
+        Ok(_number) => Ok(()),
+        Err((_layer, fault)) => Err(fault),
+    }
 }
 
 // The rule that admits everything.
@@ -77,7 +64,7 @@ fn everything(alloc: Global) -> Result<Rule, Fault> {
 fn visited<R: Threads + Wait + Sync>(
     rt: &R,
     alloc: Global,
-    layers: Layers,
+    layers: Layers<ByRule, ByForm>,
 ) -> Result<Report, Fault> {
     let limits = Limits {
         workers: 3,
@@ -86,7 +73,7 @@ fn visited<R: Threads + Wait + Sync>(
     let checked = limits.check()?;
     let table = SeatTable::new(alloc, checked.limits().slots)?;
     let (filters, tellers) = layers.split();
-    visits::<Brand, Brand, Brand, _, _>(
+    visits::<Brand, Brand, Brand, _>(
         rt,
         alloc,
         &checked,
@@ -100,16 +87,21 @@ fn visited<R: Threads + Wait + Sync>(
 
 /// Prints the lines, sorted, and then how the registry ended.
 fn print(rt: &HostRuntime, report: Report) -> io::Result<()> {
+    let mut report = report;
+    report
+        .lines
+        .sort_unstable_by(|one: &Line, other: &Line| one.text.cmp(&other.text));
+    write_report(rt, &report)
+}
+
+fn write_report(rt: &HostRuntime, report: &Report) -> io::Result<()> {
     let mut out = rt.stdout();
-    let mut lines = report.lines;
-    lines.sort_unstable_by(|one: &Line, other: &Line| one.text.cmp(&other.text));
-    for line in &lines {
+    for line in &report.lines {
         out.write_all(line.text.as_slice())?;
         out.write_all(b"\n")?;
     }
     println!(rt;
         "{} calls, {} made, {} closed, {} left",
         report.calls, report.made, report.closed, report.left
-    )?;
-    Ok(())
+    )
 }

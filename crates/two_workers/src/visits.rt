@@ -1,9 +1,9 @@
 //! What the threads do with the registry.
-ghost use Rattle.std.specs.Prelude.{◌≡◌, ◌+◌, ◌≤◌, [], None, IfOk};
+ghost use Rattle.std.specs.Prelude.{◌≡◌, ◌+◌, ◌≤◌, ◌∷◌, [], None, IfOk, vec_len};
 ghost use Rattle.two_workers.specs.Visit.{IsBack};
 
 use span_id::{Checked, Fault, Level, Meta, copy_text};
-use span_layers::{Filters, Say};
+use span_layers::{Admitters, ByForm, ByRule, Filters, Formatters};
 use span_registry::{
     HANDLE_PARTS, Handle, Kept, Outlet, ParentOf, Registry, Report, SeatTable, Setup, Share, Worker,
 };
@@ -13,6 +13,9 @@ use std::sync::Wait;
 use std::sync::ledger::{Blank, Ledger};
 use std::thread;
 use std::thread::{Promise, PromisedHandle, Scope, Threads};
+
+/// A registry that keeps its lines, and whose layers have no closures.
+type SpanRegistry<H, C, S> = Registry<H, C, S, Kept<Formatters<ByForm>>, Admitters<ByRule>>;
 
 /// What comes back of a visit.
 #[derive(Drop)]
@@ -32,14 +35,13 @@ pub fn visits<
     H: Ledger + Send + Sync,
     C: Ledger + Send + Sync,
     S: Setup + Send + Sync,
-    V: Say + Send,
     R: Threads + Wait + Sync,
 >(
     rt: &R,
     alloc: Global,
     checked: &Checked,
-    filters: Filters,
-    outlet: Kept<V>,
+    filters: Filters<ByRule>,
+    outlet: Kept<Formatters<ByForm>>,
     handles: Blank,
     calls: Blank,
     table: SeatTable,
@@ -51,28 +53,37 @@ pub fn visits<
     requires calls { (calls.name ≡ C.name) × (calls.parts ≡ C.parts) × (C.parts ≡ 3) }
     requires table { (table ≡ S.table) × (table.words ≡ checked.now.slots) }
 {
-    let (registry, workers) = Registry::<H, C, S, Kept<V>>::new(
+    let request = meta(alloc, "request")?;
+    let (registry, workers) = SpanRegistry::<H, C, S>::new(
         alloc, checked, filters, outlet, handles, calls, table,
     )?;
-    let mut workers = workers.into_iter();
-    let (Some(own), Some(first), Some(second), None) = (
-        workers.next(),
-        workers.next(),
-        workers.next(),
-        workers.next(),
-    ) else {
-        unreachable!()
-    };
-    let request = meta(alloc, "request")?;
+    let (own, first, second) = three(workers);
     let whole = both(rt, &registry, &request, own, first, second)?;
     Ok(registry.finish_kept(whole))
 }
 
+// The workers of a registry that has three.
+fn three<H: Ledger, C: Ledger>(
+    workers: Vec<Worker<H, C>>,
+) -> (Worker<H, C>, Worker<H, C>, Worker<H, C>)
+    requires { vec_len workers ≡ 3 }
+    ensures { workers.items ≡ result.0 ∷ result.1 ∷ result.2 ∷ [] }
+{
+    let mut workers = workers;
+    let (Some(second), Some(first), Some(own)) = (workers.pop(), workers.pop(), workers.pop())
+    else {
+        unreachable!()
+    };
+    (own, first, second)
+}
+
 // A span's name at the level of information.
 fn meta(alloc: Global, name: &str) -> Result<Meta, Fault> {
+    let name = copy_text(alloc, name)?;
+    let target = copy_text(alloc, "app")?;
     Ok(Meta {
-        name: copy_text(alloc, name)?,
-        target: copy_text(alloc, "app")?,
+        name,
+        target,
         level: Level::Info,
     })
 }
@@ -82,11 +93,10 @@ fn both<
     H: Ledger + Send + Sync,
     C: Ledger + Send + Sync,
     S: Setup + Send + Sync,
-    V: Say + Send,
     R: Threads + Wait + Sync,
 >(
     rt: &R,
-    registry: &Registry<H, C, S, Kept<V>>,
+    registry: &SpanRegistry<H, C, S>,
     request: &Meta,
     own: Worker<H, C>,
     first: Worker<H, C>,
@@ -126,11 +136,10 @@ fn in_threads<
     H: Ledger + Send + Sync,
     C: Ledger + Send + Sync,
     S: Setup + Send + Sync,
-    V: Say + Send,
     R: Threads + Wait + Sync,
 >(
     rt: &R,
-    registry: &Registry<H, C, S, Kept<V>>,
+    registry: &SpanRegistry<H, C, S>,
     request: &Meta,
     first: Worker<H, C>,
     one: &mut Handle<H, C, S>,
@@ -163,12 +172,11 @@ fn start<
     H: Ledger + Send + Sync + 's,
     C: Ledger + Send + Sync + 's,
     S: Setup + Send + Sync + 's,
-    V: Say + Send + 's,
     R: Wait + Sync,
 >(
     rt: &'s R,
     scope: &Scope<'s, E>,
-    registry: &'s Registry<H, C, S, Kept<V>>,
+    registry: &'s SpanRegistry<H, C, S>,
     request: &'s Meta,
     worker: Worker<H, C>,
     handle: &'s mut Handle<H, C, S>,
@@ -190,9 +198,9 @@ fn start<
 }
 
 // What a thread does: it enters the span, tells an event and leaves the span. A refused call changes nothing.
-fn visit<H: Ledger, C: Ledger, S: Setup, V: Say, R: Wait>(
+fn visit<H: Ledger, C: Ledger, S: Setup, R: Wait>(
     rt: &R,
-    registry: &Registry<H, C, S, Kept<V>>,
+    registry: &SpanRegistry<H, C, S>,
     request: &Meta,
     worker: Worker<H, C>,
     handle: &mut Handle<H, C, S>,
@@ -207,9 +215,9 @@ fn visit<H: Ledger, C: Ledger, S: Setup, V: Say, R: Wait>(
 }
 
 // Gives a handle back. Where the call is refused, the handle is given up.
-fn give_back<H: Ledger, C: Ledger, S: Setup, V: Say, R: Wait>(
+fn give_back<H: Ledger, C: Ledger, S: Setup, R: Wait>(
     rt: &R,
-    registry: &Registry<H, C, S, Kept<V>>,
+    registry: &SpanRegistry<H, C, S>,
     worker: Worker<H, C>,
     handle: Handle<H, C, S>,
 ) -> Share<H, C>
