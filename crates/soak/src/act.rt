@@ -8,7 +8,7 @@ pub const MOST_HANDLES: usize = 32;
 pub const MOST_INSIDE: usize = 16;
 
 /// A call. Handles, and the spans that the worker is inside, stand under their places in the worker's lists.
-#[derive(Clone, Copy, Debug)]
+#[derive(Clone, Copy)]
 pub enum Act {
     NewRoot,
     NewCurrent,

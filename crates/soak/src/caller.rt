@@ -1,5 +1,5 @@
 //! A worker with what it holds, and the calls that it makes.
-ghost use Rattle.std.specs.Prelude.{◌≡◌, ◌+◌, vec_len, IfOk};
+ghost use Rattle.std.specs.Prelude.{◌≡◌, ◌+◌, vec_len, IfOk, OnOk};
 ghost use Rattle.soak.specs.Back.{HasParts};
 
 use crate::act::{Act, MOST_HANDLES, MOST_INSIDE, choose};
@@ -9,6 +9,7 @@ use crate::returned::{Returned, Tally};
 use crate::texts::Texts;
 use span_id::{Fault, Id};
 use span_registry::{ParentOf, Registry, Ring, Setup, Worker};
+use std::alloc::Global;
 use std::sync::Wait;
 use std::sync::ledger::Ledger;
 use std::thread;
@@ -33,22 +34,47 @@ pub fn work<H: Ledger, C: Ledger, S: Setup, R: Wait>(
 ) -> Result<Returned<H, C>, Fault>
     ensures { IfOk result (λ returned. HasParts worker.spare returned.share) }
 {
-    let alloc = *texts.fields.allocator();
     let mut dice = Dice::new(seed, worker.number());
-    let mut caller: Caller<H, C, S> = Caller {
-        worker,
-        hands: Vec::with_capacity(alloc, MOST_HANDLES)?,
-        inside: Vec::with_capacity(alloc, MOST_INSIDE)?,
-        tally: Tally::default(),
-    };
-    for _ in 0..rounds {
-        let act = choose(&mut dice, caller.hands.len(), caller.inside.len());
-        caller.make(rt, registry, texts, act)?;
-    }
+    let mut caller = Caller::new(*texts.fields.allocator(), worker)?;
+    caller.make_random(rt, registry, texts, rounds, &mut dice)?;
     caller.leave(rt, registry, texts)
 }
 
 impl<H: Ledger, C: Ledger, S: Setup> Caller<H, C, S> {
+    // Holds nothing, and has room for as much as it may hold.
+    fn new(alloc: Global, worker: Worker<H, C>) -> Result<Caller<H, C, S>, Fault>
+        ensures worker { IfOk result (λ caller. caller.worker ≡ worker) }
+        ensures hands { IfOk result (λ caller. vec_len caller.hands ≡ 0) }
+    {
+        let hands = Vec::with_capacity(alloc, MOST_HANDLES)?;
+        let inside = Vec::with_capacity(alloc, MOST_INSIDE)?;
+        Ok(Caller {
+            worker,
+            hands,
+            inside,
+            tally: Tally::default(),
+        })
+    }
+
+    // Makes so many random calls.
+    fn make_random<R: Wait>(
+        &mut self,
+        rt: &R,
+        registry: &Registry<H, C, S, Ring>,
+        texts: &Texts,
+        rounds: u64,
+        dice: &mut Dice,
+    ) -> Result<(), Fault>
+        ensures parts { self.new.worker.spare + vec_len self.new.hands
+            ≡ self.old.worker.spare + vec_len self.old.hands }
+    {
+        for _ in 0..rounds {
+            let act = choose(dice, self.hands.len(), self.inside.len());
+            self.make(rt, registry, texts, act)?;
+        }
+        Ok(())
+    }
+
     // Gives all back, and leaves.
     fn leave<R: Wait>(
         self,
@@ -59,20 +85,35 @@ impl<H: Ledger, C: Ledger, S: Setup> Caller<H, C, S> {
         ensures { IfOk result (λ returned. HasParts (self.worker.spare + vec_len self.hands) returned.share) }
     {
         let mut caller = self;
-        for _ in rt.forever() {
-            if !caller.inside.is_empty() {
-                caller.make(rt, registry, texts, Act::Exit(0))?;
-            } else if !caller.hands.is_empty() {
-                caller.make(rt, registry, texts, Act::Close(0))?;
-            } else {
-                break;
-            }
-        }
+        caller.give_back(rt, registry, texts)?;
         let Caller { worker, tally, .. } = caller;
         Ok(Returned {
             share: worker.leave(),
             tally,
         })
+    }
+
+    // Leaves each span that it is inside, and closes each handle.
+    fn give_back<R: Wait>(
+        &mut self,
+        rt: &R,
+        registry: &Registry<H, C, S, Ring>,
+        texts: &Texts,
+    ) -> Result<(), Fault>
+        ensures parts { self.new.worker.spare + vec_len self.new.hands
+            ≡ self.old.worker.spare + vec_len self.old.hands }
+        ensures hands { OnOk result (vec_len self.new.hands ≡ 0) }
+    {
+        for _ in rt.forever() {
+            if !self.inside.is_empty() {
+                self.make(rt, registry, texts, Act::Exit(0))?;
+            } else if !self.hands.is_empty() {
+                self.make(rt, registry, texts, Act::Close(0))?;
+            } else {
+                break;
+            }
+        }
+        Ok(())
     }
 
     // Makes a call until it isn't refused for want of a place.

@@ -7,7 +7,7 @@ const FACTOR: u64 = 6364136223846793005;
 const STEP: u64 = 1442695040888963407;
 
 /// A generator of numbers, each of which is a fixed function of the one before.
-#[derive(Debug, Drop)]
+#[derive(Drop)]
 pub struct Dice {
     state: u64,
 }

@@ -27,6 +27,7 @@ pub fn soak<R: Threads + Wait + Clock + Sync>(
     ensures empty { IfOk result (λ soaked. (soaked.report.left ≡ 0) ↔ (soaked.report.entries ≡ 0)) }
     ensures balance { IfOk result (λ soaked. soaked.report.made ≡ soaked.report.closed + soaked.report.left) }
 {
+    let rule = everything(alloc)?;
     let admit = Box::new(
         alloc,
         |rule: &Rule, meta: &Meta| -> bool
@@ -43,19 +44,38 @@ pub fn soak<R: Threads + Wait + Clock + Sync>(
             Err(AllocError)
         },
     )?;
-    let mut pairs = Vec::with_capacity(alloc, 1)?;
-    pairs.push_reserved((copy_text(alloc, "")?, Level::Trace));
     let layer = Layer {
         style: Style {
             form: Form::Compact,
             spans: FmtSpan::FULL,
         },
-        rule: Rule { pairs },
+        rule,
         hooks: Hooks::new(admit, say),
     };
+    with_layer(rt, alloc, order, layer)
+}
+
+// The rule that admits everything.
+fn everything(alloc: Global) -> Result<Rule, Fault> {
+    let mut pairs = Vec::with_capacity(alloc, 1)?;
+    pairs.push_reserved((copy_text(alloc, "")?, Level::Trace));
+    Ok(Rule { pairs })
+}
+
+// The run with this layer alone.
+fn with_layer<R: Threads + Wait + Clock + Sync>(
+    rt: &R,
+    alloc: Global,
+    order: &Order,
+    layer: Layer,
+) -> Result<Soaked, Fault>
+    ensures handles { IfOk result (λ soaked. soaked.report.handles ≡ 0) }
+    ensures empty { IfOk result (λ soaked. (soaked.report.left ≡ 0) ↔ (soaked.report.entries ≡ 0)) }
+    ensures balance { IfOk result (λ soaked. soaked.report.made ≡ soaked.report.closed + soaked.report.left) }
+{
     let mut layers = Layers::new(alloc);
-    if let Err((_, fault)) = layers.add(layer) {
-        return Err(fault);
+    match layers.add(layer) {
+        Ok(_number) => soak_with(rt, alloc, order, layers),
+        Err((_layer, fault)) => Err(fault),
     }
-    soak_with(rt, alloc, order, layers)
 }

@@ -38,25 +38,36 @@ fn main(rt: HostRuntime) -> io::Result<ExitCode> {
     tell(&rt, soak(&rt, rt.alloc(), &order))
 }
 
-// Tells how a run ended. How often there was no place is told on standard error, since it differs from run to run.
+// Tells how a run ended.
 fn tell(rt: &HostRuntime, ended: Result<Soaked, Fault>) -> io::Result<ExitCode> {
-    let soaked = match ended {
-        Ok(soaked) => soaked,
+    match ended {
+        Ok(soaked) => {
+            print(rt, &soaked)?;
+            Ok(ExitCode::SUCCESS)
+        }
         Err(fault) => {
             eprintln!(rt; "{fault}")?;
-            return Ok(ExitCode::FAILURE);
+            Ok(ExitCode::FAILURE)
         }
-    };
-    let report = soaked.report;
-    println!(rt; "calls {}", report.calls)?;
-    println!(rt; "made {}", report.made)?;
-    println!(rt; "closed {}", report.closed)?;
-    println!(rt; "left {}", report.left)?;
-    println!(rt; "handles {}", report.handles)?;
-    println!(rt; "entries {}", report.entries)?;
-    println!(rt; "notes {}", soaked.tally.notes)?;
-    println!(rt; "lines {}", report.lines.len())?;
-    println!(rt; "missed {}", report.refused)?;
-    eprintln!(rt; "{} times no place", soaked.tally.backlogs)?;
-    Ok(ExitCode::SUCCESS)
+    }
+}
+
+// How often there was no place is told on standard error, since it differs from run to run.
+fn print(rt: &HostRuntime, soaked: &Soaked) -> io::Result<()> {
+    let report = &soaked.report;
+    let counts = [
+        ("calls", report.calls),
+        ("made", report.made),
+        ("closed", report.closed),
+        ("left", u64::from(report.left)),
+        ("handles", report.handles),
+        ("entries", report.entries),
+        ("notes", soaked.tally.notes),
+        ("lines", report.lines.len() as u64),
+        ("missed", report.refused),
+    ];
+    for (name, count) in counts {
+        println!(rt; "{name} {count}")?;
+    }
+    eprintln!(rt; "{} times no place", soaked.tally.backlogs)
 }

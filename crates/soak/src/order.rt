@@ -4,7 +4,7 @@ ghost use Rattle.soak.specs.Order.{IsInRange};
 
 /// One run: how many workers make so many random calls each, through a ring of so many places; the seed decides which
 /// calls.
-#[derive(Clone, Copy, Debug, PartialEq, Eq)]
+#[derive(Clone, Copy)]
 pub struct Order {
     pub workers: u32,
     pub places: u32,

@@ -7,7 +7,7 @@ use span_registry::Share;
 use std::sync::ledger::Ledger;
 
 /// How many notes the layer has to be told of the calls, and how often a call was refused for want of a place.
-#[derive(Clone, Copy, Debug, Default)]
+#[derive(Clone, Copy, Default)]
 pub struct Tally {
     pub notes: u64,
     pub backlogs: u64,

@@ -1,15 +1,13 @@
 //! A whole run, from the making of its registry to its report.
-ghost use Rattle.std.specs.Prelude.{◌≡◌, ◌+◌, ◌<◌, ◌↔◌, [], Some, IfOk, vec_len};
-ghost use Rattle.soak.specs.Back.{HasAll};
-ghost use Rattle.soak.specs.Order.{IsInRange};
+ghost use Rattle.std.specs.Prelude.{◌≡◌, ◌+◌, ◌↔◌, [], Some, IfOk};
 
 use crate::order::Order;
-use crate::returned::{Returned, Tally};
+use crate::returned::Tally;
 use crate::texts::Texts;
 use crate::threads::in_threads;
 use span_id::{Checked, Fault, Limits};
 use span_layers::{Filters, Layers, Say};
-use span_registry::{Drain, HANDLE_PARTS, Registry, Report, Ring, SeatTable, Setup, Worker};
+use span_registry::{Drain, HANDLE_PARTS, Registry, Report, Ring, SeatTable, Setup, Tap};
 use std::alloc::Global;
 use std::marker::Brand;
 use std::sync::Wait;
@@ -35,20 +33,19 @@ pub fn soak_with<R: Threads + Wait + Clock + Sync>(
     ensures empty { IfOk result (λ soaked. (soaked.report.left ≡ 0) ↔ (soaked.report.entries ≡ 0)) }
     ensures balance { IfOk result (λ soaked. soaked.report.made ≡ soaked.report.closed + soaked.report.left) }
 {
-    let limits = Limits {
-        workers: order.workers,
-        ring: order.places,
-        slots: 65536,
-        ..Limits::default()
-    };
-    let checked = limits.check()?;
-    let table = SeatTable::new(alloc, checked.limits().slots)?;
-    let (ring, tap) = Ring::pair(alloc, &checked)?;
+    let Parts {
+        checked,
+        table,
+        ring,
+        tap,
+        texts,
+    } = parts_of(alloc, order)?;
     let (filters, tellers) = layers.split();
     run::<Brand, Brand, Brand, _, _>(
         rt,
         alloc,
         order,
+        &texts,
         &checked,
         filters,
         ring,
@@ -57,6 +54,38 @@ pub fn soak_with<R: Threads + Wait + Clock + Sync>(
         Blank::new(u64::from(checked.limits().workers)),
         table,
     )
+}
+
+// What a registry over a ring is made of, beside its layers, the other end of the ring, and what the calls pass.
+struct Parts {
+    checked: Checked,
+    table: SeatTable,
+    ring: Ring,
+    tap: Tap,
+    texts: Texts,
+}
+
+fn parts_of(alloc: Global, order: &Order) -> Result<Parts, Fault>
+    ensures table { IfOk result (λ parts. parts.table.words ≡ parts.checked.slots) }
+    ensures ring { IfOk result (λ parts. (parts.ring.sent ≡ []) × (parts.ring.name ≡ parts.tap)) }
+{
+    let limits = Limits {
+        workers: order.workers,
+        ring: order.places,
+        slots: 65536,
+        ..Limits::default()
+    };
+    let checked = limits.check()?;
+    let table = SeatTable::new(alloc, checked.limits().slots)?;
+    let texts = Texts::new(alloc)?;
+    let (ring, tap) = Ring::pair(alloc, &checked)?;
+    Ok(Parts {
+        checked,
+        table,
+        ring,
+        tap,
+        texts,
+    })
 }
 
 // It is generic in the registry's names, so that its caller picks them.
@@ -70,6 +99,7 @@ fn run<
     rt: &R,
     alloc: Global,
     order: &Order,
+    texts: &Texts,
     checked: &Checked,
     filters: Filters,
     ring: Ring,
@@ -90,40 +120,17 @@ fn run<
     let (registry, workers) = Registry::<H, C, S, Ring>::new(
         alloc, checked, filters, ring, handles, calls, table,
     )?;
-    let (whole, drain) = with_texts(rt, alloc, order, &registry, workers, drain)?;
-    Ok(Soaked {
-        report: registry.finish(whole.share, drain),
-        tally: whole.tally,
-    })
-}
-
-// Makes what the calls pass, and the calls.
-fn with_texts<
-    H: Ledger + Send + Sync,
-    C: Ledger + Send + Sync,
-    S: Setup + Send + Sync,
-    V: Say + Drop + Send,
-    R: Threads + Wait + Clock + Sync,
->(
-    rt: &R,
-    alloc: Global,
-    order: &Order,
-    registry: &Registry<H, C, S, Ring>,
-    workers: Vec<Worker<H, C>>,
-    drain: Drain<V>,
-) -> Result<(Returned<H, C>, Drain<V>), Fault>
-    requires some { 0 < vec_len workers }
-    ensures whole { IfOk result (λ back. HasAll workers.items back.0.share) }
-    ensures drain { IfOk result (λ back. back.1.name ≡ drain.name) }
-{
-    let texts = Texts::new(alloc)?;
-    in_threads(
+    let (whole, drain) = in_threads(
         rt,
-        registry,
-        &texts,
+        &registry,
+        texts,
         order.rounds,
         order.seed,
         workers,
         drain,
-    )
+    )?;
+    Ok(Soaked {
+        report: registry.finish(whole.share, drain),
+        tally: whole.tally,
+    })
 }

@@ -4,7 +4,7 @@ use span_id::{Fault, Field, Level, Meta, copy_text};
 use std::alloc::Global;
 
 /// What each call passes, made once.
-#[derive(Debug, Drop)]
+#[derive(Drop)]
 pub struct Texts {
     pub meta: Meta,
     pub fields: Vec<Field>,
