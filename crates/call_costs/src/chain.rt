@@ -6,7 +6,7 @@ use crate::made::Made;
 use crate::texts::Texts;
 use span_core::Core;
 use span_id::{Fault, Id, Limits};
-use span_layers::Layers;
+use span_layers::{Layers, Say};
 use span_outlet::{LineReader, ParentOf, Ring};
 use std::alloc::Global;
 
@@ -19,24 +19,35 @@ pub fn chain(alloc: Global, length: u32, layers: Layers) -> Result<Made, Fault> 
         ..Limits::default()
     };
     let checked = limits.check()?;
-    let (ring, tap) = Ring::pair(alloc, &checked)?;
     let (filters, tellers) = layers.split();
+    let texts = Texts::new(alloc, 0)?;
+    let (ring, tap) = Ring::pair(alloc, &checked)?;
     let mut core = Core::new(alloc, &checked, filters, ring)?;
     let mut reader = LineReader::new(alloc, tap, tellers);
-    let texts = Texts::new(alloc, 0)?;
+    make_links(length, &texts, &mut core, &mut reader)
+}
+
+fn make_links<V: Say>(
+    length: u32,
+    texts: &Texts,
+    core: &mut Core<Ring>,
+    reader: &mut LineReader<V>,
+) -> Result<Made, Fault>
+    requires { 0 < core.old.limits.workers }
+{
     let mut last = None;
     let mut lines = 0u64;
     for _ in 0..length {
-        last = link(&mut core, &texts, last)?;
-        lines = read_all(&mut reader).saturating_add(lines);
+        last = link(core, texts, last)?;
+        lines = read_all(reader).saturating_add(lines);
     }
     if let Some(id) = last {
-        tell_inside(&mut core, &texts, id)?;
+        tell_inside(core, texts, id)?;
         core.try_close(0, id)?;
     }
     Ok(Made {
         calls: core.calls(),
-        lines: read_all(&mut reader).saturating_add(lines),
+        lines: read_all(reader).saturating_add(lines),
         left: core.len(),
         ..Made::default()
     })

@@ -21,19 +21,31 @@ pub fn calls_on_core(alloc: Global, shape: &Shape, layers: Layers) -> Result<Mad
         ..Limits::default()
     };
     let checked = limits.check()?;
-    let (ring, tap) = Ring::pair(alloc, &checked)?;
     let (filters, tellers) = layers.split();
+    let texts = Texts::new(alloc, shape.fields)?;
+    let (ring, tap) = Ring::pair(alloc, &checked)?;
     let mut core = Core::new(alloc, &checked, filters, ring)?;
     let mut reader = LineReader::new(alloc, tap, tellers);
-    let texts = Texts::new(alloc, shape.fields)?;
+    make_rounds(shape, &texts, &mut core, &mut reader)
+}
+
+// Stands as deep as the shape says, and makes its rounds there. The lines are read after each of them.
+fn make_rounds<V: Say>(
+    shape: &Shape,
+    texts: &Texts,
+    core: &mut Core<Ring>,
+    reader: &mut LineReader<V>,
+) -> Result<Made, Fault>
+    requires { 0 < core.old.limits.workers }
+{
     let mut lines = 0u64;
     for _ in 1..shape.depth {
-        stand(&mut core, &texts)?;
-        lines = read_all(&mut reader).saturating_add(lines);
+        stand(core, texts)?;
+        lines = read_all(reader).saturating_add(lines);
     }
     for _ in 0..shape.rounds {
-        round(&mut core, &texts)?;
-        lines = read_all(&mut reader).saturating_add(lines);
+        round(core, texts)?;
+        lines = read_all(reader).saturating_add(lines);
     }
     Ok(Made {
         calls: core.calls(),

@@ -1,5 +1,5 @@
 //! A run with its layers, and what came of it.
-ghost use Rattle.std.specs.Prelude.{◌≡◌, string_bytes, IfOk};
+ghost use Rattle.std.specs.Prelude.{◌≡◌, ◌≤◌, string_bytes, IfOk};
 ghost use Rattle.std.specs.Result.{ForOk};
 ghost use Rattle.span_layers.specs.Note.{plain_note};
 ghost use Rattle.span_layers.specs.Rule.{pairs_of, is_admitted};
@@ -10,7 +10,7 @@ use crate::chain::chain;
 use crate::core_loop::calls_on_core;
 use crate::order::Order;
 use crate::registry_loop::calls_on_registry;
-use crate::slow_drain::beside_a_slow_drain;
+use crate::slow_drain::{Slowed, beside_a_slow_drain};
 use span_id::{Fault, Level, Meta, copy_text};
 use span_layers::{Form, Hooks, Layer, Layers, Note, Rule, Style, admits, text};
 use span_storm::{Open, storm};
@@ -20,7 +20,7 @@ use std::thread::Threads;
 
 /// How a run ended: the calls that were accepted, the lines that were written, the spans that a chain
 /// or a slow drain left open, and how often a slow drain's ring was full.
-#[derive(Clone, Copy, Debug, Default, PartialEq, Eq)]
+#[derive(Clone, Copy, Default)]
 pub struct Made {
     pub calls: u64,
     pub lines: u64,
@@ -35,6 +35,7 @@ pub fn run<R: Threads + Wait + Sync>(rt: &R, alloc: Global, order: &Order) -> Re
     let mut layers = Layers::new(alloc);
     let more = order.texts_more();
     for _ in 0..order.layers() {
+        let rule = everything(alloc)?;
         let admit = Box::new(
             alloc,
             |rule: &Rule, meta: &Meta| -> bool
@@ -53,7 +54,7 @@ pub fn run<R: Threads + Wait + Sync>(rt: &R, alloc: Global, order: &Order) -> Re
                 form: Form::Compact,
                 spans: order.spans(),
             },
-            rule: everything(alloc)?,
+            rule,
             hooks: Hooks::new(admit, say),
         };
         if let Err((_, fault)) = layers.add(layer) {
@@ -92,25 +93,39 @@ fn run_with<R: Threads + Wait + Sync>(
     match order {
         Order::Core(shape) => calls_on_core(alloc, shape, layers),
         Order::Registry(shape) => calls_on_registry(rt, alloc, shape, layers),
-        Order::Storm { workers, rounds } => {
-            let none = Layers::new(alloc);
-            match storm(rt, alloc, *workers, *rounds, none, &Open) {
-                Ok(report) => Ok(Made {
-                    calls: report.calls,
-                    ..Made::default()
-                }),
-                Err(_) => Err(Fault::Memory),
-            }
-        }
+        Order::Storm { workers, rounds } => in_a_storm(rt, alloc, *workers, *rounds),
         Order::Chain { length } => chain(alloc, *length, layers),
         Order::Slow { places, rounds } => {
             let slowed = beside_a_slow_drain(rt, alloc, *places, *rounds, layers)?;
-            Ok(Made {
-                calls: slowed.report.calls,
-                lines: slowed.report.lines.len() as u64,
-                left: slowed.report.left,
-                backlogs: slowed.backlogs,
-            })
+            Ok(made_of(&slowed))
         }
+    }
+}
+
+// A storm without layers.
+fn in_a_storm<R: Threads + Wait + Sync>(
+    rt: &R,
+    alloc: Global,
+    workers: u32,
+    rounds: u32,
+) -> Result<Made, Fault>
+    requires { (1 ≤ workers) × (workers ≤ 16) × (1 ≤ rounds) × (rounds ≤ 400) }
+{
+    match storm(rt, alloc, workers, rounds, Layers::new(alloc), &Open) {
+        Ok(report) => Ok(Made {
+            calls: report.calls,
+            ..Made::default()
+        }),
+        Err(_) => Err(Fault::Memory),
+    }
+}
+
+fn made_of(slowed: &Slowed) -> Made {
+    let report = &slowed.report;
+    Made {
+        calls: report.calls,
+        lines: report.lines.len() as u64,
+        left: report.left,
+        backlogs: slowed.backlogs,
     }
 }

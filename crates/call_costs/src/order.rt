@@ -6,7 +6,7 @@ use span_layers::FmtSpan;
 
 /// How many layers there are, how many fields each span and event has, how deep the spans of the rounds stand (1 for
 /// roots), and how many rounds are made.
-#[derive(Clone, Copy, Debug, PartialEq, Eq)]
+#[derive(Clone, Copy)]
 pub struct Shape {
     pub layers: u32,
     pub fields: u32,
@@ -15,7 +15,7 @@ pub struct Shape {
 }
 
 /// One run.
-#[derive(Clone, Copy, Debug, PartialEq, Eq)]
+#[derive(Clone, Copy)]
 pub enum Order {
     /// Rounds on a core.
     Core(Shape),

@@ -71,17 +71,29 @@ fn run<H: Ledger, C: Ledger, S: Setup, V: Say + Drop, R: Wait>(
         alloc, checked, filters, ring, handles, calls, table,
     )?;
     let mut reader = reader;
-    let mut lines = 0u64;
     let Some(mut worker) = workers.into_iter().next() else {
         unreachable!()
     };
+    make_rounds(rt, &registry, &mut worker, &mut reader, &texts, shape)
+}
+
+// Stands as deep as the shape says, and makes its rounds there. The lines are read after each of them.
+fn make_rounds<H: Ledger, C: Ledger, S: Setup, V: Say, R: Wait>(
+    rt: &R,
+    registry: &Registry<H, C, S, Ring>,
+    worker: &mut Worker<H, C>,
+    reader: &mut LineReader<V>,
+    texts: &Texts,
+    shape: &Shape,
+) -> Result<Made, Fault> {
+    let mut lines = 0u64;
     for _ in 1..shape.depth {
-        stand(rt, &registry, &mut worker, &texts)?;
-        lines = read_all(&mut reader).saturating_add(lines);
+        stand(rt, registry, worker, texts)?;
+        lines = read_all(reader).saturating_add(lines);
     }
     for _ in 0..shape.rounds {
-        round(rt, &registry, &mut worker, &texts)?;
-        lines = read_all(&mut reader).saturating_add(lines);
+        round(rt, registry, worker, texts)?;
+        lines = read_all(reader).saturating_add(lines);
     }
     Ok(Made {
         calls: worker.accepted(),

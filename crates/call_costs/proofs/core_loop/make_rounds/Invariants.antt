@@ -1,5 +1,5 @@
 use Rattle.std.proofs.Common.{◌≡◌}
-use Rattle.call_costs.proofs.core_loop.calls_on_core.Given as goal
+use Rattle.call_costs.proofs.core_loop.make_rounds.Given as goal
 
 abbrev pub invariant-loop : goal.invariant-loop
 invariant-loop g l = l.core.limits ≡ l.initial.core.limits

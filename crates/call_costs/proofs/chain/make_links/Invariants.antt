@@ -1,5 +1,5 @@
 use Rattle.std.proofs.Common.{◌≡◌}
-use Rattle.call_costs.proofs.chain.chain.Given as goal
+use Rattle.call_costs.proofs.chain.make_links.Given as goal
 
 abbrev pub invariant-loop : goal.invariant-loop
 invariant-loop g l = l.core.limits ≡ l.initial.core.limits
