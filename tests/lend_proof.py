@@ -47,19 +47,23 @@ def ended_check(temporary):
 
 
 def lend(copy, temporary, gate):
+    before = None
     while is_running(gate):
         proved = ended_check(temporary)
-        if proved:
+        # (between two processes of one check there is none for a moment)
+        if proved and proved == before:
             load().linked(proved, f"{copy}/crates/{CRATE}/out/incremental")
             return True
+        before = proved
         time.sleep(SECONDS)
+    print("the gate ended and left no proof to lend")
     return False
 
 
 def main():
     copy, temporary, gate = sys.argv[1:]
     try:
-        is_lent = lend(copy, temporary, int(gate))
+        is_lent = lend(copy, os.path.realpath(temporary), int(gate))
     except Exception as error:  # whatever an rt of another make has otherwise
         print(f"lent no proof: {error!r}")
         is_lent = False

@@ -1,20 +1,21 @@
 #!/usr/bin/env python3
 """Which crates may wait for a lock: what the checker counted has to be what crates.txt says.
 
-    python3 tests/who_may_wait.py begin
     python3 tests/who_may_wait.py LOG
+    python3 tests/who_may_wait.py begin
+    python3 tests/who_may_wait.py proved CRATE LINE SINCE
 
 LOG is what rt ci printed. Of each crate that it proved it has the checker's last line, in which may-wait= counts the
 functions that take the handle by which a call may wait; with none of them the word is missing. crates.txt says may_wait=
 of a crate that has some. So a crate that isn't said to wait has no function that could take a lock, and in
 span_registry no other functions do than the calls of the registry.
 
-Where an earlier rt ci on this machine proved the same files, the log says so and has no such line. So each count is kept
-under the sum of all that it was made from, and `begin`, before rt ci starts, has it prove again each crate that it kept
-and of which no count is kept here.
+Where an earlier rt ci on this machine proved the same, the log says that the crate is kept, and has no such line. So each
+count is kept beside the proof, under the proof's name: `proved` does that as soon as rt ci says that it proved a crate,
+with the checker's last line, where the proof was kept since the time SINCE (in seconds of the epoch). `begin`, before rt
+ci starts, drops each kept proof of these crates that has no count, so that rt ci proves it again.
 """
 
-import json
 import os
 import re
 import sys
@@ -23,7 +24,6 @@ from pathlib import Path
 from toolchain import load
 
 TOP = Path(__file__).resolve().parent.parent
-KEPT = Path(os.environ.get("XDG_CACHE_HOME") or Path.home() / ".cache") / "span_registry" / "who_may_wait"
 
 
 def said():
@@ -37,6 +37,12 @@ def said():
     return crates
 
 
+def count_in(verdict):
+    """The number that the checker's last line has."""
+    waits = re.search(r" may-wait=(\d+)", verdict)
+    return int(waits[1]) if waits else 0
+
+
 def counted(log):
     """The crates that were proved, each with the number that the checker counted."""
     crates, verdict = {}, ""
@@ -45,48 +51,57 @@ def counted(log):
             verdict = line
         proved = re.fullmatch(r"rt: (\w+) proved", line)
         if proved:
-            waits = re.search(r" may-wait=(\d+)", verdict)
-            crates[proved[1]] = int(waits[1]) if waits else 0
+            crates[proved[1]] = count_in(verdict)
     return crates
 
 
-def sums(rt):
-    """The crates, each with rt's sum of all that a proof of it stands on."""
-    os.chdir(TOP)
-    rt.rtlib.Crate = rt.Crate
-    rt.Crate.allowed = rt.handles_of(str(TOP))
-    seen = {}
-    return {crate.name: rt.stamp_of(crate, seen) for crate in rt.rtlib.crates_below(str(TOP))}
+class Counts:
+    """The counts that are kept beside rt's proofs."""
 
+    def __init__(self):
+        self.rt = load()
+        os.chdir(TOP)
+        self.rt.rtlib.Crate = self.rt.Crate
+        self.rt.Crate.allowed = self.rt.handles_of(str(TOP))
+        self.crates = {it.name: it for it in self.rt.rtlib.crates_below(str(TOP))}
+        self.kept = self.rt.Kept([])
+        self.at = Path(self.rt.STORE) / "may_wait"
 
-def kept(name):
-    """The count that is kept under this sum, or None."""
-    try:
-        return json.loads((KEPT / name).read_text())
-    except (OSError, ValueError):
-        return None
+    def proof_of(self, name):
+        """Where rt keeps the proof of the crate as it stands, over the libraries below it that stand in out/."""
+        crate = self.crates[name]
+        for below in crate.below():
+            self.kept.is_built(below)
+        return Path(self.kept.place(crate, False, self.kept.key(crate)))
 
+    def keep(self, name, count, since):
+        proof = self.proof_of(name)
+        if proof.exists() and proof.stat().st_mtime >= since:
+            self.at.mkdir(exist_ok=True)
+            (self.at / proof.name).write_text(str(count))
 
-def begin():
-    rt = load()
-    if not os.path.isdir(rt.STORE):
-        return
-    store = rt.Kept([])
-    for crate, name in sums(rt).items():
-        if kept(name) is None:
-            for proof in Path(rt.STORE).glob(f"proof-{crate}-*"):
-                store.drop(str(proof))
+    def of(self, name):
+        try:
+            return int((self.at / self.proof_of(name).name).read_text())
+        except (OSError, ValueError):
+            return None
+
+    def drop_uncounted(self):
+        for name in self.crates:
+            for proof in Path(self.rt.STORE).glob(f"proof-{name}-*"):
+                if not (self.at / proof.name).exists():
+                    self.kept.drop(str(proof))
+        for count in self.at.glob("proof-*"):
+            if not (Path(self.rt.STORE) / count.name).exists():
+                count.unlink()
 
 
 def compare(log):
-    found = sums(load())
     counts = counted(log)
-    KEPT.mkdir(parents=True, exist_ok=True)
-    for crate, count in counts.items():
-        (KEPT / found[crate]).write_text(json.dumps(count))
+    counts.update(counts_of(re.findall(r"^rt: (\w+) is kept:", log, re.M)))
     passed = failed = 0
     for crate, number in said().items():
-        count = counts.get(crate, kept(found[crate]))
+        count = counts.get(crate)
         if count == number:
             passed += 1
             continue
@@ -96,13 +111,30 @@ def compare(log):
     return failed
 
 
+def counts_of(crates):
+    """The counts of crates that rt kept, as far as there are some."""
+    try:
+        kept = Counts() if crates else None
+        return {crate: kept.of(crate) for crate in crates}
+    except Exception as error:  # whatever an rt of another make has otherwise
+        print(f"no counts are kept: {error!r}")
+        return {}
+
+
 def main():
-    if len(sys.argv) != 2:
+    words = sys.argv[1:]
+    if words == ["begin"] or len(words) == 4 and words[0] == "proved":
+        try:
+            if words == ["begin"]:
+                Counts().drop_uncounted()
+            else:
+                Counts().keep(words[1], count_in(words[2]), float(words[3]))
+        except Exception as error:  # whatever an rt of another make has otherwise, or keeps otherwise
+            print(f"who_may_wait.py: {words[0]}: {error!r}", file=sys.stderr)
+    elif len(words) == 1:
+        sys.exit(1 if compare(Path(words[0]).read_text(errors="replace")) else 0)
+    else:
         sys.exit(__doc__)
-    if sys.argv[1] == "begin":
-        begin()
-    elif compare(Path(sys.argv[1]).read_text(errors="replace")):
-        sys.exit(1)
 
 
 if __name__ == "__main__":

@@ -2,7 +2,7 @@
 mod answers;
 mod fields;
 mod fixtures;
-mod limits;
+mod many_spans;
 mod row;
 mod strangers;
 mod tree;

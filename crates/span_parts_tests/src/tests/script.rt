@@ -122,7 +122,7 @@ const LATE_WHEN_RUNNING: [Row; 6] = [
     ("{\"op\":\"layer\"", "not JSON"),
 ];
 
-/// The stages at which lines are read, and the lines.
+/// The stages at which lines are read, and the lines; those of the last two tables are at fault there.
 const READ: [(&[Stage], &[Row]); 5] = [
     (&[Stage::AtStart, Stage::InSetup], &LAYERS),
     (&[Stage::AtStart, Stage::Running], &RECORDS),
@@ -132,7 +132,7 @@ const READ: [(&[Stage], &[Row]); 5] = [
 ];
 
 #[test]
-fn reads_lines(rt: HostRuntime) {
+fn reads_lines_and_tells_late_ones(rt: HostRuntime) {
     for (stages, rows) in &READ {
         compare(&rt, rt.alloc(), stages, rows);
     }

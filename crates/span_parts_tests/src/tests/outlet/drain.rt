@@ -1,4 +1,4 @@
-//! What a drain writes.
+//! What a drain writes, when a ring has room, and that both ends cross threads.
 ghost use Rattle.std.specs.Prelude.{◌≡◌, []};
 
 use crate::tests::compare::same;
@@ -159,7 +159,7 @@ const PLAYS: [(u32, &[Act<'static>]); 4] = [
             Act::Count(2, 1),
         ],
     ),
-    // Layers have no teller.
+    // Two of three layers have no teller.
     (
         8,
         &[
