@@ -71,7 +71,8 @@ class Counts:
         """Where rt keeps the proof of the crate as it stands, over the libraries below it that stand in out/."""
         crate = self.crates[name]
         for below in crate.below():
-            self.kept.is_built(below)
+            if below.name not in self.kept.rlibs:
+                self.kept.is_built(below)
         return Path(self.kept.place(crate, False, self.kept.key(crate)))
 
     def keep(self, name, count, since):
