@@ -14,19 +14,25 @@ from run_cases import PROGRAM, shown
 
 WORKERS, ROUNDS = 16, 400
 SECONDS = 120
-# In each round a worker makes two spans by nine calls, of which the layer is told but for the clone and for the close
-# that leaves a handle.
-NUMBERS = {
-    "workers": WORKERS,
-    "rounds": ROUNDS,
-    "made": 2 * WORKERS * ROUNDS,
-    "closed": 2 * WORKERS * ROUNDS,
-    "calls": 9 * WORKERS * ROUNDS,
-    "lines": 7 * WORKERS * ROUNDS,
-    "refused": 0,
-    "left": 0,
-}
-WANTED = "".join(f"{name} {number}\n" for name, number in NUMBERS.items()).encode()
+
+
+def written(workers, rounds):
+    """What a storm writes. In each round a worker makes two spans by nine calls, of which the layer is told but for the
+    clone and for the close that leaves a handle."""
+    numbers = {
+        "workers": workers,
+        "rounds": rounds,
+        "made": 2 * workers * rounds,
+        "closed": 2 * workers * rounds,
+        "calls": 9 * workers * rounds,
+        "lines": 7 * workers * rounds,
+        "refused": 0,
+        "left": 0,
+    }
+    return "".join(f"{name} {number}\n" for name, number in numbers.items()).encode()
+
+
+WANTED = written(WORKERS, ROUNDS)
 
 
 def start(program):

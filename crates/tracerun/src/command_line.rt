@@ -70,7 +70,7 @@ fn storm_command<'a>(alloc: Global) -> Result<Command<'a>, AllocError> {
 /// The order that the words give, of which the first is the program's name.
 ///
 /// Words that give no order are an error, and so is a request for help or for the version.
-pub fn order<'a>(alloc: Global, words: &'a [&'a str]) -> Result<Order, Error>
+fn order<'a>(alloc: Global, words: &'a [&'a str]) -> Result<Order, Error>
     ensures { IfOk result IsInRange }
 {
     let mut command = command(alloc)?;

@@ -3,8 +3,6 @@
 
 mod command_line;
 mod storms;
-#[cfg(test)]
-mod tests;
 
 use crate::command_line::orders::Order;
 use clap::Error;

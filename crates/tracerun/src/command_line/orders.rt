@@ -1,7 +1,7 @@
 //! What the program can be asked to do.
 
 /// What the program is asked to do.
-#[derive(Clone, Copy, Debug, PartialEq, Eq)]
+#[derive(Clone, Copy)]
 pub enum Order {
     /// Run a script from standard input.
     Replay,
