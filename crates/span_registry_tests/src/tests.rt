@@ -1,19 +1,3 @@
-//! What no clause says: the calls run, with their answers and their reports.
-mod acts;
-mod backlog;
-mod caller;
-mod ended;
-mod ended_on_a_ring;
-mod endings;
-mod handed_on;
-mod held;
-mod jobs;
-mod layers;
-mod names;
-mod on_core;
-mod on_registry;
-mod same;
-mod scripts;
-mod steps;
-mod strangers;
-mod threads;
+//! What no clause says: the calls of a registry and whole storms run, in one thread and in many.
+mod registry;
+mod storm;

@@ -15,6 +15,11 @@ pub(crate) fn same<T: PartialEq + Debug + Copy, D: Display + Copy>(
     assert_eq!(rt; answer, want, "of {of}");
 }
 
+/// The same where no word has to tell the case.
+pub(crate) fn equal<T: PartialEq + Debug + Copy>(rt: &impl Abort, answer: T, want: T) {
+    assert_eq!(rt; answer, want);
+}
+
 /// Whether this is so; `of` tells the case.
 pub(crate) fn holds<D: Display + Copy>(rt: &impl Abort, fact: bool, of: D) {
     assert!(rt; fact, "{of}");

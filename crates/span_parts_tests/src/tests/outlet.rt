@@ -1,5 +1,5 @@
 //! What no clause says: when the ring has room, worked lines, and each call once.
 
-mod batches;
+pub(crate) mod batches;
 mod drain;
 mod line_reader;

@@ -1,0 +1,14 @@
+//! The calls of a core run, with their answers and the lines of their notes.
+mod acts;
+mod answers;
+mod chain;
+mod closing_lists;
+mod layers;
+mod missed;
+mod on_a_ring;
+mod play;
+mod rows;
+mod shared;
+mod sharing;
+mod strangers;
+mod workers;

@@ -1,0 +1,4 @@
+//! Whole runs of scripts, devices that fail, and which hooks a layer takes.
+mod flushes;
+mod hooks;
+mod runs;

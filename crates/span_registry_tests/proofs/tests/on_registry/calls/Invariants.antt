@@ -1,6 +1,0 @@
-use Rattle.std.proofs.Common.{◌≡◌}
-use Rattle.span_registry_tests.proofs.tests.on_registry.calls.Given as goal
-
--- the drain keeps the name of its ring
-abbrev pub invariant-loop-number : goal.invariant-loop-number
-invariant-loop-number g l = g.D.Steps.name l.drain ≡ g.D.Steps.name l.initial.drain

@@ -1,0 +1,92 @@
+//! The shortest caller, as the page on calling shows it.
+ghost use Rattle.std.specs.Prelude.{◌≡◌, [], None};
+
+use crate::tests::registry::same::same;
+use span_id::{Checked, Fault, Level, Limits, Meta, copy_text};
+use span_layers::{Filters, Layers, Say, Tellers};
+use span_registry::{HANDLE_PARTS, Kept, ParentOf, Registry, Report, SeatTable, Setup};
+use std::alloc::Global;
+use std::marker::Brand;
+use std::sync::Wait;
+use std::sync::ledger::{Blank, Ledger};
+use std::test::Fail;
+
+/// One worker makes a span and closes it; the report has the lines.
+pub fn one_span<R: Wait>(
+    rt: &R,
+    alloc: Global,
+    filters: Filters,
+    tellers: Tellers,
+    meta: &Meta,
+) -> Result<Report, Fault> {
+    let limits = Limits {
+        workers: 1,
+        ..Limits::default()
+    };
+    let checked = limits.check()?;
+    let table = SeatTable::new(alloc, checked.limits().slots)?;
+    run::<Brand, Brand, Brand, _, _>(
+        rt,
+        alloc,
+        &checked,
+        filters,
+        Kept::new(alloc, tellers),
+        meta,
+        Blank::new(HANDLE_PARTS),
+        Blank::new(1),
+        table,
+    )
+}
+
+fn run<H: Ledger, C: Ledger, S: Setup, V: Say, R: Wait>(
+    rt: &R,
+    alloc: Global,
+    checked: &Checked,
+    filters: Filters,
+    outlet: Kept<V>,
+    meta: &Meta,
+    handles: Blank,
+    calls: Blank,
+    table: SeatTable,
+) -> Result<Report, Fault>
+    requires sent { outlet.sent ≡ [] }
+    requires setup { (checked.now ≡ S.limits) × (filters.rules ≡ S.rules) × (None ≡ S.ring) }
+    requires workers { checked.now.workers ≡ 1 }
+    requires handles { (handles.name ≡ H.name) × (handles.parts ≡ H.parts) × (H.parts ≡ HANDLE_PARTS) }
+    requires calls { (calls.name ≡ C.name) × (calls.parts ≡ C.parts) × (C.parts ≡ 1) }
+    requires table { (table ≡ S.table) × (table.words ≡ checked.now.slots) }
+{
+    let (registry, workers) = Registry::<H, C, S, Kept<V>>::new(
+        alloc, checked, filters, outlet, handles, calls, table,
+    )?;
+    let mut workers = workers.into_iter();
+    let (Some(mut worker), None) = (workers.next(), workers.next()) else {
+        unreachable!()
+    };
+    let share = match registry.new_span(rt, &mut worker, meta, &[], ParentOf::Root)? {
+        None => worker.leave(), // no layer wants it
+        Some(span) => match registry.try_close(rt, &mut worker, span) {
+            Ok(_closed) => worker.leave(),
+            Err((span, _fault)) => worker.leave().join(span.into_share()),
+        },
+    };
+    Ok(registry.finish_kept(share))
+}
+
+fn report_of<R: Wait>(rt: &R, alloc: Global) -> Result<Report, Fault> {
+    let meta = Meta {
+        name: copy_text(alloc, "a")?,
+        target: copy_text(alloc, "app")?,
+        level: Level::Info,
+    };
+    let (filters, tellers) = Layers::new(alloc).split();
+    one_span(rt, alloc, filters, tellers, &meta)
+}
+
+#[test]
+fn one_worker_makes_a_span(rt: HostRuntime) -> Result<(), Fail> {
+    let report = report_of(&rt, rt.alloc())?;
+    let counts = (report.calls, report.made, report.closed, report.left);
+    same(&rt, counts, (2, 1, 1, 0));
+    Ok(())
+}

@@ -1,0 +1,90 @@
+//! Registries over a ring, from their making to their reports.
+ghost use Rattle.std.specs.Prelude.{◌≡◌, [], Some};
+
+use crate::tests::registry::acts::{Act, Transcript};
+use crate::tests::registry::ended::{Deed, Ended, ended_with, perform};
+use crate::tests::registry::held::drained;
+use crate::tests::registry::layers::{Plan, layers};
+use span_id::{Checked, Limits};
+use span_layers::Filters;
+use span_registry::{Drain, HANDLE_PARTS, Registry, Report, Ring, SeatTable, Setup};
+use std::alloc::Global;
+use std::marker::Brand;
+use std::sync::Wait;
+use std::sync::ledger::{Blank, Ledger};
+use std::test::Fail;
+use std::thread::Threads;
+
+// Generic in the names, which the caller picks.
+fn named<
+    H: Ledger + Send + Sync,
+    C: Ledger + Send + Sync,
+    S: Setup + Send + Sync,
+    R: Threads + Wait + Sync,
+>(
+    rt: &R,
+    alloc: Global,
+    checked: &Checked,
+    filters: Filters,
+    ring: Ring,
+    drain: Drain,
+    handles: Blank,
+    calls: Blank,
+    table: SeatTable,
+    acts: &[(u32, Act)],
+    transcript: &mut Transcript,
+) -> Result<Option<Report>, Fail>
+    requires sent { ring.sent ≡ [] }
+    requires setup { (checked.now ≡ S.limits) × (filters.rules ≡ S.rules) }
+    requires pair { (Some ring.name ≡ S.ring) × (Some drain.name ≡ S.ring) }
+    requires handles { (handles.name ≡ H.name) × (handles.parts ≡ H.parts) × (H.parts ≡ HANDLE_PARTS) }
+    requires calls { (calls.name ≡ C.name) × (calls.parts ≡ C.parts) × (C.parts ≡ checked.now.workers) }
+    requires table { (table ≡ S.table) × (table.words ≡ checked.now.slots) }
+{
+    let (registry, workers) = Registry::<H, C, S, Ring>::new(
+        alloc, checked, filters, ring, handles, calls, table,
+    )?;
+    let mut drain = drain;
+    let whole = perform(
+        rt,
+        alloc,
+        &registry,
+        &mut drain,
+        workers,
+        Deed::Calls,
+        acts,
+        transcript,
+    )?;
+    let workers = u64::from(checked.limits().workers);
+    Ok(drained(registry, workers, whole, drain))
+}
+
+/// Makes a registry over a ring with these layers, makes the calls and the steps of the drain, and ends it.
+pub(crate) fn run_to_end_on_a_ring<R: Threads + Wait + Sync>(
+    rt: &R,
+    alloc: Global,
+    limits: Limits,
+    plans: &[Plan],
+    acts: &[(u32, Act)],
+) -> Result<Ended, Fail> {
+    let (filters, tellers) = layers(alloc, plans)?;
+    let checked = limits.check()?;
+    let table = SeatTable::new(alloc, limits.slots)?;
+    let (ring, tap) = Ring::pair(alloc, &checked)?;
+    let drain = Drain::new(alloc, tap, tellers);
+    let mut transcript = Transcript::new(alloc);
+    let report = named::<Brand, Brand, Brand, R>(
+        rt,
+        alloc,
+        &checked,
+        filters,
+        ring,
+        drain,
+        Blank::new(HANDLE_PARTS),
+        Blank::new(u64::from(limits.workers)),
+        table,
+        acts,
+        &mut transcript,
+    )?;
+    ended_with(transcript, report)
+}

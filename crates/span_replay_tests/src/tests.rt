@@ -1,4 +1,0 @@
-//! What no clause says: whole runs, devices that fail, and which hooks a layer takes.
-mod flushes;
-mod hooks;
-mod runs;

@@ -1,5 +1,0 @@
-//! Tests of `span_storm`, by its public words: what no clause says.
-#![tactic(auto)]
-
-#[cfg(test)]
-mod tests;

@@ -1,5 +1,0 @@
-//! What no clause says: that a storm's threads run at the same time, who is held, and what is written.
-mod layer;
-mod meeting;
-mod shows;
-mod storms;
