@@ -4,5 +4,5 @@ mod fields;
 mod fixtures;
 mod many_spans;
 mod row;
-mod strangers;
+pub(crate) mod strangers;
 mod tree;

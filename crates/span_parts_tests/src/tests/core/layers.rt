@@ -1,14 +1,7 @@
 //! Layers whose closures answer as the rules say.
-ghost use Rattle.std.specs.Prelude.{◌≡◌, string_bytes};
-ghost use Rattle.std.specs.Result.{ForOk};
-ghost use Rattle.span_layers.specs.Note.{plain_note};
-ghost use Rattle.span_layers.specs.Rule.{pairs_of, is_admitted};
-ghost use Rattle.span_layers.specs.Text.{text_of};
-
+use crate::tests::layers::fixtures::hooks;
 use span_id::{Fault, Field, Level, Meta};
-use span_layers::{
-    Filters, FmtSpan, Form, Hooks, Layer, Layers, Note, Rule, Style, Tellers, admits, text,
-};
+use span_layers::{Filters, FmtSpan, Form, Hooks, Layer, Layers, Rule, Style, Tellers};
 use std::alloc::{AllocError, Global};
 
 /// A layer in few words: its form, the kinds that it wants, and the one pair of its rule.
@@ -16,24 +9,6 @@ pub(crate) type Plan<'a> = (Form, FmtSpan, &'a str, Level);
 
 /// Lets everything in, and writes everything in the compact form.
 pub(crate) const EVERYTHING: Plan<'static> = (Form::Compact, FmtSpan::FULL, "", Level::Trace);
-
-fn hooks(alloc: Global) -> Result<Hooks, AllocError> {
-    Ok(Hooks::new(
-        Box::new(
-            alloc,
-            |rule: &Rule, meta: &Meta| -> bool
-                ensures { result
-                    ≡ is_admitted (pairs_of rule.now) (string_bytes meta.now.target) meta.now.level }
-            { admits(rule, meta) },
-        )?,
-        Box::new(
-            alloc,
-            |alloc: Global, form: Form, note: &Note| -> Result<Vec<u8>, AllocError>
-                ensures { ForOk result (λ text. text.items ≡ text_of form (plain_note note.now)) }
-            { text(alloc, form, note) },
-        )?,
-    ))
-}
 
 /// A layer of this plan with these hooks.
 pub(crate) fn layer(alloc: Global, plan: &Plan, hooks: Hooks) -> Result<Layer, AllocError> {
@@ -60,7 +35,7 @@ pub(crate) fn add(layers: &mut Layers, layer: Layer) -> Result<(), Fault> {
 
 /// Adds a layer of this plan.
 pub(crate) fn add_plan(alloc: Global, layers: &mut Layers, plan: &Plan) -> Result<(), Fault> {
-    add(layers, layer(alloc, plan, hooks(alloc)?)?)
+    add(layers, layer(alloc, plan, hooks(alloc, false)?)?)
 }
 
 /// The two parts of layers of these plans.

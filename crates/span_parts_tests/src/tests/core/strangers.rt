@@ -4,6 +4,7 @@ use crate::tests::core::answers::Answer;
 use crate::tests::core::layers::{EVERYTHING, layers};
 use crate::tests::core::on_a_ring::played_on_ring;
 use crate::tests::core::play::ends;
+use crate::tests::forest::strangers::STRANGERS;
 use span_core::Core;
 use span_id::{Fault, Id, Limits};
 use span_outlet::Outlet;
@@ -16,23 +17,6 @@ const LIMITS: Limits = Limits {
     workers: 1,
     ring: 16,
 };
-
-// The closed ids of the retired slot, and one generation more of it; the closed id of the open span's slot, and one
-// generation more than the open one's; the closed id of the free slot, and the id that it will give; the slot never
-// used, one beyond the table, the last one of the layout, and the greatest id.
-const STRANGERS: [u64; 11] = [
-    1,
-    16777217,
-    33554433,
-    2,
-    33554434,
-    3,
-    16777219,
-    4,
-    5,
-    16777216,
-    72057594037927936,
-];
 
 // The open span: the second of slot 1.
 const OPEN: u64 = 16777218;

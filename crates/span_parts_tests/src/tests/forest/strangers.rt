@@ -8,10 +8,10 @@ use std::process::Abort;
 
 const LIMITS: (u32, u32, u32) = (4, 1, 9);
 
-// The closed ids of the retired slot, and one generation more of it; the closed id of the open span's slot, and one
-// generation more than the open one's; the closed id of the free slot, and the id that it will give; the slot never
-// used, one beyond the table, the last one of the layout, and the greatest id.
-const STRANGERS: [u64; 11] = [
+/// The closed ids of the retired slot, and one generation more of it; the closed id of the open span's slot, and one
+/// generation more than the open one's; the closed id of the free slot, and the id that it will give; the slot never
+/// used, one beyond the table, the last one of the layout, and the greatest id.
+pub(crate) const STRANGERS: [u64; 11] = [
     1,
     16777217,
     33554433,
