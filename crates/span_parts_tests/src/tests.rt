@@ -1,6 +1,6 @@
 //! What no clause says: worked values from outside the crates, and each call once.
 mod compare;
-mod core;
+mod core_calls;
 mod faults;
 mod forest;
 mod ids;

@@ -2,11 +2,11 @@
 ghost use Rattle.std.specs.Prelude.{◌≡◌, []};
 
 use crate::tests::compare::equal;
-use crate::tests::core::acts::{Act, perform};
-use crate::tests::core::answers::{Answer, push_answer, push_lines};
-use crate::tests::core::chain::grow;
-use crate::tests::core::layers::{Plan, layers};
-use crate::tests::core::sharing::are_shared;
+use crate::tests::core_calls::acts::{Act, perform};
+use crate::tests::core_calls::answers::{Answer, push_answer, push_lines};
+use crate::tests::core_calls::chain::grow;
+use crate::tests::core_calls::layers::{Plan, layers};
+use crate::tests::core_calls::sharing::are_shared;
 use span_core::Core;
 use span_id::{Checked, Fault, Limits};
 use span_layers::{Filters, Say};

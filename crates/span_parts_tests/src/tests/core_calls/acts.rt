@@ -2,9 +2,9 @@
 //! and what its ring and its drain are asked in `on_a_ring`.
 ghost use Rattle.std.specs.Prelude.{◌<◌};
 
-use crate::tests::core::answers::Answer;
-use crate::tests::core::layers::{fields_of, meta_of};
-use crate::tests::core::shared::{Texts, Way, share};
+use crate::tests::core_calls::answers::Answer;
+use crate::tests::core_calls::layers::{fields_of, meta_of};
+use crate::tests::core_calls::shared::{Texts, Way, share};
 use span_core::Core;
 use span_id::{Fault, Field, Id, Level, Meta};
 use span_outlet::{Outlet, ParentOf};

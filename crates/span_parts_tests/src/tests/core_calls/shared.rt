@@ -2,10 +2,10 @@
 ghost use Rattle.std.specs.Prelude.{◌<◌};
 
 use crate::tests::compare::equal;
-use crate::tests::core::acts::Act;
-use crate::tests::core::answers::Answer;
-use crate::tests::core::layers::{EVERYTHING, fields_of, meta_of};
-use crate::tests::core::play::plays;
+use crate::tests::core_calls::acts::Act;
+use crate::tests::core_calls::answers::Answer;
+use crate::tests::core_calls::layers::{EVERYTHING, fields_of, meta_of};
+use crate::tests::core_calls::play::plays;
 use span_core::Core;
 use span_id::{Fault, Fields, Id, Level, Limits, SharedMeta};
 use span_outlet::{Outlet, ParentOf};

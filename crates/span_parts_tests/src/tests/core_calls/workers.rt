@@ -1,7 +1,7 @@
 //! Several workers and layers with rules of their own.
-use crate::tests::core::acts::{Act, new};
-use crate::tests::core::layers::{EVERYTHING, Plan};
-use crate::tests::core::play::plays;
+use crate::tests::core_calls::acts::{Act, new};
+use crate::tests::core_calls::layers::{EVERYTHING, Plan};
+use crate::tests::core_calls::play::plays;
 use span_id::{Level, Limits};
 use span_layers::{FmtSpan, Form};
 use span_outlet::ParentOf;

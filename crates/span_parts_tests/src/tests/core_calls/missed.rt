@@ -6,9 +6,9 @@ ghost use Rattle.span_layers.specs.Rule.{pairs_of, is_admitted};
 ghost use Rattle.span_layers.specs.Text.{text_of};
 
 use crate::tests::compare::equal;
-use crate::tests::core::acts::{Act, new, perform};
-use crate::tests::core::answers::push_numbered;
-use crate::tests::core::layers::{EVERYTHING, add, add_plan, layer, layers};
+use crate::tests::core_calls::acts::{Act, new, perform};
+use crate::tests::core_calls::answers::push_numbered;
+use crate::tests::core_calls::layers::{EVERYTHING, add, add_plan, layer, layers};
 use span_core::Core;
 use span_id::{Checked, Fault, Limits, Meta};
 use span_layers::{Filters, Form, Hooks, Kind, Layers, Note, Rule, Say, Tellers, admits, text};

@@ -1,8 +1,8 @@
 //! What the notes of a call share, by how many owners it has.
 use crate::tests::compare::equal;
-use crate::tests::core::acts::{Act, Fields, child, new};
-use crate::tests::core::layers::{EVERYTHING, Plan};
-use crate::tests::core::play::{Transcript, played, plays};
+use crate::tests::core_calls::acts::{Act, Fields, child, new};
+use crate::tests::core_calls::layers::{EVERYTHING, Plan};
+use crate::tests::core_calls::play::{Transcript, played, plays};
 use span_id::{Fault, Level, Limits};
 use span_layers::{FmtSpan, Form, Note};
 use span_outlet::{Batch, Call, ParentOf};

@@ -1,9 +1,9 @@
 //! Strangers' ids: ids of every kind that no span has, in every call that takes an id.
-use crate::tests::core::acts::{Act, child, counts, counts_of, perform};
-use crate::tests::core::answers::Answer;
-use crate::tests::core::layers::{EVERYTHING, layers};
-use crate::tests::core::on_a_ring::played_on_ring;
-use crate::tests::core::play::ends;
+use crate::tests::core_calls::acts::{Act, child, counts, counts_of, perform};
+use crate::tests::core_calls::answers::Answer;
+use crate::tests::core_calls::layers::{EVERYTHING, layers};
+use crate::tests::core_calls::on_a_ring::played_on_ring;
+use crate::tests::core_calls::play::ends;
 use crate::tests::forest::strangers::STRANGERS;
 use span_core::Core;
 use span_id::{Fault, Id, Limits};

@@ -1,6 +1,6 @@
 //! The closing lists that calls show, and the counts after them.
-use crate::tests::core::acts::{Act, child};
-use crate::tests::core::play::plays;
+use crate::tests::core_calls::acts::{Act, child};
+use crate::tests::core_calls::play::plays;
 use span_id::Limits;
 
 const LIMITS: Limits = Limits {

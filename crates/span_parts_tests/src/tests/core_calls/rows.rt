@@ -1,7 +1,7 @@
 //! Scripts of calls, with what is answered and which lines are told.
-use crate::tests::core::acts::{Act, child, new};
-use crate::tests::core::layers::EVERYTHING;
-use crate::tests::core::play::plays;
+use crate::tests::core_calls::acts::{Act, child, new};
+use crate::tests::core_calls::layers::EVERYTHING;
+use crate::tests::core_calls::play::plays;
 use span_id::{Level, Limits};
 use span_layers::{FmtSpan, Form};
 use span_outlet::ParentOf;

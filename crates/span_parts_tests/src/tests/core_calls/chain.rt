@@ -1,7 +1,7 @@
 //! A long chain of spans.
-use crate::tests::core::acts::{Act, child, perform};
-use crate::tests::core::answers::Answer;
-use crate::tests::core::play::plays;
+use crate::tests::core_calls::acts::{Act, child, perform};
+use crate::tests::core_calls::answers::Answer;
+use crate::tests::core_calls::play::plays;
 use span_core::Core;
 use span_id::{Level, Limits};
 use span_layers::{FmtSpan, Form};

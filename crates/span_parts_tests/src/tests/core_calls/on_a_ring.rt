@@ -1,9 +1,9 @@
 //! A core whose outlet is a ring: a full ring refuses, and a drain tells.
-use crate::tests::core::acts::{Act, child, perform};
-use crate::tests::core::answers::{Answer, push_answer, push_numbered};
-use crate::tests::core::missed::add_refused;
-use crate::tests::core::play::{Transcript, ends};
-use crate::tests::core::strangers::unknown_strangers;
+use crate::tests::core_calls::acts::{Act, child, perform};
+use crate::tests::core_calls::answers::{Answer, push_answer, push_numbered};
+use crate::tests::core_calls::missed::add_refused;
+use crate::tests::core_calls::play::{Transcript, ends};
+use crate::tests::core_calls::strangers::unknown_strangers;
 use span_core::Core;
 use span_id::{Fault, Limits};
 use span_layers::{Filters, Kind, Layers, Tellers};
