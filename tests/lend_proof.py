@@ -5,8 +5,8 @@ usage: lend_proof.py COPY TEMPORARY GATE
 
 The gate keeps nothing of its own proof of that crate. But it checks the crate once more, into a folder among its
 temporary files (in the folder TEMPORARY), over which it then tries the crate's edits. As soon as that check has ended,
-the copy gets a second name for what it left. This waits for it as long as the process GATE runs. It fails where nothing
-came, or where rt is otherwise made than this knows; the crate is then proved again.
+the copy gets what it left. This waits for it as long as the process GATE runs. It fails where nothing came, or where rt
+is otherwise made than this knows; the crate is then proved again.
 """
 import glob
 import os
