@@ -48,9 +48,10 @@ REPLAY_HELP = [
     "Example:",
     REPLAY_EXAMPLE,
 ]
+STORM_USAGE = "Usage: tracerun storm --workers <N> --rounds <M>"
 STORM_HELP = [
     ABOUT_STORM,
-    "Usage: tracerun storm --workers <N> --rounds <M>",
+    STORM_USAGE,
     "Options:",
     "--workers <N> How many workers there are, 1 to 16",
     "--rounds <M> How many rounds each worker makes, 1 to 400",
@@ -84,6 +85,7 @@ STORMS = [
     (STORM_EXAMPLE.split(" ", 1)[1], 4, 100),
 ]
 
+LACKING = "error: the following required arguments were not provided:"
 # The words, and how standard error begins.
 WRONG = [
     ("", ["error: 'tracerun' requires a subcommand but one was not provided", "[subcommands: replay, storm, help]"]),
@@ -91,9 +93,9 @@ WRONG = [
     ("help jump", ["error: unrecognized subcommand 'jump'"]),
     ("replay x", ["error: unexpected argument 'x' found"]),
     ("replay storm --workers 1 --rounds 1", ["error: unexpected argument 'storm' found"]),
-    ("storm", ["error: the following required arguments were not provided:", "--workers <N>", "--rounds <M>"]),
-    ("storm --workers 2", ["error: the following required arguments were not provided:", "--rounds <M>"]),
-    ("storm --rounds 2", ["error: the following required arguments were not provided:", "--workers <N>"]),
+    ("storm", [LACKING, "--workers <N>", "--rounds <M>", STORM_USAGE]),
+    ("storm --workers 2", [LACKING, "--rounds <M>", STORM_USAGE]),
+    ("storm --rounds 2", [LACKING, "--workers <N>", STORM_USAGE]),
     ("storm --workers 1 --rounds 1 x", ["error: unexpected argument 'x' found"]),
     ("storm --workers 1 --rounds", ["error: a value is required for '--rounds <M>' but none was supplied"]),
     ("storm --workers --rounds 1", ["error: a value is required for '--workers <N>' but none was supplied"]),
