@@ -17,7 +17,7 @@ import time
 from toolchain import load
 
 CRATE = "span_ffi"
-SECONDS = 2
+SECONDS = 5
 
 
 def commands():

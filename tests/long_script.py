@@ -6,6 +6,11 @@ retired, and refusals of every kind. It is the same for the same seed. The model
 the script is without faults. Standard output, standard error and the status have to be the same, byte for byte.
 
 usage: long_script.py [--program FILE] [--seed N] [--mib N]
+       long_script.py --make FOLDER [--seed N] [--mib N]
+       long_script.py --made FOLDER [--program FILE]
+
+With --make it makes the script and has the model run it, which takes most of the time and no program, and leaves both in
+the new folder FOLDER. With --made it takes them from there.
 The last line is 'N passed, M failed'; the status is 0 where nothing failed.
 """
 import argparse
@@ -14,6 +19,7 @@ import subprocess
 import sys
 import time
 from collections import Counter
+from pathlib import Path
 
 import model
 from dice import Dice
@@ -118,34 +124,71 @@ def difference(program, script, wanted):
     return None
 
 
+class Made:
+    """A script, what the program has to write, and what the script should have answered and never did."""
+
+    def __init__(self, script, wanted, missing):
+        self.script, self.wanted, self.missing = script, wanted, missing
+
+    @classmethod
+    def by_model(cls, seed, size):
+        start = time.monotonic()
+        script, replay = make(seed, size)
+        replay.tidy()
+        made = cls(script, replay.output(), lacking(replay))
+        print(f"{len(model.lines_of(script))} lines, {len(script)} bytes, which mean {len(replay.written)} lines, "
+              f"{len(made.wanted)} bytes; made and run by the model in {time.monotonic() - start:.0f} s")
+        return made
+
+    @classmethod
+    def taken_from(cls, folder):
+        """What --make left there."""
+        missing = (folder / "missing").read_text().splitlines()
+        return cls((folder / "script").read_bytes(), (folder / "wanted").read_bytes(), missing)
+
+    def put_into(self, folder):
+        folder.mkdir()
+        (folder / "script").write_bytes(self.script)
+        (folder / "wanted").write_bytes(self.wanted)
+        (folder / "missing").write_text("".join(f"{it}\n" for it in self.missing))
+
+
+def compare(program, made):
+    """The status of a run that compares the program with what was made."""
+    start = time.monotonic()
+    found = difference(program, made.script, made.wanted)
+    print(f"run by the program in {time.monotonic() - start:.1f} s")
+    if made.missing:
+        print(f"FAILED: the script has no call that answers {', '.join(made.missing)}")
+    if found:
+        print(f"FAILED: the program and the model differ: {found}")
+    failed = bool(made.missing) + bool(found)
+    print(f"{2 - failed} passed, {failed} failed")
+    return 1 if failed else 0
+
+
 def main():
     parser = argparse.ArgumentParser(description="Compares the built program with the model on a script of 16 MiB.")
     parser.add_argument("--program", default=PROGRAM)
     parser.add_argument("--seed", type=int, default=1)
     parser.add_argument("--mib", type=float, default=16, help="size of the script in MiB, at most 16")
+    parser.add_argument("--make", type=Path, metavar="FOLDER", help="make the script alone, and leave it there")
+    parser.add_argument("--made", type=Path, metavar="FOLDER", help="take the script that was made there")
     given = parser.parse_args()
     if not 0 < given.mib <= 16:
         parser.error("--mib is over 0 and at most 16")
+    if given.make and given.made:
+        parser.error("either --make or --made")
+    size = int(given.mib * MEBIBYTE)
+    if given.make:
+        Made.by_model(given.seed, size).put_into(given.make)
+        print("1 passed, 0 failed")
+        return 0
     if not is_built(given.program):
         print("the program is not built")
         print("0 passed, 1 failed")
         return 1
-    start = time.monotonic()
-    script, replay = make(given.seed, int(given.mib * MEBIBYTE))
-    replay.tidy()
-    wanted, missing = replay.output(), lacking(replay)
-    made = time.monotonic()
-    found = difference(given.program, script, wanted)
-    lines = len(model.lines_of(script))
-    print(f"{lines} lines, {len(script)} bytes, which mean {len(replay.written)} lines, {len(wanted)} bytes; "
-          f"made and run by the model in {made - start:.0f} s, by the program in {time.monotonic() - made:.1f} s")
-    if missing:
-        print(f"FAILED: the script has no call that answers {', '.join(missing)}")
-    if found:
-        print(f"FAILED: the program and the model differ: {found}")
-    failed = bool(missing) + bool(found)
-    print(f"{2 - failed} passed, {failed} failed")
-    return 1 if failed else 0
+    return compare(given.program, Made.taken_from(given.made) if given.made else Made.by_model(given.seed, size))
 
 
 if __name__ == "__main__":
