@@ -3,7 +3,7 @@
 
     python3 tests/who_may_wait.py LOG
     python3 tests/who_may_wait.py begin
-    python3 tests/who_may_wait.py proved CRATE LINE SINCE
+    python3 tests/who_may_wait.py watch LOG GATE
 
 LOG is what rt ci printed. Of each crate that it proved it has the checker's last line, in which may-wait= counts the
 functions that take the handle by which a call may wait; with none of them the word is missing. crates.txt says may_wait=
@@ -11,19 +11,21 @@ of a crate that has some. So a crate that isn't said to wait has no function tha
 span_registry no other functions do than the calls of the registry.
 
 Where an earlier rt ci on this machine proved the same, the log says that the crate is kept, and has no such line. So each
-count is kept beside the proof, under the proof's name: `proved` does that as soon as rt ci says that it proved a crate,
-with the checker's last line, where the proof was kept since the time SINCE (in seconds of the epoch). `begin`, before rt
-ci starts, drops each kept proof of these crates that has no count, so that rt ci proves it again.
+count is kept beside the proof, under the proof's name: `watch` does that as soon as LOG says that a crate was proved, for
+the proofs that were kept since it began, and ends with the process GATE, which writes LOG. `begin`, before rt ci starts,
+drops each kept proof of these crates that has no count, so that rt ci proves it again.
 """
 
 import os
 import re
 import sys
+import time
 from pathlib import Path
 
 from toolchain import load
 
 TOP = Path(__file__).resolve().parent.parent
+SECONDS = 2  # between two looks at the log
 
 
 def said():
@@ -43,22 +45,44 @@ def count_in(verdict):
     return int(waits[1]) if waits else 0
 
 
-def counted(log):
-    """The crates that were proved, each with the number that the checker counted."""
-    crates, verdict = {}, ""
-    for line in log.splitlines():
+def counted(lines):
+    """Each crate that was proved, with the number that the checker counted, as the lines come."""
+    verdict = ""
+    for line in lines:
         if line.startswith("logic="):
             verdict = line
-        proved = re.fullmatch(r"rt: (\w+) proved", line)
+        proved = re.fullmatch(r"rt: (\w+) proved\n?", line)
         if proved:
-            crates[proved[1]] = count_in(verdict)
-    return crates
+            yield proved[1], count_in(verdict)
+
+
+def lines_while(gate, log):
+    """The lines of the file, those too that come until the process has ended."""
+    is_over, part = False, ""
+    while not is_over:
+        is_over = not is_running(gate)
+        for line in log:
+            part += line
+            if part.endswith("\n"):
+                yield part
+                part = ""
+        if not is_over:
+            time.sleep(SECONDS)
+
+
+def is_running(process):
+    try:
+        os.kill(process, 0)
+    except ProcessLookupError:
+        return False
+    return True
 
 
 class Counts:
     """The counts that are kept beside rt's proofs."""
 
     def __init__(self):
+        self.begun = time.time()
         self.rt = load()
         os.chdir(TOP)
         self.rt.rtlib.Crate = self.rt.Crate
@@ -75,9 +99,9 @@ class Counts:
                 self.kept.is_built(below)
         return Path(self.kept.place(crate, False, self.kept.key(crate)))
 
-    def keep(self, name, count, since):
+    def keep(self, name, count):
         proof = self.proof_of(name)
-        if proof.exists() and proof.stat().st_mtime >= since:
+        if proof.exists() and proof.stat().st_mtime >= self.begun:
             self.at.mkdir(exist_ok=True)
             (self.at / proof.name).write_text(str(count))
 
@@ -98,7 +122,7 @@ class Counts:
 
 
 def compare(log):
-    counts = counted(log)
+    counts = dict(counted(log.splitlines()))
     counts.update(counts_of(re.findall(r"^rt: (\w+) is kept:", log, re.M)))
     passed = failed = 0
     for crate, number in said().items():
@@ -122,14 +146,21 @@ def counts_of(crates):
         return {}
 
 
+def watch(log, gate):
+    counts = Counts()
+    with open(log, errors="replace") as lines:
+        for crate, count in counted(lines_while(gate, lines)):
+            counts.keep(crate, count)
+
+
 def main():
     words = sys.argv[1:]
-    if words == ["begin"] or len(words) == 4 and words[0] == "proved":
+    if words == ["begin"] or len(words) == 3 and words[0] == "watch":
         try:
             if words == ["begin"]:
                 Counts().drop_uncounted()
             else:
-                Counts().keep(words[1], count_in(words[2]), float(words[3]))
+                watch(words[1], int(words[2]))
         except Exception as error:  # whatever an rt of another make has otherwise, or keeps otherwise
             print(f"who_may_wait.py: {words[0]}: {error!r}", file=sys.stderr)
     elif len(words) == 1:
