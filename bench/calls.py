@@ -1,7 +1,7 @@
 #!/usr/bin/env python3
 """Measures what a call of the library costs beside the peer: loops of new, enter, event, exit and close.
 
-Each loop is run by the program `call_costs` (crates/call_costs) and by the peer in turn, on a registry without its lock
+Each loop is run by `workloads call-costs` (crates/workloads) and by the peer in turn, on a registry without its lock
 (`core`) and on one whose lock each call takes (`registry`), from which the time under the lock is seen. The lines are
 written by a reader of the ring in the same thread and dropped. Told are nanoseconds of CPU (user and system, the least
 of the runs) and allocations for each call. Storms without layers are told by the clock, the middle one of the runs. Chains of three lengths show whether time and memory grow as the length does.
@@ -20,7 +20,7 @@ import tempfile
 from measure import become_parent_of_orphans, run_once
 
 HERE = os.path.dirname(os.path.abspath(__file__))
-PROGRAM = os.path.join(os.path.dirname(HERE), "crates", "call_costs", "out", "call_costs")
+PROGRAM = os.path.join(os.path.dirname(HERE), "crates", "workloads", "out", "workloads")
 PEER = os.path.join(HERE, "peer", "target", "release", "peer")
 COUNTS = 9  # the descriptor to which count_memory.c writes
 CALLS_A_ROUND = 5
@@ -72,7 +72,7 @@ def allocations_a_call(counter, words):
 def loop_row(programs, counter, kind, shape, calls, runs):
     layers, fields, depth = shape
     rounds = max(1000, min(calls // CALLS_A_ROUND, MOST_LINES // (CALLS_A_ROUND * max(1, layers) * max(1, depth // 10))))
-    words = {name: [file, kind, *map(str, shape)] for name, file in programs.items()}
+    words = {name: [*file, kind, *map(str, shape)] for name, file in programs.items()}
     times = middle_and_least(
         {name: [*of, str(rounds)] for name, of in words.items()}, runs, lambda run: run.cpu
     )
@@ -88,14 +88,14 @@ def loop_row(programs, counter, kind, shape, calls, runs):
 def storm_row(programs, workers, runs):
     words = {"program": ["storm"], "peer": ["bare-storm"]}
     found = middle_and_least(
-        {name: [file, *words[name], str(workers), str(STORM_ROUNDS)] for name, file in programs.items()},
+        {name: [*file, *words[name], str(workers), str(STORM_ROUNDS)] for name, file in programs.items()},
         runs, lambda run: (run.clock, run.cpu),
     )
     return {"workers": workers, "calls": 9 * workers * STORM_ROUNDS, **{name: found[name][0] for name in programs}}
 
 
 def chain_row(programs, length, runs):
-    words = {name: [file, "chain", str(length)] for name, file in programs.items()}
+    words = {name: [*file, "chain", str(length)] for name, file in programs.items()}
     found = middle_and_least(words, runs, lambda run: (run.cpu, run.peak))
     return {"length": length, **{name: found[name][1] for name in programs}}
 
@@ -143,7 +143,7 @@ def main():
     parser.add_argument("--json")
     words = parser.parse_args()
     become_parent_of_orphans()
-    programs = {"program": words.program, "peer": words.peer}
+    programs = {"program": [words.program, "call-costs"], "peer": [words.peer]}
     with tempfile.TemporaryDirectory() as folder:
         counter = os.path.join(folder, "count_memory.so")
         compiler = os.environ.get("CC") or shutil.which("cc") or "gcc"

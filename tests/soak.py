@@ -2,8 +2,8 @@
 """A long run: storms one after the other, and then random calls by 8 threads on one registry, beside a slow drain
 behind a ring of 4 places, where a call that is refused for want of a place is made again. No part of ./check.
 
-usage: soak.py [--minutes M] [--storms N] [--program FILE] [--soak FILE] [--seed S]
-FILE is tracerun for the storms, and the program of the crate `soak` for the calls. How many calls make a run of so many
+usage: soak.py [--minutes M] [--storms N] [--program FILE] [--workloads FILE] [--seed S]
+FILE is tracerun for the storms, and the program of the crate `workloads` for the calls. How many calls make a run of so many
 minutes is found by a short run first. The numbers at the end have to agree, and the most bytes that the program had taken
 and not given back may be MARGIN more in the whole run than in its first minute (its first half, where it has less than
 two minutes): `count_memory.c`, loaded before the C library, counts them. The resident size of each minute is shown and
@@ -24,7 +24,7 @@ from refused_memory import compiler
 from run_cases import PROGRAM, TOP
 from storms import ends_well, start
 
-SOAK = os.path.join(TOP, "crates", "soak", "out", "soak")
+WORKLOADS = os.path.join(TOP, "crates", "workloads", "out", "workloads")
 WORKERS, PLACES = 8, 4
 SHORT_ROUNDS = 200000
 MARGIN = 65536
@@ -59,7 +59,7 @@ class Run:
     """One run of the program: its seconds, its memory at each second or so, its status and what it wrote."""
 
     def __init__(self, program, rounds, seed, every):
-        words = [program, str(WORKERS), str(PLACES), str(rounds), str(seed)]
+        words = [program, "soak", str(WORKERS), str(PLACES), str(rounds), str(seed)]
         with tempfile.TemporaryDirectory() as folder:
             counts = os.path.join(folder, "counts")
             given = dict(os.environ, LD_PRELOAD=counting(folder), COUNTS=counts)
@@ -152,15 +152,15 @@ def main():
     parser.add_argument("--minutes", type=float, default=1)
     parser.add_argument("--storms", type=int, default=20)
     parser.add_argument("--program", default=PROGRAM)
-    parser.add_argument("--soak", default=SOAK)
+    parser.add_argument("--workloads", default=WORKLOADS)
     parser.add_argument("--seed", type=int, default=1)
     given = parser.parse_args()
-    if not os.access(given.soak, os.X_OK) or (given.storms and not is_built(given.program)):
-        print("the programs are not built: cd crates/soak && rt run")
+    if not os.access(given.workloads, os.X_OK) or (given.storms and not is_built(given.program)):
+        print("the programs are not built: cd crates/workloads && rt run")
         print("0 passed, 1 failed")
         return 1
     ended = [ends_well(start(given.program), f"storm {number}") for number in range(given.storms)]
-    ended += soaked(given.soak, given.minutes, given.seed)
+    ended += soaked(given.workloads, given.minutes, given.seed)
     print(f"{sum(ended)} passed, {len(ended) - sum(ended)} failed")
     return 0 if all(ended) else 1
 

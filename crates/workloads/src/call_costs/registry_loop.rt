@@ -1,0 +1,161 @@
+//! The same rounds on a registry with its lock, whose drain is in the same thread.
+ghost use Rattle.std.specs.Prelude.{◌≡◌, [], Some};
+
+use crate::call_costs::core_loop::{PLACES, read_all};
+use crate::ended::Made;
+use crate::held::Held;
+use crate::order::Shape;
+use crate::parts::{CoreParts, Parts};
+use crate::texts::Texts;
+use span_id::{Checked, Fault, Limits};
+use span_layers::{Filters, Layers, Say};
+use span_outlet::LineReader;
+use span_registry::{HANDLE_PARTS, Handle, ParentOf, Registry, Ring, SeatTable, Setup, Worker};
+use std::alloc::Global;
+use std::marker::Brand;
+use std::sync::Wait;
+use std::sync::ledger::{Blank, Ledger};
+
+/// Makes the rounds, each with its five calls at this depth, and answers what came of them.
+pub fn calls_on_registry<R: Wait>(
+    rt: &R,
+    alloc: Global,
+    shape: &Shape,
+    layers: Layers,
+) -> Result<Made, Fault> {
+    let limits = Limits {
+        workers: 1,
+        ring: PLACES,
+        ..Limits::default()
+    };
+    let Parts { core, table } = Parts::new(alloc, limits, shape.fields)?;
+    let CoreParts {
+        checked,
+        texts,
+        ring,
+        tap,
+    } = core;
+    let (filters, tellers) = layers.split();
+    run::<Brand, Brand, Brand, _, _>(
+        rt,
+        alloc,
+        shape,
+        &texts,
+        &checked,
+        filters,
+        ring,
+        LineReader::new(alloc, tap, tellers),
+        Blank::new(HANDLE_PARTS),
+        Blank::new(1),
+        table,
+    )
+}
+
+// It is generic in the registry's names, so that its caller picks them.
+fn run<H: Ledger, C: Ledger, S: Setup, V: Say + Drop, R: Wait>(
+    rt: &R,
+    alloc: Global,
+    shape: &Shape,
+    texts: &Texts,
+    checked: &Checked,
+    filters: Filters,
+    ring: Ring,
+    reader: LineReader<V>,
+    handles: Blank,
+    calls: Blank,
+    table: SeatTable,
+) -> Result<Made, Fault>
+    requires workers { checked.now.workers ≡ 1 }
+    requires setup { (checked.now ≡ S.limits) × (filters.rules ≡ S.rules) × (Some ring.name ≡ S.ring) }
+    requires ring { ring.sent ≡ [] }
+    requires handles { (handles.name ≡ H.name) × (handles.parts ≡ H.parts) × (H.parts ≡ HANDLE_PARTS) }
+    requires calls { (calls.name ≡ C.name) × (calls.parts ≡ C.parts) × (C.parts ≡ checked.now.workers) }
+    requires table { (table ≡ S.table) × (table.words ≡ checked.now.slots) }
+{
+    let (registry, mut workers) = Registry::<H, C, S, Ring>::new(
+        alloc, checked, filters, ring, handles, calls, table,
+    )?;
+    let Some(worker) = workers.get_mut(0) else {
+        unreachable!()
+    };
+    let mut reader = reader;
+    make_rounds(rt, &registry, worker, &mut reader, texts, shape)
+}
+
+// Stands as deep as the shape says, and makes its rounds there. The lines are read after each of them.
+fn make_rounds<H: Ledger, C: Ledger, S: Setup, V: Say, R: Wait>(
+    rt: &R,
+    registry: &Registry<H, C, S, Ring>,
+    worker: &mut Worker<H, C>,
+    reader: &mut LineReader<V>,
+    texts: &Texts,
+    shape: &Shape,
+) -> Result<Made, Fault> {
+    let mut lines = 0u64;
+    for _ in 1..shape.depth {
+        stand(rt, registry, worker, texts)?;
+        lines = read_all(reader).saturating_add(lines);
+    }
+    for _ in 0..shape.rounds {
+        round(rt, registry, worker, texts)?;
+        lines = read_all(reader).saturating_add(lines);
+    }
+    Ok(Made {
+        calls: worker.accepted(),
+        lines,
+        ..Made::default()
+    })
+}
+
+// A span more under the current one, which is entered and stays. Its handle is given up.
+fn stand<H: Ledger, C: Ledger, S: Setup, R: Wait>(
+    rt: &R,
+    registry: &Registry<H, C, S, Ring>,
+    worker: &mut Worker<H, C>,
+    texts: &Texts,
+) -> Result<(), Fault> {
+    let fields = texts.fields.as_slice();
+    if let Some(handle) = registry.new_span(rt, worker, &texts.meta, fields, ParentOf::Current)? {
+        let mut held = Held { handle };
+        registry.enter(rt, worker, &mut held.handle)?;
+    }
+    Ok(())
+}
+
+// A span under the current one is made, entered, told an event, left and closed.
+fn round<H: Ledger, C: Ledger, S: Setup, R: Wait>(
+    rt: &R,
+    registry: &Registry<H, C, S, Ring>,
+    worker: &mut Worker<H, C>,
+    texts: &Texts,
+) -> Result<(), Fault> {
+    let fields = texts.fields.as_slice();
+    let made = registry.new_span(rt, worker, &texts.meta, fields, ParentOf::Current)?;
+    let Some(handle) = made else {
+        return Ok(());
+    };
+    let mut held = Held { handle };
+    visit(rt, registry, worker, texts, &mut held.handle)?;
+    match registry.try_close(rt, worker, held.into_handle()) {
+        Ok(_closed) => Ok(()),
+        Err((handle, fault)) => {
+            drop(handle.into_share());
+            Err(fault)
+        }
+    }
+}
+
+// The span is entered, told an event and left.
+fn visit<H: Ledger, C: Ledger, S: Setup, R: Wait>(
+    rt: &R,
+    registry: &Registry<H, C, S, Ring>,
+    worker: &mut Worker<H, C>,
+    texts: &Texts,
+    handle: &mut Handle<H, C, S>,
+) -> Result<(), Fault> {
+    registry.enter(rt, worker, handle)?;
+    let fields = texts.fields.as_slice();
+    registry.event(rt, worker, &texts.meta, "a message", fields)?;
+    registry.exit(rt, worker, handle.id())?;
+    Ok(())
+}

@@ -1,0 +1,100 @@
+//! Which runs there are.
+
+use crate::layers::Writing;
+use span_layers::FmtSpan;
+
+/// How many layers there are, how many fields each span and event has, how deep the spans of the rounds stand (1 for
+/// roots), and how many rounds are made.
+#[derive(Clone, Copy)]
+pub struct Shape {
+    pub layers: u32,
+    pub fields: u32,
+    pub depth: u32,
+    pub rounds: u32,
+}
+
+/// How many workers make so many random calls each, through a ring of so many places; the seed decides which calls.
+#[derive(Clone, Copy)]
+pub struct Crew {
+    pub workers: u32,
+    pub places: u32,
+    pub rounds: u64,
+    pub seed: u64,
+}
+
+/// One run.
+#[derive(Clone, Copy)]
+pub enum Order {
+    /// Rounds on a core.
+    Core(Shape),
+    /// The same rounds on a registry.
+    Registry(Shape),
+    /// A storm without layers: 1 to 16 workers, 1 to 400 rounds.
+    Storm { workers: u32, rounds: u32 },
+    /// A chain of so many spans, and its end.
+    Chain { length: u32 },
+    /// Rounds beside a slow drain, through a ring of so many places.
+    Slow { places: u32, rounds: u32 },
+    /// A long run of random calls.
+    Soak(Crew),
+}
+
+impl Order {
+    /// How many layers the run has.
+    pub fn layers(&self) -> u32 {
+        match self {
+            Order::Core(shape) | Order::Registry(shape) => shape.layers,
+            Order::Storm { .. } => 0,
+            Order::Chain { .. } | Order::Slow { .. } | Order::Soak(_) => 1,
+        }
+    }
+
+    /// Which of a span's notes the layers want. A chain's would each have the
+    /// path to its root, so it has none.
+    pub fn spans(&self) -> FmtSpan {
+        match self {
+            Order::Chain { .. } => FmtSpan::NONE,
+            _ => FmtSpan::FULL,
+        }
+    }
+
+    /// What the layers do with the text of a note. Those of a long run keep none.
+    pub fn writing(&self) -> Writing {
+        match self {
+            Order::Slow { .. } => Writing::More(200),
+            Order::Soak(_) => Writing::Thrown,
+            _ => Writing::More(0),
+        }
+    }
+}
+
+// A few rounds of each run.
+const SHORT: Shape = Shape {
+    layers: 2,
+    fields: 1,
+    depth: 3,
+    rounds: 10,
+};
+
+/// Short runs of all but the long one.
+pub const SHORT_RUNS: [Order; 5] = [
+    Order::Core(SHORT),
+    Order::Registry(SHORT),
+    Order::Storm {
+        workers: 2,
+        rounds: 3,
+    },
+    Order::Chain { length: 1000 },
+    Order::Slow {
+        places: 1,
+        rounds: 10,
+    },
+];
+
+/// A short one of the long run.
+pub const SHORT_SOAK: Order = Order::Soak(Crew {
+    workers: 4,
+    places: 4,
+    rounds: 500,
+    seed: 1,
+});

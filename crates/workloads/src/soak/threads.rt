@@ -1,0 +1,136 @@
+//! All threads of a run, and what comes back of them.
+ghost use Rattle.std.specs.Prelude.{◌≡◌, ◌<◌, IfOk, vec_len};
+ghost use Rattle.workloads.specs.Back.{HasAll, HasParts};
+
+use crate::draining::{Pace, start_drain};
+use crate::soak::caller::work;
+use crate::soak::returned::Returned;
+use crate::texts::Texts;
+use span_id::Fault;
+use span_layers::Say;
+use span_registry::{Drain, Registry, Ring, Setup, Worker};
+use std::snapshot::Snapshot;
+use std::sync::Wait;
+use std::sync::atomic::{AtomicBool, Ordering};
+use std::sync::ledger::Ledger;
+use std::thread;
+use std::thread::{Promise, PromisedHandle, Scope, Threads};
+use std::time::Clock;
+
+/// The share that comes back of a worker has all its parts.
+#[derive(Drop)]
+struct Back<H: Ledger, C: Ledger> {
+    worker: Snapshot<Worker<H, C>>,
+}
+
+impl<H: Ledger, C: Ledger> Promise<Result<Returned<H, C>, Fault>> for Back<H, C> {
+    ghost use Rattle.std.specs.Prelude.{IfOk};
+    ghost use Rattle.workloads.specs.Back.{HasParts};
+
+    ghost kept_by = { λ back result. IfOk result (λ returned. HasParts back.worker.value.spare returned.share) };
+}
+
+/// Runs each worker in a thread of its own, and the drain in one beside them.
+pub fn in_threads<
+    H: Ledger + Send + Sync,
+    C: Ledger + Send + Sync,
+    S: Setup + Send + Sync,
+    V: Say + Drop + Send,
+    R: Threads + Wait + Clock + Sync,
+>(
+    rt: &R,
+    registry: &Registry<H, C, S, Ring>,
+    texts: &Texts,
+    rounds: u64,
+    seed: u64,
+    workers: Vec<Worker<H, C>>,
+    drain: Drain<V>,
+) -> Result<(Returned<H, C>, Drain<V>), Fault>
+    requires some { 0 < vec_len workers }
+    ensures whole { IfOk result (λ back. HasAll workers.items back.0.share) }
+    ensures drain { IfOk result (λ back. back.1.name ≡ drain.name) }
+{
+    let all_back = AtomicBool::new(false);
+    let flag = &all_back;
+    thread::scope(
+        thread::scope_env(),
+        rt,
+        move |scope| -> Result<(Returned<H, C>, Drain<V>), Fault>
+            requires some { 0 < vec_len workers }
+            ensures whole { IfOk result (λ back. HasAll workers.items back.0.share) }
+            ensures drain { IfOk result (λ back. back.1.name ≡ drain.name) }
+        {
+            let draining = start_drain(rt, scope, drain, Pace::WithSleeps, flag)?;
+            let whole = run_workers(rt, scope, registry, texts, rounds, seed, workers);
+            flag.store(true, Ordering::SeqCst);
+            let drain = draining.join(rt);
+            Ok((whole?, drain))
+        },
+    )
+}
+
+// Runs the last worker beside the others, and puts together what comes back.
+fn run_workers<
+    's,
+    E: 's,
+    H: Ledger + Send + Sync + 's,
+    C: Ledger + Send + Sync + 's,
+    S: Setup + Send + Sync + 's,
+    R: Threads + Wait + Sync,
+>(
+    rt: &'s R,
+    scope: &Scope<'s, E>,
+    registry: &'s Registry<H, C, S, Ring>,
+    texts: &'s Texts,
+    rounds: u64,
+    seed: u64,
+    workers: Vec<Worker<H, C>>,
+) -> Result<Returned<H, C>, Fault>
+    requires some { 0 < vec_len workers }
+    ensures { IfOk result (λ whole. HasAll workers.items whole.share) }
+{
+    let mut others = workers;
+    let Some(last) = others.pop() else {
+        unreachable!()
+    };
+    let running = start(rt, scope, registry, texts, rounds, seed, last)?;
+    if others.is_empty() {
+        return running.join(rt);
+    }
+    let whole = run_workers(rt, scope, registry, texts, rounds, seed, others);
+    let returned = running.join(rt);
+    whole?.join(returned?)
+}
+
+// Starts the thread of a worker.
+fn start<
+    's,
+    E: 's,
+    H: Ledger + Send + Sync + 's,
+    C: Ledger + Send + Sync + 's,
+    S: Setup + Send + Sync + 's,
+    R: Wait + Sync,
+>(
+    rt: &'s R,
+    scope: &Scope<'s, E>,
+    registry: &'s Registry<H, C, S, Ring>,
+    texts: &'s Texts,
+    rounds: u64,
+    seed: u64,
+    worker: Worker<H, C>,
+) -> Result<PromisedHandle<Result<Returned<H, C>, Fault>, Back<H, C>>, Fault>
+    ensures { IfOk result (λ running. running.promise.worker.value ≡ worker) }
+{
+    let promise = Back {
+        worker: Snapshot::of(&worker),
+    };
+    match scope.spawn_with(
+        promise,
+        move || -> Result<Returned<H, C>, Fault>
+            ensures { IfOk result (λ returned. HasParts worker.spare returned.share) }
+        { work(rt, registry, texts, worker, rounds, seed) },
+    ) {
+        Ok(running) => Ok(running),
+        Err(_) => Err(Fault::Memory),
+    }
+}
