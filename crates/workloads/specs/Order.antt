@@ -1,7 +1,7 @@
 -- Which runs may be asked for.
 use Rattle.std.specs.Prelude.{◌≤◌, ⊤}
 use Rattle.workloads.specs.declared.order.Order.{Order}
-use Rattle.workloads.specs.declared.order.Order.TheVariants.{Core, Registry, Storm, Slow, Soak}
+use Rattle.workloads.specs.declared.order.Order.TheVariants.{Storm, Soak}
 
 -- a storm has 1 to 16 workers and 1 to 400 rounds; a long run 1 to 256 workers, a ring of 1 to 65536 places, and a round at least
 abbrev pub IsInRange : Order → Type 0

@@ -28,7 +28,7 @@ pub struct Ended {
 }
 
 /// The numbers of a run that was made: those of its report, as far as there is one, and what was counted.
-#[derive(Clone, Copy, Default)]
+#[derive(Clone, Copy)]
 pub struct Made {
     pub calls: u64,
     pub made: u64,
@@ -40,6 +40,22 @@ pub struct Made {
     pub lines: u64,
     pub missed: u64,
     pub backlogs: u64,
+}
+
+impl Made {
+    /// Those of a run of which nothing is counted.
+    pub const NONE: Made = Made {
+        calls: 0,
+        made: 0,
+        closed: 0,
+        left: 0,
+        handles: 0,
+        entries: 0,
+        notes: 0,
+        lines: 0,
+        missed: 0,
+        backlogs: 0,
+    };
 }
 
 impl Ended {

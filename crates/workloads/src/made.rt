@@ -88,7 +88,7 @@ fn in_a_storm<R: Threads + Wait + Sync>(
     match storm(rt, alloc, workers, rounds, Layers::new(alloc), &Open) {
         Ok(report) => Ok(Made {
             calls: report.calls,
-            ..Made::default()
+            ..Made::NONE
         }),
         Err(_) => Err(Fault::Memory),
     }

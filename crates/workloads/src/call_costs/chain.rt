@@ -48,7 +48,7 @@ fn make_links<V: Say>(
         calls: core.calls(),
         lines: read_all(reader).saturating_add(lines),
         left: core.len(),
-        ..Made::default()
+        ..Made::NONE
     })
 }
 

@@ -84,7 +84,7 @@ fn make_rounds<V: Say>(
     Ok(Made {
         calls: core.calls(),
         lines,
-        ..Made::default()
+        ..Made::NONE
     })
 }
 

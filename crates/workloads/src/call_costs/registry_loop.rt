@@ -103,7 +103,7 @@ fn make_rounds<H: Ledger, C: Ledger, S: Setup, V: Say, R: Wait>(
     Ok(Made {
         calls: worker.accepted(),
         lines,
-        ..Made::default()
+        ..Made::NONE
     })
 }
 
