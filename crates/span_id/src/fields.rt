@@ -115,17 +115,28 @@ impl Fields {
         if fields.is_empty() {
             return Ok(());
         }
-        let mut copies = copy_fields(alloc, fields)?;
         if let Some(list) = &mut self.shared {
             if let Some(list) = Arc::get_mut(list) {
-                list.append(&mut copies)?;
-                return Ok(());
+                return append_copies(alloc, list, fields);
             }
         }
+        match self.extended(alloc, fields) {
+            Ok(extended) => {
+                *self = extended;
+                Ok(())
+            }
+            Err(fault) => Err(fault),
+        }
+    }
+
+    // These fields and equal ones after them, in a list of their own.
+    fn extended(&self, alloc: Global, fields: &[Field]) -> Result<Fields, Fault>
+        ensures fields { IfOk result (λ extended. extended ≡ self.now ++ plain_fields fields.now) }
+        ensures memory { IfErr result (λ fault. fault ≡ Fault.Memory) }
+    {
         let mut list = copy_fields(alloc, self.as_slice())?;
-        list.append(&mut copies)?;
-        self.shared = Some(Arc::new(alloc, list)?);
-        Ok(())
+        append_copies(alloc, &mut list, fields)?;
+        Fields::new(alloc, list)
     }
 
     /// Appends these fields, as `extend` does; where there are none yet, it shares their list and copies nothing.
@@ -142,6 +153,17 @@ impl Fields {
         }
         self.extend(alloc, more.as_slice())
     }
+}
+
+// Equal fields of its own at the list's end. Where memory is refused, the list is as before.
+fn append_copies(alloc: Global, list: &mut Vec<Field>, fields: &[Field]) -> Result<(), Fault>
+    ensures fields { OnOk result (plain_fields list.new.items ≡ plain_fields list.old.items ++ plain_fields fields.now) }
+    ensures unchanged { OnErr result (list.new.items ≡ list.old.items) }
+    ensures memory { IfErr result (λ fault. fault ≡ Fault.Memory) }
+{
+    let mut copies = copy_fields(alloc, fields)?;
+    list.append(&mut copies)?;
+    Ok(())
 }
 
 impl PartialEq for Fields {
@@ -181,6 +203,6 @@ impl Hash for Fields {
 
 impl Debug for Fields {
     fn fmt<W: Write>(&self, f: &mut Formatter<W>) -> fmt::Result {
-        f.debug_list().slice(self.as_slice()).finish()
+        self.as_slice().fmt(f)
     }
 }
