@@ -72,3 +72,18 @@ returns-clause-id g c =
     let slot : c.len-slot.result ≡ length i.cells.items = omega (arith, c.len-slot.ensures, i.cells.ok.0) in
     let none = rw (← c.self.view_is) at c.requires.none_freed in
     rw (← c.self.view_is, c.pack.ensures.id) (next_id_fresh i.slots i.last_generation c.len-slot.result i.cells.items i.freed.items slot (omega arith) none)
+
+pub overflow_cast-slot : goal.overflow_cast-slot
+overflow_cast-slot g c =
+    let i = c.self.inside in
+    let v = c.self.invariant in
+    let lm = length-map i.cells.items row_of in
+    omega (arith, c.len-slot.ensures, i.cells.ok.0, lm, v.used, v.slots_high)
+
+pub pack-requires : goal.pack-requires
+pack-requires g c =
+    let i = c.self.inside in
+    let v = c.self.invariant in
+    let req = rw (← c.self.view_is) at c.requires.room in
+    let room : length i.cells.items < i.slots = (let k = length-map i.cells.items (λ x. x.given) in omega arith) in
+    omega (arith, c.len-slot.ensures, i.cells.ok.0, room, v.slots_high)
