@@ -2,3 +2,4 @@
 pub mod Ends
 pub mod OfLayer
 pub mod Reading
+pub mod Telling

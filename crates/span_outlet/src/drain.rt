@@ -129,9 +129,7 @@ impl<V: Say> Drain<V> {
         } = self;
         let standing = ring.look_beside(consumer);
         for _ in 0..standing {
-            let batch = consumer.pop_known();
-            told.tell_all(&*formatters, *taken, &batch);
-            *taken += 1;
+            told.tell_next(&*formatters, consumer, taken);
         }
     }
 }

@@ -89,9 +89,7 @@ fn take_until_told<V: Say>(
     ensures none_left { told.new.lines.items ≡ [] → known_items consumer.new ≡ [] }
 {
     for _ in 0..standing {
-        let batch = consumer.pop_known();
-        told.tell_all(formatters, *taken, &batch);
-        *taken += 1;
+        told.tell_next(formatters, consumer, taken);
         if !told.lines.is_empty() {
             return;
         }

@@ -1,12 +1,16 @@
 //! The telling of notes, one after another.
-ghost use Rattle.std.specs.Prelude.{◌≡◌, ◌+◌, ◌-◌, ◌^◌, ◌≤◌, ◌∷◌, [], Some, IfSome, map, length, min};
+ghost use Rattle.std.specs.Prelude.{◌≡◌, ◌+◌, ◌-◌, ◌^◌, ◌<◌, ◌≤◌, ◌∷◌, [], Some, IfSome, map, length, min};
 ghost use Rattle.span_layers.specs.Note.{plain_note};
 ghost use Rattle.span_outlet.specs.Batch.{plain_batch};
 ghost use Rattle.span_outlet.specs.Lines.{line_of, plain_line};
 ghost use Rattle.span_outlet.specs.Kept.{GainsLines, numbered_in};
+ghost use Rattle.span_outlet.specs.inside.Ends.{name_of_consumer};
+ghost use Rattle.span_outlet.specs.inside.Telling.{TellsNext};
+ghost use Rattle.rtrb.specs.Ring.{received, known_items};
 
 use crate::batch::Batch;
 use crate::line::Line;
+use crate::ring::Consuming;
 use span_layers::{Forms, Note, Say};
 
 /// The lines so far, and how many notes were missed.
@@ -82,5 +86,26 @@ impl Told {
         for (place, note) in batch.notes.iter().enumerate() {
             self.tell(formatters, number, place, note);
         }
+    }
+
+    // Takes the batch that is known to stand first in the ring, and tells its notes.
+    pub(crate) fn tell_next<V: Say>(
+        &mut self,
+        formatters: &V,
+        consumer: &mut Consuming,
+        taken: &mut u64,
+    )
+        requires standing { 0 < length (known_items consumer.old) }
+        requires number { taken.old ≡ length (received consumer.old) }
+        ensures next { TellsNext self.old.forms taken.old (received consumer.old) (known_items consumer.old)
+            (received consumer.new) (known_items consumer.new)
+            self.old.lines.items self.old.refused self.new.lines.items self.new.refused }
+        ensures forms { self.new.forms ≡ self.old.forms }
+        ensures number { taken.new ≡ length (received consumer.new) }
+        ensures name { name_of_consumer consumer.new ≡ name_of_consumer consumer.old }
+    {
+        let batch = consumer.pop_known();
+        self.tell_all(formatters, *taken, &batch);
+        *taken += 1;
     }
 }

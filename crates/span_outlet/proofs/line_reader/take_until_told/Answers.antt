@@ -1,7 +1,6 @@
-use Rattle.std.proofs.Common.{rules, ◌≡◌, ◌++◌, ◌∷◌, [], length, refl, ap, ◌∙◌, arith}
+use Rattle.std.proofs.Common.{rules, length, refl, ap, ◌∙◌, arith}
 use Rattle.std.proofs.lemmas.List.{nil_from_length}
-use Rattle.rtrb.specs.Ring.{received}
-use Rattle.span_outlet.proofs.Draining.{one_more_taken, moved_on}
+use Rattle.span_outlet.proofs.Draining.{moved_on}
 use Rattle.span_outlet.proofs.Reading.{takes_nothing, takes_more, of_batch, none_of_last}
 use Rattle.span_outlet.proofs.line_reader.take_until_told.Goals as goal
 
@@ -19,30 +18,34 @@ loop-init g c = record {
 pub returns-then-not-is_empty-clause-batches : goal.returns-then-not-is_empty-clause-batches
 returns-then-not-is_empty-clause-batches g c =
     let before = c.loop.invariant in
-    takes_more _ _ _ _ _ _ _ _ _ c.pop_known-batch.result _ _ _ _ _ _ before.forms before.number c.pop_known-batch.ensures.received.0 before.batches c.tell_all.ensures.told
+    let next = c.tell_next.ensures.next in
+    takes_more _ _ _ _ _ _ _ _ _ next.batch _ _ _ _ _ _ before.forms before.number next.moved before.batches next.gains
 
 pub returns-then-not-is_empty-clause-fifo : goal.returns-then-not-is_empty-clause-fifo
-returns-then-not-is_empty-clause-fifo g c = moved_on _ _ _ _ c.pop_known-batch.result _ c.pop_known-batch.ensures.received.0 c.pop_known-batch.ensures.received.1 c.loop.invariant.fifo
+returns-then-not-is_empty-clause-fifo g c =
+    let next = c.tell_next.ensures.next in
+    moved_on _ _ _ _ next.batch _ next.moved next.stood c.loop.invariant.fifo
 
 pub returns-then-not-is_empty-clause-last : goal.returns-then-not-is_empty-clause-last
 returns-then-not-is_empty-clause-last g c =
     let before = c.loop.invariant in
-    of_batch _ _ _ c.pop_known-batch.result _ _ _ _ _ before.nothing before.number c.pop_known-batch.ensures.received.0 c.tell_all.ensures.told
+    let next = c.tell_next.ensures.next in
+    of_batch _ _ _ next.batch _ _ _ _ _ before.nothing before.number next.moved next.gains
 
 pub loop-preserved : goal.loop-preserved
 loop-preserved g c =
     let before = c.loop.invariant in
-    let batch = c.pop_known-batch.result in
-    let popped : received c.pop_known-batch.new.self ≡ received c.loop.consumer ++ batch ∷ [] = c.pop_known-batch.ensures.received.0 in
-    let fewer = ap length c.pop_known-batch.ensures.received.1 in
+    let told = c.tell_next.ensures in
+    let next = told.next in
+    let fewer = ap length next.stood in
     record {
-      name = search rules;
-      forms = c.tell_all.ensures.forms ∙ before.forms;
-      number = one_more_taken _ _ batch _ popped before.number;
+      name = told.name ∙ before.name;
+      forms = told.forms ∙ before.forms;
+      number = told.number;
       standing = omega (arith, fewer, before.standing);
-      fifo = moved_on _ _ _ _ batch _ popped c.pop_known-batch.ensures.received.1 before.fifo;
+      fifo = moved_on _ _ _ _ next.batch _ next.moved next.stood before.fifo;
       nothing = nil_from_length _ (search rules);
-      batches = takes_more _ _ _ _ _ _ _ _ _ batch _ _ _ _ _ _ before.forms before.number popped before.batches c.tell_all.ensures.told;
+      batches = takes_more _ _ _ _ _ _ _ _ _ next.batch _ _ _ _ _ _ before.forms before.number next.moved before.batches next.gains;
     }
 
 pub returns-clause-last : goal.returns-clause-last

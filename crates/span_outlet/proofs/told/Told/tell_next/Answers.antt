@@ -1,0 +1,13 @@
+use Rattle.span_outlet.proofs.Draining.{one_more_taken}
+use Rattle.span_outlet.proofs.told.Told.tell_next.Goals as goal
+
+pub returns-clause-next : goal.returns-clause-next
+returns-clause-next g c = record {
+  batch = c.pop_known-batch.result;
+  moved = c.pop_known-batch.ensures.received.0;
+  stood = c.pop_known-batch.ensures.received.1;
+  gains = c.tell_all.ensures.told;
+}
+
+pub returns-clause-number : goal.returns-clause-number
+returns-clause-number g c = one_more_taken _ _ c.pop_known-batch.result _ c.pop_known-batch.ensures.received.0 c.requires.number
