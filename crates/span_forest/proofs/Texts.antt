@@ -1,5 +1,5 @@
 -- The text of a path, joined as the loop joins it, and the layers that see the same path.
-use Rattle.std.proofs.Common.{◌≡◌, ℕ, ◌<◌, ◌++◌, ◌↔◌, true, List, [], ◌∷◌, Option, Some, refl, sym, ap, ◌∙◌, cond, rules}
+use Rattle.std.proofs.Common.{◌≡◌, ℕ, ◌<◌, ◌++◌, ◌↔◌, ◌+◌, true, List, [], ◌∷◌, length, map, get_or, drop, append_assoc, add-one, drop-cons, Option, Some, refl, sym, ap, ◌∙◌, cond, rules}
 use Rattle.std.specs.Prelude.{flat_map}
 use Rattle.span_id.specs.Bits.{has_bit}
 use Rattle.span_slots.specs.Table.{value_at}
@@ -17,6 +17,22 @@ following names = flat_map (λ name. 58 ∷ name) names
 pub path_text-cons : (name : List ℕ) (names : List (List ℕ)) → path_text (name ∷ names) ≡ name ++ following names
 path_text-cons name [] = search rules
 path_text-cons name (next ∷ names) = ap (λ rest. name ++ (58 ∷ rest)) (path_text-cons next names)
+
+-- one more of the names is written
+pub following-more : {X : Type 0} (bytes : X → List ℕ) (names : List X) (n : ℕ) (d : X) (old mid new all : List ℕ) → n < length names → mid ≡ old ++ (58 ∷ []) → new ≡ mid ++ bytes (get_or names n d) → old ++ following (map bytes (drop n names)) ≡ all → new ++ following (map bytes (drop (n + 1) names)) ≡ all
+following-more bytes names n d old mid new all inside colon name written =
+    let item = bytes (get_or names n d) in
+    let rest = following (map bytes (drop (n + 1) names)) in
+    let split : following (map bytes (drop n names)) ≡ 58 ∷ (item ++ rest) = rw (add-one, drop-cons names n d inside) refl in
+    ap (λ text. text ++ rest) name ∙ append_assoc mid item rest ∙ ap (λ text. text ++ (item ++ rest)) colon ∙ append_assoc old (58 ∷ []) (item ++ rest)
+    ∙ ap (λ text. old ++ text) (sym split) ∙ written
+
+-- the first name is written, and then the others
+pub joined-path : {X : Type 0} (bytes : X → List ℕ) (names others : List X) (first : X) (empty begun all : List ℕ) → names ≡ first ∷ others → empty ≡ [] → begun ≡ empty ++ bytes first → all ≡ begun ++ following (map bytes others) → all ≡ path_text (map bytes names)
+joined-path bytes names others first empty begun all split nothing head whole =
+    let rest = following (map bytes others) in
+    whole ∙ ap (λ text. text ++ rest) (head ∙ ap (λ text. text ++ bytes first) nothing)
+    ∙ sym (path_text-cons (bytes first) (map bytes others)) ∙ ap (λ all. path_text (map bytes all)) (sym split)
 
 -- the names so far are those that the layer and each of the same layers see
 pub record Sees (spans : Spans) (layer id : ℕ) (names : List (List ℕ)) (same : ℕ) (next : Option ℕ) : Type 0 where

@@ -1,4 +1,4 @@
-ghost use Rattle.std.specs.Prelude.{◌≡◌, ◌++◌, ◌∷◌, [], ◌<◌, ◌↔◌, ℕ, Some, IsTrue, IfOk, OnOk, map, string_bytes};
+ghost use Rattle.std.specs.Prelude.{◌≡◌, ◌++◌, ◌∷◌, [], ◌<◌, ◌↔◌, ℕ, Some, IsTrue, IfOk, OnOk, map, flat_map, string_bytes};
 ghost use Rattle.span_id.specs.Bits.{has_bit};
 ghost use Rattle.span_forest.specs.Node.{node_of};
 ghost use Rattle.span_forest.specs.Spans.{nodes_of, IsOpen};
@@ -160,11 +160,20 @@ fn joined(alloc: Global, names: &[&str]) -> Result<String, AllocError>
     };
     let mut text = String::with_capacity(alloc, joined_len(first, others))?;
     text.push_str(first)?;
+    push_others(&mut text, others)?;
+    Ok(text)
+}
+
+// Appends the names, each behind a `:`.
+fn push_others(text: &mut String, others: &[&str]) -> Result<(), AllocError>
+    ensures { OnOk result (string_bytes text.new
+        ≡ string_bytes text.old ++ flat_map (λ name. 58 ∷ name) (map (λ name. name.now) others.now)) }
+{
     for name in others {
         text.push_str(":")?;
         text.push_str(name)?;
     }
-    Ok(text)
+    Ok(())
 }
 
 // How long the joined names are.

@@ -1,8 +1,0 @@
-use Rattle.std.proofs.Common.{◌≡◌, ◌++◌, drop, map, string_bytes}
-use Rattle.span_forest.specs.Path.{path_text}
-use Rattle.span_forest.proofs.Texts.{following}
-use Rattle.span_forest.proofs.path_text.joined.Given as goal
-
--- what is written, with the names that are left, is the whole path
-abbrev pub invariant-loop-name : goal.invariant-loop-name
-invariant-loop-name l = string_bytes l.text ++ following (map (λ name. name.now) (drop l.name-index l.others)) ≡ path_text (map (λ name. name.now) l.names)
