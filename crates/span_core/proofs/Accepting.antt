@@ -20,10 +20,86 @@ use Rattle.span_core.specs.World.{World, IsWorld}
 use Rattle.span_outlet.specs.Request.{Request, event, told, enter, entered, exit, exited, clone_span, cloned, record_fields, recorded, try_close, released}
 use Rattle.span_outlet.specs.Batch.{PlainBatch}
 use Rattle.span_core.specs.Happening.{notes_of_all, close_of, at_span, event_at}
+use Rattle.span_core.specs.Step.{IsStep}
+use Rattle.span_core.specs.History.{issued}
 use Rattle.span_core.specs.NextId.{SlotsUsed, with_closed, slots_after}
 use Rattle.span_core.specs.inside.Sound.{IsSound, forest_with}
 use Rattle.span_core.proofs.Soundness.{sound_quiet, sound_more, same_but_spans}
 use Rattle.span_core.proofs.Worlds.{world_kept_handle, world_changed, world_released_handle, world_entered, world_left, world_left_still, inside-set}
+
+-- what each call does, as a step
+
+pub step_clone : (rules : List Filter) (ids : List ℕ) (spans new_spans : Spans) (stacks : List (List ℕ)) (worker id : ℕ) (notes : List PlainNote)
+    → worker < length stacks
+    → IsHeld spans id Handle
+    → new_spans ≡ with_holder spans id Handle
+    → notes ≡ []
+    → IsStep rules ids (record { spans = spans; stacks = stacks }) (clone_span worker id) cloned notes (record { spans = new_spans; stacks = stacks })
+step_clone rules ids spans new_spans stacks worker id notes within held spans_are none = record {
+  within = within;
+  changes = record { held = held; after = λ j. record { spans = spans_are j; stacks = stacks } };
+  notes_are = none;
+}
+
+pub step_record : (rules : List Filter) (ids : List ℕ) (spans new_spans : Spans) (stacks : List (List ℕ)) (worker id : ℕ) (fields : List KeyValue) (notes : List PlainNote)
+    → worker < length stacks
+    → IsHeld spans id Handle
+    → new_spans ≡ with_change (with_fields fields) spans id
+    → notes ≡ notes_of_all rules worker (at_span spans OnRecord id fields ∷ [])
+    → IsStep rules ids (record { spans = spans; stacks = stacks }) (record_fields worker id fields) recorded notes (record { spans = new_spans; stacks = stacks })
+step_record rules ids spans new_spans stacks worker id fields notes within held spans_are notes_are = record {
+  within = within;
+  changes = record { held = held; after = λ j. record { spans = spans_are j; stacks = stacks } };
+  notes_are = notes_are;
+}
+
+pub step_close : (rules : List Filter) (ids : List ℕ) (spans new_spans : Spans) (stacks : List (List ℕ)) (worker id : ℕ) (closed : List ℕ) (notes : List PlainNote)
+    → worker < length stacks
+    → IsHeld spans id Handle
+    → closed ≡ closing_list spans id Handle
+    → new_spans ≡ spans_left spans id Handle
+    → notes ≡ notes_of_all rules worker (map (close_of spans) closed)
+    → IsStep rules ids (record { spans = spans; stacks = stacks }) (try_close worker id) (released closed) notes (record { spans = new_spans; stacks = stacks })
+step_close rules ids spans new_spans stacks worker id closed notes within held closed_are spans_are notes_are = record {
+  within = within;
+  changes = record { held = held; closed_are = closed_are; after = λ j. record { spans = spans_are j; stacks = stacks } };
+  notes_are = notes_are;
+}
+
+pub step_enter : (rules : List Filter) (ids : List ℕ) (spans new_spans : Spans) (stacks new_stacks : List (List ℕ)) (worker id : ℕ) (first : Bool) (notes : List PlainNote)
+    → worker < length stacks
+    → IsHeld spans id Handle
+    → first ≡ not (has (get_or stacks worker []) id)
+    → new_spans ≡ cond first (with_holder spans id Entry) spans
+    → new_stacks ≡ set stacks worker (get_or stacks worker [] ++ id ∷ [])
+    → notes ≡ notes_of_all rules worker (at_span spans OnEnter id [] ∷ [])
+    → IsStep rules ids (record { spans = spans; stacks = stacks }) (enter worker id) (entered first) notes (record { spans = new_spans; stacks = new_stacks })
+step_enter rules ids spans new_spans stacks new_stacks worker id first notes within held first_is spans_are stacks_are notes_are = record {
+  within = within;
+  changes = record { held = held; first_is = first_is; after = λ j. record { spans = spans_are j; stacks = stacks_are j } };
+  notes_are = notes_are;
+}
+
+pub step_exit : (rules : List Filter) (ids : List ℕ) (spans new_spans : Spans) (stacks new_stacks : List (List ℕ)) (worker id : ℕ) (stays : Bool) (closed : List ℕ) (notes : List PlainNote)
+    → worker < length stacks
+    → has (get_or stacks worker []) id ≡ true
+    → stays ≡ has (without_last (get_or stacks worker []) id) id
+    → closed ≡ cond stays [] (closing_list spans id Entry)
+    → new_spans ≡ cond stays spans (spans_left spans id Entry)
+    → new_stacks ≡ set stacks worker (without_last (get_or stacks worker []) id)
+    → notes ≡ notes_of_all rules worker (at_span spans OnExit id [] ∷ map (close_of spans) closed)
+    → IsStep rules ids (record { spans = spans; stacks = stacks }) (exit worker id) (exited closed) notes (record { spans = new_spans; stacks = new_stacks })
+step_exit rules ids spans new_spans stacks new_stacks worker id stays closed notes within stands stays_is closed_are spans_are stacks_are notes_are = record {
+  within = within;
+  changes = record {
+    inside = stands;
+    closed_are = closed_are ∙ ap (λ b. cond b [] (closing_list spans id Entry)) stays_is;
+    after = λ j. record { spans = (spans_are ∙ ap (λ b. cond b spans (spans_left spans id Entry)) stays_is) j; stacks = stacks_are j };
+  };
+  notes_are = notes_are;
+}
+
+-- what each call leaves of the parts
 
 pub sound_clone : (limits : Limits) (rules : List Filter) (forest new_forest : ForestView) (stacks : List (List ℕ)) (calls : ℕ) (old mid new : List PlainBatch) (worker id : ℕ) (notes : List PlainNote)
     → IsSound limits forest stacks rules calls old
@@ -38,11 +114,7 @@ sound_clone limits rules forest new_forest stacks calls old mid new worker id no
     sound_quiet limits rules forest new_forest stacks stacks calls old mid new (record { request = clone_span worker id; answer = cloned; notes = notes }) sound refl refl
     (same_but_spans forest new_forest _ forest_is) refl
     (subst (λ (spans : Spans). IsWorld (record { spans = spans; stacks = stacks })) (sym spans_are) (world_kept_handle forest.spans id stacks sound.world))
-    (record {
-      within = within;
-      changes = record { held = held; after = λ j. record { spans = spans_are j; stacks = stacks } };
-      notes_are = none;
-    })
+    (step_clone rules (issued old) forest.spans new_forest.spans stacks worker id notes within held spans_are none)
     same sent
 
 pub sound_record : (limits : Limits) (rules : List Filter) (forest new_forest : ForestView) (stacks : List (List ℕ)) (calls : ℕ) (old mid new : List PlainBatch) (worker id : ℕ) (fields : List KeyValue) (written : Request) (notes : List PlainNote)
@@ -59,11 +131,7 @@ sound_record limits rules forest new_forest stacks calls old mid new worker id f
     sound_quiet limits rules forest new_forest stacks stacks calls old mid new (record { request = record_fields worker id fields; answer = recorded; notes = notes }) sound refl refl
     (same_but_spans forest new_forest _ forest_is) refl
     (subst (λ (spans : Spans). IsWorld (record { spans = spans; stacks = stacks })) (sym spans_are) (world_changed (with_fields fields) (λ node. refl) forest.spans id stacks sound.world))
-    (record {
-      within = within;
-      changes = record { held = held; after = λ j. record { spans = spans_are j; stacks = stacks } };
-      notes_are = notes_are;
-    })
+    (step_record rules (issued old) forest.spans new_forest.spans stacks worker id fields notes within held spans_are notes_are)
     same (sent ∙ ap (λ (request : Request). mid ++ (record { request = request; answer = recorded; notes = notes }) ∷ []) written_is)
 
 -- the slots that a release frees, and nothing else, changed
@@ -96,11 +164,7 @@ sound_close limits rules forest new_forest stacks calls old mid new worker id cl
     (λ x fits low. inl (rw given_is at low))
     refl
     (subst (λ (spans : Spans). IsWorld (record { spans = spans; stacks = stacks })) (sym spans_are) (world_released_handle forest.spans id stacks sound.world))
-    (record {
-      within = within;
-      changes = record { held = held; closed_are = closed_are; after = λ j. record { spans = spans_are j; stacks = stacks } };
-      notes_are = notes_are;
-    })
+    (step_close rules (issued old) forest.spans new_forest.spans stacks worker id closed notes within held closed_are spans_are notes_are)
     same sent
 
 -- a span that is held is open
@@ -131,11 +195,7 @@ sound_enter limits rules forest new_forest stacks new_stacks calls old mid new w
     (subst (λ (w : World). IsWorld w)
     (λ j. record { spans = (ap (λ b. cond b (with_holder forest.spans id Entry) forest.spans) (sym first_is) ∙ sym spans_are) j; stacks = (sym stacks_are) j })
     entered_world)
-    (record {
-      within = within;
-      changes = record { held = held; first_is = first_is; after = λ j. record { spans = spans_are j; stacks = stacks_are j } };
-      notes_are = notes_are;
-    })
+    (step_enter rules (issued old) forest.spans new_forest.spans stacks new_stacks worker id first notes within held first_is spans_are stacks_are notes_are)
     same sent
 
 -- a span that stands in a worker's stack is held by an entry
@@ -189,15 +249,7 @@ sound_exit limits rules forest new_forest stacks new_stacks calls old mid new wo
     (ap length stacks_are ∙ length-set stacks worker _)
     (subst (λ (w : World). IsWorld w) (λ j. record { spans = (sym spans_are) j; stacks = (sym stacks_are) j })
     (world_after_exit forest.spans stacks worker id stays within stands (sym stays_is) sound.world))
-    (record {
-      within = within;
-      changes = record {
-        inside = stands;
-        closed_are = closed_are ∙ ap (λ b. cond b [] (closing_list forest.spans id Entry)) stays_is;
-        after = λ j. record { spans = (spans_are ∙ ap (λ b. cond b forest.spans (spans_left forest.spans id Entry)) stays_is) j; stacks = stacks_are j };
-      };
-      notes_are = notes_are;
-    })
+    (step_exit rules (issued old) forest.spans new_forest.spans stacks new_stacks worker id stays closed notes within stands stays_is closed_are spans_are stacks_are notes_are)
     same sent
 
 pub sound_event : (limits : Limits) (rules : List Filter) (forest : ForestView) (stacks : List (List ℕ)) (calls : ℕ) (old mid new : List PlainBatch) (worker : ℕ) (meta : PlainMeta) (message : List ℕ) (fields : List KeyValue) (written : Request) (notes : List PlainNote)

@@ -21,6 +21,7 @@ pub mod UsedSlots
 pub mod Holds
 pub mod Made
 pub mod Refusals
+pub mod Clauses
 pub mod Named
 pub mod Follows
 pub mod UsedUp

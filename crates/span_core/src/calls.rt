@@ -1,4 +1,5 @@
 //! The calls of a core that change something.
+mod closes;
 mod entries;
 mod events;
 mod handles;

@@ -29,6 +29,14 @@ pub(crate) enum GivenText<'a> {
     Shared(&'a ArcStr),
 }
 
+/// An event.
+#[derive(Clone, Copy)]
+pub(crate) struct GivenEvent<'a> {
+    pub(crate) meta: GivenMeta<'a>,
+    pub(crate) message: GivenText<'a>,
+    pub(crate) fields: GivenFields<'a>,
+}
+
 impl<'a> GivenMeta<'a> {
     // The meta, to be read.
     pub(crate) fn read(&self) -> &'a Meta

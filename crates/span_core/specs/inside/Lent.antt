@@ -3,6 +3,7 @@
 use Rattle.std.specs.Prelude.{ℕ, List}
 use Rattle.span_forest.specs.Spans.{Spans}
 use Rattle.span_layers.specs.Note.{PlainNote}
+use Rattle.span_core.specs.declared.given.GivenEvent.{GivenEvent}
 use Rattle.span_core.specs.declared.notes.events.Event.{Event}
 use Rattle.span_core.specs.declared.notes.new_spans.NewSpan.{NewSpan}
 use Rattle.span_core.specs.inside.Sound.{first_note}
@@ -19,11 +20,15 @@ abbrev pub first_note_of : Spans → NewSpan → ℕ → PlainNote
 first_note_of spans new layer =
     first_note spans new.worker new.id new.parent (meta_given new.meta).name (fields_given new.fields) layer
 
+-- the call that tells what this worker gave
+abbrev pub given_event : ℕ → GivenEvent → Request
+given_event worker given = event worker (meta_given given.meta) (text_given given.message) (fields_given given.fields)
+
 -- the call that tells an event
 abbrev pub event_request : Event → Request
-event_request told = event told.worker (meta_given told.meta) (text_given told.message) (fields_given told.fields)
+event_request told = given_event told.worker told.given.now
 
 -- an event that is told by a worker with this stack, as the layers see it
 abbrev pub event_seen : Spans → List ℕ → Event → Happening
 event_seen spans stack told =
-    event_at spans stack told.bits.0 (meta_given told.meta).level (text_given told.message) (fields_given told.fields)
+    event_at spans stack told.bits.0 (meta_given told.given.now.meta).level (text_given told.given.now.message) (fields_given told.given.now.fields)

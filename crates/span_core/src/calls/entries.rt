@@ -1,28 +1,43 @@
 //! The calls that change a worker's stack.
-ghost use Rattle.std.specs.Prelude.{◌≡◌, ◌≢◌, ◌<◌, ◌↔◌, true, false, if◌then◌else◌, [], nat_lt, length, None, IsTrue, IfOk, IfErr, OnOk, OnErr};
+ghost use Rattle.std.specs.Prelude.{◌≡◌, ◌≢◌, ◌<◌, ◌↔◌, true, false, not, if◌then◌else◌, [], nat_lt, length, None, IsTrue, IfOk, IfErr, OnOk, OnErr};
 ghost use Rattle.span_forest.specs.declared.span.Holder.TheVariants.{Handle, Entry};
 ghost use Rattle.span_forest.specs.Spans.{find};
 ghost use Rattle.span_forest.specs.Count.{reference_count};
 ghost use Rattle.span_forest.specs.Holders.{IsHeld};
 ghost use Rattle.span_forest.specs.Keep.{with_holder};
-ghost use Rattle.span_forest.specs.Release.{closing_list, spans_left, freed_after};
-ghost use Rattle.span_core.specs.inside.ClosingPaths.{IsChain};
 ghost use Rattle.span_outlet.specs.Request.{enter, entered, exit, exited};
-ghost use Rattle.span_core.specs.Step.{closed_by_exit};
+ghost use Rattle.span_stack.specs.Stack.{has};
+ghost use Rattle.span_core.specs.World.{stack_of};
+ghost use Rattle.span_core.specs.Happening.{bits_in};
+ghost use Rattle.span_core.specs.Step.{closed_by_exit, stays_inside};
 ghost use Rattle.span_core.specs.Core.{IsDue, IsAccepted, IsRefused};
 ghost use Rattle.span_core.specs.Shown.{MayBeShown, IsShown};
 
 use crate::Core;
-use crate::calls::held::{closing_of, held_span, open_bits};
+use crate::calls::closes::{Closes, leave};
+use crate::calls::held::{held_span, open_bits};
 use crate::calls::room::ask;
 use crate::laws::the_named_span_closes_first;
-use crate::notes::{Happening, exit_notes, span_notes};
-use crate::stacks::{is_outside, pop_at, push_at, stays_inside};
+use crate::notes::{Happening, span_notes};
+use crate::stacks::{is_outside, push_at, stays_inside};
 use span_forest::{Forest, Holder};
-use span_id::{Fault, Fields, Id};
+use span_id::{Bits, Fault, Fields, Id};
 use span_layers::Kind;
 use span_outlet::{Batch, Call, Outlet, Reply};
-use std::alloc::Global;
+
+/// What an entry would do: whether it is the worker's first of the span, and the layers that admit the span.
+#[derive(Clone, Copy)]
+struct Entering {
+    first: bool,
+    bits: Bits,
+}
+
+/// What an exit would do: whether the worker stays inside the span, and the layers that admit the span.
+#[derive(Clone, Copy)]
+struct Leaving {
+    stays: bool,
+    bits: Bits,
+}
 
 impl<O: Outlet, A> Core<O, A> {
     /// A worker, whose number needs to be below `workers`, enters a span that has a handle. It answers whether the
@@ -35,20 +50,13 @@ impl<O: Outlet, A> Core<O, A> {
         ensures accepted { IfOk result (λ first. IsAccepted self.old (enter worker id) (entered first) self.new) }
         ensures refused { IfErr result (λ fault. IsRefused self.old (enter worker id) fault self.new) }
     {
-        let Some(held) = held_span(&self.forest, id) else {
-            return Err(Fault::Unknown);
-        };
-        let first = is_outside(self.stacks.as_slice(), worker, id, held.entries);
-        let full = first && held.count >= self.limits.limits().max_count;
-        if full || self.calls == u64::MAX {
-            return Err(Fault::CountFull);
-        }
+        let entering = self.entering(worker, id)?;
         ask(&mut self.outlet)?;
         let what = Happening {
             worker,
             kind: Kind::OnEnter,
             id,
-            bits: held.bits,
+            bits: entering.bits,
         };
         let notes = span_notes(
             self.alloc,
@@ -57,15 +65,15 @@ impl<O: Outlet, A> Core<O, A> {
             &what,
             &Fields::none(),
         )?;
-        push_at(&mut self.stacks, worker, id, first)?;
-        keep_first(&mut self.forest, first, id);
+        push_at(&mut self.stacks, worker, id, entering.first)?;
+        keep_first(&mut self.forest, entering.first, id);
         self.calls += 1;
         self.outlet.put(Batch {
             call: Call::Enter { worker, id },
-            reply: Reply::Entered(first),
+            reply: Reply::Entered(entering.first),
             notes,
         });
-        Ok(first)
+        Ok(entering.first)
     }
 
     /// A worker, whose number needs to be below `workers`, leaves a span: the topmost entry of it is taken out of the
@@ -109,6 +117,63 @@ impl<O: Outlet, A> Core<O, A> {
         ensures refused { IfErr result (λ fault. IsRefused self.old (exit worker id) fault self.new) }
         ensures not_shown { OnErr result (state.new ≡ state.old) }
     {
+        let leaving = self.leaving(worker, id)?;
+        ask(&mut self.outlet)?;
+        let what = Happening {
+            worker,
+            kind: Kind::OnExit,
+            id,
+            bits: leaving.bits,
+        };
+        let Closes { ids, notes } = leave(
+            self.alloc,
+            &self.rules,
+            &mut self.forest,
+            &mut self.stacks,
+            &what,
+            leaving.stays,
+        )?;
+        see(state, ids.as_slice());
+        let closed = !ids.is_empty();
+        self.calls += 1;
+        self.outlet.put(Batch {
+            call: Call::Exit { worker, id },
+            reply: Reply::Exited(ids),
+            notes,
+        });
+        Ok(closed)
+    }
+
+    // What an entry would do, or why it is refused.
+    fn entering(&self, worker: u32, id: Id) -> Result<Entering, Fault>
+        requires { worker < self.now.limits.workers }
+        ensures due { OnOk result (IsDue self.now (enter worker id)) }
+        ensures first { IfOk result (λ entering. entering.first ≡ not (has (stack_of self.now.world worker) id)) }
+        ensures bits { IfOk result (λ entering. entering.bits.0 ≡ bits_in self.now.world.spans id) }
+        ensures refused { IfErr result (λ fault. IsRefused self.now (enter worker id) fault self.now) }
+    {
+        let Some(held) = held_span(&self.forest, id) else {
+            return Err(Fault::Unknown);
+        };
+        let first = is_outside(self.stacks.as_slice(), worker, id, held.entries);
+        let full = first && held.count >= self.limits.limits().max_count;
+        if full || self.calls == u64::MAX {
+            return Err(Fault::CountFull);
+        }
+        Ok(Entering {
+            first,
+            bits: held.bits,
+        })
+    }
+
+    // What an exit would do, or why it is refused.
+    fn leaving(&self, worker: u32, id: Id) -> Result<Leaving, Fault>
+        requires { worker < self.now.limits.workers }
+        ensures due { OnOk result (IsDue self.now (exit worker id)) }
+        ensures stays { IfOk result (λ leaving. leaving.stays ≡ stays_inside self.now.world worker id) }
+        ensures bits { IfOk result (λ leaving. leaving.bits.0 ≡ bits_in self.now.world.spans id) }
+        ensures refused { IfErr result (λ fault. IsRefused self.now (exit worker id) fault self.now) }
+    {
         let Some(bits) = open_bits(&self.forest, id) else {
             return Err(Fault::Unknown);
         };
@@ -118,32 +183,7 @@ impl<O: Outlet, A> Core<O, A> {
         let Some(stays) = stays_inside(self.stacks.as_slice(), worker, id) else {
             return Err(Fault::NotEntered);
         };
-        ask(&mut self.outlet)?;
-        let closing = closing_on_exit(self.alloc, &self.forest, stays, id)?;
-        let what = Happening {
-            worker,
-            kind: Kind::OnExit,
-            id,
-            bits,
-        };
-        let notes = exit_notes(
-            self.alloc,
-            &self.rules,
-            &self.forest,
-            &what,
-            closing.as_slice(),
-        )?;
-        see(state, closing.as_slice());
-        let closed = !closing.is_empty();
-        release_on_exit(&mut self.forest, stays, id, closing.as_slice());
-        pop_at(&mut self.stacks, worker, id);
-        self.calls += 1;
-        self.outlet.put(Batch {
-            call: Call::Exit { worker, id },
-            reply: Reply::Exited(closing),
-            notes,
-        });
-        Ok(closed)
+        Ok(Leaving { stays, bits })
     }
 }
 
@@ -160,33 +200,5 @@ fn keep_first(forest: &mut Forest, first: bool, id: Id)
         let Ok(()) = forest.keep(id, Holder::Entry) else {
             unreachable!();
         };
-    }
-}
-
-// The spans that close where a worker leaves a span: none where the span stays in its stack.
-fn closing_on_exit(alloc: Global, forest: &Forest, stays: bool, id: Id) -> Result<Vec<Id>, Fault>
-    requires held { stays ≡ false → IsHeld forest.now.spans id Entry }
-    ensures list { IfOk result (λ ids. ids.items ≡ if stays then [] else closing_list forest.now.spans id Entry) }
-    ensures chain { IfOk result (λ ids. IsChain forest.now.spans ids.items) }
-    ensures memory { IfErr result (λ fault. fault ≡ Fault.Memory) }
-{
-    if stays {
-        return Ok(Vec::new(alloc));
-    }
-    closing_of(forest, id, Holder::Entry)
-}
-
-// Gives the entry back, unless the span stays in the worker's stack; these are the spans that close.
-fn release_on_exit(forest: &mut Forest, stays: bool, id: Id, closing: &[Id])
-    requires held { stays ≡ false → IsHeld forest.old.spans id Entry }
-    requires list { closing.now ≡ if stays then [] else closing_list forest.old.spans id Entry }
-    ensures { forest.new ≡ record forest.old {
-      spans = if stays then forest.old.spans else spans_left forest.old.spans id Entry;
-      freed = freed_after forest.old.last_generation forest.old.given forest.old.freed
-          (if stays then [] else closing_list forest.old.spans id Entry);
-    } }
-{
-    if !stays {
-        forest.release_closing(id, Holder::Entry, closing);
     }
 }

@@ -3,13 +3,14 @@ ghost use Rattle.std.specs.Prelude.{◌<◌, OnOk, IfErr};
 ghost use Rattle.std.specs.Arc.{arc_str_bytes};
 ghost use Rattle.span_id.specs.Meta.{plain_meta, plain_fields};
 ghost use Rattle.span_outlet.specs.Request.{event, told};
-ghost use Rattle.span_core.specs.inside.Given.{meta_given, text_given, fields_given};
-ghost use Rattle.span_core.specs.Core.{IsAccepted, IsRefused};
+ghost use Rattle.span_core.specs.inside.Lent.{given_event};
+ghost use Rattle.span_core.specs.Core.{IsDue, IsAccepted, IsRefused};
 
 use crate::Core;
 use crate::calls::names::are_keys;
 use crate::calls::room::ask;
-use crate::given::{GivenFields, GivenMeta, GivenText};
+use crate::given::{GivenEvent, GivenFields, GivenMeta, GivenText};
+use crate::notes::Announced;
 use crate::notes::events::{Event, event_told};
 use span_id::{Fault, Field, Fields, Meta, SharedMeta};
 use span_layers::Admit;
@@ -35,8 +36,12 @@ impl<O: Outlet, A: Admit> Core<O, A> {
         ensures refused { IfErr result (λ fault. IsRefused self.old
             (event worker (plain_meta meta.now) message.now (plain_fields fields.now)) fault self.new) }
     {
-        let (meta, message) = (GivenMeta::Lent(meta), GivenText::Lent(message));
-        self.event_given(worker, &meta, &message, &GivenFields::Lent(fields))
+        let given = GivenEvent {
+            meta: GivenMeta::Lent(meta),
+            message: GivenText::Lent(message),
+            fields: GivenFields::Lent(fields),
+        };
+        self.event_given(worker, &given)
     }
 
     /// Tells an event as `event` does, with the same refusals. The batch shares the meta, the message and the fields
@@ -54,46 +59,55 @@ impl<O: Outlet, A: Admit> Core<O, A> {
         ensures refused { IfErr result (λ fault. IsRefused self.old
             (event worker meta.now (arc_str_bytes message.now) fields.now) fault self.new) }
     {
-        let (meta, message) = (GivenMeta::Shared(meta), GivenText::Shared(message));
-        self.event_given(worker, &meta, &message, &GivenFields::Shared(fields))
+        let given = GivenEvent {
+            meta: GivenMeta::Shared(meta),
+            message: GivenText::Shared(message),
+            fields: GivenFields::Shared(fields),
+        };
+        self.event_given(worker, &given)
     }
 
     // Tells an event of what is lent or shared.
-    fn event_given(
-        &mut self,
-        worker: u32,
-        meta: &GivenMeta<'_>,
-        message: &GivenText<'_>,
-        fields: &GivenFields<'_>,
-    ) -> Result<(), Fault>
+    fn event_given(&mut self, worker: u32, given: &GivenEvent<'_>) -> Result<(), Fault>
         requires { worker < self.old.limits.workers }
-        ensures accepted { OnOk result (IsAccepted self.old
-            (event worker (meta_given meta.now) (text_given message.now) (fields_given fields.now)) told self.new) }
-        ensures refused { IfErr result (λ fault. IsRefused self.old
-            (event worker (meta_given meta.now) (text_given message.now) (fields_given fields.now)) fault self.new) }
+        ensures accepted { OnOk result (IsAccepted self.old (given_event worker given.now) told self.new) }
+        ensures refused { IfErr result (λ fault. IsRefused self.old (given_event worker given.now) fault self.new) }
     {
-        if !(meta.read().fit() && are_keys(fields.read())) {
+        self.telling(worker, given)?;
+        ask(&mut self.outlet)?;
+        let event = Event {
+            worker,
+            bits: self.rules.bits(&self.admitters, given.meta.read()),
+            given,
+        };
+        let stacks = self.stacks.as_slice();
+        let Announced { call, notes } = event_told(
+            self.alloc,
+            &self.rules,
+            &self.forest,
+            stacks,
+            &event,
+        )?;
+        self.calls += 1;
+        self.outlet.put(Batch {
+            call,
+            reply: Reply::Told,
+            notes,
+        });
+        Ok(())
+    }
+
+    // Why an event is refused, if it is.
+    fn telling(&self, worker: u32, given: &GivenEvent<'_>) -> Result<(), Fault>
+        ensures due { OnOk result (IsDue self.now (given_event worker given.now)) }
+        ensures refused { IfErr result (λ fault. IsRefused self.now (given_event worker given.now) fault self.now) }
+    {
+        if !(given.meta.read().fit() && are_keys(given.fields.read())) {
             return Err(Fault::BadName);
         }
         if self.calls == u64::MAX {
             return Err(Fault::CountFull);
         }
-        ask(&mut self.outlet)?;
-        let event = Event {
-            worker,
-            bits: self.rules.bits(&self.admitters, meta.read()),
-            meta: *meta,
-            message: *message,
-            fields: *fields,
-        };
-        let stacks = self.stacks.as_slice();
-        let told = event_told(self.alloc, &self.rules, &self.forest, stacks, &event)?;
-        self.calls += 1;
-        self.outlet.put(Batch {
-            call: told.call,
-            reply: Reply::Told,
-            notes: told.notes,
-        });
         Ok(())
     }
 }

@@ -1,26 +1,31 @@
 //! The calls on a handle that enter no stack: one more handle, fields appended, a handle given back.
-ghost use Rattle.std.specs.Prelude.{◌≡◌, ◌<◌, ◌↔◌, nat_lt, length, None, IsTrue, OnOk, OnErr, IfOk, IfErr};
+ghost use Rattle.std.specs.Prelude.{◌≡◌, ◌<◌, ◌↔◌, nat_lt, length, map, None, IsTrue, OnOk, OnErr, IfOk, IfErr};
 ghost use Rattle.span_forest.specs.declared.span.Holder.TheVariants.{Handle};
-ghost use Rattle.span_forest.specs.Spans.{find};
+ghost use Rattle.span_forest.specs.Node.{with_fields};
+ghost use Rattle.span_forest.specs.Spans.{find, with_change};
+ghost use Rattle.span_forest.specs.Holders.{IsHeld};
 ghost use Rattle.span_forest.specs.Release.{closing_list};
 ghost use Rattle.span_id.specs.Meta.{plain_fields};
-ghost use Rattle.span_outlet.specs.Request.{clone_span, cloned, record_fields, recorded, try_close, released};
+ghost use Rattle.span_layers.specs.Note.{plain_note};
+ghost use Rattle.span_outlet.specs.Request.{request_of, clone_span, cloned, record_fields, recorded, try_close, released};
+ghost use Rattle.span_core.specs.Happening.{at_span, bits_in, notes_of};
 ghost use Rattle.span_core.specs.inside.Given.{fields_given};
 ghost use Rattle.span_core.specs.Core.{IsDue, IsAccepted, IsRefused};
 ghost use Rattle.span_core.specs.Shown.{MayBeShown, IsShown};
 
 use crate::Core;
-use crate::calls::held::{closing_of, held_span};
+use crate::calls::closes::{Closes, give_back};
+use crate::calls::held::held_span;
 use crate::calls::names::are_keys;
 use crate::calls::room::ask;
 use crate::given::GivenFields;
 use crate::laws::the_named_span_closes_first;
-use crate::notes::closing::close_notes;
-use crate::notes::{Happening, record_told};
-use span_forest::Holder;
-use span_id::{Fault, Field, Fields, Id};
-use span_layers::Kind;
+use crate::notes::{Announced, Happening, record_told};
+use span_forest::{Forest, Holder};
+use span_id::{Bits, Fault, Field, Fields, Id};
+use span_layers::{Kind, Rules};
 use span_outlet::{Batch, Call, Outlet, Reply};
+use std::alloc::Global;
 
 impl<O: Outlet, A> Core<O, A> {
     /// One more handle of a span that has a handle. The number of the worker that calls needs to be below `workers`.
@@ -32,12 +37,7 @@ impl<O: Outlet, A> Core<O, A> {
         ensures accepted { OnOk result (IsAccepted self.old (clone_span worker id) cloned self.new) }
         ensures refused { IfErr result (λ fault. IsRefused self.old (clone_span worker id) fault self.new) }
     {
-        let Some(held) = held_span(&self.forest, id) else {
-            return Err(Fault::Unknown);
-        };
-        if held.count >= self.limits.limits().max_count || self.calls == u64::MAX {
-            return Err(Fault::CountFull);
-        }
+        self.cloning(worker, id)?;
         ask(&mut self.outlet)?;
         let Ok(()) = self.forest.keep(id, Holder::Handle) else {
             unreachable!();
@@ -85,32 +85,26 @@ impl<O: Outlet, A> Core<O, A> {
         ensures refused { IfErr result (λ fault. IsRefused self.old
             (record_fields worker id (fields_given fields.now)) fault self.new) }
     {
-        if !are_keys(fields.read()) {
-            return Err(Fault::BadName);
-        }
-        let Some(held) = held_span(&self.forest, id) else {
-            return Err(Fault::Unknown);
-        };
-        if self.calls == u64::MAX {
-            return Err(Fault::CountFull);
-        }
+        let bits = self.recording(worker, id, fields)?;
         ask(&mut self.outlet)?;
         let what = Happening {
             worker,
             kind: Kind::OnRecord,
             id,
-            bits: held.bits,
+            bits,
         };
-        let fields = fields.keep(self.alloc)?;
-        let told = record_told(self.alloc, &self.rules, &self.forest, &what, &fields)?;
-        let Ok(()) = self.forest.share_fields(id, &fields) else {
-            return Err(Fault::Memory);
-        };
+        let Announced { call, notes } = push_fields(
+            self.alloc,
+            &self.rules,
+            &mut self.forest,
+            &what,
+            fields,
+        )?;
         self.calls += 1;
         self.outlet.put(Batch {
-            call: told.call,
+            call,
             reply: Reply::Recorded,
-            notes: told.notes,
+            notes,
         });
         Ok(())
     }
@@ -157,31 +151,99 @@ impl<O: Outlet, A> Core<O, A> {
         ensures refused { IfErr result (λ fault. IsRefused self.old (try_close worker id) fault self.new) }
         ensures not_shown { OnErr result (state.new ≡ state.old) }
     {
+        self.releasing(worker, id)?;
+        ask(&mut self.outlet)?;
+        let Closes { ids, notes } = give_back(
+            self.alloc,
+            &self.rules,
+            &mut self.forest,
+            worker,
+            id,
+        )?;
+        see(state, ids.as_slice());
+        let closed = !ids.is_empty();
+        self.calls += 1;
+        self.outlet.put(Batch {
+            call: Call::TryClose { worker, id },
+            reply: Reply::Released(ids),
+            notes,
+        });
+        Ok(closed)
+    }
+
+    // Why one more handle is refused, if it is.
+    fn cloning(&self, worker: u32, id: Id) -> Result<(), Fault>
+        ensures due { OnOk result (IsDue self.now (clone_span worker id)) }
+        ensures refused { IfErr result (λ fault. IsRefused self.now (clone_span worker id) fault self.now) }
+    {
+        let Some(held) = held_span(&self.forest, id) else {
+            return Err(Fault::Unknown);
+        };
+        if held.count >= self.limits.limits().max_count || self.calls == u64::MAX {
+            return Err(Fault::CountFull);
+        }
+        Ok(())
+    }
+
+    // The layers that admit the span to which fields are appended, or why they are refused.
+    fn recording(&self, worker: u32, id: Id, fields: &GivenFields<'_>) -> Result<Bits, Fault>
+        ensures due { OnOk result (IsDue self.now (record_fields worker id (fields_given fields.now))) }
+        ensures bits { IfOk result (λ bits. bits.0 ≡ bits_in self.now.world.spans id) }
+        ensures refused { IfErr result (λ fault. IsRefused self.now
+            (record_fields worker id (fields_given fields.now)) fault self.now) }
+    {
+        if !are_keys(fields.read()) {
+            return Err(Fault::BadName);
+        }
+        let Some(held) = held_span(&self.forest, id) else {
+            return Err(Fault::Unknown);
+        };
+        if self.calls == u64::MAX {
+            return Err(Fault::CountFull);
+        }
+        Ok(held.bits)
+    }
+
+    // Why a handle isn't taken back, if it isn't.
+    fn releasing(&self, worker: u32, id: Id) -> Result<(), Fault>
+        ensures due { OnOk result (IsDue self.now (try_close worker id)) }
+        ensures refused { IfErr result (λ fault. IsRefused self.now (try_close worker id) fault self.now) }
+    {
         let Some(_) = held_span(&self.forest, id) else {
             return Err(Fault::Unknown);
         };
         if self.calls == u64::MAX {
             return Err(Fault::CountFull);
         }
-        ask(&mut self.outlet)?;
-        let closing = closing_of(&self.forest, id, Holder::Handle)?;
-        let notes = close_notes(
-            self.alloc,
-            &self.rules,
-            &self.forest,
-            worker,
-            closing.as_slice(),
-        )?;
-        see(state, closing.as_slice());
-        let closed = !closing.is_empty();
-        self.forest
-            .release_closing(id, Holder::Handle, closing.as_slice());
-        self.calls += 1;
-        self.outlet.put(Batch {
-            call: Call::TryClose { worker, id },
-            reply: Reply::Released(closing),
-            notes,
-        });
-        Ok(closed)
+        Ok(())
     }
+}
+
+// The call that appends fields to those of a span, and its notes, once the fields are appended. They stay as they are
+// where memory is refused.
+fn push_fields(
+    alloc: Global,
+    rules: &Rules,
+    forest: &mut Forest,
+    what: &Happening,
+    fields: &GivenFields<'_>,
+) -> Result<Announced, Fault>
+    requires held { IsHeld forest.old.spans what.now.id Handle }
+    requires bits { what.now.bits.0 ≡ bits_in forest.old.spans what.now.id }
+    ensures forest { OnOk result (forest.new ≡ record forest.old {
+      spans = with_change (with_fields (fields_given fields.now)) forest.old.spans what.now.id;
+    }) }
+    ensures call { IfOk result (λ told. request_of told.call
+        ≡ record_fields what.now.worker what.now.id (fields_given fields.now)) }
+    ensures notes { IfOk result (λ told. map plain_note told.notes.items ≡ notes_of rules.now what.now.worker
+        (at_span forest.old.spans what.now.kind what.now.id (fields_given fields.now))) }
+    ensures unchanged { OnErr result (forest.new ≡ forest.old) }
+    ensures memory { IfErr result (λ fault. fault ≡ Fault.Memory) }
+{
+    let fields = fields.keep(alloc)?;
+    let told = record_told(alloc, rules, forest, what, &fields)?;
+    let Ok(()) = forest.share_fields(what.id, &fields) else {
+        return Err(Fault::Memory);
+    };
+    Ok(told)
 }

@@ -1,17 +1,14 @@
-ghost use Rattle.std.specs.Prelude.{◌≡◌, true, false, IfSome, IfNone, OnSome, IfOk, IfErr};
+ghost use Rattle.std.specs.Prelude.{◌≡◌, true, false, IfSome, IfNone, OnSome};
 ghost use Rattle.span_forest.specs.declared.span.Holder.TheVariants.{Handle, Entry};
 ghost use Rattle.span_forest.specs.Spans.{find};
 ghost use Rattle.span_forest.specs.Count.{reference_count};
 ghost use Rattle.span_forest.specs.Holders.{IsHeld, held_in};
-ghost use Rattle.span_forest.specs.Release.{closing_list};
 ghost use Rattle.span_core.specs.Happening.{bits_in};
 ghost use Rattle.span_core.specs.Step.{is_open};
 ghost use Rattle.span_core.specs.Core.{has_handle};
-ghost use Rattle.span_core.specs.inside.ClosingPaths.{IsChain};
 
-use crate::notes::closing::closing_lists_are_chains;
-use span_forest::{Forest, Holder};
-use span_id::{Bits, Fault, Id};
+use span_forest::Forest;
+use span_id::{Bits, Id};
 
 /// What the calls on a handle look at: the span's count, its entries, and the layers that admit it.
 #[derive(Clone, Copy)]
@@ -49,16 +46,4 @@ pub(crate) fn open_bits(forest: &Forest, id: Id) -> Option<Bits>
 {
     let span = forest.find(id)?;
     Some(span.bits)
-}
-
-// The spans that close where a holder that is there is given back, child first.
-#[inline]
-pub(crate) fn closing_of(forest: &Forest, id: Id, holder: Holder) -> Result<Vec<Id>, Fault>
-    requires { IsHeld forest.now.spans id holder }
-    ensures list { IfOk result (λ ids. ids.items ≡ closing_list forest.now.spans id holder) }
-    ensures chain { IfOk result (λ ids. IsChain forest.now.spans ids.items) }
-    ensures memory { IfErr result (λ fault. fault ≡ Fault.Memory) }
-{
-    closing_lists_are_chains(forest);
-    forest.closing_of_held(id, holder)
 }

@@ -1,25 +1,36 @@
 //! New spans.
-ghost use Rattle.std.specs.Prelude.{◌≡◌, ◌<◌, true, false, not, IfOk, OnOk, IfErr, IfSome, IfNone, OnSome, Some, None};
+ghost use Rattle.std.specs.Prelude.{◌≡◌, ◌<◌, ◌↔◌, ◌⊎◌, ℕ, true, false, not, map, filter, length, IfOk, OnOk, IfErr, OnErr, IfSome, IfNone, OnSome, Some, None};
+ghost use Rattle.std.specs.List.{range_with_len};
+ghost use Rattle.span_layers.specs.declared.note.Kind.TheVariants.{OnNew};
 ghost use Rattle.span_layers.specs.Filter.{admission_set};
+ghost use Rattle.span_layers.specs.Note.{plain_note};
+ghost use Rattle.span_slots.specs.Table.{IsIssued};
+ghost use Rattle.span_forest.specs.Add.{with_span};
+ghost use Rattle.span_forest.specs.Forest.{table_of, next_span_id};
+ghost use Rattle.span_forest.specs.Node.{new_node};
+ghost use Rattle.span_id.specs.Id.{IsId};
 ghost use Rattle.span_id.specs.Meta.{plain_meta, plain_fields};
-ghost use Rattle.span_outlet.specs.Request.{new_span, made};
+ghost use Rattle.span_outlet.specs.Request.{request_of, new_span, made};
 ghost use Rattle.span_core.specs.Parent.{parent_found};
 ghost use Rattle.span_core.specs.Step.{is_open_parent};
 ghost use Rattle.span_core.specs.NextId.{next_id};
 ghost use Rattle.span_core.specs.inside.Given.{meta_given, fields_given};
-ghost use Rattle.span_core.specs.inside.Lent.{span_request};
+ghost use Rattle.span_core.specs.inside.Lent.{first_note_of, span_request};
+ghost use Rattle.span_core.specs.inside.Sound.{hears};
 ghost use Rattle.span_core.specs.Core.{is_parent_below_max, IsDue, IsAccepted, IsRefused, IsNotWanted};
 
 use crate::Core;
 use crate::calls::names::are_keys;
 use crate::calls::room::ask;
 use crate::given::{GivenFields, GivenMeta};
+use crate::notes::Announced;
 use crate::notes::new_spans::{NewSpan, new_told};
 use span_forest::Forest;
 use span_forest::laws::{each_slot_has_one_open_id, next_id_is_new, open_spans_are_counted};
 use span_id::{Fault, Field, Fields, Id, Meta, SharedMeta};
-use span_layers::Admit;
+use span_layers::{Admit, Rules};
 use span_outlet::{Batch, Outlet, ParentOf, Reply};
+use std::alloc::Global;
 
 impl<O: Outlet, A: Admit> Core<O, A> {
     // The parent that a caller means.
@@ -165,21 +176,46 @@ impl<O: Outlet, A: Admit> Core<O, A> {
         next_id_is_new(&self.forest);
         each_slot_has_one_open_id(&self.forest);
         open_spans_are_counted(&self.forest);
-        let meta = new.meta.keep(self.alloc)?;
-        let fields = new.fields.keep(self.alloc)?;
-        let told = new_told(self.alloc, &self.rules, &self.forest, new, &meta, &fields)?;
-        let Ok(id) = self.forest.add(meta, fields, new.parent, new.bits) else {
-            unreachable!();
-        };
+        let Announced { call, notes } = add_span(self.alloc, &self.rules, &mut self.forest, new)?;
         self.calls += 1;
         self.made += 1;
         self.outlet.put(Batch {
-            call: told.call,
-            reply: Reply::Made(id),
-            notes: told.notes,
+            call,
+            reply: Reply::Made(new.id),
+            notes,
         });
         Ok(())
     }
+}
+
+// Adds a span to the forest, once its call and its notes are made. The forest stays as it is where memory is refused.
+fn add_span(
+    alloc: Global,
+    rules: &Rules,
+    forest: &mut Forest,
+    new: &NewSpan<'_>,
+) -> Result<Announced, Fault>
+    requires open { is_open_parent forest.old.spans new.now.parent ≡ true }
+    requires count { is_parent_below_max forest.old.max_count forest.old.spans new.now.parent ≡ true }
+    requires next { next_span_id forest.old ≡ Some new.now.id }
+    ensures forest { OnOk result (forest.new ≡ with_span forest.old new.now.id
+        (new_node (meta_given new.now.meta) (fields_given new.now.fields) new.now.parent new.now.bits.0)) }
+    ensures call { IfOk result (λ told. request_of told.call ≡ span_request new.now) }
+    ensures notes { IfOk result (λ told. map plain_note told.notes.items
+        ≡ map (first_note_of forest.old.spans new.now)
+        (filter (hears rules.now new.now.bits.0 OnNew) (range_with_len 0 (length rules.now)))) }
+    ensures issued { OnOk result ((other : ℕ) → IsId other →
+        (IsIssued (table_of forest.new) other ↔ (IsIssued (table_of forest.old) other ⊎ (new.now.id ≡ other)))) }
+    ensures unchanged { OnErr result (forest.new ≡ forest.old) }
+    ensures memory { IfErr result (λ fault. fault ≡ Fault.Memory) }
+{
+    let meta = new.meta.keep(alloc)?;
+    let fields = new.fields.keep(alloc)?;
+    let told = new_told(alloc, rules, forest, new, &meta, &fields)?;
+    let Ok(_) = forest.add(meta, fields, new.parent, new.bits) else {
+        unreachable!();
+    };
+    Ok(told)
 }
 
 // Whether the count of a parent is at its greatest; none where the parent isn't open.

@@ -10,7 +10,7 @@ ghost use Rattle.span_core.specs.Happening.{bits_in, notes_of};
 ghost use Rattle.span_core.specs.inside.Given.{fields_given, text_given};
 ghost use Rattle.span_core.specs.inside.Lent.{event_request, event_seen};
 
-use crate::given::{GivenFields, GivenMeta, GivenText};
+use crate::given::GivenEvent;
 use crate::notes::{Announced, Subject, Telling, told};
 use span_forest::Forest;
 use span_id::{Bits, Fault, Fields, Id};
@@ -25,9 +25,7 @@ use std::sync::ArcStr;
 pub(crate) struct Event<'a> {
     pub(crate) worker: u32,
     pub(crate) bits: Bits,
-    pub(crate) meta: GivenMeta<'a>,
-    pub(crate) message: GivenText<'a>,
-    pub(crate) fields: GivenFields<'a>,
+    pub(crate) given: &'a GivenEvent<'a>,
 }
 
 // The call that tells an event, and its notes, which share its message and its fields.
@@ -45,9 +43,9 @@ pub(crate) fn event_told(
         (event_seen forest.now.spans (slice_index_or (ids_of_each stacks.now) event.now.worker []) event.now)) }
     ensures memory { IfErr result (λ fault. fault ≡ Fault.Memory) }
 {
-    let meta = event.meta.keep(alloc)?;
-    let message = event.message.keep(alloc)?;
-    let fields = event.fields.keep(alloc)?;
+    let meta = event.given.meta.keep(alloc)?;
+    let message = event.given.message.keep(alloc)?;
+    let fields = event.given.fields.keep(alloc)?;
     let notes = event_notes(alloc, rules, forest, stacks, event, &message, &fields)?;
     Ok(Announced {
         call: Call::Event {
@@ -71,8 +69,8 @@ fn event_notes(
     fields: &Fields,
 ) -> Result<Vec<Note>, Fault>
     requires worker { event.now.worker < length stacks.now }
-    requires message { arc_str_bytes message.now ≡ text_given event.now.message }
-    requires fields { fields.now ≡ fields_given event.now.fields }
+    requires message { arc_str_bytes message.now ≡ text_given event.now.given.now.message }
+    requires fields { fields.now ≡ fields_given event.now.given.now.fields }
     ensures notes { IfOk result (λ notes. map plain_note notes.items
         ≡ notes_of rules.now event.now.worker
         (event_seen forest.now.spans (slice_index_or (ids_of_each stacks.now) event.now.worker []) event.now)) }
@@ -85,7 +83,7 @@ fn event_notes(
         fields,
         subject: Subject::Event {
             stack: &stacks[event.worker as usize],
-            level: event.meta.read().level,
+            level: event.given.meta.read().level,
             message,
         },
     };

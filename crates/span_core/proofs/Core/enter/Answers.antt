@@ -1,24 +1,49 @@
-use Rattle.std.proofs.Common.{◌∙◌, ◌<◌, List, [], not, length, get_or, ap, sym, refl, arith}
+use Rattle.std.proofs.Common.{◌≡◌, ◌∙◌, ◌<◌, [], ◌∷◌, true, not, length, get_or, map, sym, ap, refl, subst, arith}
 use Rattle.span_layers.specs.declared.note.Kind.TheVariants.{OnEnter}
-use Rattle.span_stack.specs.Stack.{Stack, has, ids_of_each}
-use Rattle.span_core.specs.Core.{CoreView}
-use Rattle.span_core.specs.Happening.{at_span, notes_of}
+use Rattle.span_layers.specs.Note.{plain_note}
+use Rattle.span_forest.specs.declared.span.Holder.TheVariants.{Handle}
+use Rattle.span_forest.specs.Holders.{IsHeld}
+use Rattle.span_stack.specs.Stack.{has, ids_of_each}
+use Rattle.span_core.specs.World.{stack_of}
+use Rattle.span_core.specs.Core.{CoreView, has_handle}
+use Rattle.span_core.specs.Happening.{at_span, notes_of, notes_of_all}
 use Rattle.span_core.proofs.Made.{none_made}
-use Rattle.span_core.proofs.Accepting.{sound_enter, none_inside}
+use Rattle.span_core.proofs.Deciding.{held_from}
+use Rattle.span_core.proofs.Accepting.{step_enter, sound_enter}
 use Rattle.span_core.proofs.Telling.{one_happening}
+use Rattle.span_core.proofs.Clauses.{accepted_by}
+use Rattle.span_core.proofs.Core.enter.Given as given
 use Rattle.span_core.proofs.Core.enter.Goals as goal
+use Rattle.span_core.proofs.Core.enter.Goals.{After-put}
+
+within : (g : given.Over) (c : After-put g) → c.args.worker < length (ids_of_each c.self.inside.stacks.items)
+within g c = omega (arith, c.requires, ap (λ (v : CoreView). v.limits.workers) c.self.view_is, c.self.invariant.0.stacks_are)
+
+held : (g : given.Over) (c : After-put g) → IsHeld c.self.inside.forest.spans c.args.id Handle
+held g c =
+    held_from c.self.inside.forest.spans c.args.id (subst (λ (v : CoreView). has_handle v.world.spans c.args.id ≡ true) (sym c.self.view_is) c.in_ok-entering.ensures.due.known)
+
+first : (g : given.Over) (c : After-put g) → c.in_ok-entering.entering.first ≡ not (has (get_or (ids_of_each c.self.inside.stacks.items) c.args.worker []) c.args.id)
+first g c =
+    c.in_ok-entering.ensures.first ∙ ap (λ (v : CoreView). not (has (stack_of v.world c.args.worker) c.args.id)) (sym c.self.view_is)
+
+told : (g : given.Over) (c : After-put g) → map plain_note c.in_ok-notes.notes.items
+    ≡ notes_of_all c.self.inside.rules c.args.worker (at_span c.self.inside.forest.spans OnEnter c.args.id [] ∷ [])
+told g c =
+    one_happening c.self.inside.rules c.args.worker (at_span c.self.inside.forest.spans OnEnter c.args.id []) [] _ refl
+    (c.in_ok-notes.ensures.notes
+    ∙ ap (λ fields. notes_of c.self.inside.rules c.args.worker (at_span c.self.inside.forest.spans OnEnter c.args.id fields)) c.none.ensures)
 
 pub invariant_of-self-2 : goal.invariant_of-self-2
-invariant_of-self-2 g c =
-    let within : c.args.worker < length (ids_of_each c.self.inside.stacks.items) = omega (arith, c.requires, ap (λ (v : CoreView). v.limits.workers) c.self.view_is, c.self.invariant.0.stacks_are) in
-    let first = c.is_outside-first.ensures ∙ ap (λ (ss : List Stack). not (has (get_or (ids_of_each ss) c.args.worker []) c.args.id)) c.as_slice.ensures.value in
-    let told = one_happening c.self.inside.rules c.args.worker (at_span c.self.inside.forest.spans OnEnter c.args.id []) [] _ refl
-    (c.in_ok-notes.ensures.notes
-    ∙ ap (λ fields. notes_of c.self.inside.rules c.args.worker (at_span c.self.inside.forest.spans OnEnter c.args.id fields)) c.none.ensures) in
-    (sound_enter _ _ _ _ _ _ _ _ _ _ c.args.worker c.args.id _ _ c.self.invariant.0 c.in-Some.ensures.held within first c.keep_first.ensures c.in_ok-push_at.ensures.pushed told c.in_ok-ask.ensures.sent c.put.ensures.sent, none_made _ _ _ _ _ c.self.invariant.1 refl c.in_ok-ask.ensures.sent c.put.ensures.sent)
+invariant_of-self-2 g c = (
+  sound_enter _ _ _ _ _ _ _ _ _ _ c.args.worker c.args.id _ _ c.self.invariant.0 (held g c) (within g c) (first g c)
+      c.keep_first.ensures c.in_ok-push_at.ensures.pushed (told g c) c.in_ok-ask.ensures.sent c.put.ensures.sent,
+  none_made _ _ _ _ _ c.self.invariant.1 refl c.in_ok-ask.ensures.sent c.put.ensures.sent,
+)
 
-pub is_outside-first-requires-clause-none : goal.is_outside-first-requires-clause-none
-is_outside-first-requires-clause-none g c none =
-    let within : c.args.worker < length (ids_of_each c.self.inside.stacks.items) = omega (arith, c.requires, ap (λ (v : CoreView). v.limits.workers) c.self.view_is, c.self.invariant.0.stacks_are) in
-    ap (λ (ss : List Stack). has (get_or (ids_of_each ss) c.args.worker []) c.args.id) c.as_slice.ensures.value
-    ∙ none_inside _ _ c.args.worker c.args.id c.self.invariant.0.world within (sym c.in-Some.ensures.entries ∙ none)
+pub returns-clause-accepted : goal.returns-clause-accepted
+returns-clause-accepted g c =
+    accepted_by _ _ _ _ _ _ _ _ _ _ _ _ _ _ _ c.self.view_is c.in_ok-entering.ensures.due
+    (step_enter _ _ _ _ _ _ c.args.worker c.args.id _ _ (within g c) (held g c) (first g c)
+    (ap (λ f. f.spans) c.keep_first.ensures) c.in_ok-push_at.ensures.pushed (told g c))
+    refl c.in_ok-ask.ensures.sent c.put.ensures.sent c.in_ok-ask.ensures.times_full c.put.ensures.times_full c.in_ok-ask.ensures.forms c.put.ensures.forms c.in_ok-ask.ensures.name c.put.ensures.name

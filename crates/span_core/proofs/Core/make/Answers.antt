@@ -13,7 +13,6 @@ use Rattle.span_forest.specs.Forest.{table_of, next_span_id}
 use Rattle.span_forest.specs.Add.{with_span}
 use Rattle.span_forest.specs.Live.{stands_in}
 use Rattle.span_stack.specs.Stack.{ids_of_each}
-use Rattle.span_outlet.specs.Request.{made}
 use Rattle.span_core.specs.Happening.{at_span, notes_of_all}
 use Rattle.span_core.specs.Step.{IsStep, is_wanted, made_node, is_open_parent}
 use Rattle.span_core.specs.History.{issued}
@@ -24,6 +23,7 @@ use Rattle.span_core.specs.inside.Lent.{span_request}
 use Rattle.span_core.specs.Core.{CoreView}
 use Rattle.span_core.proofs.Legal.{stands_itself}
 use Rattle.span_core.proofs.Made.{few_made, one_made}
+use Rattle.span_core.proofs.Clauses.{accepted_by}
 use Rattle.span_core.proofs.NewSpans.{sound_new, step_new, new_notes, not_open, not_in_history}
 use Rattle.span_core.proofs.Core.make.Given as given
 use Rattle.span_core.proofs.Core.make.Goals as goal
@@ -42,44 +42,43 @@ bits_are g c = subst (λ (v : CoreView). c.args.new.now.bits.0 ≡ admission_set
 within : (g : given.Over) (c : After-put g) → c.args.new.now.worker < length (ids_of_each c.self.inside.stacks.items)
 within g c = omega (arith, c.requires.within, ap (λ (v : CoreView). v.limits.workers) c.self.view_is, c.self.invariant.0.stacks_are)
 
--- the id that the forest gives is the one that the history gives
-same_id : (g : given.Over) (c : After-put g) → c.args.new.now.id ≡ c.in-Ok.id
-same_id g c =
-    some_same _ _ (sym c.requires.next
-    ∙ ap (λ (v : CoreView). next_id v.limits.slots v.limits.last_generation v.sent) (sym c.self.view_is)
-    ∙ ap next_span_id (sym c.self.invariant.0.forest_is)
-    ∙ c.in-Ok.ensures.id)
-  where
-    some_same : (a b : ℕ) → Some a ≡ Some b → a ≡ b
-    some_same a b same = cc
+-- the forest gives the id that the history gives
+next : (g : given.Over) (c : After-put g) → next_span_id c.self.inside.forest ≡ Some c.args.new.now.id
+next g c =
+    ap next_span_id c.self.invariant.0.forest_is
+    ∙ ap (λ (v : CoreView). next_id v.limits.slots v.limits.last_generation v.sent) c.self.view_is
+    ∙ c.requires.next
 
-in_layout : (g : given.Over) (c : After-put g) → IsId c.in-Ok.id
-in_layout g c = subst (λ (o : Option ℕ). IfSome o IsId) c.in-Ok.ensures.id c.next_id_is_new.ensures.in_layout
+never : (g : given.Over) (c : After-put g) → IsIssued (table_of c.self.inside.forest) c.args.new.now.id → ⊥
+never g c = subst (λ (o : Option ℕ). IfSome o (λ id. IsIssued (table_of c.self.inside.forest) id → ⊥)) (next g c) c.next_id_is_new.ensures.never_issued
 
-gone : (g : given.Over) (c : After-put g) → find c.self.inside.forest.spans c.in-Ok.id ≡ None
-gone g c = not_open c.self.inside.forest.spans c.in-Ok.id (IsIssued (table_of c.self.inside.forest) c.in-Ok.id) (c.each_slot_has_one_open_id.ensures.issued c.in-Ok.id) c.in-Ok.ensures.never_issued
+in_layout : (g : given.Over) (c : After-put g) → IsId c.args.new.now.id
+in_layout g c = subst (λ (o : Option ℕ). IfSome o IsId) (next g c) c.next_id_is_new.ensures.in_layout
 
-now_issued : (g : given.Over) (c : After-put g) → generation_of c.in-Ok.id < slice_index c.add.new.self.given (slot_of c.in-Ok.id)
-now_issued g c = (c.in-Ok.ensures.issued c.in-Ok.id (in_layout g c)).1 (inr refl)
+gone : (g : given.Over) (c : After-put g) → find c.self.inside.forest.spans c.args.new.now.id ≡ None
+gone g c = not_open c.self.inside.forest.spans c.args.new.now.id (IsIssued (table_of c.self.inside.forest) c.args.new.now.id) (c.each_slot_has_one_open_id.ensures.issued c.args.new.now.id) (never g c)
 
-no_other : (g : given.Over) (c : After-put g) → (x : ℕ) → IsId x → generation_of x < slice_index c.add.new.self.given (slot_of x) → (generation_of x < slice_index c.self.inside.forest.given (slot_of x)) ⊎ (stands_in x (c.in-Ok.id ∷ []) ≡ true)
+now_issued : (g : given.Over) (c : After-put g) → generation_of c.args.new.now.id < slice_index c.add_span.new.forest.given (slot_of c.args.new.now.id)
+now_issued g c = (c.in_ok-call.ensures.issued c.args.new.now.id (in_layout g c)).1 (inr refl)
+
+no_other : (g : given.Over) (c : After-put g) → (x : ℕ) → IsId x → generation_of x < slice_index c.add_span.new.forest.given (slot_of x) → (generation_of x < slice_index c.self.inside.forest.given (slot_of x)) ⊎ (stands_in x (c.args.new.now.id ∷ []) ≡ true)
 no_other g c x fits low =
-    elim ((c.in-Ok.ensures.issued x fits).0 low) [
+    elim ((c.in_ok-call.ensures.issued x fits).0 low) [
       | inl before ↦ inl before
       | inr same ↦ inr (subst (λ (j : ℕ). stands_in x (j ∷ []) ≡ true) (sym same) (stands_itself x))
     ]
 
-forest_is : (g : given.Over) (c : After-put g) → c.add.new.self ≡ with_span c.self.inside.forest c.in-Ok.id (made_node c.self.inside.rules (meta_given c.args.new.now.meta) (fields_given c.args.new.now.fields) c.args.new.now.parent)
+forest_is : (g : given.Over) (c : After-put g) → c.add_span.new.forest ≡ with_span c.self.inside.forest c.args.new.now.id (made_node c.self.inside.rules (meta_given c.args.new.now.meta) (fields_given c.args.new.now.fields) c.args.new.now.parent)
 forest_is g c =
-    c.in-Ok.ensures.forest
-    ∙ (λ j. with_span c.self.inside.forest c.in-Ok.id (new_node (c.in_ok-meta.ensures.meta j) (c.in_ok-fields.ensures.fields j) c.args.new.now.parent (bits_are g c j)))
+    c.in_ok-call.ensures.forest
+    ∙ (λ j. with_span c.self.inside.forest c.args.new.now.id (new_node (meta_given c.args.new.now.meta) (fields_given c.args.new.now.fields) c.args.new.now.parent (bits_are g c j)))
 
-told : (g : given.Over) (c : After-put g) → map plain_note c.in_ok-told.told.notes.items ≡ notes_of_all c.self.inside.rules c.args.new.now.worker (at_span c.add.new.self.spans OnNew c.in-Ok.id (fields_given c.args.new.now.fields) ∷ [])
+told : (g : given.Over) (c : After-put g) → map plain_note c.in_ok-call.field-0.notes.items ≡ notes_of_all c.self.inside.rules c.args.new.now.worker (at_span c.add_span.new.forest.spans OnNew c.args.new.now.id (fields_given c.args.new.now.fields) ∷ [])
 told g c =
-    new_notes c.self.inside.rules c.args.new.now.worker c.in-Ok.id c.self.inside.forest.spans c.add.new.self.spans (made_node c.self.inside.rules (meta_given c.args.new.now.meta) (fields_given c.args.new.now.fields) c.args.new.now.parent) (fields_given c.args.new.now.fields) _
+    new_notes c.self.inside.rules c.args.new.now.worker c.args.new.now.id c.self.inside.forest.spans c.add_span.new.forest.spans (made_node c.self.inside.rules (meta_given c.args.new.now.meta) (fields_given c.args.new.now.fields) c.args.new.now.parent) (fields_given c.args.new.now.fields) _
     (gone g c) c.open_spans_are_counted.ensures.parent (parent_open g c) (ap (λ f. f.spans) (forest_is g c))
-    (c.in_ok-told.ensures.notes
-    ∙ (λ j. map (first_note c.self.inside.forest.spans c.args.new.now.worker (same_id g c j) c.args.new.now.parent (meta_given c.args.new.now.meta).name (fields_given c.args.new.now.fields))
+    (c.in_ok-call.ensures.notes
+    ∙ (λ j. map (first_note c.self.inside.forest.spans c.args.new.now.worker c.args.new.now.id c.args.new.now.parent (meta_given c.args.new.now.meta).name (fields_given c.args.new.now.fields))
     (filter (hears c.self.inside.rules (bits_are g c j) OnNew) (range_with_len 0 (length c.self.inside.rules)))))
 
 and_second : (p q : Bool) → (p && q) ≡ true → q ≡ true
@@ -95,30 +94,15 @@ overflow_add-self-2 g c =
 
 pub invariant_of-self-2 : goal.invariant_of-self-2
 invariant_of-self-2 g c = (
-  sound_new _ _ _ _ _ _ _ _ _ c.args.new.now.worker c.in-Ok.id (meta_given c.args.new.now.meta) (fields_given c.args.new.now.fields) c.args.new.now.parent _ _
-      c.self.invariant.0 (within g c) (in_layout g c) c.in-Ok.ensures.never_issued (now_issued g c) (no_other g c) (wanted g c) (parent_open g c) (gone g c) (forest_is g c) (told g c)
-      c.in_ok-told.ensures.call c.in_ok-ask.ensures.sent c.put.ensures.sent,
+  sound_new _ _ _ _ _ _ _ _ _ c.args.new.now.worker c.args.new.now.id (meta_given c.args.new.now.meta) (fields_given c.args.new.now.fields) c.args.new.now.parent _ _
+      c.self.invariant.0 (within g c) (in_layout g c) (never g c) (now_issued g c) (no_other g c) (wanted g c) (parent_open g c) (gone g c) (forest_is g c) (told g c)
+      c.in_ok-call.ensures.call c.in_ok-ask.ensures.sent c.put.ensures.sent,
   one_made _ _ _ _ _ _ c.self.invariant.1 refl c.in_ok-ask.ensures.sent c.put.ensures.sent,
 )
 
 pub returns-clause-made : goal.returns-clause-made
 returns-clause-made g c =
-    let request = span_request c.args.new.now in
-    let call_is = c.in_ok-told.ensures.call in
-    let sent_is : g.O.Outlet.sent c.ask.new.outlet ≡ c.args.self.now.sent = c.in_ok-ask.ensures.sent ∙ ap (λ (v : CoreView). v.sent) c.self.view_is in
-    let step : IsStep c.self.inside.rules (issued (g.O.Outlet.sent c.self.inside.outlet)) (record { spans = c.self.inside.forest.spans; stacks = ids_of_each c.self.inside.stacks.items }) request (made c.in-Ok.id) (map plain_note c.in_ok-told.told.notes.items) (record { spans = c.add.new.self.spans; stacks = ids_of_each c.self.inside.stacks.items }) =
-    step_new c.self.inside.rules (issued (g.O.Outlet.sent c.self.inside.outlet)) c.self.inside.forest.spans c.add.new.self.spans (ids_of_each c.self.inside.stacks.items) c.args.new.now.worker c.in-Ok.id (meta_given c.args.new.now.meta) (fields_given c.args.new.now.fields) c.args.new.now.parent _
-    (within g c) (in_layout g c) (not_in_history _ _ _ _ _ _ c.in-Ok.id c.self.invariant.0 c.in-Ok.ensures.never_issued) (wanted g c) (parent_open g c) (ap (λ f. f.spans) (forest_is g c)) (told g c) in
-    let same = sym (same_id g c) in
-    record {
-      due = c.requires.due;
-      limits = ap (λ (v : CoreView). v.limits) c.self.view_is;
-      rules = ap (λ (v : CoreView). v.rules) c.self.view_is;
-      notes = map plain_note c.in_ok-told.told.notes.items;
-      step = subst (λ (id : ℕ). IsStep c.args.self.now.rules (issued c.args.self.now.sent) c.args.self.now.world request (made id) (map plain_note c.in_ok-told.told.notes.items) (record { spans = c.add.new.self.spans; stacks = ids_of_each c.self.inside.stacks.items })) same
-          (subst (λ (v : CoreView). IsStep v.rules (issued v.sent) v.world request (made c.in-Ok.id) (map plain_note c.in_ok-told.told.notes.items) (record { spans = c.add.new.self.spans; stacks = ids_of_each c.self.inside.stacks.items })) c.self.view_is step);
-      sent = c.put.ensures.sent ∙ (λ j. sent_is j ++ (record { request = call_is j; answer = made (same j); notes = map plain_note c.in_ok-told.told.notes.items }) ∷ []);
-      times_full = c.put.ensures.times_full ∙ c.in_ok-ask.ensures.times_full ∙ ap (λ (v : CoreView). v.times_full) c.self.view_is;
-      forms = c.put.ensures.forms ∙ c.in_ok-ask.ensures.forms ∙ ap (λ (v : CoreView). v.forms) c.self.view_is;
-      name = c.put.ensures.name ∙ c.in_ok-ask.ensures.name ∙ ap (λ (v : CoreView). v.name) c.self.view_is;
-    }
+    accepted_by _ _ _ _ _ _ _ _ _ _ _ _ _ _ _ c.self.view_is c.requires.due
+    (step_new c.self.inside.rules (issued (g.O.Outlet.sent c.self.inside.outlet)) c.self.inside.forest.spans c.add_span.new.forest.spans (ids_of_each c.self.inside.stacks.items) c.args.new.now.worker c.args.new.now.id (meta_given c.args.new.now.meta) (fields_given c.args.new.now.fields) c.args.new.now.parent _
+    (within g c) (in_layout g c) (not_in_history _ _ _ _ _ _ c.args.new.now.id c.self.invariant.0 (never g c)) (wanted g c) (parent_open g c) (ap (λ f. f.spans) (forest_is g c)) (told g c))
+    c.in_ok-call.ensures.call c.in_ok-ask.ensures.sent c.put.ensures.sent c.in_ok-ask.ensures.times_full c.put.ensures.times_full c.in_ok-ask.ensures.forms c.put.ensures.forms c.in_ok-ask.ensures.name c.put.ensures.name

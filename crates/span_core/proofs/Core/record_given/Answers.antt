@@ -1,16 +1,43 @@
-use Rattle.std.proofs.Common.{◌<◌, [], length, ap, refl, arith}
+use Rattle.std.proofs.Common.{◌≡◌, ◌<◌, [], true, length, map, sym, ap, refl, subst, arith}
+use Rattle.std.specs.Prelude.{◌∷◌}
 use Rattle.span_layers.specs.declared.note.Kind.TheVariants.{OnRecord}
+use Rattle.span_layers.specs.Note.{plain_note}
+use Rattle.span_forest.specs.declared.span.Holder.TheVariants.{Handle}
+use Rattle.span_forest.specs.Holders.{IsHeld}
 use Rattle.span_stack.specs.Stack.{ids_of_each}
-use Rattle.span_core.specs.Core.{CoreView}
-use Rattle.span_core.specs.Happening.{at_span}
+use Rattle.span_core.specs.Core.{CoreView, has_handle}
+use Rattle.span_core.specs.Happening.{at_span, notes_of_all}
+use Rattle.span_core.specs.inside.Given.{fields_given}
 use Rattle.span_core.proofs.Made.{none_made}
-use Rattle.span_core.proofs.Accepting.{sound_record}
+use Rattle.span_core.proofs.Deciding.{held_from}
+use Rattle.span_core.proofs.Accepting.{step_record, sound_record}
 use Rattle.span_core.proofs.Telling.{one_happening}
+use Rattle.span_core.proofs.Clauses.{accepted_by}
+use Rattle.span_core.proofs.Core.record_given.Given as given
 use Rattle.span_core.proofs.Core.record_given.Goals as goal
+use Rattle.span_core.proofs.Core.record_given.Goals.{After-put}
+
+within : (g : given.Over) (c : After-put g) → c.args.worker < length (ids_of_each c.self.inside.stacks.items)
+within g c = omega (arith, c.requires, ap (λ (v : CoreView). v.limits.workers) c.self.view_is, c.self.invariant.0.stacks_are)
+
+held : (g : given.Over) (c : After-put g) → IsHeld c.self.inside.forest.spans c.args.id Handle
+held g c =
+    held_from c.self.inside.forest.spans c.args.id (subst (λ (v : CoreView). has_handle v.world.spans c.args.id ≡ true) (sym c.self.view_is) c.in_ok-bits.ensures.due.known)
+
+told : (g : given.Over) (c : After-put g) → map plain_note c.in_ok-call.field-0.notes.items
+    ≡ notes_of_all c.self.inside.rules c.args.worker (at_span c.self.inside.forest.spans OnRecord c.args.id (fields_given c.args.fields.now) ∷ [])
+told g c =
+    one_happening c.self.inside.rules c.args.worker (at_span c.self.inside.forest.spans OnRecord c.args.id (fields_given c.args.fields.now)) [] _ refl c.in_ok-call.ensures.notes
 
 pub invariant_of-self-2 : goal.invariant_of-self-2
-invariant_of-self-2 g c =
-    let within : c.args.worker < length (ids_of_each c.self.inside.stacks.items) = omega (arith, c.requires, ap (λ (v : CoreView). v.limits.workers) c.self.view_is, c.self.invariant.0.stacks_are) in
-    let fields = c.in_ok-fields.fields in
-    let told = one_happening c.self.inside.rules c.args.worker (at_span c.self.inside.forest.spans OnRecord c.args.id fields) [] _ refl c.in_ok-told.ensures.notes in
-    (sound_record _ _ _ _ _ _ _ _ _ c.args.worker c.args.id fields _ _ c.self.invariant.0 within c.in-Some.ensures.held c.in-Ok.ensures.forest told c.in_ok-told.ensures.call c.in_ok-ask.ensures.sent c.put.ensures.sent, none_made _ _ _ _ _ c.self.invariant.1 refl c.in_ok-ask.ensures.sent c.put.ensures.sent)
+invariant_of-self-2 g c = (
+  sound_record _ _ _ _ _ _ _ _ _ c.args.worker c.args.id (fields_given c.args.fields.now) _ _ c.self.invariant.0 (within g c) (held g c)
+      c.in_ok-call.ensures.forest (told g c) c.in_ok-call.ensures.call c.in_ok-ask.ensures.sent c.put.ensures.sent,
+  none_made _ _ _ _ _ c.self.invariant.1 refl c.in_ok-ask.ensures.sent c.put.ensures.sent,
+)
+
+pub returns-clause-accepted : goal.returns-clause-accepted
+returns-clause-accepted g c =
+    accepted_by _ _ _ _ _ _ _ _ _ _ _ _ _ _ _ c.self.view_is c.in_ok-bits.ensures.due
+    (step_record _ _ _ _ _ c.args.worker c.args.id (fields_given c.args.fields.now) _ (within g c) (held g c) (ap (λ f. f.spans) c.in_ok-call.ensures.forest) (told g c))
+    c.in_ok-call.ensures.call c.in_ok-ask.ensures.sent c.put.ensures.sent c.in_ok-ask.ensures.times_full c.put.ensures.times_full c.in_ok-ask.ensures.forms c.put.ensures.forms c.in_ok-ask.ensures.name c.put.ensures.name

@@ -1,29 +1,51 @@
-use Rattle.std.proofs.Common.{◌∙◌, ◌<◌, [], length, ap, refl, arith}
+use Rattle.std.proofs.Common.{◌≡◌, ◌∙◌, ◌<◌, ℕ, List, true, length, sym, ap, refl, subst, arith}
 use Rattle.span_forest.specs.declared.span.Holder.TheVariants.{Handle}
+use Rattle.span_forest.specs.Holders.{IsHeld}
 use Rattle.span_forest.specs.Release.{closing_list}
 use Rattle.span_stack.specs.Stack.{ids_of_each}
-use Rattle.span_core.specs.Core.{CoreView}
+use Rattle.span_outlet.specs.Request.{released}
+use Rattle.span_core.specs.Core.{CoreView, has_handle}
 use Rattle.span_core.proofs.Made.{none_made}
-use Rattle.span_core.proofs.Accepting.{sound_close}
-use Rattle.span_core.proofs.Telling.{closes_told}
+use Rattle.span_core.proofs.Deciding.{held_from}
+use Rattle.span_core.proofs.Accepting.{step_close, sound_close}
+use Rattle.span_core.proofs.Clauses.{accepted_as, accepted_by}
+use Rattle.span_core.proofs.Core.try_close_with.Given as given
 use Rattle.span_core.proofs.Core.try_close_with.Goals as goal
+use Rattle.span_core.proofs.Core.try_close_with.Goals.{After-put}
+
+within : (g : given.Over) (c : After-put g) → c.args.worker < length (ids_of_each c.self.inside.stacks.items)
+within g c = omega (arith, c.requires.worker, ap (λ (v : CoreView). v.limits.workers) c.self.view_is, c.self.invariant.0.stacks_are)
+
+held : (g : given.Over) (c : After-put g) → IsHeld c.self.inside.forest.spans c.args.id Handle
+held g c =
+    held_from c.self.inside.forest.spans c.args.id (subst (λ (v : CoreView). has_handle v.world.spans c.args.id ≡ true) (sym c.self.view_is) c.in_ok-releasing.ensures.due.known)
+
+list_is : (g : given.Over) (c : After-put g) → c.in_ok-ids.field-0.ids.items ≡ closing_list c.args.self.now.world.spans c.args.id Handle
+list_is g c = c.in_ok-ids.ensures.ids ∙ ap (λ (v : CoreView). closing_list v.world.spans c.args.id Handle) c.self.view_is
 
 pub invariant_of-self-2 : goal.invariant_of-self-2
-invariant_of-self-2 g c =
-    let within : c.args.worker < length (ids_of_each c.self.inside.stacks.items) = omega (arith, c.requires.worker, ap (λ (v : CoreView). v.limits.workers) c.self.view_is, c.self.invariant.0.stacks_are) in
-    let told = closes_told c.self.inside.rules c.args.worker c.self.inside.forest.spans _ _ [] _ refl c.as_slice.ensures.value c.in_ok-notes.ensures.notes in (
-      sound_close _ _ _ _ _ _ _ _ _ c.args.worker c.args.id _ _ c.self.invariant.0 within c.in-Some.ensures.held c.in_ok-closing.ensures.list c.release_closing.ensures told c.in_ok-ask.ensures.sent c.put.ensures.sent,
-      none_made _ _ _ _ _ c.self.invariant.1 refl c.in_ok-ask.ensures.sent c.put.ensures.sent,
-    )
+invariant_of-self-2 g c = (
+  sound_close _ _ _ _ _ _ _ _ _ c.args.worker c.args.id _ _ c.self.invariant.0 (within g c) (held g c)
+      c.in_ok-ids.ensures.ids c.in_ok-ids.ensures.forest c.in_ok-ids.ensures.notes c.in_ok-ask.ensures.sent c.put.ensures.sent,
+  none_made _ _ _ _ _ c.self.invariant.1 refl c.in_ok-ask.ensures.sent c.put.ensures.sent,
+)
+
+pub returns-clause-accepted : goal.returns-clause-accepted
+returns-clause-accepted g c =
+    accepted_as _ _ _ _ _ (ap (λ (ids : List ℕ). released ids) (list_is g c))
+    (accepted_by _ _ _ _ _ _ _ _ _ _ _ _ _ _ _ c.self.view_is c.in_ok-releasing.ensures.due
+    (step_close _ _ _ _ _ c.args.worker c.args.id _ _ (within g c) (held g c)
+    c.in_ok-ids.ensures.ids (ap (λ f. f.spans) c.in_ok-ids.ensures.forest) c.in_ok-ids.ensures.notes)
+    refl c.in_ok-ask.ensures.sent c.put.ensures.sent c.in_ok-ask.ensures.times_full c.put.ensures.times_full c.in_ok-ask.ensures.forms c.put.ensures.forms c.in_ok-ask.ensures.name c.put.ensures.name)
 
 pub returns-clause-shown : goal.returns-clause-shown
 returns-clause-shown g c = record {
   lent = _;
-  list = c.as_slice-2.result;
+  list = c.as_slice.result;
   answer = _;
   left = _;
   lent_is = refl;
-  list_is = c.as_slice-2.ensures.value ∙ c.in_ok-closing.ensures.list ∙ ap (λ (v : CoreView). closing_list v.world.spans c.args.id Handle) c.self.view_is;
+  list_is = c.as_slice.ensures.value ∙ list_is g c;
   called = c.see.ensures;
   left_is = refl;
 }
