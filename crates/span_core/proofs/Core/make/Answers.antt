@@ -1,4 +1,4 @@
-use Rattle.std.proofs.Common.{◌≡◌, ◌∙◌, ◌<◌, ◌-◌, ◌^◌, ℕ, Bool, ◌&&◌, true, false, [], ◌∷◌, ◌++◌, map, filter, length, Option, Some, None, ap, sym, refl, subst, inl, inr, arith}
+use Rattle.std.proofs.Common.{◌≡◌, ◌∙◌, ◌<◌, ◌-◌, ◌^◌, ℕ, Bool, ◌&&◌, true, false, [], ◌∷◌, map, filter, length, Option, Some, None, ap, sym, refl, subst, inl, inr, arith}
 use Rattle.std.specs.Prelude.{◌⊎◌, IfSome, slice_index}
 use Rattle.std.proofs.lemmas.Bool.{false≢true, ltb-true}
 use Rattle.std.specs.List.{range_with_len}
@@ -14,12 +14,11 @@ use Rattle.span_forest.specs.Add.{with_span}
 use Rattle.span_forest.specs.Live.{stands_in}
 use Rattle.span_stack.specs.Stack.{ids_of_each}
 use Rattle.span_core.specs.Happening.{at_span, notes_of_all}
-use Rattle.span_core.specs.Step.{IsStep, is_wanted, made_node, is_open_parent}
+use Rattle.span_core.specs.Step.{is_wanted, made_node, is_open_parent}
 use Rattle.span_core.specs.History.{issued}
 use Rattle.span_core.specs.inside.Sound.{first_note, hears}
 use Rattle.span_core.specs.NextId.{next_id}
 use Rattle.span_core.specs.inside.Given.{meta_given, fields_given}
-use Rattle.span_core.specs.inside.Lent.{span_request}
 use Rattle.span_core.specs.Core.{CoreView}
 use Rattle.span_core.proofs.Legal.{stands_itself}
 use Rattle.span_core.proofs.Made.{few_made, one_made}
