@@ -18,7 +18,7 @@ use Rattle.span_script.specs.declared.operations.Operation.TheVariants as codes_
 use Rattle.span_script.specs.declared.operations.SpanCall.{SpanCall}
 use Rattle.span_script.specs.declared.stop.Stop.{Stop}
 use Rattle.span_script.specs.declared.stop.Stop.TheVariants.{Memory, Refused}
-use Rattle.span_replay.proofs.Fits.{WhereOk, then_ok}
+use Rattle.span_script.proofs.Fits.{WhereOk, then_ok}
 use Rattle.span_replay.proofs.Setups.{value_does, value_faults}
 
 abbrev pub Calls : Operation → Type 0

@@ -15,7 +15,7 @@ use Rattle.span_replay.specs.Meaning.{Turn, Ending, finished, faulty, Transcript
 use Rattle.span_script.specs.declared.reason.Reason.{Reason}
 use Rattle.span_script.specs.declared.reason.Reason.TheVariants.{TooLong}
 use Rattle.span_replay.proofs.ClosedLabels.{nothing_open}
-use Rattle.span_replay.proofs.Fits.{WhereOk}
+use Rattle.span_script.proofs.Fits.{WhereOk}
 use Rattle.span_replay.proofs.Turns.{IsGood, Next, line_next, good_start, light_start}
 
 -- a script has at most as many lines as bytes

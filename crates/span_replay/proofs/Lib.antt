@@ -4,7 +4,6 @@ pub mod Bindings
 pub mod Tracked
 pub mod Exits
 pub mod ClosedLabels
-pub mod Fits
 pub mod Flushes
 pub mod Turns
 pub mod Left

@@ -22,7 +22,7 @@ use Rattle.span_replay.specs.Meaning.{Turn, are_in_range, limits_turn, layer_tur
 use Rattle.span_script.specs.declared.reason.Reason.TheVariants.{LabelTaken}
 use Rattle.span_script.specs.declared.operations.SpanCall.{SpanCall}
 use Rattle.span_script.specs.declared.operations.SpanCall.TheVariants.{Clone, Close, Enter, Exit}
-use Rattle.span_replay.proofs.Fits.{IsFit, WhereOk, then_ok, then_ok_with, operation_fits}
+use Rattle.span_script.proofs.Fits.{IsFit, WhereOk, then_ok, then_ok_with, operation_fits}
 use Rattle.span_replay.proofs.Tracked.{IsTracked, Leads, MakesNone, call_leads, made_leads}
 
 -- between two lines: there is a worker, and before the first line nothing has happened

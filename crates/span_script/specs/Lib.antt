@@ -3,3 +3,4 @@ pub mod Key
 pub mod Reason
 pub mod Operation
 pub mod Views
+pub mod inside

@@ -1,22 +1,25 @@
 //! Reading a line: from its bytes to the operation that it asks for.
-ghost use Rattle.std.specs.Prelude.{◌≡◌, ◌<◌, ℕ, IfOk, Result};
+ghost use Rattle.std.specs.Prelude.{◌≡◌, ◌<◌, codes, IfErr, IfOk, Result};
+ghost use Rattle.std.specs.Arc.{arc_str_bytes};
 ghost use Rattle.std.specs.Option.{option_map};
 ghost use Rattle.serde_json.specs.View.{view};
 ghost use Rattle.span_script.specs.Reason.{Answers, AnswersOrStops};
 ghost use Rattle.span_script.specs.Operation.{json_of, op_named, op_of, is_setup, operation_of, keys_of, limits_of, layer_of, new_of};
-ghost use Rattle.span_script.specs.Operation.{on_span_of, record_of, event_of, find_of, find_old_of};
-ghost use Rattle.span_script.specs.Views.{operation_seen, op_seen, stage_seen, NamesWorker};
+ghost use Rattle.span_script.specs.Operation.{on_span_of, record_of, event_of, find as look_up, find_of, find_old_of};
+ghost use Rattle.span_script.specs.Views.{key_seen, operation_seen, op_seen, stage_seen, NamesWorker};
+ghost use Rattle.span_script.specs.inside.Parts.{head_of, label_and_worker_of, event_rest};
+ghost use Rattle.span_script.specs.inside.Heads.{head_seen};
 
 use crate::fields::fields;
 use crate::key::Key;
 use crate::key_values::{form, kinds, level, limit, parent, required_text, span, text, worker};
 use crate::meta::meta;
-use crate::operations::{NewEvent, NewLayer, NewSpan, Operation, SpanCall, SpanKey};
+use crate::operations::{NewEvent, NewLayer, NewSpan, Operation, Parent, SpanCall, SpanKey};
 use crate::reason::Reason;
 use crate::rules::rule;
 use crate::stop::Stop;
 use serde_json::Value;
-use span_id::{Id, Limits};
+use span_id::{Fields, Id, Level, Limits, SharedMeta};
 use span_layers::Style;
 use std::alloc::Global;
 use std::sync::ArcStr;
@@ -86,7 +89,10 @@ pub fn operation<'v>(
     if !line.is_object() {
         return Err(Stop::Refused(Reason::NotObject));
     }
-    with_op(alloc, line, workers, stage, op_in(line)?)
+    match op_in(line) {
+        Ok(op) => with_op(alloc, line, workers, stage, op),
+        Err(reason) => Err(Stop::Refused(reason)),
+    }
 }
 
 /// What a line with this op asks for.
@@ -97,9 +103,8 @@ fn with_op<'v>(
     stage: Stage,
     op: Op,
 ) -> Result<Operation<'v>, Stop>
-    ensures meant { AnswersOrStops operation_seen result
+    ensures { AnswersOrStops operation_seen result
         (keys_of workers (stage_seen stage) (view line.now) (op_seen op)) }
-    ensures worker { 0 < workers → IfOk result (λ operation. NamesWorker operation workers) }
 {
     match op {
         Op::Limits => match stage {
@@ -151,8 +156,7 @@ fn op_named(name: &str) -> Option<Op>
 /// The limits that a line asks for, the default where it gives none. They may be out of their ranges.
 #[tactic(auto, unfolding(crate::specs::Operation::limits_of))]
 fn limits<'v>(line: &Value) -> Result<Operation<'v>, Stop>
-    ensures meant { AnswersOrStops operation_seen result (limits_of (view line.now)) }
-    ensures worker { (workers : ℕ) → IfOk result (λ operation. NamesWorker operation workers) }
+    ensures { AnswersOrStops operation_seen result (limits_of (view line.now)) }
 {
     let default = Limits::default();
     let slots = limit(line, Key::Slots, default.slots)?;
@@ -171,8 +175,7 @@ fn limits<'v>(line: &Value) -> Result<Operation<'v>, Stop>
 /// The layer that a line asks for.
 #[tactic(auto, unfolding(crate::specs::Operation::layer_of))]
 fn layer<'v>(alloc: Global, line: &Value) -> Result<Operation<'v>, Stop>
-    ensures meant { AnswersOrStops operation_seen result (layer_of (view line.now)) }
-    ensures worker { (workers : ℕ) → IfOk result (λ operation. NamesWorker operation workers) }
+    ensures { AnswersOrStops operation_seen result (layer_of (view line.now)) }
 {
     let form = form(line)?;
     let spans = kinds(line)?;
@@ -183,42 +186,99 @@ fn layer<'v>(alloc: Global, line: &Value) -> Result<Operation<'v>, Stop>
     }))
 }
 
-/// The new span that a line asks for.
-#[tactic(auto, unfolding(crate::specs::Operation::new_of))]
-fn new_span<'v>(alloc: Global, line: &'v Value, workers: usize) -> Result<Operation<'v>, Stop>
-    ensures meant { AnswersOrStops operation_seen result (new_of workers (view line.now)) }
-    ensures worker { 0 < workers → IfOk result (λ operation. NamesWorker operation workers) }
+/// What a line of a new span or an event begins with: a span's name or an event's message, and where it comes from.
+#[derive(Clone, Copy)]
+struct Head<'v> {
+    text: &'v str,
+    target: &'v str,
+    level: Level,
+}
+
+/// What the line of a new span or an event begins with. The text is the value of this key.
+#[tactic(auto, unfolding(crate::specs::inside::Parts::head_of))]
+fn read_head(line: &Value, key: Key) -> Result<Head<'_>, Reason>
+    ensures { Answers head_seen result (head_of key (view line.now)) }
 {
-    let name = required_text(line, Key::Name)?;
-    let target = text(line, Key::Target, "app")?;
-    let level = level(line)?;
+    Ok(Head {
+        text: required_text(line, key)?,
+        target: text(line, Key::Target, "app")?,
+        level: level(line)?,
+    })
+}
+
+/// The new span that a line asks for.
+fn new_span<'v>(alloc: Global, line: &'v Value, workers: usize) -> Result<Operation<'v>, Stop>
+    ensures { AnswersOrStops operation_seen result (new_of workers (view line.now)) }
+{
+    let head = match read_head(line, Key::Name) {
+        Ok(head) => head,
+        Err(reason) => return Err(Stop::Refused(reason)),
+    };
     let parent = match parent(line) {
         Ok(parent) => parent,
         Err(reason) => return Err(Stop::Refused(reason)),
     };
-    let fields = fields(alloc, line)?;
+    let fields = match fields(alloc, line) {
+        Ok(fields) => fields,
+        Err(stop) => return Err(stop),
+    };
+    match meta_and_label(alloc, line, workers, &head) {
+        Ok((meta, label, worker)) => Ok(Operation::New(NewSpan {
+            meta,
+            fields,
+            parent,
+            label,
+            worker,
+        })),
+        Err(stop) => Err(stop),
+    }
+}
+
+/// The meta of a new span, its label and its worker.
+fn meta_and_label<'v>(
+    alloc: Global,
+    line: &'v Value,
+    workers: usize,
+    head: &Head<'v>,
+) -> Result<(SharedMeta, &'v str, usize), Stop>
+    ensures given { AnswersOrStops (λ given. (given.1.now, given.2)) result
+        (label_and_worker_of workers (view line.now) head.now.text.now) }
+    ensures meta { IfOk result (λ given. given.0
+        ≡ record { name = head.now.text.now; target = head.now.target.now; level = head.now.level }) }
+{
+    match label_and_worker(line, head.text, workers) {
+        Ok((label, worker)) => match meta(alloc, head.text, head.target, head.level) {
+            Ok(meta) => Ok((meta, label, worker)),
+            Err(stop) => Err(stop),
+        },
+        Err(reason) => Err(Stop::Refused(reason)),
+    }
+}
+
+/// The label of a new span of this name, and its worker.
+#[tactic(auto, unfolding(crate::specs::inside::Parts::label_and_worker_of))]
+fn label_and_worker<'v>(
+    line: &'v Value,
+    name: &'v str,
+    workers: usize,
+) -> Result<(&'v str, usize), Reason>
+    ensures { Answers (λ given. (given.0.now, given.1)) result (label_and_worker_of workers (view line.now) name.now) }
+{
     let label = text(line, Key::Label, name)?;
     let worker = worker(line, workers)?;
-    Ok(Operation::New(NewSpan {
-        meta: meta(alloc, name, target, level)?,
-        fields,
-        parent,
-        label,
-        worker,
-    }))
+    Ok((label, worker))
 }
 
 /// The call on a span that a line asks for.
 #[tactic(auto, unfolding(crate::specs::Operation::on_span_of))]
 fn on_span(line: &Value, workers: usize, call: SpanCall) -> Result<Operation<'_>, Stop>
-    ensures meant { AnswersOrStops operation_seen result (on_span_of workers call (view line.now)) }
-    ensures worker { 0 < workers → IfOk result (λ operation. NamesWorker operation workers) }
+    ensures { AnswersOrStops operation_seen result (on_span_of workers call (view line.now)) }
 {
     match span(line) {
-        Ok(span) => {
-            let worker = worker(line, workers)?;
-            Ok(Operation::OnSpan { call, span, worker })
-        }
+        Ok(span) => match worker(line, workers) {
+            Ok(worker) => Ok(Operation::OnSpan { call, span, worker }),
+            Err(reason) => Err(Stop::Refused(reason)),
+        },
         Err(reason) => Err(Stop::Refused(reason)),
     }
 }
@@ -226,67 +286,111 @@ fn on_span(line: &Value, workers: usize, call: SpanCall) -> Result<Operation<'_>
 /// The record that a line asks for.
 #[tactic(auto, unfolding(crate::specs::Operation::record_of))]
 fn record<'v>(alloc: Global, line: &'v Value, workers: usize) -> Result<Operation<'v>, Stop>
-    ensures meant { AnswersOrStops operation_seen result (record_of workers (view line.now)) }
-    ensures worker { 0 < workers → IfOk result (λ operation. NamesWorker operation workers) }
+    ensures { AnswersOrStops operation_seen result (record_of workers (view line.now)) }
 {
-    let span = match span(line) {
-        Ok(span) => span,
-        Err(reason) => return Err(Stop::Refused(reason)),
-    };
-    let fields = fields(alloc, line)?;
-    let worker = worker(line, workers)?;
-    Ok(Operation::Record {
-        span,
-        fields,
-        worker,
-    })
+    match span(line) {
+        Ok(span) => match fields(alloc, line) {
+            Ok(fields) => match worker(line, workers) {
+                Ok(worker) => Ok(Operation::Record {
+                    span,
+                    fields,
+                    worker,
+                }),
+                Err(reason) => Err(Stop::Refused(reason)),
+            },
+            Err(stop) => Err(stop),
+        },
+        Err(reason) => Err(Stop::Refused(reason)),
+    }
 }
 
 /// The event that a line asks for, whose name is `event`.
-#[tactic(auto, unfolding(crate::specs::Operation::event_of))]
 fn event<'v>(alloc: Global, line: &Value, workers: usize) -> Result<Operation<'v>, Stop>
-    ensures meant { AnswersOrStops operation_seen result (event_of workers (view line.now)) }
-    ensures worker { 0 < workers → IfOk result (λ operation. NamesWorker operation workers) }
+    ensures { AnswersOrStops operation_seen result (event_of workers (view line.now)) }
 {
-    let message = required_text(line, Key::Message)?;
-    let target = text(line, Key::Target, "app")?;
-    let level = level(line)?;
-    let fields = fields(alloc, line)?;
-    let worker = worker(line, workers)?;
-    Ok(Operation::Event(NewEvent {
-        meta: meta(alloc, "event", target, level)?,
-        message: ArcStr::from_str(alloc, message)?,
-        fields,
-        worker,
-    }))
+    match read_head(line, Key::Message) {
+        Ok(head) => match fields(alloc, line) {
+            Ok(fields) => event_with(alloc, line, workers, &head, fields),
+            Err(stop) => Err(stop),
+        },
+        Err(reason) => Err(Stop::Refused(reason)),
+    }
 }
 
-/// The look-up that a line asks for: by `span`, or by `old`, an id of the older layout.
-#[tactic(auto, unfolding(crate::specs::Operation::find_of))]
-fn find(line: &Value) -> Result<Operation<'_>, Stop>
-    ensures meant { AnswersOrStops operation_seen result (find_of (view line.now)) }
-    ensures worker { (workers : ℕ) → IfOk result (λ operation. NamesWorker operation workers) }
+/// The event of a line that gives these fields.
+fn event_with<'v>(
+    alloc: Global,
+    line: &Value,
+    workers: usize,
+    head: &Head<'_>,
+    fields: Fields,
+) -> Result<Operation<'v>, Stop>
+    ensures { AnswersOrStops operation_seen result
+        (event_rest workers (view line.now) (head_seen head.now) fields) }
 {
-    let old = line.get(Key::Old.text());
-    if line.get(Key::Span.text()).is_none()
-        && let Some(old) = old
-    {
-        return find_old(old);
+    match worker(line, workers) {
+        Ok(worker) => match event_texts(alloc, head) {
+            Ok((meta, message)) => Ok(Operation::Event(NewEvent {
+                meta,
+                message,
+                fields,
+                worker,
+            })),
+            Err(stop) => Err(stop),
+        },
+        Err(reason) => Err(Stop::Refused(reason)),
     }
-    match span(line) {
-        Ok(_) if old.is_some() => Err(Stop::Refused(Reason::BadKey(Key::Old))),
+}
+
+/// The meta and the message of an event. The only error is `Memory`.
+fn event_texts(alloc: Global, head: &Head<'_>) -> Result<(SharedMeta, ArcStr), Stop>
+    ensures texts { IfOk result (λ texts. (texts.0
+        ≡ record { name = codes "event"; target = head.now.target.now; level = head.now.level })
+        × (arc_str_bytes texts.1 ≡ head.now.text.now)) }
+    ensures memory { IfErr result (λ stop. stop ≡ Stop.Memory) }
+{
+    match meta(alloc, "event", head.target, head.level) {
+        Ok(meta) => match ArcStr::from_str(alloc, head.text) {
+            Ok(message) => Ok((meta, message)),
+            Err(_) => Err(Stop::Memory),
+        },
+        Err(stop) => Err(stop),
+    }
+}
+
+/// The look-up that a line asks for.
+fn find(line: &Value) -> Result<Operation<'_>, Stop>
+    ensures { AnswersOrStops operation_seen result (find_of (view line.now)) }
+{
+    match looked_up(line) {
         Ok(span) => Ok(Operation::Find(span)),
         Err(reason) => Err(Stop::Refused(reason)),
     }
 }
 
-/// The look-up of the span that had this id in the older layout.
-fn find_old<'v>(value: &Value) -> Result<Operation<'v>, Stop>
-    ensures meant { AnswersOrStops operation_seen result (find_old_of (view value.now)) }
-    ensures worker { (workers : ℕ) → IfOk result (λ operation. NamesWorker operation workers) }
+/// The span that a line looks up: by `span`, or by `old`, an id of the older layout.
+#[tactic(auto, unfolding(crate::specs::Operation::find_of))]
+fn looked_up(line: &Value) -> Result<SpanKey<'_>, Reason>
+    ensures { Answers (λ span. look_up (key_seen span)) result (find_of (view line.now)) }
+{
+    let Some(old) = line.get(Key::Old.text()) else {
+        return span(line);
+    };
+    if line.get(Key::Span.text()).is_none() {
+        return span_of_old(old);
+    }
+    match span(line) {
+        Ok(_) => Err(Reason::BadKey(Key::Old)),
+        Err(reason) => Err(reason),
+    }
+}
+
+/// The span that had this id in the older layout.
+fn span_of_old<'v>(value: &Value) -> Result<SpanKey<'v>, Reason>
+    ensures { Answers (λ span. look_up (key_seen span)) result (find_old_of (view value.now)) }
 {
     match value.as_u64().and_then(Id::from_v1) {
-        Some(id) => Ok(Operation::Find(SpanKey::Id(id))),
-        None => Err(Stop::Refused(Reason::BadKey(Key::Old))),
+        Some(id) => Ok(SpanKey::Id(id)),
+        None => Err(Reason::BadKey(Key::Old)),
     }
 }

@@ -1,5 +1,5 @@
 -- What is known of each operation that a line is read as: its worker is one of the workers, and `limits` is the first.
-use Rattle.std.proofs.Common.{◌≡◌, ℕ, ◌<◌, Bool, true, false, if◌then◌else◌, Option, Some, None, Result, Ok, Err, refl}
+use Rattle.std.proofs.Common.{◌≡◌, ℕ, ◌<◌, Bool, true, false, if◌then◌else◌, Option, Some, None, Result, Ok, Err, refl, subst}
 use Rattle.std.specs.Prelude.{IfOk, [], codes, nat_lt, option_and_then}
 use Rattle.std.proofs.lemmas.Bool.{ltb-true}
 use Rattle.serde_json.specs.Data.{Data}
@@ -8,11 +8,15 @@ use Rattle.span_id.specs.declared.level.Level.TheVariants.{Info}
 use Rattle.span_layers.specs.declared.form.Form.TheVariants.{Compact}
 use Rattle.span_script.specs.Key.{key_text}
 use Rattle.span_script.specs.Operation.{Operation, set_limits, add_layer, make, on_span, record_fields, tell, find, Stage, at_start, in_setup, running, Op, limits_op, layer_op, new_op, span_op, record_op, event_op, find_op, required, given_or, optional, below, whole_number, worker_in, limit_in, form_in, kinds_in, rule_in, all_targets, level_in, parent_in, fields_in, span_key_in, old_id_in, op_of, current, limits_of, layer_of, new_of, on_span_of, record_of, event_of, find_by_span, find_by, find_of, keys_of, operation_of}
-use Rattle.span_script.specs.Reason.{◌>>=◌, or_fault}
+use Rattle.span_script.specs.Reason.{◌>>=◌, or_fault, AnswersOrStops}
+use Rattle.span_script.specs.Views.{operation_seen, NamesWorker}
 use Rattle.span_script.specs.declared.key.Key.TheVariants as key
+use Rattle.span_script.specs.declared.operations.Operation as code
+use Rattle.span_script.specs.declared.operations.Operation.TheVariants.{Limits, Layer, New, OnSpan, Record, Event, Find}
 use Rattle.span_script.specs.declared.operations.SpanCall.{SpanCall}
 use Rattle.span_script.specs.declared.reason.Reason.{Reason}
 use Rattle.span_script.specs.declared.reason.Reason.TheVariants.{NotObject, BadKey}
+use Rattle.span_script.specs.declared.stop.Stop.{Stop}
 
 -- the worker that a line names is one of so many, and `limits` comes first
 abbrev pub IsFit : ℕ → Stage → Operation → Type 0
@@ -119,7 +123,7 @@ module _ (workers : ℕ) (some : 0 < workers) where
   unfolding find_of
   find_fits stage line = by_fits stage line (get (key_text key.Span) line) (get (key_text key.Old) line)
 
-  keys_fit : (stage : Stage) (line : Data) (op : Op) → WhereOk (keys_of workers stage line op) (IsFit workers stage)
+  pub keys_fit : (stage : Stage) (line : Data) (op : Op) → WhereOk (keys_of workers stage line op) (IsFit workers stage)
   keys_fit at_start line limits_op = limits_fit line
   keys_fit in_setup line limits_op = record { is = tt }
   keys_fit running line limits_op = record { is = tt }
@@ -136,3 +140,21 @@ module _ (workers : ℕ) (some : 0 < workers) where
   pub operation_fits : (stage : Stage) (line : Data) → WhereOk (operation_of workers stage line) (IsFit workers stage)
   unfolding operation_of
   operation_fits stage line = then_ok (or_fault (as_object line) NotObject) _ (λ object. then_ok (op_of line) _ (λ op. keys_fit stage line op))
+
+-- ---- the operation as the code has it
+
+names_worker : (workers : ℕ) (stage : Stage) (operation : code.Operation) → IsFit workers stage (operation_seen operation) → NamesWorker operation workers
+names_worker workers stage (Limits limits) fit = tt
+names_worker workers stage (Layer layer) fit = tt
+names_worker workers stage (New new) fit = fit
+names_worker workers stage (OnSpan call key worker) fit = fit
+names_worker workers stage (Record key fields worker) fit = fit
+names_worker workers stage (Event event) fit = fit
+names_worker workers stage (Find key) fit = tt
+
+-- what a line was read as names one of the workers
+pub read_fits : (workers : ℕ) (stage : Stage) (line : Data) (op : Op) (result : Result code.Operation Stop) → AnswersOrStops operation_seen result (keys_of workers stage line op)
+    → 0 < workers → IfOk result (λ operation. NamesWorker operation workers)
+read_fits workers stage line op (Ok operation) is some =
+    names_worker workers stage operation (subst (λ answer. IfOk answer (IsFit workers stage)) is (keys_fit workers some stage line op).is)
+read_fits workers stage line op (Err stop) is some = tt
