@@ -1,8 +1,10 @@
 -- From the registry's contracts to the answer that is written and the core that is left.
-use Rattle.std.proofs.Common.{◌≡◌, ℕ, List, Option, Some, None, Result, Ok, Err, sym, ap, subst, ◌∙◌}
+use Rattle.std.proofs.Common.{◌≡◌, ℕ, zero, suc, ◌+◌, ◌-◌, ◌^◌, ◌==◌, Bool, true, false, cond, refl, List, Option, Some, None, Result, Ok, Err, ◌<◌, sym, ap, arith, subst, ◌∙◌}
+use Rattle.std.proofs.lemmas.Bool.{false≢true}
 use Rattle.std.specs.Prelude.{IfOk, OnOk, IfSome, IfNone, MatchOption}
 use Rattle.span_id.specs.declared.fault.Fault.{Fault}
-use Rattle.span_core.specs.Core.{CoreView, IsAccepted, IsRefused, IsNotWanted}
+use Rattle.span_id.specs.declared.fault.Fault.TheVariants.{Backlog}
+use Rattle.span_core.specs.Core.{CoreView, IsAccepted, IsRefused, IsNotWanted, times_after}
 use Rattle.span_id.specs.Meta.{KeyValue, PlainMeta}
 use Rattle.span_outlet.specs.Request as call
 use Rattle.span_core.specs.World.{World}
@@ -40,6 +42,17 @@ pub refused_answer : (result : Result Answer Stop) (old : CoreView) (request : c
 refused_answer (Ok answer) old request fault new call judged is =
     subst (λ a. IsMade old request a new) (sym is) (made_refused old request fault new call judged)
 refused_answer (Err stop) old request fault new call judged is = tt
+
+some_more : (n : ℕ) (b : Bool) → (n == 2 ^ 64 - 1) ≡ b → 0 < cond b n (n + 1)
+some_more n false e = omega arith
+some_more zero true e = absurd (false≢true e)
+some_more (suc n) true e = omega arith
+
+-- a call for which the outlet had no place is counted
+pub late_counts : (old : CoreView) (request : call.Request) (fault : Fault) (new : CoreView) → IsRefused old request fault new → fault ≡ Backlog → 0 < new.times_full
+late_counts old request fault new call late =
+    let is : new.times_full ≡ times_after Backlog old.times_full = ap (λ (core : CoreView). core.times_full) call.unchanged ∙ ap (λ f. times_after f old.times_full) late in
+    subst (λ n. 0 < n) (sym is) (some_more old.times_full (old.times_full == 2 ^ 64 - 1) refl)
 
 -- the parent that is handed on is the one that was found
 pub found_parent : (world : World) (worker : ℕ) (parent : Option ℕ) (result : ParentOf) → MatchOption parent (result ≡ Root) (λ id. result ≡ Of id)

@@ -1,6 +1,7 @@
 -- Which operations a line can ask for, before the calls and after.
 use Rattle.std.proofs.Common.{◌≡◌, ℕ, List, [], ◌++◌, true, refl, ap, sym, ◌∙◌, subst, Option, Some, None, Result, Ok, Err}
 use Rattle.std.proofs.lemmas.Bool.{false≢true}
+use Rattle.std.specs.Prelude.{IfErr, OnOk, ⊤}
 use Rattle.serde_json.specs.Data.{Data}
 use Rattle.serde_json.specs.Find.{as_object}
 use Rattle.span_layers.specs.Rule.{Pair}
@@ -116,6 +117,18 @@ pub setup_ran : (hooks workers : ℕ) (state new : State) (line : Data) (op : Op
     → value_turn hooks state line ≡ Ok (record { text = text; state = record new { stage = in_setup } })
 setup_ran hooks workers state new line op cleared text added h w e t none is =
     setup_turned hooks state new line op text added h (subst (λ n. operation_of n state.stage line ≡ Ok op) w e) t (is ∙ ap (λ x. x ++ added) none)
+
+-- the same, where the answer was written
+pub setup_told : (result : Result ⊤ Stop) (hooks workers : ℕ) (state new : State) (line : Data) (op : Operation) (cleared text added : List ℕ) → is_setup line ≡ true → workers ≡ state.core.limits.workers
+    → operation_of workers state.stage line ≡ Ok op → turn_of hooks state op ≡ Ok (record { text = added; state = new }) → cleared ≡ [] → OnOk result (text ≡ cleared ++ added)
+    → OnOk result (value_turn hooks state line ≡ Ok (record { text = text; state = record new { stage = in_setup } }))
+setup_told (Ok _) hooks workers state new line op cleared text added h w e t none is = setup_ran hooks workers state new line op cleared text added h w e t none is
+setup_told (Err stop) hooks workers state new line op cleared text added h w e t none is = tt
+
+-- there was no memory for the answer
+pub setup_lacks : (result : Result ⊤ Stop) (hooks : ℕ) (state : State) (line : Data) → IfErr result (λ stop. stop ≡ Memory) → IfErr result (StopsFor (value_turn hooks state line))
+setup_lacks (Ok _) hooks state line is = tt
+setup_lacks (Err stop) hooks state line is = subst (StopsFor (value_turn hooks state line)) (sym is) tt
 
 pub setup_stops : (hooks workers : ℕ) (state : State) (line : Data) (stop : Stop) → workers ≡ state.core.limits.workers → StopsFor (operation_of workers state.stage line) stop → StopsFor (value_turn hooks state line) stop
 setup_stops hooks workers state line Memory w p = tt

@@ -1,6 +1,7 @@
 -- The calls of the tidying, one after another.
-use Rattle.std.proofs.Common.{◌≡◌, ℕ, zero, suc, ◌+◌, ◌-◌, ◌<◌, ◌≤◌, List, [], ◌∷◌, ◌++◌, refl, ap, sym, ◌∙◌, subst, append_assoc, append-nil, arith}
+use Rattle.std.proofs.Common.{◌≡◌, ℕ, zero, suc, ◌+◌, ◌-◌, ◌<◌, ◌≤◌, List, [], ◌∷◌, ◌++◌, refl, ap, sym, ◌∙◌, subst, append_assoc, append-nil, arith, Result}
 use Rattle.std.proofs.Common.{length, map, drop, get_or, reverse, replicate, drop_of_length-le}
+use Rattle.std.specs.Prelude.{IfErr, OnOk, ⊤}
 use Rattle.std.proofs.lemmas.List.{drop_more}
 use Rattle.std.specs.Io.KnownBytes.{Appends}
 use Rattle.span_forest.specs.declared.span.Holder.TheVariants.{Handle}
@@ -129,11 +130,14 @@ map_same make (suc n) id = ap (λ rest. make id ∷ rest) (map_same make n id)
 pub closes_made : (core : CoreView) (id : ℕ) (ids : List ℕ) → ids ≡ replicate (held_in Handle (find core.world.spans id)) id → map (request_of_call Close 0) ids ≡ closes core id
 closes_made core id ids is = ap (map (call.try_close 0)) is ∙ map_same (call.try_close 0) _ id
 
-pub made_as : (core new : CoreView) (requests meant : List call.Request) (a b : Known) → requests ≡ meant → AreMade (calls_written core requests) new a b → AreMade (calls_written core meant) new a b
-made_as core new requests meant a b is p = subst (λ rs. AreMade (calls_written core rs) new a b) is p
+-- calls that come to those that are meant
+pub all_made_as : (result : Result ⊤ RunFault) (core new : CoreView) (requests meant : List call.Request) (a b : Known) → requests ≡ meant
+    → OnOk result (AreMade (calls_written core requests) new a b) → OnOk result (AreMade (calls_written core meant) new a b)
+all_made_as result core new requests meant a b is p = subst (λ rs. OnOk result (AreMade (calls_written core rs) new a b)) is p
 
-pub fails_as : (core : CoreView) (requests meant : List call.Request) (a b : Known) (e : RunFault) → requests ≡ meant → TextFails (calls_written core requests).text a b e → TextFails (calls_written core meant).text a b e
-fails_as core requests meant a b e is p = subst (λ rs. TextFails (calls_written core rs).text a b e) is p
+pub all_fail_as : (result : Result ⊤ RunFault) (core : CoreView) (requests meant : List call.Request) (a b : Known) → requests ≡ meant
+    → IfErr result (TextFails (calls_written core requests).text a b) → IfErr result (TextFails (calls_written core meant).text a b)
+all_fail_as result core requests meant a b is p = subst (λ rs. IfErr result (TextFails (calls_written core rs).text a b)) is p
 
 -- ---- a call's text and the buffer
 

@@ -255,6 +255,10 @@ pub stops_for : (result : Result ⊤ Stop) (meant : Result Turn Reason) (state :
 stops_for (Ok _) meant state text reason is gives = absurd gives
 stops_for (Err stop) meant state text reason is gives = subst (StopsAs meant state text state text) (sym gives) (is, refl, refl)
 
+-- what is meant is the same
+pub turn_as : (meant same : Result Turn Reason) (state new : State) (text text' : List ℕ) (result : Result ⊤ Stop) → meant ≡ same → RunsAs same state text new text' result → RunsAs meant state text new text' result
+turn_as meant same state new text text' result is runs = subst (λ m. RunsAs m state text new text' result) (sym is) runs
+
 -- what is meant is what the operation asks for
 pub runs_by : (asked operation : Operation) (hooks : ℕ) (state new : State) (text text' : List ℕ) (result : Result ⊤ Stop) → operation ≡ asked
     → RunsAs (turn_of hooks state asked) state text new text' result → RunsAs (turn_of hooks state operation) state text new text' result

@@ -1,11 +1,12 @@
 //! What a call answers, as a line of text.
-ghost use Rattle.std.specs.Prelude.{◌≡◌, ◌++◌, OnOk};
+ghost use Rattle.std.specs.Prelude.{◌≡◌, ◌++◌, IfErr, OnOk};
 ghost use Rattle.span_outlet.specs.Lines.{plain_line};
 ghost use Rattle.span_replay.specs.Answer.{answer_text, found_text, left_text};
 ghost use Rattle.span_replay.specs.Written.{note_line};
 
 use span_id::{Fault, Id};
 use span_outlet::Line;
+use span_script::Stop;
 use std::io;
 use std::io::Write;
 
@@ -41,8 +42,19 @@ pub struct Found<'s> {
     pub count: u32,
 }
 
+/// Appends the line of an answer to a text. The only error is `Memory`.
+pub fn write_answer(text: &mut Vec<u8>, answer: Answer) -> Result<(), Stop>
+    ensures text { OnOk result (text.new.items ≡ text.old.items ++ answer_text answer) }
+    ensures memory { IfErr result (λ stop. stop ≡ Stop.Memory) }
+{
+    match answer_line(text, answer) {
+        Ok(()) => Ok(()),
+        Err(_) => Err(Stop::Memory),
+    }
+}
+
 /// Appends the line of an answer to a text. The only error is that memory was refused.
-pub fn write_answer(text: &mut Vec<u8>, answer: Answer) -> io::Result<()>
+fn answer_line(text: &mut Vec<u8>, answer: Answer) -> io::Result<()>
     ensures { OnOk result (text.new.items ≡ text.old.items ++ answer_text answer) }
 {
     match answer {

@@ -253,7 +253,7 @@ fn call<V: Say>(
         script.workers as usize,
         span_script::Stage::Running,
     ) {
-        Ok(operation) => script.run(alloc, operation, text),
+        Ok(operation) => script.run(alloc, &operation, text),
         Err(stop) => Err(stop),
     }
 }

@@ -1,10 +1,10 @@
 //! A script as far as its calls have run: the registry, the labels, and how many lines of notes were written.
-ghost use Rattle.std.specs.Prelude.{◌≡◌, ◌<◌, ◌≤◌, ◌++◌, [], None, ℕ, IfOk, IfErr, OnOk};
+ghost use Rattle.std.specs.Prelude.{◌≡◌, ◌<◌, ◌≤◌, ◌++◌, [], None, Ok, ℕ, IfOk, IfErr, OnOk};
 ghost use Rattle.std.specs.Prelude.{length, flat_map, drop, reverse};
 ghost use Rattle.span_core.specs.Happening.{id_at};
 ghost use Rattle.span_outlet.specs.Lines.{lines_of};
 ghost use Rattle.span_replay.specs.Faults.{id_of_key};
-ghost use Rattle.span_replay.specs.Meaning.{labels_after};
+ghost use Rattle.span_replay.specs.Meaning.{labels_after, made_turn, new_turn};
 ghost use Rattle.span_script.specs.Reason.{Answers};
 ghost use Rattle.span_script.specs.Views.{key_seen};
 ghost use Rattle.span_replay.specs.Written.{note_line};
@@ -43,7 +43,7 @@ impl<V: Say> Script<V> {
     ghost use Rattle.span_replay.specs.Answer.{answer_text};
     ghost use Rattle.span_replay.specs.Faults.{is_taken, parent_of_key};
     ghost use Rattle.span_replay.specs.Meaning.{turn_of};
-    ghost use Rattle.span_replay.specs.Requests.{request_of_call};
+    ghost use Rattle.span_replay.specs.Requests.{request_of_call, request_of_new};
     ghost use Rattle.span_script.specs.Operation.{Stage, make, on_span, record_fields, tell, find as look_up};
     ghost use Rattle.span_replay.specs.inside.Running.{core_in, labels_in, state_at, IsWritten, RunsAs, IsWrittenCall};
     ghost use Rattle.span_script.specs.Views.{parent_seen, new_seen, event_seen, operation_seen, NamesWorker, IsCall};
@@ -87,28 +87,28 @@ impl<V: Say> Script<V> {
     pub fn run(
         &mut self,
         alloc: Global,
-        operation: Operation<'_>,
+        operation: &Operation<'_>,
         text: &mut Vec<u8>,
     ) -> Result<(), Stop>
-        requires call { IsCall operation }
-        requires worker { NamesWorker operation self.old.workers }
+        requires call { IsCall operation.now }
+        requires worker { NamesWorker operation.now self.old.workers }
         requires written { IsWritten self.old }
         ensures turn { (hooks : ℕ) (stage : Stage) →
-            RunsAs (turn_of hooks (state_at self.old stage) (operation_seen operation.entry)) (state_at self.old stage)
+            RunsAs (turn_of hooks (state_at self.old stage) (operation_seen operation.now)) (state_at self.old stage)
             text.old.items (state_at self.new stage) text.new.items result }
         ensures written { OnOk result (IsWritten self.new) }
         ensures workers { self.new.workers ≡ self.old.workers }
     {
         match operation {
-            Operation::New(new) => self.make(alloc, &new, text),
-            Operation::OnSpan { call, span, worker } => self.on_span(call, &span, worker, text),
+            Operation::New(new) => self.make(alloc, new, text),
+            Operation::OnSpan { call, span, worker } => self.on_span(*call, span, *worker, text),
             Operation::Record {
                 span,
                 fields,
                 worker,
-            } => self.record(&span, &fields, worker, text),
-            Operation::Event(event) => self.tell(&event, text),
-            Operation::Find(span) => self.find(&span, text),
+            } => self.record(span, fields, *worker, text),
+            Operation::Event(event) => self.tell(event, text),
+            Operation::Find(span) => self.find(span, text),
             Operation::Limits(_) => unreachable!(),
             Operation::Layer(_) => unreachable!(),
         }
@@ -177,16 +177,56 @@ impl<V: Say> Script<V> {
         ensures workers { self.new.workers ≡ self.old.workers }
     {
         let worker = worker_number(new.worker, self.workers);
-        let parent = self.parent(worker, &new.parent)?;
-        if self.is_taken(new.label) {
-            return Err(Stop::Refused(Reason::LabelTaken));
+        match self.place(new, worker) {
+            Ok(parent) => self.make_under(alloc, new, worker, parent, text),
+            Err(reason) => Err(Stop::Refused(reason)),
         }
-        let answer = match calls::new_span(&mut self.core, new, worker, parent) {
-            Ok(answer) => answer,
-            Err(stop) => return Err(stop),
+    }
+
+    // The parent of a new span of this worker, whose label may name no span that has handles.
+    fn place(&self, new: &NewSpan<'_>, worker: u32) -> Result<Option<Id>, Reason>
+        requires worker { worker < self.now.workers }
+        requires number { worker ≡ new.now.worker }
+        requires written { IsWritten self.now }
+        ensures { (stage : Stage) → Answers (λ parent. made_turn (state_at self.now stage) new.now.label.now
+            (request_of_new (new_seen new.now) parent)) result (new_turn (state_at self.now stage) (new_seen new.now)) }
+    {
+        let parent = match self.parent(worker, &new.parent) {
+            Ok(parent) => parent,
+            Err(reason) => return Err(reason),
         };
-        self.give_label(alloc, new.label, &answer)?;
-        self.answer(answer, text)
+        if self.is_taken(new.label) {
+            return Err(Reason::LabelTaken);
+        }
+        Ok(parent)
+    }
+
+    // Makes a span under this parent and binds its label.
+    fn make_under(
+        &mut self,
+        alloc: Global,
+        new: &NewSpan<'_>,
+        worker: u32,
+        parent: Option<Id>,
+        text: &mut Vec<u8>,
+    ) -> Result<(), Stop>
+        requires worker { worker < self.old.workers }
+        requires number { new.now.worker ≡ worker }
+        requires written { IsWritten self.old }
+        ensures turn { (stage : Stage) →
+            RunsAs (Ok (made_turn (state_at self.old stage) new.now.label.now
+            (request_of_new (new_seen new.now) parent))) (state_at self.old stage)
+            text.old.items (state_at self.new stage) text.new.items result }
+        ensures written { OnOk result (IsWritten self.new) }
+        ensures workers { self.new.workers ≡ self.old.workers }
+    {
+        match calls::new_span(&mut self.core, new, worker, parent) {
+            Ok(answer) => match self.give_label(alloc, new.label, &answer) {
+                Ok(()) => self.answer(answer, text),
+                Err(_) => Err(Stop::Memory),
+            },
+            Err(stop) => Err(stop),
+        }
     }
 
     // Makes a worker's call on a span.
@@ -205,7 +245,10 @@ impl<V: Say> Script<V> {
         ensures written { OnOk result (IsWritten self.new) }
         ensures workers { self.new.workers ≡ self.old.workers }
     {
-        let id = id_of(&self.labels, span)?;
+        let id = match id_of(&self.labels, span) {
+            Ok(id) => id,
+            Err(reason) => return Err(Stop::Refused(reason)),
+        };
         let worker = worker_number(worker, self.workers);
         match calls::call(&mut self.core, call, worker, id) {
             Ok(answer) => self.answer(answer, text),
@@ -229,7 +272,10 @@ impl<V: Say> Script<V> {
         ensures written { OnOk result (IsWritten self.new) }
         ensures workers { self.new.workers ≡ self.old.workers }
     {
-        let id = id_of(&self.labels, span)?;
+        let id = match id_of(&self.labels, span) {
+            Ok(id) => id,
+            Err(reason) => return Err(Stop::Refused(reason)),
+        };
         let worker = worker_number(worker, self.workers);
         match calls::record(&mut self.core, worker, id, fields) {
             Ok(answer) => self.answer(answer, text),
@@ -260,10 +306,15 @@ impl<V: Say> Script<V> {
             RunsAs (turn_of hooks (state_at self.now stage) (look_up (key_seen span.now))) (state_at self.now stage)
             text.old.items (state_at self.now stage) text.new.items result }
     {
-        let id = id_of(&self.labels, span)?;
-        match self.core.find(id) {
-            Some(span) => Ok(write_found(text, &found(span))?),
-            None => Ok(write_answer(text, Answer::Refused(Fault::Unknown))?),
+        match id_of(&self.labels, span) {
+            Ok(id) => match self.core.find(id) {
+                Some(span) => match write_found(text, &found(span)) {
+                    Ok(()) => Ok(()),
+                    Err(_) => Err(Stop::Memory),
+                },
+                None => write_answer(text, Answer::Refused(Fault::Unknown)),
+            },
+            Err(reason) => Err(Stop::Refused(reason)),
         }
     }
 
@@ -321,9 +372,13 @@ impl<V: Say> Script<V> {
         ensures workers { self.new.workers ≡ self.old.workers }
         ensures memory { IfErr result (λ stop. stop ≡ Stop.Memory) }
     {
-        let written = write_notes(self.core.outlet(), self.written, text)?;
-        self.written = written;
-        Ok(write_answer(text, answer)?)
+        match write_notes(self.core.outlet(), self.written, text) {
+            Ok(written) => {
+                self.written = written;
+                write_answer(text, answer)
+            }
+            Err(stop) => Err(stop),
+        }
     }
 }
 
@@ -349,7 +404,9 @@ fn write_notes<V: Say>(kept: &Kept<V>, from: usize, text: &mut Vec<u8>) -> Resul
     }
     let lines = kept.all();
     for line in &lines[from..] {
-        write_note(text, line)?;
+        let Ok(()) = write_note(text, line) else {
+            return Err(Stop::Memory);
+        };
     }
     Ok(lines.len())
 }

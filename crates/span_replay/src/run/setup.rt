@@ -62,10 +62,14 @@ impl Setup {
             Ok(operation) => operation,
             Err(stop) => return Err(stop),
         };
-        let answer = self.obey(operation)?;
-        self.stage = Stage::InSetup;
-        text.clear();
-        Ok(write_answer(text, answer)?)
+        match self.obey(operation) {
+            Ok(answer) => {
+                self.stage = Stage::InSetup;
+                text.clear();
+                write_answer(text, answer)
+            }
+            Err(stop) => Err(stop),
+        }
     }
 
     /// Runs `limits` or `layer`.

@@ -111,14 +111,40 @@ fn leave_all<V: Say, W: Write>(
     ensures flushes { flushes_of output.new ≡ flushes_of output.old }
 {
     for worker in 0..script.workers {
-        let Ok(ids) = script.entered(alloc, worker) else {
-            return Err(RunFault::Memory);
-        };
-        if let Err(fault) = call_all(SpanCall::Exit, worker, &ids, script, text, output) {
+        if let Err(fault) = leave(alloc, worker, script, text, output) {
             return Err(fault);
         }
     }
     Ok(())
+}
+
+/// Leaves what a worker has entered, the last entry first.
+fn leave<V: Say, W: Write>(
+    alloc: Global,
+    worker: u32,
+    script: &mut Script<V>,
+    text: &mut Vec<u8>,
+    output: &mut Counted<W>,
+) -> Result<(), RunFault>
+    requires worker { worker < script.old.workers }
+    requires failed { failed_of output.old < 2 ^ 63 }
+    requires written { IsWritten script.old }
+    ensures made { OnOk result (AreMade
+        (calls_written (core_in script.old) (exits (core_in script.old) worker))
+        (core_in script.new) (W.contents (inner_of output.old)) (W.contents (inner_of output.new))) }
+    ensures written { OnOk result (IsWritten script.new) }
+    ensures labels { labels_in script.new ≡ labels_in script.old }
+    ensures workers { script.new.workers ≡ script.old.workers }
+    ensures err { IfErr result (TextFails
+        (calls_written (core_in script.old) (exits (core_in script.old) worker)).text
+        (W.contents (inner_of output.old)) (W.contents (inner_of output.new))) }
+    ensures counts { EndsAsCounted 0 0 (failed_of output.old) (failed_of output.new) result }
+    ensures flushes { flushes_of output.new ≡ flushes_of output.old }
+{
+    match script.entered(alloc, worker) {
+        Ok(ids) => call_all(SpanCall::Exit, worker, &ids, script, text, output),
+        Err(_) => Err(RunFault::Memory),
+    }
 }
 
 /// Closes what the labels name, label by label, as often as it has handles.
@@ -142,14 +168,39 @@ fn close_all<V: Say, W: Write>(
     ensures flushes { flushes_of output.new ≡ flushes_of output.old }
 {
     for id in labels.ids() {
-        let Ok(ids) = vec![in alloc; *id; script.handles(*id) as usize] else {
-            return Err(RunFault::Memory);
-        };
-        if let Err(fault) = call_all(SpanCall::Close, 0, &ids, script, text, output) {
+        if let Err(fault) = close(alloc, *id, script, text, output) {
             return Err(fault);
         }
     }
     Ok(())
+}
+
+/// Closes a span as often as it has handles.
+fn close<V: Say, W: Write>(
+    alloc: Global,
+    id: Id,
+    script: &mut Script<V>,
+    text: &mut Vec<u8>,
+    output: &mut Counted<W>,
+) -> Result<(), RunFault>
+    requires worker { 0 < script.old.workers }
+    requires failed { failed_of output.old < 2 ^ 63 }
+    requires written { IsWritten script.old }
+    ensures made { OnOk result (AreMade
+        (calls_written (core_in script.old) (closes (core_in script.old) id))
+        (core_in script.new) (W.contents (inner_of output.old)) (W.contents (inner_of output.new))) }
+    ensures written { OnOk result (IsWritten script.new) }
+    ensures workers { script.new.workers ≡ script.old.workers }
+    ensures err { IfErr result (TextFails
+        (calls_written (core_in script.old) (closes (core_in script.old) id)).text
+        (W.contents (inner_of output.old)) (W.contents (inner_of output.new))) }
+    ensures counts { EndsAsCounted 0 0 (failed_of output.old) (failed_of output.new) result }
+    ensures flushes { flushes_of output.new ≡ flushes_of output.old }
+{
+    match vec![in alloc; id; script.handles(id) as usize] {
+        Ok(ids) => call_all(SpanCall::Close, 0, &ids, script, text, output),
+        Err(_) => Err(RunFault::Memory),
+    }
 }
 
 /// Makes a worker's call on these spans, one after another.

@@ -10,4 +10,4 @@ returns-clause-text g c =
     all_written _ _ _ _ _ _ _ none c.all-lines.ensures.whole c.loop-line-test.false c.loop-line.invariant
 
 pub loop-line-preserved : goal.loop-line-preserved
-loop-line-preserved g c = note_more _ _ _ _ _ _ c.loop-line-test.true c.line-item.is c.in_ok-write_note.ensures c.loop-line.invariant
+loop-line-preserved g c = note_more _ _ _ _ _ _ c.loop-line-test.true c.line-item.is c.in-Ok.ensures c.loop-line.invariant

@@ -1,9 +1,9 @@
-use Rattle.std.proofs.Common.{◌≡◌, ◌∙◌, ℕ, List, replicate, refl, ap, sym, subst}
+use Rattle.std.proofs.Common.{◌≡◌, ◌∙◌, ℕ, List, refl, sym, subst}
 use Rattle.span_core.specs.Core.{CoreView}
 use Rattle.span_replay.specs.inside.Turns.{ArePartlyMade}
 use Rattle.span_replay.specs.Written.{closes, each_written}
 use Rattle.span_run.proofs.Fronts.{Known}
-use Rattle.span_replay.proofs.Tidied.{part_none, each_made, each_fails, each_ends, closes_made, made_as, fails_as}
+use Rattle.span_replay.proofs.Tidied.{part_none, each_made, each_fails, each_ends}
 use Rattle.span_replay.proofs.Flushes.{fails_from}
 use Rattle.span_replay.proofs.run.tidying.close_all.Goals as goal
 
@@ -20,17 +20,15 @@ loop-id-init g c = record {
 }
 
 pub returns-in-Err-clause-err : goal.returns-in-Err-clause-err
-returns-in-Err-clause-err g c = each_fails closes _ _ _ _ _ _ _ _ _ c.loop-id.invariant.made c.in-Some.ensures.steps
-    (fails_as _ _ _ _ _ _ (closes_made c.loop-id.script.core c.in-Some.id.now _ (c.deref.ensures.value ∙ c.in-Ok.ensures.items_if_clones_equal (λ y same. same) ∙ ap (λ n. replicate n c.in-Some.id.now) c.handles.ensures)) c.in-Err.ensures.err)
+returns-in-Err-clause-err g c = each_fails closes _ _ _ _ _ _ _ _ _ c.loop-id.invariant.made c.in-Some.ensures.steps c.in-Err.ensures.err
 
 pub loop-id-preserved : goal.loop-id-preserved
 loop-id-preserved g c = record {
-  made = each_made closes _ _ _ _ _ _ _ _ _ c.loop-id.invariant.made c.in-Some.ensures.steps
-      (made_as _ _ _ _ _ _ (closes_made c.loop-id.script.core c.in-Some.id.now _ (c.deref.ensures.value ∙ c.in-Ok.ensures.items_if_clones_equal (λ y same. same) ∙ ap (λ n. replicate n c.in-Some.id.now) c.handles.ensures)) c.in_default-call_all.ensures.made);
-  written = c.in_default-call_all.ensures.written;
-  workers = c.in_default-call_all.ensures.workers ∙ c.loop-id.invariant.workers;
-  failed = c.in_default-call_all.ensures.counts.1 ∙ c.loop-id.invariant.failed;
-  flushes = c.in_default-call_all.ensures.flushes ∙ c.loop-id.invariant.flushes;
+  made = each_made closes _ _ _ _ _ _ _ _ _ c.loop-id.invariant.made c.in-Some.ensures.steps c.in_default.ensures.made;
+  written = c.in_default.ensures.written;
+  workers = c.in_default.ensures.workers ∙ c.loop-id.invariant.workers;
+  failed = c.in_default.ensures.counts.1 ∙ c.loop-id.invariant.failed;
+  flushes = c.in_default.ensures.flushes ∙ c.loop-id.invariant.flushes;
 }
 
 pub returns-clause-made : goal.returns-clause-made

@@ -4,7 +4,7 @@ use Rattle.span_core.specs.Core.{CoreView}
 use Rattle.span_replay.specs.inside.Turns.{ArePartlyMade}
 use Rattle.span_replay.specs.Written.{exits, each_written}
 use Rattle.span_run.proofs.Fronts.{Known}
-use Rattle.span_replay.proofs.Tidied.{part_none, each_made, each_fails, each_ends, one_worker, no_worker, exits_made, made_as, fails_as}
+use Rattle.span_replay.proofs.Tidied.{part_none, each_made, each_fails, each_ends, one_worker, no_worker}
 use Rattle.span_replay.proofs.Flushes.{fails_from}
 use Rattle.span_replay.proofs.run.tidying.leave_all.Goals as goal
 
@@ -22,18 +22,16 @@ loop-worker-init g c = record {
 }
 
 pub returns-in-Err-clause-err : goal.returns-in-Err-clause-err
-returns-in-Err-clause-err g c = each_fails exits _ _ _ _ _ _ _ _ _ c.loop-worker.invariant.made (one_worker _ _ c.loop-worker-test.true)
-    (fails_as _ _ _ _ _ _ (exits_made c.loop-worker.script.core _ _ (c.deref.ensures.value ∙ c.in-Ok.ensures.ids)) c.in-Err.ensures.err)
+returns-in-Err-clause-err g c = each_fails exits _ _ _ _ _ _ _ _ _ c.loop-worker.invariant.made (one_worker _ _ c.loop-worker-test.true) c.in-Err.ensures.err
 
 pub loop-worker-preserved : goal.loop-worker-preserved
 loop-worker-preserved g c = record {
-  made = each_made exits _ _ _ _ _ _ _ _ _ c.loop-worker.invariant.made (one_worker _ _ c.loop-worker-test.true)
-      (made_as _ _ _ _ _ _ (exits_made c.loop-worker.script.core _ _ (c.deref.ensures.value ∙ c.in-Ok.ensures.ids)) c.in_default-call_all.ensures.made);
-  written = c.in_default-call_all.ensures.written;
-  labels = c.in_default-call_all.ensures.labels ∙ c.loop-worker.invariant.labels;
-  workers = c.in_default-call_all.ensures.workers ∙ c.loop-worker.invariant.workers;
-  failed = c.in_default-call_all.ensures.counts.1 ∙ c.loop-worker.invariant.failed;
-  flushes = c.in_default-call_all.ensures.flushes ∙ c.loop-worker.invariant.flushes;
+  made = each_made exits _ _ _ _ _ _ _ _ _ c.loop-worker.invariant.made (one_worker _ _ c.loop-worker-test.true) c.in_default.ensures.made;
+  written = c.in_default.ensures.written;
+  labels = c.in_default.ensures.labels ∙ c.loop-worker.invariant.labels;
+  workers = c.in_default.ensures.workers ∙ c.loop-worker.invariant.workers;
+  failed = c.in_default.ensures.counts.1 ∙ c.loop-worker.invariant.failed;
+  flushes = c.in_default.ensures.flushes ∙ c.loop-worker.invariant.flushes;
 }
 
 pub returns-clause-made : goal.returns-clause-made

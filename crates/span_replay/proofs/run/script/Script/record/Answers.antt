@@ -1,4 +1,4 @@
-use Rattle.std.proofs.Common.{Ok, ap}
+use Rattle.std.proofs.Common.{Ok, ap, refl}
 use Rattle.span_replay.specs.Meaning.{call_turn}
 use Rattle.span_script.specs.Reason.{◌>>=◌}
 use Rattle.span_outlet.specs.Request.{record_fields}
@@ -6,20 +6,24 @@ use Rattle.span_replay.proofs.WrittenCalls.{made_by, made_enough, still_written,
 use Rattle.span_replay.proofs.run.script.Script.record.Goals as goal
 
 pub answer-requires : goal.answer-requires
-answer-requires g c = made_enough _ _ _ _ _ c.in-Ok.ensures.made c.requires.written.lines
+answer-requires g c = made_enough _ _ _ _ _ c.in-Ok-record.ensures.made c.requires.written.lines
 
-pub returns-in-Ok-clause-turn : goal.returns-in-Ok-clause-turn
-returns-in-Ok-clause-turn g c = λ hooks stage.
+pub returns-in-Ok-record-clause-turn : goal.returns-in-Ok-record-clause-turn
+returns-in-Ok-record-clause-turn g c = λ hooks stage.
     turn_made _ _ _ _ _ _ _ _ _ _
-    (ap (λ found. found >>= λ id. Ok (call_turn (record { core = c.args.self.now.core; labels = c.args.self.now.labels; stage = stage }) (record_fields c.args.worker id c.args.fields.now))) c.in_ok-id.ensures)
-    (made_by (λ worker. record_fields worker c.in_ok-id.id c.args.fields.now) _ _ _ _ _ c.worker_number-worker.ensures c.in-Ok.ensures.made)
+    (ap (λ found. found >>= λ id. Ok (call_turn (record { core = c.args.self.now.core; labels = c.args.self.now.labels; stage = stage }) (record_fields c.args.worker id c.args.fields.now))) c.in-Ok.ensures)
+    (made_by (λ worker. record_fields worker c.in-Ok.id c.args.fields.now) _ _ _ _ _ c.worker_number-worker.ensures c.in-Ok-record.ensures.made)
     c.requires.written.lines
     (λ i. record { core = c.answer.ensures.core i; labels = c.answer.ensures.labels i; stage = stage })
     c.answer.ensures.text c.answer.ensures.memory
 
-pub returns-in-Ok-clause-written : goal.returns-in-Ok-clause-written
-returns-in-Ok-clause-written g c =
-    still_written _ _ _ _ _ _ _ c.in-Ok.ensures.made c.answer.ensures.core c.requires.written.workers c.requires.written.some c.answer.ensures.written c.answer.ensures.workers
+pub returns-in-Ok-record-clause-written : goal.returns-in-Ok-record-clause-written
+returns-in-Ok-record-clause-written g c =
+    still_written _ _ _ _ _ _ _ c.in-Ok-record.ensures.made c.answer.ensures.core c.requires.written.workers c.requires.written.some c.answer.ensures.written c.answer.ensures.workers
+
+pub returns-in-Err-record-clause-turn : goal.returns-in-Err-record-clause-turn
+returns-in-Err-record-clause-turn g c = λ hooks stage. stops _ _ _ _ _ _ c.in-Err-record.ensures.memory
 
 pub returns-in-Err-clause-turn : goal.returns-in-Err-clause-turn
-returns-in-Err-clause-turn g c = λ hooks stage. stops _ _ _ _ _ _ c.in-Err.ensures.memory
+returns-in-Err-clause-turn g c = λ hooks stage.
+    (ap (λ found. found >>= λ id. Ok (call_turn (record { core = c.args.self.now.core; labels = c.args.self.now.labels; stage = stage }) (record_fields c.args.worker id c.args.fields.now))) c.in-Err.ensures, refl, refl)

@@ -1,0 +1,15 @@
+use Rattle.span_script.specs.Views.{new_seen}
+use Rattle.span_replay.proofs.WrittenCalls.{new_is, no_parent}
+use Rattle.span_replay.proofs.run.script.Script.place.Goals as goal
+
+pub returns-in-Err : goal.returns-in-Err
+returns-in-Err g c = λ stage.
+    no_parent (record { core = c.args.self.now.core; labels = c.args.self.now.labels; stage = stage }) (new_seen c.args.new.now) _ _ c.requires.number c.in-Err.ensures
+
+pub returns-then-is_taken : goal.returns-then-is_taken
+returns-then-is_taken g c = λ stage.
+    new_is (record { core = c.args.self.now.core; labels = c.args.self.now.labels; stage = stage }) (new_seen c.args.new.now) _ _ _ _ c.requires.number c.in-Ok.ensures c.is_taken.ensures c.if-is_taken.true
+
+pub returns : goal.returns
+returns g c = λ stage.
+    new_is (record { core = c.args.self.now.core; labels = c.args.self.now.labels; stage = stage }) (new_seen c.args.new.now) _ _ _ _ c.requires.number c.in-Ok.ensures c.is_taken.ensures c.if-is_taken.false
