@@ -1,6 +1,6 @@
 -- What is written for a call: the lines that the history has more of, and the answer.
 use Rattle.std.proofs.Common.{◌≡◌, ℕ, ◌+◌, ◌<◌, ◌≤◌, Bool, true, false, not, if◌then◌else◌, List, [], ◌∷◌, ◌++◌, length, drop, get_or, flat_map, Option, Result, Ok, Err, refl, sym, ap, subst, ◌∙◌, arith, rules, append_assoc, append-nil, length-append, ◌&&◌, ◌-◌, map, take}
-use Rattle.std.specs.Prelude.{IfErr, IsErrAnd, OnOk, ⊤}
+use Rattle.std.specs.Prelude.{IfErr, OnOk, ⊤}
 use Rattle.std.proofs.lemmas.List.{drop_more, take_rest, drop_all, drop-map}
 use Rattle.std.specs.List.{enumerate_from}
 use Rattle.span_id.specs.declared.limits.Limits.{Limits}
@@ -29,7 +29,7 @@ use Rattle.span_replay.specs.declared.run.answer.Answer.{Answer}
 use Rattle.span_script.specs.declared.reason.Reason.{Reason}
 use Rattle.span_replay.specs.declared.run.script.Script.{Script}
 use Rattle.span_script.specs.declared.stop.Stop.{Stop}
-use Rattle.span_script.specs.declared.stop.Stop.TheVariants.{Memory, Refused as AtFault}
+use Rattle.span_script.specs.declared.stop.Stop.TheVariants.{Memory}
 
 -- ---- the lines of a history and of one batch more
 
@@ -248,12 +248,6 @@ new_is state new worker parent taken tested same found is test =
 -- the core that is left may be named otherwise
 pub made_core : (old : CoreView) (request : call.Request) (answer : Answer) (mid new : CoreView) → new ≡ mid → IsMade old request answer mid → IsMade old request answer new
 made_core old request answer mid new same made = subst (λ core. IsMade old request answer core) (sym same) made
-
--- the script is at fault
-pub stops_for : (result : Result ⊤ Stop) (meant : Result Turn Reason) (state : State) (text : List ℕ) (reason : Reason) → meant ≡ Err reason → IsErrAnd result (λ stop. stop ≡ AtFault reason)
-    → RunsAs meant state text state text result
-stops_for (Ok _) meant state text reason is gives = absurd gives
-stops_for (Err stop) meant state text reason is gives = subst (StopsAs meant state text state text) (sym gives) (is, refl, refl)
 
 -- what is meant is the same
 pub turn_as : (meant same : Result Turn Reason) (state new : State) (text text' : List ℕ) (result : Result ⊤ Stop) → meant ≡ same → RunsAs same state text new text' result → RunsAs meant state text new text' result
