@@ -11,11 +11,17 @@ use Rattle.span_forest.specs.Holders.{held_in}
 use Rattle.span_outlet.specs.Outlet.{RingName}
 use Rattle.span_outlet.specs.Request.{Request, Answer}
 use Rattle.span_core.specs.History.{IsLegal}
-use Rattle.span_core.specs.Core.{CoreView, IsAccepted, IsRefused, IsNotWanted}
+use Rattle.span_core.specs.Handles.{handles_given_out, handles_given_back}
+use Rattle.span_core.specs.Core.{CoreView, IsRefused, IsNotWanted}
 use Rattle.span_seats.specs.declared.view.RootView.{RootView}
 use Rattle.span_seats.specs.RootView.{handle_count}
 use Rattle.span_registry.specs.inside.Seated.{AreSeated}
+use Rattle.span_registry.specs.inside.Called.{MayBeCounted}
 use Rattle.span_registry.specs.Locked.{HoldsWhenFree}
+
+-- the book of handles moved as the handles of all spans did
+same_total : (book total book_after total_after out back : ℕ) → book ≡ total → book_after + back ≡ book + out → total_after + back ≡ total + out → book_after ≡ total_after
+same_total book total book_after total_after out back is moved more = omega arith
 
 module _ {limits : Limits} {rules : List Filter} {ring : Option RingName} {handle_parts call_parts handles calls : ℕ} {root : RootView} {core : CoreView} (free : HoldsWhenFree limits rules ring handle_parts call_parts handles calls root core) where
   -- the root and the core agree
@@ -36,8 +42,8 @@ module _ {limits : Limits} {rules : List Filter} {ring : Option RingName} {handl
   free_worker {number} below = subst (λ (parts : ℕ). number < parts) free.call_parts_are below
 
   -- there is room for one more call in the book
-  pub free_room : {sent_after : ℕ} → sent_after ≡ length core.sent + 1 → sent_after < 2 ^ 64 → calls + 1 < 2 ^ 64
-  free_room more fits = subst (λ (n : ℕ). n < 2 ^ 64) (more ∙ ap (λ n. n + 1) (sym free.calls_are)) fits
+  pub free_room : {request : Request} {answer : Answer} {new : CoreView} → MayBeCounted core request answer new → calls + 1 < 2 ^ 64
+  free_room counted = subst (λ (n : ℕ). n < 2 ^ 64) (counted.calls ∙ ap (λ n. n + 1) (sym free.calls_are)) counted.fits
 
   -- the history is legal under the rules and limits that the registry was made with
   pub free_legal : IsLegal rules limits.workers core.sent core.world
@@ -89,29 +95,21 @@ module _ {limits : Limits} {rules : List Filter} {ring : Option RingName} {handl
       subst (λ (v : CoreView). HoldsWhenFree limits rules ring handle_parts call_parts handles calls after v) (sym none.same) (free_same (subst (λ (v : CoreView). AreSeated after v) none.same seated))
 
   -- a call was accepted, and the books moved with it
-  pub free_accepted : {request : Request} {answer : Answer} {after : RootView} {new : CoreView} {handles_after calls_after : ℕ} → IsAccepted core request answer new → AreSeated after new
-      → IsLegal new.rules new.limits.workers new.sent new.world → handles_after ≡ total_handles new.world.spans → length new.sent ≡ length core.sent + 1 → calls_after ≡ calls + 1
+  pub free_counted : {request : Request} {answer : Answer} {after : RootView} {new : CoreView} {handles_after calls_after : ℕ} → MayBeCounted core request answer new → AreSeated after new
+      → handles_after + handles_given_back request ≡ handles + handles_given_out request → calls_after ≡ calls + 1
       → HoldsWhenFree limits rules ring handle_parts call_parts handles_after calls_after after new
-  free_accepted accepted seated legal handles_are more counted = record {
-    limits_are = accepted.limits ∙ free.limits_are;
-    rules_are = accepted.rules ∙ free.rules_are;
-    ring_is = accepted.name ∙ free.ring_is;
-    legal = legal;
-    calls_are = counted ∙ ap (λ n. n + 1) free.calls_are ∙ sym more;
-    handles_are = handles_are;
+  free_counted {request = request} {handles_after = handles_after} counted seated moved more = record {
+    limits_are = counted.accepted.limits ∙ free.limits_are;
+    rules_are = counted.accepted.rules ∙ free.rules_are;
+    ring_is = counted.accepted.name ∙ free.ring_is;
+    legal = counted.legal;
+    calls_are = more ∙ ap (λ n. n + 1) free.calls_are ∙ sym counted.calls;
+    handles_are = same_total handles _ handles_after _ (handles_given_out request) (handles_given_back request) free.handles_are moved counted.handles;
     open_sets = λ id node is. seated.counted id ∙ ap (held_in Handle) is;
     other_sets = λ id is. seated.counted id ∙ ap (held_in Handle) is;
     words = seated.sized;
     open_words = seated.opened;
     other_words = seated.vacant;
     handle_parts_fit = free.handle_parts_fit;
-    call_parts_are = free.call_parts_are ∙ ap (λ (l : Limits). l.workers) (sym accepted.limits);
+    call_parts_are = free.call_parts_are ∙ ap (λ (l : Limits). l.workers) (sym counted.accepted.limits);
   }
-
--- the book of handles after a unit has joined it
-pub one_more_total : {book total book_after total_after : ℕ} → book ≡ total → total_after ≡ total + 1 → book_after ≡ book + 1 → book_after ≡ total_after
-one_more_total is more given = omega arith
-
--- the book of handles after a unit has left it
-pub one_less_total : {book total book_after total_after : ℕ} → book ≡ total → total_after + 1 ≡ total → book_after + 1 ≡ book → book_after ≡ total_after
-one_less_total is less taken = omega arith

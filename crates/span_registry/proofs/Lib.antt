@@ -1,5 +1,5 @@
 pub mod Bridge
+pub mod Totals
 pub mod Seats
 pub mod Free
-pub mod Totals
 pub mod Workers

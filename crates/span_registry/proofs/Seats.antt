@@ -1,6 +1,6 @@
 -- Each call keeps the seats and the core agreed. `r` is the root's view before the call, `r₁`, `r₂` .. after its steps.
 use Rattle.std.proofs.Common.{◌≡◌, ◌≢◌, ℕ, ◌+◌, ◌<◌, Bool, true, false, cond, List, length, Option, Some, refl, sym, ap, ◌∙◌, subst, true≢false}
-use Rattle.std.specs.Prelude.{IfSome}
+use Rattle.std.specs.Prelude.{◌^◌, IfSome, IsSomeAnd, Result, Ok, Err, IfOk, IfErr, MatchResult}
 use Rattle.span_id.specs.Id.{slot_of, generation_of}
 use Rattle.span_id.specs.Meta.{KeyValue, PlainMeta}
 use Rattle.span_id.specs.declared.fault.Fault.{Fault}
@@ -11,7 +11,7 @@ use Rattle.span_forest.specs.Spans.{Spans, find, IsOpen, with_change}
 use Rattle.span_forest.specs.Holders.{held_in, with_more}
 use Rattle.span_forest.specs.Keep.{with_holder}
 use Rattle.span_forest.specs.Release.{closing_list, spans_left}
-use Rattle.span_outlet.specs.Request.{Request, clone_span, cloned, try_close, released, enter, entered, exit, exited, record_fields, recorded, event, told}
+use Rattle.span_outlet.specs.Request.{Request, Answer, clone_span, cloned, try_close, released, enter, entered, exit, exited, record_fields, recorded, event, told}
 use Rattle.span_core.specs.World.{World}
 use Rattle.span_core.specs.Step.{closed_by_exit, stays_inside, is_open}
 use Rattle.span_core.specs.History.{IsLegal}
@@ -24,6 +24,8 @@ use Rattle.span_seats.specs.RootView.{handle_count, has_number, IsOpenIn, HasNoH
 use Rattle.span_seats.specs.OpenSpans.{OpenSpans, IsSound, IsAdded, IsReleased, Agree}
 use Rattle.span_seats.proofs.Agreed.{handle_counts, refused_agrees, cloned_agrees, released_counts, released_words, left_counts, may_close, closed_agrees, added_slot, added_free, added_opens, added_id, added_agrees}
 use Rattle.span_registry.specs.inside.Seated.{spans_seen, AreSeated}
+use Rattle.span_registry.specs.inside.Called.{MayBeCounted, IsRefusedWhereHeld}
+use Rattle.span_registry.proofs.Totals.{counted_of}
 use Rattle.span_registry.proofs.Bridge.{open-changed, cloned_of, sound_left, released_of, spans_exited, sound_exited, exited_of}
 
 -- what stands in an option
@@ -57,6 +59,25 @@ seated_not_wanted core new request r none a = subst (λ (v : CoreView). AreSeate
 pub never_unknown : (core new : CoreView) (request : Request) (fault : Fault) → is_known core request ≡ true → IsRefused core request fault new → fault ≢ Unknown
 never_unknown core new request fault known refused e =
     true≢false (sym known ∙ (subst (λ (f : Fault). IsRefused core request f new) e refused).why.2)
+
+-- a call on a handle whose span is there: it may be counted, or it was refused, and not as unknown
+pub done_of : {T : Type 0} (r : Result T Fault) (core new : CoreView) (request : Request) (answer : T → Answer) → is_known core request ≡ true
+    → IsLegal core.rules core.limits.workers core.sent core.world → IsLegal new.rules new.limits.workers new.sent new.world → length new.sent < 2 ^ 64
+    → IfOk r (λ x. IsAccepted core request (answer x) new) → IfErr r (λ fault. IsRefused core request fault new)
+    → MatchResult r (λ x. MayBeCounted core request (answer x) new) (λ fault. IsRefusedWhereHeld core request fault new)
+done_of (Ok x) core new request answer known before legal fits accepted refused = counted_of core new request (answer x) before legal fits accepted
+done_of (Err fault) core new request answer known before legal fits accepted refused = record { refused = refused; never_unknown = never_unknown core new request fault known refused }
+
+-- a call that keeps a root that agrees agreed, accepted or refused
+pub seated_done : {T : Type 0} (r : Result T Fault) (core new : CoreView) (request : Request) (answer : T → Answer) (root : RootView)
+    → ((x : T) → IsAccepted core request (answer x) new → AreSeated root core → AreSeated root new)
+    → IfOk r (λ x. IsAccepted core request (answer x) new) → IfErr r (λ fault. IsRefused core request fault new) → AreSeated root core → AreSeated root new
+seated_done (Ok x) core new request answer root kept accepted refused a = kept x accepted a
+seated_done (Err fault) core new request answer root kept accepted refused a = seated_refused core new request fault root refused a
+
+-- the seat that stood in a handle is of the handle's id
+pub shown_is : {o : Option HandleView} {seat : HandleView} {id : ℕ} → o ≡ Some seat → IsSomeAnd o (λ s. s.id ≡ id) → seat.id ≡ id
+shown_is {seat = seat} {id = id} is h = subst (λ (o : Option HandleView). IsSomeAnd o (λ s. s.id ≡ id)) is h
 
 -- a call that changes no handle, and opens and closes no span
 agree_same : (r : RootView) (slots : ℕ) (before after : OpenSpans) → ((x : ℕ) → after.is_open x ≡ before.is_open x) → ((x : ℕ) → after.handles x ≡ before.handles x) → Agree r slots before → Agree r slots after

@@ -67,7 +67,6 @@ impl<H: Ledger, C: Ledger, S: Setup, O: Outlet + Drop, F: Drop> Registry<H, C, S
     {
         let (handle_book, handle_parts) = handles.open::<H>();
         let (call_book, call_parts) = calls.open::<C>();
-        let workers = new_workers(alloc, checked.limits().workers, handle_parts, call_parts)?;
         let locked = Locked::new(
             alloc,
             checked,
@@ -77,6 +76,7 @@ impl<H: Ledger, C: Ledger, S: Setup, O: Outlet + Drop, F: Drop> Registry<H, C, S
             call_book,
             table,
         )?;
+        let workers = new_workers(alloc, checked.limits().workers, handle_parts, call_parts)?;
         let registry = Registry {
             locked: Mutex::new(locked),
         };

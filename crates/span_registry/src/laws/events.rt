@@ -7,7 +7,7 @@ ghost use Rattle.span_core.specs.Core.{IsAccepted, IsRefused};
 ghost use Rattle.span_registry.specs.Worker.{after_call};
 
 use crate::books::count_call;
-use crate::handle::{Handle, take_seat};
+use crate::handle::Handle;
 use crate::locked::Locked;
 use crate::setup::Setup;
 use crate::with_seats;
@@ -36,8 +36,6 @@ pub fn record<H: Ledger, C: Ledger, S: Setup, O: Outlet, A>(
     ensures unchanged { OnErr result (worker.new ≡ worker.old) }
     ensures keeps_id { handle.new.id ≡ handle.old.id }
 {
-    let id = handle.id;
-    let seat = take_seat(&mut handle.seat);
     let Locked {
         core,
         root,
@@ -45,9 +43,7 @@ pub fn record<H: Ledger, C: Ledger, S: Setup, O: Outlet, A>(
         calls,
         setup: _,
     } = locked;
-    let (back, done) = with_seats::handles::record(core, root, worker.number, id, seat, fields);
-    handle.seat = Some(back);
-    match done {
+    match with_seats::handles::record(core, root, worker.number, handle, fields) {
         Ok(()) => {}
         Err(fault) => return Err(fault),
     }

@@ -9,7 +9,6 @@ ghost use Rattle.span_core.specs.Core.{IsAccepted, IsRefused};
 ghost use Rattle.span_registry.specs.Worker.{after_call};
 
 use crate::books::{count_call, make_handle, take_back};
-use crate::handle::take_seat;
 use crate::locked::Locked;
 use crate::setup::Setup;
 use crate::with_seats;
@@ -45,7 +44,6 @@ pub fn clone_span<H: Ledger, C: Ledger, S: Setup, O: Outlet, A>(
         return Err(Fault::CountFull);
     }
     let id = handle.id;
-    let seat = take_seat(&mut handle.seat);
     let Locked {
         core,
         root,
@@ -53,9 +51,7 @@ pub fn clone_span<H: Ledger, C: Ledger, S: Setup, O: Outlet, A>(
         calls,
         setup: _,
     } = locked;
-    let (back, made) = with_seats::handles::clone_span(core, root, worker.number, id, seat);
-    handle.seat = Some(back);
-    let seat = match made {
+    let seat = match with_seats::handles::clone_span(core, root, worker.number, handle) {
         Ok(seat) => seat,
         Err(fault) => return Err(fault),
     };

@@ -38,9 +38,7 @@ pub fn a_handles_span_is_open<H: Ledger, C: Ledger, S: Setup, O: Outlet, A>(
     ensures same { locked.new ≡ locked.old }
     ensures keeps_id { handle.new.id ≡ handle.old.id }
 {
-    let seat = take_seat(&mut handle.seat);
-    let back = with_seats::handles::show(&locked.core, &mut locked.root, handle.id, seat);
-    handle.seat = Some(back);
+    with_seats::handles::show(&locked.core, &mut locked.root, handle);
 }
 
 /// Two handles have two numbers: no unit of the book is in two handles. The core stays as it is, and both handles keep

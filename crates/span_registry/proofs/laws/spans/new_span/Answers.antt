@@ -1,4 +1,5 @@
-use Rattle.span_registry.proofs.Free.{free_worker, free_room, free_seated, free_refused, free_not_wanted, free_accepted, one_more_total}
+use Rattle.std.proofs.Math.Nat.{add-zero}
+use Rattle.span_registry.proofs.Free.{free_worker, free_room, free_seated, free_refused, free_not_wanted, free_counted}
 use Rattle.span_registry.proofs.laws.spans.new_span.Goals as goal
 
 pub new_span-new-requires-clause-worker : goal.new_span-new-requires-clause-worker
@@ -15,12 +16,8 @@ pub invariant_of-locked-in-Err : goal.invariant_of-locked-in-Err
 invariant_of-locked-in-Err g c = free_refused c.locked.invariant c.in-Err.ensures.refused c.in-Err.ensures.seated
 
 pub count_call-requires : goal.count_call-requires
-count_call-requires g c =
-    let is = c.in-Ok-Some.field-0-is in
-    free_room c.locked.invariant (rw is at c.in-Ok-Some.ensures.calls) (rw is at c.in-Ok-Some.ensures.fits)
+count_call-requires g c = free_room c.locked.invariant (rw c.in-Ok-Some.field-0-is at c.in-Ok-Some.ensures.made)
 
 pub invariant_of-locked-2 : goal.invariant_of-locked-2
 invariant_of-locked-2 g c =
-    let is = c.in-Ok-Some.field-0-is in
-    free_accepted c.locked.invariant (rw is at c.in-Ok-Some.ensures.made) c.in-Ok-Some.ensures.seated c.in-Ok-Some.ensures.legal
-    (one_more_total c.locked.invariant.handles_are (rw is at c.in-Ok-Some.ensures.handles) c.make_handle.ensures.total) (rw is at c.in-Ok-Some.ensures.calls) c.count_call.ensures.total
+    free_counted c.locked.invariant (rw c.in-Ok-Some.field-0-is at c.in-Ok-Some.ensures.made) c.in-Ok-Some.ensures.seated (rw add-zero c.make_handle.ensures.total) c.count_call.ensures.total

@@ -1,6 +1,7 @@
+use Rattle.std.proofs.Common.{◌<◌, ◌^◌, length, rules}
 use Rattle.span_registry.proofs.Bridge.{sound_of}
 use Rattle.span_registry.proofs.Seats.{shown_handles, shown_words, exited_may_close, seated_exited}
-use Rattle.span_registry.proofs.Totals.{same_exited, one_more_sent}
+use Rattle.span_registry.proofs.Totals.{counted_of}
 use Rattle.span_registry.proofs.with_seats.entries.exit.Goals as goal
 
 pub exit_with-requires-clause-may : goal.exit_with-requires-clause-may
@@ -18,8 +19,7 @@ returns-in-Ok-clause-seated g c =
     (shown_handles _ _ c.args.root.now c.exit_with.new.state shown.lent_is shown.left_is shown.called.0)
     (shown_words _ _ c.args.root.now c.exit_with.new.state _ _ shown.lent_is shown.left_is shown.list_is shown.called.1.1)
 
-pub returns-in-Ok-clause-handles : goal.returns-in-Ok-clause-handles
-returns-in-Ok-clause-handles g c = same_exited _ _ c.calls.ensures.legal _ _ _ c.in-Ok.ensures.accepted
-
-pub returns-in-Ok-clause-calls : goal.returns-in-Ok-clause-calls
-returns-in-Ok-clause-calls g c = one_more_sent _ _ _ _ c.in-Ok.ensures.accepted
+pub returns-in-Ok-clause-accepted : goal.returns-in-Ok-clause-accepted
+returns-in-Ok-clause-accepted g c =
+    let fits : length c.exit_with.new.self.sent < 2 ^ 64 = search rules in
+    counted_of _ _ _ _ c.calls.ensures.legal c.calls-in-Ok.ensures.legal fits c.in-Ok.ensures.accepted

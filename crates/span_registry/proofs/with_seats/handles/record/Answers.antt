@@ -1,32 +1,20 @@
-use Rattle.std.proofs.Common.{◌∙◌}
+use Rattle.std.proofs.Common.{◌<◌, ◌^◌, length, rules}
+use Rattle.span_id.specs.Meta.{plain_fields}
+use Rattle.span_outlet.specs.Request.{record_fields, recorded}
 use Rattle.span_core.proofs.Deciding.{handle_from}
-use Rattle.span_registry.proofs.Seats.{span_is_held, seated_back, seated_recorded, seated_refused, never_unknown, joined_opens, joined_id}
-use Rattle.span_registry.proofs.Totals.{same_recorded, one_more_sent}
+use Rattle.span_registry.proofs.Seats.{span_is_held, seated_back, seated_recorded, seated_done, done_of, joined_opens, shown_is}
 use Rattle.span_registry.proofs.with_seats.handles.record.Goals as goal
 
-pub returns-in-Ok-clause-seated : goal.returns-in-Ok-clause-seated
-returns-in-Ok-clause-seated g c =
-    seated_recorded _ _ _ _ _ _ c.in-Ok.ensures.accepted (seated_back c.args.core.now c.args.root.now c.join.new.self c.args.seat c.args.id c.requires.seated c.join.ensures.in_set c.requires.shown c.join.ensures.root _ c.split-back.ensures.root)
+pub split-requires : goal.split-requires
+split-requires g c = joined_opens c.args.root.now c.join.new.self _ _ c.join.ensures.root c.join.ensures.is_open
 
-pub returns-in-Err-clause-seated : goal.returns-in-Err-clause-seated
-returns-in-Err-clause-seated g c =
-    seated_refused _ _ _ _ _ c.in-Err.ensures.refused (seated_back c.args.core.now c.args.root.now c.join.new.self c.args.seat c.args.id c.requires.seated c.join.ensures.in_set c.requires.shown c.join.ensures.root _ c.split-back.ensures.root)
+pub returns-clause-seated : goal.returns-clause-seated
+returns-clause-seated g c =
+    seated_done c.record-done.result c.args.core.now c.record-done.new.self (record_fields c.args.worker c.handle.inside.id (plain_fields c.args.fields.now)) (λ _. recorded) _ (λ _ accepted a. seated_recorded _ _ _ _ _ _ accepted a) c.record-done.ensures.accepted c.record-done.ensures.refused
+    (seated_back c.args.core.now c.args.root.now c.join.new.self c.take_seat.result c.handle.inside.id c.requires.seated c.join.ensures.in_set (shown_is c.take_seat.ensures c.handle.invariant.0) c.join.ensures.root _ c.split.ensures.root)
 
-pub returns-in-Err-clause-never_unknown : goal.returns-in-Err-clause-never_unknown
-returns-in-Err-clause-never_unknown g c =
-    never_unknown _ _ _ _ (handle_from c.args.core.now.world.spans c.args.id (span_is_held c.args.core.now c.args.root.now c.join.new.self c.args.seat c.args.id c.requires.seated c.join.ensures.in_set c.requires.shown c.join.ensures.root)) c.in-Err.ensures.refused
-
-pub split-back-requires : goal.split-back-requires
-split-back-requires g c = joined_opens c.args.root.now c.join.new.self _ _ c.join.ensures.root c.join.ensures.is_open
-
-pub returns-in-Ok-clause-back : goal.returns-in-Ok-clause-back
-returns-in-Ok-clause-back g c = c.split-back.ensures.id ∙ joined_id c.args.root.now c.join.new.self _ _ c.join.ensures.root ∙ c.requires.shown
-
-pub returns-in-Ok-clause-handles : goal.returns-in-Ok-clause-handles
-returns-in-Ok-clause-handles g c = same_recorded _ _ c.calls.ensures.legal _ _ _ c.in-Ok.ensures.accepted
-
-pub returns-in-Ok-clause-calls : goal.returns-in-Ok-clause-calls
-returns-in-Ok-clause-calls g c = one_more_sent _ _ _ _ c.in-Ok.ensures.accepted
-
-pub returns-in-Err-clause-back : goal.returns-in-Err-clause-back
-returns-in-Err-clause-back g c = c.split-back.ensures.id ∙ joined_id c.args.root.now c.join.new.self _ _ c.join.ensures.root ∙ c.requires.shown
+pub returns-clause-done : goal.returns-clause-done
+returns-clause-done g c =
+    let known = handle_from c.args.core.now.world.spans c.handle.inside.id (span_is_held c.args.core.now c.args.root.now c.join.new.self c.take_seat.result c.handle.inside.id c.requires.seated c.join.ensures.in_set (shown_is c.take_seat.ensures c.handle.invariant.0) c.join.ensures.root) in
+    let fits : length c.record-done.new.self.sent < 2 ^ 64 = search rules in
+    rw (← c.handle.view_is) (done_of c.record-done.result c.args.core.now c.record-done.new.self (record_fields c.args.worker c.handle.inside.id (plain_fields c.args.fields.now)) (λ _. recorded) known c.calls.ensures.legal c.calls-2.ensures.legal fits c.record-done.ensures.accepted c.record-done.ensures.refused)

@@ -1,0 +1,15 @@
+use Rattle.std.proofs.Common.{◌<◌, ◌^◌, length, rules}
+use Rattle.std.proofs.lemmas.Result.{IfOk-weaker}
+use Rattle.span_outlet.specs.Request.{told}
+use Rattle.span_registry.proofs.Seats.{seated_done, seated_told}
+use Rattle.span_registry.proofs.Totals.{counted_of}
+use Rattle.span_registry.proofs.with_seats.spans.event.Goals as goal
+
+pub returns-clause-seated : goal.returns-clause-seated
+returns-clause-seated g c =
+    seated_done c.event-done.result c.args.core.now c.event-done.new.self _ (λ _. told) _ (λ _ accepted a. seated_told _ _ _ _ _ _ _ accepted a) c.event-done.ensures.accepted c.event-done.ensures.refused c.requires.seated
+
+pub returns-clause-accepted : goal.returns-clause-accepted
+returns-clause-accepted g c =
+    let fits : length c.event-done.new.self.sent < 2 ^ 64 = search rules in
+    IfOk-weaker c.event-done.result _ _ (λ _ accepted. counted_of _ _ _ _ c.calls.ensures.legal c.calls-2.ensures.legal fits accepted) c.event-done.ensures.accepted
