@@ -12,7 +12,7 @@ mod layers;
 mod names;
 mod on_core;
 mod on_registry;
-mod same;
+pub(crate) mod same;
 mod scripts;
 mod steps;
 mod strangers;

@@ -1,20 +1,28 @@
 //! Calls as data, and what is answered to them as text.
+use crate::tests::registry::layers::{Said, said_of};
 use span_id::{Fault, Id, Level};
 use span_outlet::Line;
-use span_registry::{Found, ParentOf, Step};
+use span_registry::{ParentOf, Step};
 use std::alloc::{AllocError, Global};
-use std::test::Fail;
+use std::process::Abort;
 
 /// Keys and values.
 pub(crate) type Fields<'a> = &'a [(&'a str, &'a str)];
 
+/// In the place of the number of an id: the handle that came last.
+pub(crate) const NEWEST: u64 = 0;
+
 /// A call; spans stand under the numbers of their ids.
 #[derive(Clone, Copy)]
 pub(crate) enum Act<'a> {
-    New {
+    /// A new span of this name, whose parent is the current span.
+    New(&'a str),
+    /// A new span of this name under the span of this id; where the number is no id, a root.
+    Child(&'a str, u64),
+    /// A new span whose parent is the current span.
+    Make {
         name: &'a str,
         target: &'a str,
-        parent: ParentOf,
         fields: Fields<'a>,
     },
     Clone(u64),
@@ -34,28 +42,48 @@ pub(crate) enum Act<'a> {
     Step,
 }
 
-/// A new span whose parent is the current span.
-pub(crate) fn new<'a>(name: &'a str) -> Act<'a> {
-    Act::New {
-        name,
-        target: "app",
-        parent: ParentOf::Current,
-        fields: &[],
+/// The meta and the fields that a call is told; where it is told none, they are empty.
+pub(crate) fn said_by(rt: &impl Abort, alloc: Global, act: &Act) -> Said {
+    match act {
+        Act::New(name) | Act::Child(name, _) => {
+            said_of(rt, alloc, (name, "app"), Level::Info, &[])
+        }
+        Act::Make {
+            name,
+            target,
+            fields,
+        } => said_of(rt, alloc, (name, target), Level::Info, fields),
+        Act::Event {
+            level,
+            message: _,
+            fields,
+        } => said_of(rt, alloc, ("event", "app"), *level, fields),
+        Act::Record(_, fields) => said_of(rt, alloc, ("", ""), Level::Info, fields),
+        _ => said_of(rt, alloc, ("", ""), Level::Info, &[]),
     }
 }
 
-/// A new span under the span of this id; where the number is no id, a root.
-pub(crate) fn child<'a>(name: &'a str, parent: u64) -> Act<'a> {
-    Act::New {
-        name,
-        target: "app",
-        parent: Id::from_u64(parent).map_or(ParentOf::Root, ParentOf::Of),
-        fields: &[],
+/// The parent of a new span.
+pub(crate) fn parent_of(act: &Act) -> ParentOf {
+    match act {
+        Act::Child(_, number) => match Id::from_u64(*number) {
+            Some(id) => ParentOf::Of(id),
+            None => ParentOf::Root,
+        },
+        _ => ParentOf::Current,
+    }
+}
+
+/// The id that a look is for.
+pub(crate) fn looked_for(act: &Act) -> Option<Id> {
+    match act {
+        Act::Find(number) => Id::from_u64(*number),
+        _ => None,
     }
 }
 
 /// What a call answers.
-#[derive(Drop)]
+#[derive(Clone, Copy)]
 pub(crate) enum Answer {
     Made(Id),
     NotWanted,
@@ -64,44 +92,16 @@ pub(crate) enum Answer {
     Closed(bool),
     Recorded,
     Told,
-    Found(Option<Found>),
     /// How many calls were accepted of the worker, and how many parts of the ledger of handles are not with it.
     Counted(u64, u64),
     Stepped(Option<Step>),
     Refused(Fault),
+    NoWorker,
 }
 
-/// What `find` answers, on a line.
-pub(crate) fn found_text(alloc: Global, found: &Option<Found>) -> Result<String, AllocError> {
-    let Some(found) = found else {
-        return String::from_str(alloc, "= none\n");
-    };
-    let parent = found.parent.map_or(0, Id::get);
-    let Found {
-        name,
-        parent: _,
-        handles,
-        entries,
-        count,
-    } = found;
-    format!(in alloc;
-        "= {name} parent {parent} handles {handles} entries {entries} count {count}\n"
-    )
-}
-
-/// `= ` and the answer, or `! ` and the refusal, on a line.
-pub(crate) fn answer_text(alloc: Global, answer: &Answer) -> Result<String, AllocError> {
-    let text = match answer {
-        Answer::Made(id) => return format!(in alloc; "= {id}\n"),
-        Answer::Found(found) => return found_text(alloc, found),
-        Answer::Refused(fault) => return format!(in alloc; "! {fault}\n"),
-        Answer::Counted(accepted, out) => {
-            return format!(in alloc; "= accepted {accepted} out {out}\n");
-        }
-        Answer::Stepped(Some(Step { told, refused })) => {
-            return format!(in alloc; "= told {told} refused {refused}\n");
-        }
-        Answer::Stepped(None) => "= no batch\n",
+// An answer that has no number.
+fn word(answer: &Answer) -> &'static str {
+    match answer {
         Answer::NotWanted => "= not wanted\n",
         Answer::Cloned => "= cloned\n",
         Answer::Entered(true) => "= entered\n",
@@ -110,8 +110,68 @@ pub(crate) fn answer_text(alloc: Global, answer: &Answer) -> Result<String, Allo
         Answer::Closed(false) => "= open\n",
         Answer::Recorded => "= recorded\n",
         Answer::Told => "= told\n",
-    };
-    String::from_str(alloc, text)
+        Answer::Stepped(None) => "= no batch\n",
+        _ => "! there is no such worker\n",
+    }
+}
+
+// `= ` and the answer, or `! ` and the refusal, on a line.
+fn answer_text(alloc: Global, answer: &Answer) -> Result<String, AllocError> {
+    match answer {
+        Answer::Made(id) => format!(in alloc; "= {id}\n"),
+        Answer::Refused(fault) => format!(in alloc; "! {fault}\n"),
+        Answer::Counted(accepted, out) => format!(in alloc; "= accepted {accepted} out {out}\n"),
+        Answer::Stepped(Some(Step { told, refused })) => {
+            format!(in alloc; "= told {told} refused {refused}\n")
+        }
+        _ => String::from_str(alloc, word(answer)),
+    }
+}
+
+/// What `find` answers of an open span.
+#[derive(Clone, Copy)]
+pub(crate) struct Sight<'a> {
+    pub(crate) name: &'a str,
+    /// The number of the parent's id; 0 for none.
+    pub(crate) parent: u64,
+    pub(crate) handles: u32,
+    pub(crate) entries: u32,
+    pub(crate) count: u32,
+}
+
+// The sight of a span, on a line.
+fn sight_text(alloc: Global, sight: &Sight) -> Result<String, AllocError> {
+    let Sight {
+        name,
+        parent,
+        handles,
+        entries,
+        count,
+    } = sight;
+    format!(in alloc;
+        "= {name} parent {parent} handles {handles} entries {entries} count {count}\n"
+    )
+}
+
+// More of a text.
+fn push(rt: &impl Abort, text: &mut Vec<u8>, more: &[u8]) {
+    text.extend_from_slice(more).expect(rt, "memory");
+}
+
+/// What `find` answers of a span, as the next line.
+pub(crate) fn push_sight(
+    rt: &impl Abort,
+    alloc: Global,
+    text: &mut Vec<u8>,
+    sight: Option<&Sight>,
+) {
+    match sight {
+        None => push(rt, text, b"= none\n"),
+        Some(sight) => {
+            let line = sight_text(alloc, sight).expect(rt, "memory");
+            push(rt, text, line.as_bytes());
+        }
+    }
 }
 
 /// The answers to calls; the ids of the spans made so far, and what `find` answers of each after each call; and what was
@@ -136,45 +196,44 @@ impl Transcript {
     }
 
     /// The answer of the next call, which may have made a span.
-    pub(crate) fn answer(&mut self, alloc: Global, answer: &Answer) -> Result<(), AllocError> {
+    pub(crate) fn answer(&mut self, rt: &impl Abort, alloc: Global, answer: &Answer) {
         if let Answer::Made(id) = answer {
-            self.ids.push(*id)?;
+            self.ids.push(*id).expect(rt, "memory");
         }
-        let text = answer_text(alloc, answer)?;
-        self.answers.extend_from_slice(text.as_bytes())
+        let line = answer_text(alloc, answer).expect(rt, "memory");
+        push(rt, &mut self.answers, line.as_bytes());
     }
 }
 
-/// What `find` answers of a span, as the next text.
-pub(crate) fn note_found(
-    alloc: Global,
-    finds: &mut Vec<u8>,
-    found: &Option<Found>,
-) -> Result<(), AllocError> {
-    let text = found_text(alloc, found)?;
-    finds.extend_from_slice(text.as_bytes())
+// The text of a line after these words, as the next line.
+fn push_line(rt: &impl Abort, text: &mut Vec<u8>, words: &str, line: &Line) {
+    push(rt, text, words.as_bytes());
+    push(rt, text, line.text.as_slice());
+    push(rt, text, b"\n");
 }
 
 /// `L<layer> <text>`, on a line each.
-pub(crate) fn lines_text(alloc: Global, lines: &[Line]) -> Result<String, Fail> {
+pub(crate) fn lines_text(rt: &impl Abort, alloc: Global, lines: &[Line]) -> Vec<u8> {
     let mut text = Vec::new(alloc);
     for line in lines {
-        let layer = format!(in alloc; "L{} ", line.layer)?;
-        text.extend_from_slice(layer.as_bytes())?;
-        text.extend_from_slice(line.text.as_slice())?;
-        text.extend_from_slice(b"\n")?;
+        let layer = format!(in alloc; "L{} ", line.layer).expect(rt, "memory");
+        push_line(rt, &mut text, layer.as_str(), line);
     }
-    Ok(String::from_utf8(text)?)
+    text
 }
 
 /// The number of the batch, the place, the layer and the text of each line.
-pub(crate) fn numbered(alloc: Global, lines: &[Line]) -> Result<String, Fail> {
+pub(crate) fn numbered(rt: &impl Abort, alloc: Global, lines: &[Line]) -> Vec<u8> {
     let mut text = Vec::new(alloc);
     for line in lines {
-        let numbers = format!(in alloc; "{} {} {} ", line.batch, line.place, line.layer)?;
-        text.extend_from_slice(numbers.as_bytes())?;
-        text.extend_from_slice(line.text.as_slice())?;
-        text.extend_from_slice(b"\n")?;
+        let Line {
+            batch,
+            place,
+            layer,
+            text: _,
+        } = line;
+        let numbers = format!(in alloc; "{batch} {place} {layer} ").expect(rt, "memory");
+        push_line(rt, &mut text, numbers.as_str(), line);
     }
-    Ok(String::from_utf8(text)?)
+    text
 }

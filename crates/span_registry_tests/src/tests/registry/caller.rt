@@ -1,15 +1,15 @@
 //! The shortest caller, as the page on calling shows it.
 ghost use Rattle.std.specs.Prelude.{◌≡◌, [], None};
 
+use crate::tests::registry::layers::meta_of;
 use crate::tests::registry::same::same;
-use span_id::{Checked, Fault, Level, Limits, Meta, copy_text};
+use span_id::{Checked, Fault, Level, Limits, Meta};
 use span_layers::{Filters, Layers, Say, Tellers};
 use span_registry::{HANDLE_PARTS, Kept, ParentOf, Registry, Report, SeatTable, Setup};
 use std::alloc::Global;
 use std::marker::Brand;
 use std::sync::Wait;
 use std::sync::ledger::{Blank, Ledger};
-use std::test::Fail;
 
 /// One worker makes a span and closes it; the report has the lines.
 pub fn one_span<R: Wait>(
@@ -73,20 +73,12 @@ fn run<H: Ledger, C: Ledger, S: Setup, V: Say, R: Wait>(
     Ok(registry.finish_kept(share))
 }
 
-fn report_of<R: Wait>(rt: &R, alloc: Global) -> Result<Report, Fault> {
-    let meta = Meta {
-        name: copy_text(alloc, "a")?,
-        target: copy_text(alloc, "app")?,
-        level: Level::Info,
-    };
-    let (filters, tellers) = Layers::new(alloc).split();
-    one_span(rt, alloc, filters, tellers, &meta)
-}
-
 #[test]
-fn one_worker_makes_a_span(rt: HostRuntime) -> Result<(), Fail> {
-    let report = report_of(&rt, rt.alloc())?;
+fn one_worker_makes_a_span(rt: HostRuntime) {
+    let alloc = rt.alloc();
+    let meta = meta_of(&rt, alloc, "a", "app", Level::Info);
+    let (filters, tellers) = Layers::new(alloc).split();
+    let report = one_span(&rt, alloc, filters, tellers, &meta).expect(&rt, "a report");
     let counts = (report.calls, report.made, report.closed, report.left);
     same(&rt, counts, (2, 1, 1, 0));
-    Ok(())
 }

@@ -8,29 +8,28 @@ use crate::tests::registry::on_registry::calls;
 use crate::tests::registry::same::same;
 use crate::tests::registry::steps::{NoDrain, Steps};
 use crate::tests::registry::threads::{Turn, take_turns};
-use span_id::{Checked, Limits};
+use span_id::{Checked, Fault, Limits};
 use span_layers::{Filters, Say};
 use span_registry::{HANDLE_PARTS, Kept, Outlet, Registry, Report, SeatTable, Setup, Worker};
-use std::alloc::Global;
+use std::alloc::{AllocError, Global};
 use std::marker::Brand;
 use std::process::Abort;
 use std::sync::Wait;
 use std::sync::ledger::{Blank, Ledger};
-use std::test::Fail;
 use std::thread::Threads;
 
 /// What is done with a registry before its end.
 #[derive(Clone, Copy)]
 pub(crate) enum Deed<'a> {
-    /// The calls, each made by the worker beside it; then the workers leave, and the handles that are left are given
+    /// These calls, each made by the worker beside it; then the workers leave, and the handles that are left are given
     /// up.
-    Calls,
+    Calls(&'a [(u32, Act<'a>)]),
     /// The workers take these turns, each in a thread of its own.
     InThreads(&'a [Turn]),
 }
 
-// The calls, and the parts of the workers and of the handles that are left.
-fn all_calls<H: Ledger, C: Ledger, S: Setup, O: Outlet, D: Steps, R: Wait>(
+/// The calls, and the parts of the workers and of the handles that are left.
+pub(crate) fn all_calls<H: Ledger, C: Ledger, S: Setup, O: Outlet, D: Steps, R: Wait + Abort>(
     rt: &R,
     alloc: Global,
     registry: &Registry<H, C, S, O>,
@@ -38,7 +37,7 @@ fn all_calls<H: Ledger, C: Ledger, S: Setup, O: Outlet, D: Steps, R: Wait>(
     workers: Vec<Worker<H, C>>,
     acts: &[(u32, Act)],
     transcript: &mut Transcript,
-) -> Result<Option<Part<H, C>>, Fail>
+) -> Option<Part<H, C>>
     ensures name { D.name drain.new ≡ D.name drain.old }
 {
     let mut workers = workers;
@@ -48,36 +47,33 @@ fn all_calls<H: Ledger, C: Ledger, S: Setup, O: Outlet, D: Steps, R: Wait>(
         alloc,
         registry,
         drain,
-        &mut workers,
+        workers.as_mut_slice(),
         &mut held,
         acts,
         transcript,
-    )?;
-    gather(alloc, &mut transcript.counts, workers, held)
+    );
+    gather(rt, alloc, &mut transcript.counts, workers, held)
 }
 
-/// Does this, and puts the parts together.
-pub(crate) fn perform<
+// Does this, and puts the parts together.
+fn perform<
     H: Ledger + Send + Sync,
     C: Ledger + Send + Sync,
     S: Setup + Send + Sync,
     O: Outlet + Send,
-    D: Steps,
-    R: Threads + Wait + Sync,
+    R: Threads + Wait + Abort + Sync,
 >(
     rt: &R,
     alloc: Global,
     registry: &Registry<H, C, S, O>,
-    drain: &mut D,
     workers: Vec<Worker<H, C>>,
     deed: Deed,
-    acts: &[(u32, Act)],
     transcript: &mut Transcript,
-) -> Result<Option<Part<H, C>>, Fail>
-    ensures name { D.name drain.new ≡ D.name drain.old }
-{
+) -> Option<Part<H, C>> {
     match deed {
-        Deed::Calls => all_calls(rt, alloc, registry, drain, workers, acts, transcript),
+        Deed::Calls(acts) => {
+            all_calls(rt, alloc, registry, &mut NoDrain, workers, acts, transcript)
+        }
         Deed::InThreads(turns) => take_turns(rt, alloc, registry, workers, turns, transcript),
     }
 }
@@ -95,7 +91,7 @@ fn named<
     C: Ledger + Send + Sync,
     S: Setup + Send + Sync,
     V: Say + Send,
-    R: Threads + Wait + Sync,
+    R: Threads + Wait + Abort + Sync,
 >(
     rt: &R,
     alloc: Global,
@@ -106,56 +102,37 @@ fn named<
     calls: Blank,
     table: SeatTable,
     deed: Deed,
-    acts: &[(u32, Act)],
     transcript: &mut Transcript,
-) -> Result<Option<Report>, Fail>
+) -> Report
     requires sent { outlet.sent ≡ [] }
     requires setup { (checked.now ≡ S.limits) × (filters.rules ≡ S.rules) × (S.ring ≡ None) }
     requires handles { (handles.name ≡ H.name) × (handles.parts ≡ H.parts) × (H.parts ≡ HANDLE_PARTS) }
     requires calls { (calls.name ≡ C.name) × (calls.parts ≡ C.parts) × (C.parts ≡ checked.now.workers) }
     requires table { (table ≡ S.table) × (table.words ≡ checked.now.slots) }
 {
-    let (registry, workers) = Registry::<H, C, S, Kept<V>>::new(
+    let made = Registry::<H, C, S, Kept<V>>::new(
         alloc, checked, filters, outlet, handles, calls, table,
-    )?;
-    let whole = perform(
-        rt,
-        alloc,
-        &registry,
-        &mut NoDrain,
-        workers,
-        deed,
-        acts,
-        transcript,
-    )?;
-    let workers = u64::from(checked.limits().workers);
-    Ok(finished(registry, workers, whole))
-}
-
-/// What is left where there is a report.
-pub(crate) fn ended_with(transcript: Transcript, report: Option<Report>) -> Result<Ended, Fail> {
-    match report {
-        Some(report) => Ok(Ended { transcript, report }),
-        None => Err(Fail::new("not all parts are there")),
-    }
+    );
+    let (registry, workers) = made.expect(rt, "memory");
+    let whole = perform(rt, alloc, &registry, workers, deed, transcript);
+    finished(rt, registry, checked.limits().workers, whole)
 }
 
 // Generic in what makes the texts.
-fn begun<V: Say + Send, R: Threads + Wait + Sync>(
+fn begun<V: Say + Send, R: Threads + Wait + Abort + Sync>(
     rt: &R,
     alloc: Global,
     limits: Limits,
     filters: Filters,
     outlet: Kept<V>,
     deed: Deed,
-    acts: &[(u32, Act)],
     transcript: &mut Transcript,
-) -> Result<Option<Report>, Fail>
+) -> Result<Report, Fault>
     requires { outlet.sent ≡ [] }
 {
     let checked = limits.check()?;
     let table = SeatTable::new(alloc, limits.slots)?;
-    named::<Brand, Brand, Brand, V, R>(
+    Ok(named::<Brand, Brand, Brand, V, R>(
         rt,
         alloc,
         &checked,
@@ -165,37 +142,38 @@ fn begun<V: Say + Send, R: Threads + Wait + Sync>(
         Blank::new(u64::from(limits.workers)),
         table,
         deed,
-        acts,
         transcript,
-    )
+    ))
 }
 
-/// Makes a registry with these layers, does this with it, and ends it. The calls are those of `Deed::Calls`.
-pub(crate) fn run_to_end<R: Threads + Wait + Sync>(
+/// Makes a registry with these layers, does this with it, and ends it.
+pub(crate) fn run_to_end<R: Threads + Wait + Abort + Sync>(
     rt: &R,
     alloc: Global,
     limits: Limits,
     plans: &[Plan],
     deed: Deed,
-    acts: &[(u32, Act)],
-) -> Result<Ended, Fail> {
-    let (filters, tellers) = layers(alloc, plans)?;
+) -> Ended {
+    let (filters, tellers) = layers(rt, alloc, plans);
     let mut transcript = Transcript::new(alloc);
-    let report = begun(
-        rt,
-        alloc,
-        limits,
-        filters,
-        Kept::new(alloc, tellers),
-        deed,
-        acts,
-        &mut transcript,
-    )?;
-    ended_with(transcript, report)
+    let outlet = Kept::new(alloc, tellers);
+    let report = begun(rt, alloc, limits, filters, outlet, deed, &mut transcript);
+    Ended {
+        transcript,
+        report: report.expect(rt, "limits and memory"),
+    }
+}
+
+/// The limits that go without saying, with so many workers.
+pub(crate) fn with_workers(workers: u32) -> Limits {
+    Limits {
+        workers,
+        ..Limits::default()
+    }
 }
 
 // The numbers of a report, in words.
-fn numbers(alloc: Global, report: &Report) -> Result<String, Fail> {
+fn numbers(alloc: Global, report: &Report) -> Result<String, AllocError> {
     let Report {
         left,
         handles,
@@ -206,19 +184,13 @@ fn numbers(alloc: Global, report: &Report) -> Result<String, Fail> {
         lines: _,
         refused,
     } = report;
-    Ok(format!(in alloc;
+    format!(in alloc;
         "left {left} handles {handles} entries {entries} calls {calls} made {made} closed {closed} refused {refused}"
-    )?)
+    )
 }
 
 /// These are the numbers of a report.
-pub(crate) fn has_numbers(
-    rt: &impl Abort,
-    alloc: Global,
-    report: &Report,
-    expected: &str,
-) -> Result<(), Fail> {
-    let text = numbers(alloc, report)?;
+pub(crate) fn has_numbers(rt: &impl Abort, alloc: Global, report: &Report, expected: &str) {
+    let text = numbers(alloc, report).expect(rt, "memory");
     same(rt, text.as_str(), expected);
-    Ok(())
 }

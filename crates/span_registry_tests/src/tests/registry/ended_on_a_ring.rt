@@ -2,26 +2,20 @@
 ghost use Rattle.std.specs.Prelude.{◌≡◌, [], Some};
 
 use crate::tests::registry::acts::{Act, Transcript};
-use crate::tests::registry::ended::{Deed, Ended, ended_with, perform};
+use crate::tests::registry::ended::{Ended, all_calls};
 use crate::tests::registry::held::drained;
 use crate::tests::registry::layers::{Plan, layers};
-use span_id::{Checked, Limits};
+use span_id::{Checked, Fault, Limits};
 use span_layers::Filters;
 use span_registry::{Drain, HANDLE_PARTS, Registry, Report, Ring, SeatTable, Setup};
 use std::alloc::Global;
 use std::marker::Brand;
+use std::process::Abort;
 use std::sync::Wait;
 use std::sync::ledger::{Blank, Ledger};
-use std::test::Fail;
-use std::thread::Threads;
 
 // Generic in the names, which the caller picks.
-fn named<
-    H: Ledger + Send + Sync,
-    C: Ledger + Send + Sync,
-    S: Setup + Send + Sync,
-    R: Threads + Wait + Sync,
->(
+fn named<H: Ledger, C: Ledger, S: Setup, R: Wait + Abort>(
     rt: &R,
     alloc: Global,
     checked: &Checked,
@@ -33,7 +27,7 @@ fn named<
     table: SeatTable,
     acts: &[(u32, Act)],
     transcript: &mut Transcript,
-) -> Result<Option<Report>, Fail>
+) -> Report
     requires sent { ring.sent ≡ [] }
     requires setup { (checked.now ≡ S.limits) × (filters.rules ≡ S.rules) }
     requires pair { (Some ring.name ≡ S.ring) × (Some drain.name ≡ S.ring) }
@@ -41,39 +35,27 @@ fn named<
     requires calls { (calls.name ≡ C.name) × (calls.parts ≡ C.parts) × (C.parts ≡ checked.now.workers) }
     requires table { (table ≡ S.table) × (table.words ≡ checked.now.slots) }
 {
-    let (registry, workers) = Registry::<H, C, S, Ring>::new(
-        alloc, checked, filters, ring, handles, calls, table,
-    )?;
+    let made = Registry::<H, C, S, Ring>::new(alloc, checked, filters, ring, handles, calls, table);
+    let (registry, workers) = made.expect(rt, "memory");
     let mut drain = drain;
-    let whole = perform(
-        rt,
-        alloc,
-        &registry,
-        &mut drain,
-        workers,
-        Deed::Calls,
-        acts,
-        transcript,
-    )?;
-    let workers = u64::from(checked.limits().workers);
-    Ok(drained(registry, workers, whole, drain))
+    let whole = all_calls(rt, alloc, &registry, &mut drain, workers, acts, transcript);
+    drained(rt, registry, checked.limits().workers, whole, drain)
 }
 
-/// Makes a registry over a ring with these layers, makes the calls and the steps of the drain, and ends it.
-pub(crate) fn run_to_end_on_a_ring<R: Threads + Wait + Sync>(
+fn begun<R: Wait + Abort>(
     rt: &R,
     alloc: Global,
     limits: Limits,
     plans: &[Plan],
     acts: &[(u32, Act)],
-) -> Result<Ended, Fail> {
-    let (filters, tellers) = layers(alloc, plans)?;
+    transcript: &mut Transcript,
+) -> Result<Report, Fault> {
     let checked = limits.check()?;
     let table = SeatTable::new(alloc, limits.slots)?;
     let (ring, tap) = Ring::pair(alloc, &checked)?;
+    let (filters, tellers) = layers(rt, alloc, plans);
     let drain = Drain::new(alloc, tap, tellers);
-    let mut transcript = Transcript::new(alloc);
-    let report = named::<Brand, Brand, Brand, R>(
+    Ok(named::<Brand, Brand, Brand, R>(
         rt,
         alloc,
         &checked,
@@ -84,7 +66,22 @@ pub(crate) fn run_to_end_on_a_ring<R: Threads + Wait + Sync>(
         Blank::new(u64::from(limits.workers)),
         table,
         acts,
-        &mut transcript,
-    )?;
-    ended_with(transcript, report)
+        transcript,
+    ))
+}
+
+/// Makes a registry over a ring with these layers, makes the calls and the steps of the drain, and ends it.
+pub(crate) fn run_to_end_on_a_ring<R: Wait + Abort>(
+    rt: &R,
+    alloc: Global,
+    limits: Limits,
+    plans: &[Plan],
+    acts: &[(u32, Act)],
+) -> Ended {
+    let mut transcript = Transcript::new(alloc);
+    let report = begun(rt, alloc, limits, plans, acts, &mut transcript);
+    Ended {
+        transcript,
+        report: report.expect(rt, "limits and memory"),
+    }
 }

@@ -1,14 +1,13 @@
 //! Handles that may be dropped, and shares that know how many parts they have.
-ghost use Rattle.std.specs.Prelude.{◌≡◌, Some};
+ghost use Rattle.std.specs.Prelude.{◌≡◌, ◌+◌, ◌^◌, ◌<◌, Some, IfSome, OnSome};
+ghost use Rattle.span_registry.specs.Share.{IsWhole};
 
-use span_id::Fault;
 use span_layers::{Admit, Say};
-use span_outlet::{Drain, Kept, Outlet, Ring};
+use span_outlet::{Drain, Kept, Ring};
 use span_registry::{HANDLE_PARTS, Handle, Registry, Report, Setup, Share, Worker};
-use std::alloc::{AllocError, Global};
-use std::sync::Wait;
+use std::alloc::Global;
+use std::process::Abort;
 use std::sync::ledger::Ledger;
-use std::test::Fail;
 
 /// A handle that is given up where it is dropped.
 pub(crate) struct Held<H: Ledger, C: Ledger, S: Setup> {
@@ -30,32 +29,6 @@ impl<H: Ledger, C: Ledger, S: Setup> Held<H, C, S> {
     }
 }
 
-/// Closes the span of a handle.
-pub(crate) fn close<H: Ledger, C: Ledger, S: Setup, O: Outlet, A: Admit, R: Wait>(
-    rt: &R,
-    registry: &Registry<H, C, S, O, A>,
-    worker: &mut Worker<H, C>,
-    held: Held<H, C, S>,
-) -> Result<bool, (Held<H, C, S>, Fault)> {
-    match registry.try_close(rt, worker, held.into_handle()) {
-        Ok(closed) => Ok(closed),
-        Err((handle, fault)) => Err((Held { handle }, fault)),
-    }
-}
-
-/// Closes the span of a handle, which is given up where that is refused.
-pub(crate) fn spend<H: Ledger, C: Ledger, S: Setup, O: Outlet, A: Admit, R: Wait>(
-    rt: &R,
-    registry: &Registry<H, C, S, O, A>,
-    worker: &mut Worker<H, C>,
-    held: Held<H, C, S>,
-) -> Result<bool, Fault> {
-    match close(rt, registry, worker, held) {
-        Ok(closed) => Ok(closed),
-        Err((_held, fault)) => Err(fault),
-    }
-}
-
 /// A share, and its parts of the two ledgers.
 #[derive(Drop)]
 pub(crate) struct Part<H: Ledger, C: Ledger> {
@@ -63,6 +36,20 @@ pub(crate) struct Part<H: Ledger, C: Ledger> {
     handle_parts: u64,
     call_parts: u64,
     ghost counted: { (share.handle_parts ≡ handle_parts) × (share.call_parts ≡ call_parts) },
+}
+
+// The parts of both ledgers that two parts have together, where these and all other sums fit.
+fn sums<H: Ledger, C: Ledger>(one: &Part<H, C>, other: &Part<H, C>) -> Option<(u64, u64)>
+    ensures handles { IfSome result (λ sums. one.now.handle_parts + other.now.handle_parts ≡ sums.0) }
+    ensures calls { IfSome result (λ sums. one.now.call_parts + other.now.call_parts ≡ sums.1) }
+    ensures units { OnSome result (one.now.share.units + other.now.share.units < 2 ^ 64) }
+    ensures accepted { OnSome result (one.now.share.accepted + other.now.share.accepted < 2 ^ 64) }
+{
+    one.share.units().checked_add(other.share.units())?;
+    one.share.accepted().checked_add(other.share.accepted())?;
+    let handle_parts = one.handle_parts.checked_add(other.handle_parts)?;
+    let call_parts = one.call_parts.checked_add(other.call_parts)?;
+    Some((handle_parts, call_parts))
 }
 
 impl<H: Ledger, C: Ledger> Part<H, C> {
@@ -85,98 +72,100 @@ impl<H: Ledger, C: Ledger> Part<H, C> {
         }
     }
 
-    /// Its units and its accepted calls.
-    pub(crate) fn counts(&self) -> (u64, u64) {
-        (self.share.units(), self.share.accepted())
-    }
-
-    /// Both together, where all sums fit.
-    pub(crate) fn join(self, other: Part<H, C>) -> Option<Part<H, C>> {
-        let handle_parts = self.handle_parts.checked_add(other.handle_parts)?;
-        let call_parts = self.call_parts.checked_add(other.call_parts)?;
-        self.share.units().checked_add(other.share.units())?;
-        self.share.accepted().checked_add(other.share.accepted())?;
-        Some(Part {
+    /// Both together; all sums have to fit.
+    pub(crate) fn join(self, rt: &impl Abort, other: Part<H, C>) -> Part<H, C> {
+        let (handle_parts, call_parts) = sums(&self, &other).expect(rt, "sums that fit");
+        Part {
             share: self.share.join(other.share),
             handle_parts,
             call_parts,
-        })
+        }
     }
 }
 
-// The parts so far with one more, whose units and accepted calls are noted on a line.
+// Notes the units and the accepted calls of a part on a line.
+fn note_counts<H: Ledger, C: Ledger>(
+    rt: &impl Abort,
+    alloc: Global,
+    counts: &mut Vec<u8>,
+    part: &Part<H, C>,
+) {
+    let (units, accepted) = (part.share.units(), part.share.accepted());
+    let line = format!(in alloc; "units {units} accepted {accepted}\n").expect(rt, "memory");
+    counts
+        .extend_from_slice(line.as_bytes())
+        .expect(rt, "memory");
+}
+
+// The parts so far with one more, whose counts are noted.
 fn with_part<H: Ledger, C: Ledger>(
+    rt: &impl Abort,
     alloc: Global,
     counts: &mut Vec<u8>,
     whole: Option<Part<H, C>>,
     part: Part<H, C>,
-) -> Result<Option<Part<H, C>>, Fail> {
-    let (units, accepted) = part.counts();
-    note_counts(alloc, counts, units, accepted)?;
-    let Some(before) = whole else {
-        return Ok(Some(part));
-    };
-    match before.join(part) {
-        Some(both) => Ok(Some(both)),
-        None => Err(Fail::new("the sums are too great")),
+) -> Option<Part<H, C>> {
+    note_counts(rt, alloc, counts, &part);
+    match whole {
+        None => Some(part),
+        Some(before) => Some(before.join(rt, part)),
     }
-}
-
-fn note_counts(
-    alloc: Global,
-    counts: &mut Vec<u8>,
-    units: u64,
-    accepted: u64,
-) -> Result<(), AllocError> {
-    let line = format!(in alloc; "units {units} accepted {accepted}\n")?;
-    counts.extend_from_slice(line.as_bytes())
 }
 
 /// The parts of workers that leave and of handles that are given up, put together; what each had is noted.
 pub(crate) fn gather<H: Ledger, C: Ledger, S: Setup>(
+    rt: &impl Abort,
     alloc: Global,
     counts: &mut Vec<u8>,
     workers: Vec<Worker<H, C>>,
     held: Vec<Held<H, C, S>>,
-) -> Result<Option<Part<H, C>>, Fail> {
+) -> Option<Part<H, C>> {
     let mut whole = None;
     for worker in workers {
-        whole = with_part(alloc, counts, whole, Part::of_worker(worker))?;
+        whole = with_part(rt, alloc, counts, whole, Part::of_worker(worker));
     }
     for one in held {
-        whole = with_part(alloc, counts, whole, Part::of_handle(one))?;
+        whole = with_part(rt, alloc, counts, whole, Part::of_handle(one));
     }
-    Ok(whole)
+    whole
 }
 
-/// The report of a registry with so many workers, if these are all parts.
-pub(crate) fn finished<H: Ledger, C: Ledger, S: Setup, V: Say, A: Admit>(
-    registry: Registry<H, C, S, Kept<V>, A>,
-    workers: u64,
+// The share of a registry with so many workers; these have to be all its parts.
+fn whole_share<H: Ledger, C: Ledger>(
+    rt: &impl Abort,
+    workers: u32,
     whole: Option<Part<H, C>>,
-) -> Option<Report>
+) -> Share<H, C>
+    requires { (H.parts ≡ HANDLE_PARTS) × (C.parts ≡ workers) }
+    ensures { IsWhole H.parts C.parts result }
+{
+    let whole = whole.expect(rt, "a part");
+    assert!(rt; whole.handle_parts == HANDLE_PARTS && whole.call_parts == u64::from(workers));
+    whole.share
+}
+
+/// The report of a registry with so many workers, of which these are all parts.
+pub(crate) fn finished<H: Ledger, C: Ledger, S: Setup, V: Say, A: Admit>(
+    rt: &impl Abort,
+    registry: Registry<H, C, S, Kept<V>, A>,
+    workers: u32,
+    whole: Option<Part<H, C>>,
+) -> Report
     requires { (H.parts ≡ HANDLE_PARTS) × (C.parts ≡ workers) }
 {
-    let whole = whole?;
-    if whole.handle_parts != HANDLE_PARTS || whole.call_parts != workers {
-        return None;
-    }
-    Some(registry.finish_kept(whole.share))
+    registry.finish_kept(whole_share(rt, workers, whole))
 }
 
 /// The same of a registry whose outlet is the ring of this drain.
 pub(crate) fn drained<H: Ledger, C: Ledger, S: Setup, V: Say, A: Admit>(
+    rt: &impl Abort,
     registry: Registry<H, C, S, Ring, A>,
-    workers: u64,
+    workers: u32,
     whole: Option<Part<H, C>>,
     drain: Drain<V>,
-) -> Option<Report>
+) -> Report
     requires parts { (H.parts ≡ HANDLE_PARTS) × (C.parts ≡ workers) }
     requires pair { Some drain.name ≡ S.ring }
 {
-    let whole = whole?;
-    if whole.handle_parts != HANDLE_PARTS || whole.call_parts != workers {
-        return None;
-    }
-    Some(registry.finish(whole.share, drain))
+    registry.finish(whole_share(rt, workers, whole), drain)
 }

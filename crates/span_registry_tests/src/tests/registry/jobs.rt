@@ -1,10 +1,11 @@
 //! What a worker does in a thread of its own: it makes jobs, and enters, closes and leaves their spans.
-use crate::tests::registry::held::{Held, spend};
-use crate::tests::registry::layers::meta_of;
+use crate::tests::registry::acts::{Act, Answer, NEWEST};
+use crate::tests::registry::held::Held;
+use crate::tests::registry::on_registry::call;
 use span_id::{Fault, Id, Level};
-use span_registry::{Outlet, ParentOf, Registry, Setup, Worker};
+use span_registry::{Outlet, Registry, Setup, Worker};
 use std::alloc::Global;
-use std::mem;
+use std::process::Abort;
 use std::sync::Wait;
 use std::sync::ledger::Ledger;
 
@@ -15,7 +16,7 @@ pub(crate) enum Task {
     Make(u32),
     /// Enter the spans of all handles, and tell an event in each.
     Enter,
-    /// Close all handles.
+    /// Close all handles, the newest first.
     Close,
     /// Leave all spans.
     Leave,
@@ -33,170 +34,160 @@ pub(crate) struct Station<H: Ledger, C: Ledger, S: Setup> {
     pub(crate) closed_by_exit: u32,
 }
 
-// A new span that has to be wanted.
-fn new<H: Ledger, C: Ledger, S: Setup, O: Outlet, R: Wait>(
-    rt: &R,
-    alloc: Global,
-    registry: &Registry<H, C, S, O>,
-    worker: &mut Worker<H, C>,
-    name: &str,
-    parent: ParentOf,
-) -> Result<Held<H, C, S>, Fault> {
-    let meta = meta_of(alloc, name, "app", Level::Info)?;
-    match registry.new_span(rt, worker, &meta, &[], parent)? {
-        Some(handle) => Ok(Held { handle }),
-        None => Err(Fault::BadName),
+// The first eight calls of a round: a job with a step inside it, of which one handle is left.
+const JOB: [Act; 8] = [
+    Act::Child("job", 0),
+    Act::Clone(NEWEST),
+    Act::Enter(NEWEST),
+    Act::Event {
+        level: Level::Info,
+        message: "tick",
+        fields: &[],
+    },
+    Act::New("step"),
+    Act::Close(NEWEST),
+    Act::Exit(NEWEST),
+    Act::Close(NEWEST),
+];
+
+const TOCK: Act = Act::Event {
+    level: Level::Info,
+    message: "tock",
+    fields: &[],
+};
+
+// How many spans a call closed, which has to be accepted, and a new span wanted.
+fn closed_by(answer: Answer) -> Result<u32, Fault> {
+    match answer {
+        Answer::Refused(fault) => Err(fault),
+        Answer::NotWanted => Err(Fault::BadName),
+        Answer::Closed(true) => Ok(1),
+        _ => Ok(0),
     }
 }
 
-// An event.
-fn tell<H: Ledger, C: Ledger, S: Setup, O: Outlet, R: Wait>(
+// All calls; how many spans they closed.
+fn make_calls<H: Ledger, C: Ledger, S: Setup, O: Outlet, R: Wait + Abort>(
     rt: &R,
     alloc: Global,
     registry: &Registry<H, C, S, O>,
     worker: &mut Worker<H, C>,
-    message: &str,
-) -> Result<(), Fault> {
-    let meta = meta_of(alloc, "event", "app", Level::Info)?;
-    registry.event(rt, worker, &meta, message, &[])
+    held: &mut Vec<Held<H, C, S>>,
+    acts: &[Act],
+) -> u32 {
+    let mut closed = 0u32;
+    for act in acts {
+        let answer = call(rt, alloc, registry, worker, held, act);
+        let more = closed_by(answer).expect(rt, "a call is refused");
+        closed = closed.saturating_add(more);
+    }
+    closed
 }
 
-// A span that closes at once.
-fn step<H: Ledger, C: Ledger, S: Setup, O: Outlet, R: Wait>(
-    rt: &R,
-    alloc: Global,
-    registry: &Registry<H, C, S, O>,
-    worker: &mut Worker<H, C>,
-) -> Result<(), Fault> {
-    let step = new(rt, alloc, registry, worker, "step", ParentOf::Current)?;
-    spend(rt, registry, worker, step)?;
-    Ok(())
-}
-
-// The calls inside a job.
-fn visit<H: Ledger, C: Ledger, S: Setup, O: Outlet, R: Wait>(
-    rt: &R,
-    alloc: Global,
-    registry: &Registry<H, C, S, O>,
-    worker: &mut Worker<H, C>,
-    job: &mut Held<H, C, S>,
-) -> Result<(), Fault> {
-    registry.enter(rt, worker, &mut job.handle)?;
-    tell(rt, alloc, registry, worker, "tick")?;
-    step(rt, alloc, registry, worker)?;
-    registry.exit(rt, worker, job.handle.id())?;
-    Ok(())
-}
-
-// The same while there is a second handle.
-fn visit_with_two<H: Ledger, C: Ledger, S: Setup, O: Outlet, R: Wait>(
-    rt: &R,
-    alloc: Global,
-    registry: &Registry<H, C, S, O>,
-    worker: &mut Worker<H, C>,
-    job: &mut Held<H, C, S>,
-) -> Result<(), Fault> {
-    let handle = registry.clone_span(rt, worker, &mut job.handle)?;
-    let other = Held { handle };
-    visit(rt, alloc, registry, worker, job)?;
-    spend(rt, registry, worker, other)?;
-    Ok(())
-}
-
-// The first eight calls of a round: a job, with one handle left.
-fn begin_job<H: Ledger, C: Ledger, S: Setup, O: Outlet, R: Wait>(
-    rt: &R,
-    alloc: Global,
-    registry: &Registry<H, C, S, O>,
-    worker: &mut Worker<H, C>,
-) -> Result<Held<H, C, S>, Fault> {
-    let mut job = new(rt, alloc, registry, worker, "job", ParentOf::Root)?;
-    visit_with_two(rt, alloc, registry, worker, &mut job)?;
-    Ok(job)
-}
-
-fn make_jobs<H: Ledger, C: Ledger, S: Setup, O: Outlet, R: Wait>(
+fn make_jobs<H: Ledger, C: Ledger, S: Setup, O: Outlet, R: Wait + Abort>(
     rt: &R,
     alloc: Global,
     registry: &Registry<H, C, S, O>,
     station: &mut Station<H, C, S>,
     rounds: u32,
-) -> Result<(), Fault> {
+) {
+    let Station { worker, held, .. } = station;
     for _ in 0..rounds {
-        let job = begin_job(rt, alloc, registry, &mut station.worker)?;
-        station.held.push(job)?;
+        make_calls(rt, alloc, registry, worker, held, &JOB);
     }
-    Ok(())
 }
 
-fn enter_jobs<H: Ledger, C: Ledger, S: Setup, O: Outlet, R: Wait>(
+fn enter_jobs<H: Ledger, C: Ledger, S: Setup, O: Outlet, R: Wait + Abort>(
     rt: &R,
     alloc: Global,
     registry: &Registry<H, C, S, O>,
     station: &mut Station<H, C, S>,
-) -> Result<(), Fault> {
-    for job in &mut station.held {
-        registry.enter(rt, &mut station.worker, &mut job.handle)?;
-        tell(rt, alloc, registry, &mut station.worker, "tock")?;
-        station.inside.push(job.handle.id())?;
+) {
+    note_ids(rt, station);
+    let Station {
+        worker,
+        held,
+        inside,
+        ..
+    } = station;
+    for id in inside.as_slice() {
+        let acts = [Act::Enter(id.get()), TOCK];
+        make_calls(rt, alloc, registry, worker, held, &acts);
     }
-    Ok(())
 }
 
-fn close_jobs<H: Ledger, C: Ledger, S: Setup, O: Outlet, R: Wait>(
+// The spans of all handles are those that the worker is inside.
+fn note_ids<H: Ledger, C: Ledger, S: Setup>(rt: &impl Abort, station: &mut Station<H, C, S>) {
+    for job in station.held.as_slice() {
+        station.inside.push(job.handle.id()).expect(rt, "memory");
+    }
+}
+
+fn close_jobs<H: Ledger, C: Ledger, S: Setup, O: Outlet, R: Wait + Abort>(
     rt: &R,
     alloc: Global,
     registry: &Registry<H, C, S, O>,
     station: &mut Station<H, C, S>,
-) -> Result<(), Fault> {
-    let jobs = mem::replace(&mut station.held, Vec::new(alloc));
-    for job in jobs {
-        let closed = spend(rt, registry, &mut station.worker, job)?;
-        station.closed_by_close = station.closed_by_close.saturating_add(u32::from(closed));
+) {
+    let Station {
+        worker,
+        held,
+        closed_by_close,
+        ..
+    } = station;
+    for _ in 0..held.len() {
+        let closed = make_calls(rt, alloc, registry, worker, held, &[Act::Close(NEWEST)]);
+        *closed_by_close = closed_by_close.saturating_add(closed);
     }
-    Ok(())
 }
 
-fn leave_jobs<H: Ledger, C: Ledger, S: Setup, O: Outlet, R: Wait>(
+fn leave_jobs<H: Ledger, C: Ledger, S: Setup, O: Outlet, R: Wait + Abort>(
     rt: &R,
+    alloc: Global,
     registry: &Registry<H, C, S, O>,
     station: &mut Station<H, C, S>,
-) -> Result<(), Fault> {
-    for id in &station.inside {
-        let closed = registry.exit(rt, &mut station.worker, *id)?;
-        station.closed_by_exit = station.closed_by_exit.saturating_add(u32::from(closed));
+) {
+    let Station {
+        worker,
+        held,
+        inside,
+        closed_by_exit,
+        ..
+    } = station;
+    for id in inside.as_slice() {
+        let closed = make_calls(rt, alloc, registry, worker, held, &[Act::Exit(id.get())]);
+        *closed_by_exit = closed_by_exit.saturating_add(closed);
     }
-    Ok(())
+}
+
+fn perform<H: Ledger, C: Ledger, S: Setup, O: Outlet, R: Wait + Abort>(
+    rt: &R,
+    alloc: Global,
+    registry: &Registry<H, C, S, O>,
+    station: &mut Station<H, C, S>,
+    task: Task,
+) {
+    match task {
+        Task::Make(rounds) => make_jobs(rt, alloc, registry, station, rounds),
+        Task::Enter => enter_jobs(rt, alloc, registry, station),
+        Task::Close => close_jobs(rt, alloc, registry, station),
+        Task::Leave => leave_jobs(rt, alloc, registry, station),
+        Task::Round => {
+            make_jobs(rt, alloc, registry, station, 1);
+            close_jobs(rt, alloc, registry, station);
+        }
+    }
 }
 
 /// What one thread does.
-pub(crate) fn work<H: Ledger, C: Ledger, S: Setup, O: Outlet, R: Wait>(
+pub(crate) fn work<H: Ledger, C: Ledger, S: Setup, O: Outlet, R: Wait + Abort>(
     rt: &R,
     alloc: Global,
     registry: &Registry<H, C, S, O>,
     station: Station<H, C, S>,
     task: Task,
-) -> Result<Station<H, C, S>, Fault> {
+) -> Station<H, C, S> {
     let mut station = station;
-    perform(rt, alloc, registry, &mut station, task)?;
-    Ok(station)
-}
-
-fn perform<H: Ledger, C: Ledger, S: Setup, O: Outlet, R: Wait>(
-    rt: &R,
-    alloc: Global,
-    registry: &Registry<H, C, S, O>,
-    station: &mut Station<H, C, S>,
-    task: Task,
-) -> Result<(), Fault> {
-    match task {
-        Task::Make(rounds) => make_jobs(rt, alloc, registry, station, rounds),
-        Task::Enter => enter_jobs(rt, alloc, registry, station),
-        Task::Close => close_jobs(rt, alloc, registry, station),
-        Task::Leave => leave_jobs(rt, registry, station),
-        Task::Round => {
-            make_jobs(rt, alloc, registry, station, 1)?;
-            close_jobs(rt, alloc, registry, station)
-        }
-    }
+    perform(rt, alloc, registry, &mut station, task);
+    station
 }

@@ -10,7 +10,7 @@ use span_layers::{
     Filters, FmtSpan, Form, Hooks, Layer, Layers, Note, Rule, Style, Tellers, admits, text,
 };
 use std::alloc::{AllocError, Global};
-use std::test::Fail;
+use std::process::Abort;
 
 /// A layer in few words: its form, the kinds that it wants, and the one pair of its rule.
 pub(crate) type Plan<'a> = (Form, FmtSpan, &'a str, Level);
@@ -36,48 +36,53 @@ fn hooks(alloc: Global) -> Result<Hooks, AllocError> {
     ))
 }
 
-fn layer(alloc: Global, plan: &Plan) -> Result<Layer, AllocError> {
-    let (form, spans, prefix, level) = plan;
+fn rule(rt: &impl Abort, alloc: Global, prefix: &str, level: Level) -> Rule {
     let mut pairs = Vec::new(alloc);
-    pairs.push((String::from_str(alloc, prefix)?, *level))?;
-    Ok(Layer {
+    pairs
+        .push((owned(rt, alloc, prefix), level))
+        .expect(rt, "memory");
+    Rule { pairs }
+}
+
+fn layer(rt: &impl Abort, alloc: Global, plan: &Plan) -> Layer {
+    let (form, spans, prefix, level) = plan;
+    Layer {
         style: Style {
             form: *form,
             spans: *spans,
         },
-        rule: Rule { pairs },
-        hooks: hooks(alloc)?,
-    })
-}
-
-// Adds a layer of this plan.
-fn add(alloc: Global, layers: &mut Layers, plan: &Plan) -> Result<(), Fail> {
-    match layers.add(layer(alloc, plan)?) {
-        Ok(_) => Ok(()),
-        Err(_) => Err(Fail::new("a layer too many, or no memory")),
+        rule: rule(rt, alloc, prefix, *level),
+        hooks: hooks(alloc).expect(rt, "memory"),
     }
 }
 
 /// The two parts of layers of these plans.
-pub(crate) fn layers(alloc: Global, plans: &[Plan]) -> Result<(Filters, Tellers), Fail> {
+pub(crate) fn layers(rt: &impl Abort, alloc: Global, plans: &[Plan]) -> (Filters, Tellers) {
     let mut layers = Layers::new(alloc);
     for plan in plans {
-        add(alloc, &mut layers, plan)?;
+        let added = layers.add(layer(rt, alloc, plan)).ok();
+        added.expect(rt, "a layer too many, or no memory");
     }
-    Ok(layers.split())
+    layers.split()
+}
+
+// A text of its own.
+fn owned(rt: &impl Abort, alloc: Global, text: &str) -> String {
+    String::from_str(alloc, text).expect(rt, "memory")
 }
 
 pub(crate) fn meta_of(
+    rt: &impl Abort,
     alloc: Global,
     name: &str,
     target: &str,
     level: Level,
-) -> Result<Meta, AllocError> {
-    Ok(Meta {
-        name: String::from_str(alloc, name)?,
-        target: String::from_str(alloc, target)?,
+) -> Meta {
+    Meta {
+        name: owned(rt, alloc, name),
+        target: owned(rt, alloc, target),
         level,
-    })
+    }
 }
 
 /// What a call says: a meta and fields.
@@ -89,23 +94,30 @@ pub(crate) struct Said {
 
 /// A meta and fields of these texts.
 pub(crate) fn said_of(
+    rt: &impl Abort,
     alloc: Global,
     names: (&str, &str),
     level: Level,
     pairs: &[(&str, &str)],
-) -> Result<Said, AllocError> {
-    let meta = meta_of(alloc, names.0, names.1, level)?;
-    let fields = fields_of(alloc, pairs)?;
-    Ok(Said { meta, fields })
+) -> Said {
+    Said {
+        meta: meta_of(rt, alloc, names.0, names.1, level),
+        fields: fields_of(rt, alloc, pairs),
+    }
 }
 
-pub(crate) fn fields_of(alloc: Global, pairs: &[(&str, &str)]) -> Result<Vec<Field>, AllocError> {
+fn field_of(rt: &impl Abort, alloc: Global, key: &str, value: &str) -> Field {
+    Field {
+        key: owned(rt, alloc, key),
+        value: owned(rt, alloc, value),
+    }
+}
+
+fn fields_of(rt: &impl Abort, alloc: Global, pairs: &[(&str, &str)]) -> Vec<Field> {
     let mut fields = Vec::new(alloc);
     for (key, value) in pairs {
-        fields.push(Field {
-            key: String::from_str(alloc, key)?,
-            value: String::from_str(alloc, value)?,
-        })?;
+        let field = field_of(rt, alloc, key, value);
+        fields.push(field).expect(rt, "memory");
     }
-    Ok(fields)
+    fields
 }

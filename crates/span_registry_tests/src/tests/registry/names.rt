@@ -63,7 +63,7 @@ fn one_crate_is_named(rt: HostRuntime) -> Result<(), Fail> {
     if checked.limits().workers == 0 {
         return Err(Fail::new("there is no worker"));
     }
-    let meta = meta_of(alloc, "a", "app", Level::Info)?;
+    let meta = meta_of(&rt, alloc, "a", "app", Level::Info);
     let layers: Layers = Layers::new(alloc);
     let (filters, tellers) = layers.split();
     let outlet = Kept::new(alloc, tellers);

@@ -1,215 +1,251 @@
 //! Calls on a core, which has no lock.
 ghost use Rattle.std.specs.Prelude.{◌≡◌, ◌<◌, []};
 
-use crate::tests::registry::acts::{Act, Answer, Fields, Transcript, lines_text, note_found};
-use crate::tests::registry::layers::{Plan, fields_of, layers, said_of};
-use span_id::{Checked, Fault, Id, Level, Limits, copy_text};
+use crate::tests::registry::acts::{
+    Act, Answer, Sight, Transcript, lines_text, looked_for, parent_of, push_sight, said_by,
+};
+use crate::tests::registry::layers::{Plan, Said, layers};
+use crate::tests::registry::same::{is_text, same};
+use span_id::{Checked, Fault, Id, Limits};
 use span_layers::{Filters, Say};
 use span_outlet::Kept;
-use span_registry::{Core, Found, ParentOf};
-use std::alloc::{AllocError, Global};
-use std::test::Fail;
+use span_registry::{Core, Line, Outlet, ParentOf};
+use std::alloc::Global;
+use std::process::Abort;
+
+// A call that is told a worker and a span, and no more.
+fn hold<O: Outlet>(core: &mut Core<O>, worker: u32, act: &Act, id: Id) -> Answer
+    requires { worker < core.old.limits.workers }
+{
+    match act {
+        Act::Clone(_) => match core.clone_span(worker, id) {
+            Ok(()) => Answer::Cloned,
+            Err(fault) => Answer::Refused(fault),
+        },
+        Act::Enter(_) => match core.enter(worker, id) {
+            Ok(first) => Answer::Entered(first),
+            Err(fault) => Answer::Refused(fault),
+        },
+        Act::Exit(_) => match core.exit(worker, id) {
+            Ok(closed) => Answer::Closed(closed),
+            Err(fault) => Answer::Refused(fault),
+        },
+        _ => match core.try_close(worker, id) {
+            Ok(closed) => Answer::Closed(closed),
+            Err(fault) => Answer::Refused(fault),
+        },
+    }
+}
+
+fn hold_numbered<O: Outlet>(core: &mut Core<O>, worker: u32, act: &Act, number: u64) -> Answer
+    requires { worker < core.old.limits.workers }
+{
+    match Id::from_u64(number) {
+        Some(id) => hold(core, worker, act, id),
+        None => Answer::Refused(Fault::Unknown),
+    }
+}
+
+fn make<O: Outlet>(core: &mut Core<O>, worker: u32, parent: ParentOf, said: &Said) -> Answer
+    requires { worker < core.old.limits.workers }
+{
+    match core.new_span(worker, &said.meta, said.fields.as_slice(), parent) {
+        Ok(Some(id)) => Answer::Made(id),
+        Ok(None) => Answer::NotWanted,
+        Err(fault) => Answer::Refused(fault),
+    }
+}
+
+fn tell<O: Outlet>(core: &mut Core<O>, worker: u32, message: &str, said: &Said) -> Answer
+    requires { worker < core.old.limits.workers }
+{
+    match core.event(worker, &said.meta, message, said.fields.as_slice()) {
+        Ok(()) => Answer::Told,
+        Err(fault) => Answer::Refused(fault),
+    }
+}
+
+fn record<O: Outlet>(core: &mut Core<O>, worker: u32, number: u64, said: &Said) -> Answer
+    requires { worker < core.old.limits.workers }
+{
+    let Some(id) = Id::from_u64(number) else {
+        return Answer::Refused(Fault::Unknown);
+    };
+    match core.record(worker, id, said.fields.as_slice()) {
+        Ok(()) => Answer::Recorded,
+        Err(fault) => Answer::Refused(fault),
+    }
+}
+
+// A call that is told something else than a worker and a span.
+fn pass<O: Outlet>(core: &mut Core<O>, worker: u32, act: &Act, said: &Said) -> Answer
+    requires { worker < core.old.limits.workers }
+{
+    match act {
+        Act::Event { message, .. } => tell(core, worker, message, said),
+        Act::Record(number, _) => record(core, worker, *number, said),
+        _ => make(core, worker, parent_of(act), said),
+    }
+}
+
+fn give<O: Outlet>(
+    rt: &impl Abort,
+    alloc: Global,
+    core: &mut Core<O>,
+    worker: u32,
+    act: &Act,
+) -> Answer
+    requires { worker < core.old.limits.workers }
+{
+    pass(core, worker, act, &said_by(rt, alloc, act))
+}
+
+// What a core answers to a call. It has no drain, and no worker of which something is counted.
+fn call<O: Outlet>(
+    rt: &impl Abort,
+    alloc: Global,
+    core: &mut Core<O>,
+    worker: u32,
+    act: &Act,
+) -> Answer {
+    if worker >= core.limits().workers {
+        return Answer::NoWorker;
+    }
+    match act {
+        Act::Clone(number) | Act::Enter(number) | Act::Exit(number) | Act::Close(number) => {
+            hold_numbered(core, worker, act, *number)
+        }
+        // A look that names no id.
+        Act::Find(_) => Answer::Refused(Fault::Unknown),
+        Act::Step | Act::Count => Answer::Stepped(None),
+        _ => give(rt, alloc, core, worker, act),
+    }
+}
 
 // What `find` answers, as a registry would.
-fn found<V: Say>(alloc: Global, core: &Core<Kept<V>>, id: Id) -> Result<Option<Found>, Fault> {
+fn note_found<O: Outlet>(
+    rt: &impl Abort,
+    alloc: Global,
+    core: &Core<O>,
+    id: Id,
+    finds: &mut Vec<u8>,
+) {
     let Some(span) = core.find(id) else {
-        return Ok(None);
+        return push_sight(rt, alloc, finds, None);
     };
-    Ok(Some(Found {
-        name: copy_text(alloc, span.meta.as_meta().name.as_str())?,
-        parent: span.parent,
+    let sight = Sight {
+        name: span.meta.as_meta().name.as_str(),
+        parent: span.parent.map_or(0, Id::get),
         handles: span.handles,
         entries: span.entries,
         count: span.count,
-    }))
+    };
+    push_sight(rt, alloc, finds, Some(&sight));
 }
 
-// A call on a span.
-fn call_on<V: Say>(
+// A call or a look.
+fn note_act<O: Outlet>(
+    rt: &impl Abort,
     alloc: Global,
-    core: &mut Core<Kept<V>>,
-    worker: u32,
-    act: &Act,
-    id: Id,
-) -> Result<Answer, Fault>
-    requires { worker < core.old.limits.workers }
-    ensures limits { core.new.limits ≡ core.old.limits }
-{
-    match act {
-        Act::Clone(_) => {
-            core.clone_span(worker, id)?;
-            Ok(Answer::Cloned)
-        }
-        Act::Enter(_) => Ok(Answer::Entered(core.enter(worker, id)?)),
-        Act::Exit(_) => Ok(Answer::Closed(core.exit(worker, id)?)),
-        Act::Record(_, fields) => {
-            let fields = fields_of(alloc, fields)?;
-            core.record(worker, id, fields.as_slice())?;
-            Ok(Answer::Recorded)
-        }
-        Act::Find(_) => Ok(Answer::Found(found(alloc, core, id)?)),
-        _ => Ok(Answer::Closed(core.try_close(worker, id)?)),
-    }
-}
-
-// A new span.
-fn make_span<V: Say>(
-    alloc: Global,
-    core: &mut Core<Kept<V>>,
-    worker: u32,
-    names: (&str, &str),
-    fields: Fields,
-    parent: ParentOf,
-) -> Result<Answer, Fault>
-    requires { worker < core.old.limits.workers }
-    ensures limits { core.new.limits ≡ core.old.limits }
-{
-    let said = said_of(alloc, names, Level::Info, fields)?;
-    let made = core.new_span(worker, &said.meta, said.fields.as_slice(), parent)?;
-    Ok(made.map_or(Answer::NotWanted, Answer::Made))
-}
-
-// An event.
-fn tell<V: Say>(
-    alloc: Global,
-    core: &mut Core<Kept<V>>,
-    worker: u32,
-    level: Level,
-    message: &str,
-    fields: Fields,
-) -> Result<Answer, Fault>
-    requires { worker < core.old.limits.workers }
-    ensures limits { core.new.limits ≡ core.old.limits }
-{
-    let said = said_of(alloc, ("event", "app"), level, fields)?;
-    core.event(worker, &said.meta, message, said.fields.as_slice())?;
-    Ok(Answer::Told)
-}
-
-// A call.
-fn call<V: Say>(
-    alloc: Global,
-    core: &mut Core<Kept<V>>,
-    worker: u32,
-    act: &Act,
-) -> Result<Answer, Fault>
-    requires { worker < core.old.limits.workers }
-    ensures limits { core.new.limits ≡ core.old.limits }
-{
-    match act {
-        Act::New {
-            name,
-            target,
-            parent,
-            fields,
-        } => make_span(alloc, core, worker, (name, target), fields, *parent),
-        Act::Event {
-            level,
-            message,
-            fields,
-        } => tell(alloc, core, worker, *level, message, fields),
-        // A core has no drain, and no worker of which something is counted.
-        Act::Step | Act::Count => Ok(Answer::Stepped(None)),
-        Act::Clone(number)
-        | Act::Enter(number)
-        | Act::Exit(number)
-        | Act::Close(number)
-        | Act::Record(number, _)
-        | Act::Find(number) => {
-            let id = Id::from_u64(*number).ok_or(Fault::Unknown)?;
-            call_on(alloc, core, worker, act, id)
-        }
-    }
-}
-
-// A call.
-fn note_call<V: Say>(
-    alloc: Global,
-    core: &mut Core<Kept<V>>,
+    core: &mut Core<O>,
     worker: u32,
     act: &Act,
     transcript: &mut Transcript,
-) -> Result<(), AllocError>
-    requires { worker < core.old.limits.workers }
-    ensures limits { core.new.limits ≡ core.old.limits }
-{
-    let answer = call(alloc, core, worker, act).unwrap_or_else(Answer::Refused);
-    transcript.answer(alloc, &answer)
+) {
+    match looked_for(act) {
+        Some(id) => note_found(rt, alloc, core, id, &mut transcript.answers),
+        None => {
+            let answer = call(rt, alloc, core, worker, act);
+            transcript.answer(rt, alloc, &answer);
+        }
+    }
 }
 
 // What `find` answers of each span.
-fn note_finds<V: Say>(
+fn note_finds<O: Outlet>(
+    rt: &impl Abort,
     alloc: Global,
-    core: &Core<Kept<V>>,
-    ids: &[Id],
-    finds: &mut Vec<u8>,
-) -> Result<(), Fault> {
-    for id in ids {
-        let found = found(alloc, core, *id)?;
-        note_found(alloc, finds, &found)?;
+    core: &Core<O>,
+    transcript: &mut Transcript,
+) {
+    let Transcript { ids, finds, .. } = transcript;
+    for id in ids.as_slice() {
+        note_found(rt, alloc, core, *id, finds);
     }
-    Ok(())
 }
 
 // All calls, each made by the worker beside it, and what `find` answers after each.
-fn calls<V: Say>(
+fn calls<O: Outlet>(
+    rt: &impl Abort,
     alloc: Global,
-    core: &mut Core<Kept<V>>,
-    workers: u32,
+    core: &mut Core<O>,
     acts: &[(u32, Act)],
     transcript: &mut Transcript,
-) -> Result<(), Fail>
-    requires { workers ≡ core.old.limits.workers }
-    ensures limits { core.new.limits ≡ core.old.limits }
-{
+) {
     for (worker, act) in acts {
-        if *worker >= workers {
-            return Err(Fail::new("there is no such worker"));
-        }
-        note_call(alloc, core, *worker, act, transcript)?;
-        let Transcript { ids, finds, .. } = &mut *transcript;
-        note_finds(alloc, core, ids.as_slice(), finds)?;
+        note_act(rt, alloc, core, *worker, act, transcript);
+        note_finds(rt, alloc, core, transcript);
     }
-    Ok(())
 }
 
-// What is answered to all calls, and the lines.
-fn answered<V: Say>(
+/// What a core is to have answered to calls, `find` after each of them, and its lines.
+#[derive(Clone, Copy)]
+pub(crate) struct Expected<'a> {
+    pub(crate) answers: &'a str,
+    pub(crate) finds: &'a [u8],
+    pub(crate) lines: &'a str,
+}
+
+// The lines, and what was answered.
+fn are_expected(
+    rt: &impl Abort,
     alloc: Global,
-    core: &mut Core<Kept<V>>,
-    workers: u32,
-    acts: &[(u32, Act)],
-) -> Result<(Transcript, String), Fail>
-    requires { workers ≡ core.old.limits.workers }
-{
-    let mut transcript = Transcript::new(alloc);
-    calls(alloc, core, workers, acts, &mut transcript)?;
-    let lines = lines_text(alloc, core.outlet().all())?;
-    Ok((transcript, lines))
+    lines: &[Line],
+    transcript: &Transcript,
+    expected: &Expected,
+) {
+    is_text(rt, transcript.answers.as_slice(), expected.answers);
+    same(rt, transcript.finds.as_slice(), expected.finds);
+    let text = lines_text(rt, alloc, lines);
+    is_text(rt, text.as_slice(), expected.lines);
 }
 
-// The same for a new core.
+// A new core answers so.
 fn begun<V: Say>(
+    rt: &impl Abort,
     alloc: Global,
     checked: &Checked,
     filters: Filters,
     outlet: Kept<V>,
     acts: &[(u32, Act)],
-) -> Result<(Transcript, String), Fail>
+    expected: &Expected,
+)
     requires { outlet.sent ≡ [] }
 {
-    let mut core = Core::new(alloc, checked, filters, outlet)?;
-    answered(alloc, &mut core, checked.limits().workers, acts)
+    let mut core = Core::new(alloc, checked, filters, outlet).expect(rt, "memory");
+    let mut transcript = Transcript::new(alloc);
+    calls(rt, alloc, &mut core, acts, &mut transcript);
+    are_expected(rt, alloc, core.outlet().all(), &transcript, expected);
 }
 
-/// What a new core with these layers answers to the calls, and the lines.
-pub(crate) fn on_core(
+/// A new core with these layers answers so to the calls.
+pub(crate) fn core_answers(
+    rt: &impl Abort,
     alloc: Global,
     limits: Limits,
     plans: &[Plan],
     acts: &[(u32, Act)],
-) -> Result<(Transcript, String), Fail> {
-    let checked = limits.check()?;
-    let (filters, tellers) = layers(alloc, plans)?;
-    begun(alloc, &checked, filters, Kept::new(alloc, tellers), acts)
+    expected: &Expected,
+) {
+    let checked = limits.check().expect(rt, "limits");
+    let (filters, tellers) = layers(rt, alloc, plans);
+    begun(
+        rt,
+        alloc,
+        &checked,
+        filters,
+        Kept::new(alloc, tellers),
+        acts,
+        expected,
+    );
 }

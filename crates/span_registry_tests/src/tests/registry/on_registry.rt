@@ -1,63 +1,69 @@
 //! Calls on a registry, with the handles that it gave.
 ghost use Rattle.std.specs.Prelude.{◌≡◌};
 
-use crate::tests::registry::acts::{Act, Answer, Fields, Transcript, note_found};
-use crate::tests::registry::held::{Held, close};
-use crate::tests::registry::layers::{fields_of, said_of};
+use crate::tests::registry::acts::{
+    Act, Answer, NEWEST, Sight, Transcript, looked_for, parent_of, push_sight, said_by,
+};
+use crate::tests::registry::held::Held;
+use crate::tests::registry::layers::Said;
 use crate::tests::registry::steps::Steps;
-use span_id::{Fault, Id, Level};
-use span_registry::{HANDLE_PARTS, Handle, Outlet, ParentOf, Registry, Setup, Worker};
-use std::alloc::{AllocError, Global};
+use span_id::{Fault, Id};
+use span_registry::{Found, HANDLE_PARTS, Handle, Outlet, ParentOf, Registry, Setup, Worker};
+use std::alloc::Global;
+use std::process::Abort;
 use std::sync::Wait;
 use std::sync::ledger::Ledger;
-use std::test::Fail;
 
-// Keeps the handle of a new span.
+// Keeps a handle that came with this answer.
 fn keep<H: Ledger, C: Ledger, S: Setup>(
     held: &mut Vec<Held<H, C, S>>,
-    made: Option<Handle<H, C, S>>,
-) -> Result<Answer, Fault> {
-    let Some(handle) = made else {
-        return Ok(Answer::NotWanted);
-    };
-    let id = handle.id();
-    held.push(Held { handle })?;
-    Ok(Answer::Made(id))
+    handle: Handle<H, C, S>,
+    answer: Answer,
+) -> Answer {
+    match held.push(Held { handle }) {
+        Ok(()) => answer,
+        Err(_) => Answer::Refused(Fault::Memory),
+    }
 }
 
 // A new span, whose handle is kept.
-fn make_span<H: Ledger, C: Ledger, S: Setup, O: Outlet, R: Wait>(
+fn make<H: Ledger, C: Ledger, S: Setup, O: Outlet, R: Wait>(
     rt: &R,
-    alloc: Global,
     registry: &Registry<H, C, S, O>,
     worker: &mut Worker<H, C>,
     held: &mut Vec<Held<H, C, S>>,
-    names: (&str, &str),
-    fields: Fields,
     parent: ParentOf,
-) -> Result<Answer, Fault> {
-    let said = said_of(alloc, names, Level::Info, fields)?;
-    let made = registry.new_span(rt, worker, &said.meta, said.fields.as_slice(), parent)?;
-    keep(held, made)
+    said: &Said,
+) -> Answer {
+    match registry.new_span(rt, worker, &said.meta, said.fields.as_slice(), parent) {
+        Ok(Some(handle)) => {
+            let made = Answer::Made(handle.id());
+            keep(held, handle, made)
+        }
+        Ok(None) => Answer::NotWanted,
+        Err(fault) => Answer::Refused(fault),
+    }
 }
 
 // An event.
 fn tell<H: Ledger, C: Ledger, S: Setup, O: Outlet, R: Wait>(
     rt: &R,
-    alloc: Global,
     registry: &Registry<H, C, S, O>,
     worker: &mut Worker<H, C>,
-    level: Level,
     message: &str,
-    fields: Fields,
-) -> Result<Answer, Fault> {
-    let said = said_of(alloc, ("event", "app"), level, fields)?;
-    registry.event(rt, worker, &said.meta, message, said.fields.as_slice())?;
-    Ok(Answer::Told)
+    said: &Said,
+) -> Answer {
+    match registry.event(rt, worker, &said.meta, message, said.fields.as_slice()) {
+        Ok(()) => Answer::Told,
+        Err(fault) => Answer::Refused(fault),
+    }
 }
 
 // The place of a handle of this id.
 fn place_of<H: Ledger, C: Ledger, S: Setup>(held: &[Held<H, C, S>], number: u64) -> Option<usize> {
+    if number == NEWEST {
+        return held.len().checked_sub(1);
+    }
     for (place, one) in held.iter().enumerate() {
         if one.handle.id().get() == number {
             return Some(place);
@@ -66,106 +72,119 @@ fn place_of<H: Ledger, C: Ledger, S: Setup>(held: &[Held<H, C, S>], number: u64)
     None
 }
 
-// A call that is lent a handle.
-fn call_on<H: Ledger, C: Ledger, S: Setup, O: Outlet, R: Wait>(
+// A handle of this id.
+fn lent<'a, H: Ledger, C: Ledger, S: Setup>(
+    held: &'a mut Vec<Held<H, C, S>>,
+    number: u64,
+) -> Option<&'a mut Held<H, C, S>> {
+    let place = place_of(held.as_slice(), number)?;
+    held.get_mut(place)
+}
+
+// Fields for the span of a handle.
+fn record<H: Ledger, C: Ledger, S: Setup, O: Outlet, R: Wait>(
     rt: &R,
-    alloc: Global,
     registry: &Registry<H, C, S, O>,
     worker: &mut Worker<H, C>,
     held: &mut Vec<Held<H, C, S>>,
-    act: &Act,
     number: u64,
-) -> Result<Answer, Fault> {
-    let place = place_of(held.as_slice(), number).ok_or(Fault::Unknown)?;
-    let one = held.get_mut(place).ok_or(Fault::Unknown)?;
-    match act {
-        Act::Clone(_) => {
-            let handle = registry.clone_span(rt, worker, &mut one.handle)?;
-            held.push(Held { handle })?;
-            Ok(Answer::Cloned)
-        }
-        Act::Record(_, fields) => {
-            let fields = fields_of(alloc, fields)?;
-            registry.record(rt, worker, &mut one.handle, fields.as_slice())?;
-            Ok(Answer::Recorded)
-        }
-        _ => Ok(Answer::Entered(registry.enter(rt, worker, &mut one.handle)?)),
+    said: &Said,
+) -> Answer {
+    let Some(one) = lent(held, number) else {
+        return Answer::Refused(Fault::Unknown);
+    };
+    match registry.record(rt, worker, &mut one.handle, said.fields.as_slice()) {
+        Ok(()) => Answer::Recorded,
+        Err(fault) => Answer::Refused(fault),
     }
 }
 
-// Gives a handle back.
+// A handle more of the span of a handle.
+fn clone_one<H: Ledger, C: Ledger, S: Setup, O: Outlet, R: Wait>(
+    rt: &R,
+    registry: &Registry<H, C, S, O>,
+    worker: &mut Worker<H, C>,
+    held: &mut Vec<Held<H, C, S>>,
+    number: u64,
+) -> Answer {
+    let Some(one) = lent(held, number) else {
+        return Answer::Refused(Fault::Unknown);
+    };
+    match registry.clone_span(rt, worker, &mut one.handle) {
+        Ok(handle) => keep(held, handle, Answer::Cloned),
+        Err(fault) => Answer::Refused(fault),
+    }
+}
+
+// The worker enters the span of a handle.
+fn enter<H: Ledger, C: Ledger, S: Setup, O: Outlet, R: Wait>(
+    rt: &R,
+    registry: &Registry<H, C, S, O>,
+    worker: &mut Worker<H, C>,
+    held: &mut Vec<Held<H, C, S>>,
+    number: u64,
+) -> Answer {
+    let Some(one) = lent(held, number) else {
+        return Answer::Refused(Fault::Unknown);
+    };
+    match registry.enter(rt, worker, &mut one.handle) {
+        Ok(first) => Answer::Entered(first),
+        Err(fault) => Answer::Refused(fault),
+    }
+}
+
+// Gives a handle back, which is kept where that is refused.
 fn give_back<H: Ledger, C: Ledger, S: Setup, O: Outlet, R: Wait>(
     rt: &R,
     registry: &Registry<H, C, S, O>,
     worker: &mut Worker<H, C>,
     held: &mut Vec<Held<H, C, S>>,
-    number: u64,
-) -> Result<Answer, Fault> {
-    let place = place_of(held.as_slice(), number).ok_or(Fault::Unknown)?;
-    if place >= held.len() {
-        return Err(Fault::Unknown);
-    }
-    match close(rt, registry, worker, held.swap_remove(place)) {
-        Ok(closed) => Ok(Answer::Closed(closed)),
-        Err((one, fault)) => {
-            held.push(one)?;
-            Err(fault)
-        }
+    handle: Handle<H, C, S>,
+) -> Answer {
+    match registry.try_close(rt, worker, handle) {
+        Ok(closed) => Answer::Closed(closed),
+        Err((handle, fault)) => keep(held, handle, Answer::Refused(fault)),
     }
 }
 
-// A call that takes an id and no handle.
-fn call_by_id<H: Ledger, C: Ledger, S: Setup, O: Outlet, R: Wait>(
+// Gives a handle of this id back.
+fn close<H: Ledger, C: Ledger, S: Setup, O: Outlet, R: Wait>(
     rt: &R,
-    alloc: Global,
     registry: &Registry<H, C, S, O>,
-    worker: &mut Worker<H, C>,
-    act: &Act,
-    number: u64,
-) -> Result<Answer, Fault> {
-    let id = Id::from_u64(number).ok_or(Fault::Unknown)?;
-    match act {
-        Act::Find(_) => Ok(Answer::Found(registry.find(rt, alloc, id)?)),
-        _ => Ok(Answer::Closed(registry.exit(rt, worker, id)?)),
-    }
-}
-
-// A call, or a step of the drain.
-fn call<H: Ledger, C: Ledger, S: Setup, O: Outlet, D: Steps, R: Wait>(
-    rt: &R,
-    alloc: Global,
-    registry: &Registry<H, C, S, O>,
-    drain: &mut D,
     worker: &mut Worker<H, C>,
     held: &mut Vec<Held<H, C, S>>,
-    act: &Act,
-) -> Result<Answer, Fault>
-    ensures name { D.name drain.new ≡ D.name drain.old }
-{
-    match *act {
-        Act::New {
-            name,
-            target,
-            parent,
-            fields,
-        } => {
-            let names = (name, target);
-            make_span(rt, alloc, registry, worker, held, names, fields, parent)
+    number: u64,
+) -> Answer {
+    match place_of(held.as_slice(), number) {
+        Some(place) if place < held.len() => {
+            let handle = held.swap_remove(place).into_handle();
+            give_back(rt, registry, worker, held, handle)
         }
-        Act::Event {
-            level,
-            message,
-            fields,
-        } => tell(rt, alloc, registry, worker, level, message, fields),
-        Act::Exit(number) | Act::Find(number) => {
-            call_by_id(rt, alloc, registry, worker, act, number)
-        }
-        Act::Close(number) => give_back(rt, registry, worker, held, number),
-        Act::Count => Ok(counted(worker)),
-        Act::Step => Ok(Answer::Stepped(drain.step())),
-        Act::Clone(number) | Act::Enter(number) | Act::Record(number, _) => {
-            call_on(rt, alloc, registry, worker, held, act, number)
-        }
+        _ => Answer::Refused(Fault::Unknown),
+    }
+}
+
+// The id of this number, or that of the newest handle.
+fn id_of<H: Ledger, C: Ledger, S: Setup>(held: &[Held<H, C, S>], number: u64) -> Option<Id> {
+    if number == NEWEST {
+        return held.last().map(|one| one.handle.id());
+    }
+    Id::from_u64(number)
+}
+
+// The worker leaves the span of an id.
+fn leave<H: Ledger, C: Ledger, S: Setup, O: Outlet, R: Wait>(
+    rt: &R,
+    registry: &Registry<H, C, S, O>,
+    worker: &mut Worker<H, C>,
+    id: Option<Id>,
+) -> Answer {
+    let Some(id) = id else {
+        return Answer::Refused(Fault::Unknown);
+    };
+    match registry.exit(rt, worker, id) {
+        Ok(closed) => Answer::Closed(closed),
+        Err(fault) => Answer::Refused(fault),
     }
 }
 
@@ -175,8 +194,74 @@ fn counted<H: Ledger, C: Ledger>(worker: &Worker<H, C>) -> Answer {
     Answer::Counted(worker.accepted(), out)
 }
 
-// A call or a step.
-fn note_call<H: Ledger, C: Ledger, S: Setup, O: Outlet, D: Steps, R: Wait>(
+// A call that is told something else than a worker and a span.
+fn pass<H: Ledger, C: Ledger, S: Setup, O: Outlet, R: Wait>(
+    rt: &R,
+    registry: &Registry<H, C, S, O>,
+    worker: &mut Worker<H, C>,
+    held: &mut Vec<Held<H, C, S>>,
+    act: &Act,
+    said: &Said,
+) -> Answer {
+    match act {
+        Act::Event { message, .. } => tell(rt, registry, worker, message, said),
+        Act::Record(number, _) => record(rt, registry, worker, held, *number, said),
+        _ => make(rt, registry, worker, held, parent_of(act), said),
+    }
+}
+
+/// What a registry answers to a call of this worker; the handles that it gives are kept. It has no drain.
+pub(crate) fn call<H: Ledger, C: Ledger, S: Setup, O: Outlet, R: Wait + Abort>(
+    rt: &R,
+    alloc: Global,
+    registry: &Registry<H, C, S, O>,
+    worker: &mut Worker<H, C>,
+    held: &mut Vec<Held<H, C, S>>,
+    act: &Act,
+) -> Answer {
+    match act {
+        Act::Clone(number) => clone_one(rt, registry, worker, held, *number),
+        Act::Enter(number) => enter(rt, registry, worker, held, *number),
+        Act::Exit(number) => leave(rt, registry, worker, id_of(held.as_slice(), *number)),
+        Act::Close(number) => close(rt, registry, worker, held, *number),
+        Act::Count => counted(worker),
+        // A look that names no id.
+        Act::Find(_) => Answer::Refused(Fault::Unknown),
+        Act::Step => Answer::Stepped(None),
+        _ => {
+            let said = said_by(rt, alloc, act);
+            pass(rt, registry, worker, held, act, &said)
+        }
+    }
+}
+
+// What was found of a span.
+fn sight_of(found: &Found) -> Sight<'_> {
+    Sight {
+        name: found.name.as_str(),
+        parent: found.parent.map_or(0, Id::get),
+        handles: found.handles,
+        entries: found.entries,
+        count: found.count,
+    }
+}
+
+// What `find` answers of a span.
+fn note_found<H: Ledger, C: Ledger, S: Setup, O: Outlet, R: Wait + Abort>(
+    rt: &R,
+    alloc: Global,
+    registry: &Registry<H, C, S, O>,
+    id: Id,
+    finds: &mut Vec<u8>,
+) {
+    match registry.find(rt, alloc, id).expect(rt, "memory") {
+        None => push_sight(rt, alloc, finds, None),
+        Some(found) => push_sight(rt, alloc, finds, Some(&sight_of(&found))),
+    }
+}
+
+// A call, a look or a step of the drain.
+fn note_act<H: Ledger, C: Ledger, S: Setup, O: Outlet, D: Steps, R: Wait + Abort>(
     rt: &R,
     alloc: Global,
     registry: &Registry<H, C, S, O>,
@@ -185,47 +270,51 @@ fn note_call<H: Ledger, C: Ledger, S: Setup, O: Outlet, D: Steps, R: Wait>(
     held: &mut Vec<Held<H, C, S>>,
     act: &Act,
     transcript: &mut Transcript,
-) -> Result<(), AllocError>
+)
     ensures name { D.name drain.new ≡ D.name drain.old }
 {
-    let answer = call(rt, alloc, registry, drain, worker, held, act);
-    transcript.answer(alloc, &answer.unwrap_or_else(Answer::Refused))
+    match (looked_for(act), act) {
+        (Some(id), _) => note_found(rt, alloc, registry, id, &mut transcript.answers),
+        (None, Act::Step) => transcript.answer(rt, alloc, &Answer::Stepped(drain.step())),
+        _ => {
+            let answer = call(rt, alloc, registry, worker, held, act);
+            transcript.answer(rt, alloc, &answer);
+        }
+    }
 }
 
 // What `find` answers of each span.
-fn note_finds<H: Ledger, C: Ledger, S: Setup, O: Outlet, R: Wait>(
+fn note_finds<H: Ledger, C: Ledger, S: Setup, O: Outlet, R: Wait + Abort>(
     rt: &R,
     alloc: Global,
     registry: &Registry<H, C, S, O>,
-    ids: &[Id],
-    finds: &mut Vec<u8>,
-) -> Result<(), Fault> {
-    for id in ids {
-        let found = registry.find(rt, alloc, *id)?;
-        note_found(alloc, finds, &found)?;
+    transcript: &mut Transcript,
+) {
+    let Transcript { ids, finds, .. } = transcript;
+    for id in ids.as_slice() {
+        note_found(rt, alloc, registry, *id, finds);
     }
-    Ok(())
 }
 
 /// All calls, each made by the worker beside it, and the steps of the drain; and what `find` answers after each. The
 /// handles that are left are kept.
-pub(crate) fn calls<H: Ledger, C: Ledger, S: Setup, O: Outlet, D: Steps, R: Wait>(
+pub(crate) fn calls<H: Ledger, C: Ledger, S: Setup, O: Outlet, D: Steps, R: Wait + Abort>(
     rt: &R,
     alloc: Global,
     registry: &Registry<H, C, S, O>,
     drain: &mut D,
-    workers: &mut Vec<Worker<H, C>>,
+    workers: &mut [Worker<H, C>],
     held: &mut Vec<Held<H, C, S>>,
     acts: &[(u32, Act)],
     transcript: &mut Transcript,
-) -> Result<(), Fail>
+)
     ensures name { D.name drain.new ≡ D.name drain.old }
 {
     for (number, act) in acts {
-        let worker = workers.get_mut(*number as usize).ok_or("no such worker")?;
-        note_call(rt, alloc, registry, drain, worker, held, act, transcript)?;
-        let Transcript { ids, finds, .. } = &mut *transcript;
-        note_finds(rt, alloc, registry, ids.as_slice(), finds)?;
+        let worker = workers
+            .get_mut(*number as usize)
+            .expect(rt, "no such worker");
+        note_act(rt, alloc, registry, drain, worker, held, act, transcript);
+        note_finds(rt, alloc, registry, transcript);
     }
-    Ok(())
 }

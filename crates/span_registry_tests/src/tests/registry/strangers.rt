@@ -1,12 +1,11 @@
 //! Strangers' ids: ids of every kind that no span has, in the calls of a registry that take an id and no handle.
-use crate::tests::registry::acts::{Act, child};
+use crate::tests::registry::acts::Act;
 use crate::tests::registry::ended::{Deed, Ended, has_numbers, run_to_end};
 use crate::tests::registry::layers::EVERYTHING;
 use crate::tests::registry::same::{is_text, same};
 use span_id::Limits;
-use std::alloc::{AllocError, Global};
+use std::alloc::Global;
 use std::process::Abort;
-use std::test::Fail;
 
 const LIMITS: Limits = Limits {
     slots: 4,
@@ -37,22 +36,20 @@ const STRANGERS: [u64; 11] = [
 const OPEN: u64 = 16777218;
 
 // Slot 0 is retired, slot 1 has its second span, which is open, slot 2 is free again, slot 3 was never used.
-fn live_the_past(acts: &mut Vec<(u32, Act)>) -> Result<(), AllocError> {
-    acts.extend_from_slice(&[
-        (0, child("a", 0)),
-        (0, Act::Close(1)),
-        (0, child("a", 0)),
-        (0, Act::Close(16777217)),
-        (0, child("a", 0)),
-        (0, Act::Close(2)),
-        (0, child("a", 0)),
-        (0, Act::Enter(OPEN)),
-        (0, child("a", 0)),
-        (0, Act::Close(3)),
-        (0, Act::Find(OPEN)),
-        (0, Act::Count),
-    ])
-}
+const LIVED: [(u32, Act); 12] = [
+    (0, Act::Child("a", 0)),
+    (0, Act::Close(1)),
+    (0, Act::Child("a", 0)),
+    (0, Act::Close(16777217)),
+    (0, Act::Child("a", 0)),
+    (0, Act::Close(2)),
+    (0, Act::Child("a", 0)),
+    (0, Act::Enter(OPEN)),
+    (0, Act::Child("a", 0)),
+    (0, Act::Close(3)),
+    (0, Act::Find(OPEN)),
+    (0, Act::Count),
+];
 
 const PAST: &str = "\
 = 1
@@ -70,14 +67,14 @@ const PAST: &str = "\
 ";
 
 // Each call that takes an id and no handle, and then what can be counted of the span that is open and of the worker.
-fn meet(acts: &mut Vec<(u32, Act)>, stranger: u64) -> Result<(), AllocError> {
-    acts.extend_from_slice(&[
+fn acts_on<'a>(stranger: u64) -> [(u32, Act<'a>); 5] {
+    [
         (0, Act::Find(stranger)),
-        (0, child("a", stranger)),
+        (0, Act::Child("a", stranger)),
         (0, Act::Exit(stranger)),
         (0, Act::Find(OPEN)),
         (0, Act::Count),
-    ])
+    ]
 }
 
 // A stranger is unknown, and nothing that can be counted has changed.
@@ -89,47 +86,45 @@ const MET: &str = "\
 = accepted 10 out 1
 ";
 
+// The calls that close the span that is open.
+const END: [(u32, Act); 2] = [(0, Act::Exit(OPEN)), (0, Act::Close(OPEN))];
+
 // All calls: those before the strangers, those with them, and those that close the span that is open.
-fn all_acts<'a>(alloc: Global) -> Result<Vec<(u32, Act<'a>)>, AllocError> {
+fn all_acts<'a>(rt: &impl Abort, alloc: Global) -> Vec<(u32, Act<'a>)> {
     let mut acts = Vec::new(alloc);
-    live_the_past(&mut acts)?;
+    acts.extend_from_slice(&LIVED).expect(rt, "memory");
     for stranger in &STRANGERS {
-        meet(&mut acts, *stranger)?;
+        acts.extend_from_slice(&acts_on(*stranger))
+            .expect(rt, "memory");
     }
-    acts.extend_from_slice(&[(0, Act::Exit(OPEN)), (0, Act::Close(OPEN))])?;
-    Ok(acts)
+    acts.extend_from_slice(&END).expect(rt, "memory");
+    acts
 }
 
 // What is answered to all calls.
-fn all_answers(alloc: Global) -> Result<String, AllocError> {
-    let mut text = String::from_str(alloc, PAST)?;
+fn all_answers(rt: &impl Abort, alloc: Global) -> String {
+    let mut text = String::new(alloc);
+    text.push_str(PAST).expect(rt, "memory");
     for _ in &STRANGERS {
-        text.push_str(MET)?;
+        text.push_str(MET).expect(rt, "memory");
     }
-    text.push_str("= open\n= closed\n")?;
-    Ok(text)
+    text.push_str("= open\n= closed\n").expect(rt, "memory");
+    text
 }
 
-fn are_unknown(rt: &impl Abort, alloc: Global, ended: &Ended) -> Result<(), Fail> {
-    let expected = all_answers(alloc)?;
+fn are_unknown(rt: &impl Abort, alloc: Global, ended: &Ended) {
+    let expected = all_answers(rt, alloc);
     is_text(rt, ended.transcript.answers.as_slice(), expected.as_str());
     let numbers = "left 0 handles 0 entries 0 calls 12 made 5 closed 5 refused 0";
-    has_numbers(rt, alloc, &ended.report, numbers)?;
+    has_numbers(rt, alloc, &ended.report, numbers);
     same(rt, ended.report.lines.len(), 12);
-    Ok(())
 }
 
 #[test]
-fn strangers_ids_are_unknown_to_a_registry(rt: HostRuntime) -> Result<(), Fail> {
+fn strangers_ids_are_unknown_to_a_registry(rt: HostRuntime) {
     let alloc = rt.alloc();
-    let acts = all_acts(alloc)?;
-    let ended = run_to_end(
-        &rt,
-        alloc,
-        LIMITS,
-        &[EVERYTHING],
-        Deed::Calls,
-        acts.as_slice(),
-    )?;
-    are_unknown(&rt, alloc, &ended)
+    let acts = all_acts(&rt, alloc);
+    let deed = Deed::Calls(acts.as_slice());
+    let ended = run_to_end(&rt, alloc, LIMITS, &[EVERYTHING], deed);
+    are_unknown(&rt, alloc, &ended);
 }

@@ -1,15 +1,14 @@
 //! Workers that take turns, each in a thread of its own.
 use crate::tests::registry::acts::Transcript;
-use crate::tests::registry::ended::{Deed, has_numbers, run_to_end};
+use crate::tests::registry::ended::{Deed, has_numbers, run_to_end, with_workers};
 use crate::tests::registry::held::{Held, Part, gather};
 use crate::tests::registry::jobs::{Station, Task, work};
 use crate::tests::registry::same::same;
-use span_id::{Fault, Limits};
 use span_registry::{Outlet, Registry, Setup, Worker};
-use std::alloc::{AllocError, Global};
+use std::alloc::Global;
+use std::process::Abort;
 use std::sync::Wait;
 use std::sync::ledger::Ledger;
-use std::test::Fail;
 use std::thread::{JoinHandle, Scope, Threads};
 use std::{mem, thread};
 
@@ -22,7 +21,7 @@ pub(crate) enum Turn {
     HandOn,
 }
 
-type Running<H, C, S> = JoinHandle<Result<Station<H, C, S>, Fault>>;
+type Running<H, C, S> = JoinHandle<Station<H, C, S>>;
 
 // Starts the thread of a station, which is moved into it with its handles, and comes back when it is joined.
 fn start<
@@ -32,7 +31,7 @@ fn start<
     C: Ledger + Send + Sync + 's,
     S: Setup + Send + Sync + 's,
     O: Outlet + Send + 's,
-    R: Wait + Sync,
+    R: Wait + Abort + Sync,
 >(
     rt: &'s R,
     scope: &Scope<'s, E>,
@@ -40,11 +39,9 @@ fn start<
     registry: &'s Registry<H, C, S, O>,
     station: Station<H, C, S>,
     task: Task,
-) -> Result<Running<H, C, S>, Fault> {
-    match scope.spawn(move || work(rt, alloc, registry, station, task)) {
-        Ok(handle) => Ok(handle),
-        Err(_) => Err(Fault::Memory),
-    }
+) -> Running<H, C, S> {
+    let started = scope.spawn(move || work(rt, alloc, registry, station, task));
+    started.ok().expect(rt, "a thread")
 }
 
 // Starts a thread for each station.
@@ -55,7 +52,7 @@ fn start_all<
     C: Ledger + Send + Sync + 's,
     S: Setup + Send + Sync + 's,
     O: Outlet + Send + 's,
-    R: Wait + Sync,
+    R: Wait + Abort + Sync,
 >(
     rt: &'s R,
     scope: &Scope<'s, E>,
@@ -63,24 +60,25 @@ fn start_all<
     registry: &'s Registry<H, C, S, O>,
     stations: Vec<Station<H, C, S>>,
     task: Task,
-) -> Result<Vec<Running<H, C, S>>, Fault> {
+) -> Vec<Running<H, C, S>> {
     let mut running = Vec::new(alloc);
     for station in stations {
-        running.push(start(rt, scope, alloc, registry, station, task)?)?;
+        let started = start(rt, scope, alloc, registry, station, task);
+        running.push(started).expect(rt, "memory");
     }
-    Ok(running)
+    running
 }
 
-fn join_all<H: Ledger, C: Ledger, S: Setup, R: Threads>(
+fn join_all<H: Ledger, C: Ledger, S: Setup, R: Threads + Abort>(
     rt: &R,
     alloc: Global,
     running: Vec<Running<H, C, S>>,
-) -> Result<Vec<Station<H, C, S>>, Fault> {
+) -> Vec<Station<H, C, S>> {
     let mut stations = Vec::new(alloc);
     for handle in running {
-        stations.push(handle.join(rt)?)?;
+        stations.push(handle.join(rt)).expect(rt, "memory");
     }
-    Ok(stations)
+    stations
 }
 
 // All threads at once.
@@ -89,19 +87,19 @@ fn in_threads<
     C: Ledger + Send + Sync,
     S: Setup + Send + Sync,
     O: Outlet + Send,
-    R: Threads + Wait + Sync,
+    R: Threads + Wait + Abort + Sync,
 >(
     rt: &R,
     alloc: Global,
     registry: &Registry<H, C, S, O>,
     stations: Vec<Station<H, C, S>>,
     task: Task,
-) -> Result<Vec<Station<H, C, S>>, Fault> {
+) -> Vec<Station<H, C, S>> {
     thread::scope(
         thread::scope_env(),
         rt,
-        move |scope| -> Result<Vec<Station<H, C, S>>, Fault> {
-            let running = start_all(rt, scope, alloc, registry, stations, task)?;
+        move |scope| -> Vec<Station<H, C, S>> {
+            let running = start_all(rt, scope, alloc, registry, stations, task);
             join_all(rt, alloc, running)
         },
     )
@@ -123,68 +121,81 @@ fn take_each_turn<
     C: Ledger + Send + Sync,
     S: Setup + Send + Sync,
     O: Outlet + Send,
-    R: Threads + Wait + Sync,
+    R: Threads + Wait + Abort + Sync,
 >(
     rt: &R,
     alloc: Global,
     registry: &Registry<H, C, S, O>,
     stations: Vec<Station<H, C, S>>,
     turns: &[Turn],
-) -> Result<Vec<Station<H, C, S>>, Fault> {
+) -> Vec<Station<H, C, S>> {
     let mut stations = stations;
     for turn in turns {
         match turn {
-            Turn::All(task) => stations = in_threads(rt, alloc, registry, stations, *task)?,
+            Turn::All(task) => stations = in_threads(rt, alloc, registry, stations, *task),
             Turn::HandOn => hand_on(alloc, &mut stations),
         }
     }
-    Ok(stations)
+    stations
 }
 
-// The workers with no handle.
+// A worker with no handle.
+fn station_of<H: Ledger, C: Ledger, S: Setup>(
+    alloc: Global,
+    worker: Worker<H, C>,
+) -> Station<H, C, S> {
+    Station {
+        worker,
+        held: Vec::new(alloc),
+        inside: Vec::new(alloc),
+        closed_by_close: 0,
+        closed_by_exit: 0,
+    }
+}
+
 fn stations_of<H: Ledger, C: Ledger, S: Setup>(
+    rt: &impl Abort,
     alloc: Global,
     workers: Vec<Worker<H, C>>,
-) -> Result<Vec<Station<H, C, S>>, AllocError> {
+) -> Vec<Station<H, C, S>> {
     let mut stations = Vec::new(alloc);
     for worker in workers {
-        stations.push(Station {
-            worker,
-            held: Vec::new(alloc),
-            inside: Vec::new(alloc),
-            closed_by_close: 0,
-            closed_by_exit: 0,
-        })?;
+        stations
+            .push(station_of(alloc, worker))
+            .expect(rt, "memory");
     }
-    Ok(stations)
+    stations
 }
 
 // How many spans each worker closed by closing and by leaving, on a line.
 fn note_closed<H: Ledger, C: Ledger, S: Setup>(
+    rt: &impl Abort,
     alloc: Global,
     stations: &[Station<H, C, S>],
     answers: &mut Vec<u8>,
-) -> Result<(), AllocError> {
+) {
     for station in stations {
         let (by_close, by_exit) = (station.closed_by_close, station.closed_by_exit);
-        let line = format!(in alloc; "{by_close} {by_exit}\n")?;
-        answers.extend_from_slice(line.as_bytes())?;
+        let line = format!(in alloc; "{by_close} {by_exit}\n").expect(rt, "memory");
+        answers
+            .extend_from_slice(line.as_bytes())
+            .expect(rt, "memory");
     }
-    Ok(())
 }
 
 // The parts of the workers, who have no handle left.
 fn leave<H: Ledger, C: Ledger, S: Setup>(
+    rt: &impl Abort,
     alloc: Global,
     counts: &mut Vec<u8>,
     stations: Vec<Station<H, C, S>>,
-) -> Result<Option<Part<H, C>>, Fail> {
+) -> Option<Part<H, C>> {
     let mut workers = Vec::new(alloc);
     for station in stations {
-        workers.push(station.worker)?;
+        workers.push(station.worker).expect(rt, "memory");
     }
     let none: Vec<Held<H, C, S>> = Vec::new(alloc);
-    gather(alloc, counts, workers, none)
+    gather(rt, alloc, counts, workers, none)
 }
 
 /// The workers take these turns, and close all handles in them. The answer is, for each, how many spans it closed by
@@ -194,7 +205,7 @@ pub(crate) fn take_turns<
     C: Ledger + Send + Sync,
     S: Setup + Send + Sync,
     O: Outlet + Send,
-    R: Threads + Wait + Sync,
+    R: Threads + Wait + Abort + Sync,
 >(
     rt: &R,
     alloc: Global,
@@ -202,23 +213,18 @@ pub(crate) fn take_turns<
     workers: Vec<Worker<H, C>>,
     turns: &[Turn],
     transcript: &mut Transcript,
-) -> Result<Option<Part<H, C>>, Fail> {
-    let stations: Vec<Station<H, C, S>> = stations_of(alloc, workers)?;
-    let stations = take_each_turn(rt, alloc, registry, stations, turns)?;
-    note_closed(alloc, stations.as_slice(), &mut transcript.answers)?;
-    leave(alloc, &mut transcript.counts, stations)
+) -> Option<Part<H, C>> {
+    let stations: Vec<Station<H, C, S>> = stations_of(rt, alloc, workers);
+    let stations = take_each_turn(rt, alloc, registry, stations, turns);
+    note_closed(rt, alloc, stations.as_slice(), &mut transcript.answers);
+    leave(rt, alloc, &mut transcript.counts, stations)
 }
 
 #[test]
-fn two_threads_make_a_round_each(rt: HostRuntime) -> Result<(), Fail> {
-    let limits = Limits {
-        workers: 2,
-        ..Limits::default()
-    };
+fn two_threads_make_a_round_each(rt: HostRuntime) {
     let deed = Deed::InThreads(&[Turn::All(Task::Round)]);
-    let ended = run_to_end(&rt, rt.alloc(), limits, &[], deed, &[])?;
+    let ended = run_to_end(&rt, rt.alloc(), with_workers(2), &[], deed);
     let expected = "left 0 handles 0 entries 0 calls 18 made 4 closed 4 refused 0";
-    has_numbers(&rt, rt.alloc(), &ended.report, expected)?;
+    has_numbers(&rt, rt.alloc(), &ended.report, expected);
     same(&rt, ended.report.lines.len(), 0);
-    Ok(())
 }

@@ -19,6 +19,43 @@ use std::thread::Threads;
 /// From which number of texts on the layer is refused memory: only a count that begins here gets there.
 pub(crate) const REFUSED_FROM: u64 = 1 << 32;
 
+// Hooks that answer as the rules say, and count the texts.
+fn hooks(alloc: Global, said: Arc<AtomicU64>) -> Result<Hooks, AllocError> {
+    Ok(Hooks::new(
+        Box::new(
+            alloc,
+            |rule: &Rule, meta: &Meta| -> bool
+                ensures { result
+                    ≡ is_admitted (pairs_of rule.now) (string_bytes meta.now.target) meta.now.level }
+            { admits(rule, meta) },
+        )?,
+        Box::new(
+            alloc,
+            move |alloc: Global, form: Form, note: &Note| -> Result<Vec<u8>, AllocError>
+                ensures { ForOk result (λ text. text.items ≡ text_of form (plain_note note.now)) }
+            {
+                if said.fetch_add(1, Ordering::SeqCst) >= REFUSED_FROM {
+                    return Err(AllocError);
+                }
+                text(alloc, form, note)
+            },
+        )?,
+    ))
+}
+
+// The layer of a storm: it admits everything, writes in the compact form, and counts what it writes.
+fn counting_layer(alloc: Global, said: Arc<AtomicU64>) -> Result<Layer, Fault>
+    ensures { IfOk result (λ layer. pairs_of layer.rule ≡ ([], Trace) ∷ []) }
+{
+    let rule = everything(alloc)?;
+    let hooks = hooks(alloc, said)?;
+    let style = Style {
+        form: Form::Compact,
+        spans: FmtSpan::FULL,
+    };
+    Ok(Layer { style, rule, hooks })
+}
+
 /// Runs a storm whose layer admits everything, writes in the compact form, and counts what it writes.
 pub(crate) fn storm_of_all<G: Gate + Sync, R: Threads + Wait + Sync>(
     rt: &R,
@@ -30,40 +67,10 @@ pub(crate) fn storm_of_all<G: Gate + Sync, R: Threads + Wait + Sync>(
 ) -> Result<Report, RunFault>
     requires { (0 < workers) × (workers ≤ 16) × (0 < rounds) × (rounds ≤ 400) }
 {
+    let Ok(layer) = counting_layer(alloc, said) else {
+        return Err(RunFault::Memory);
+    };
     let mut layers = Layers::new(alloc);
-    let Ok(admit) = Box::new(
-        alloc,
-        |rule: &Rule, meta: &Meta| -> bool
-            ensures { result
-                ≡ is_admitted (pairs_of rule.now) (string_bytes meta.now.target) meta.now.level }
-        { admits(rule, meta) },
-    ) else {
-        return Err(RunFault::Memory);
-    };
-    let Ok(say) = Box::new(
-        alloc,
-        move |alloc: Global, form: Form, note: &Note| -> Result<Vec<u8>, AllocError>
-            ensures { ForOk result (λ text. text.items ≡ text_of form (plain_note note.now)) }
-        {
-            if said.fetch_add(1, Ordering::SeqCst) >= REFUSED_FROM {
-                return Err(AllocError);
-            }
-            text(alloc, form, note)
-        },
-    ) else {
-        return Err(RunFault::Memory);
-    };
-    let Ok(rule) = everything(alloc) else {
-        return Err(RunFault::Memory);
-    };
-    let layer = Layer {
-        style: Style {
-            form: Form::Compact,
-            spans: FmtSpan::FULL,
-        },
-        rule,
-        hooks: Hooks::new(admit, say),
-    };
     let Ok(_) = layers.add(layer) else {
         return Err(RunFault::Memory);
     };

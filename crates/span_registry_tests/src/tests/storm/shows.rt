@@ -1,10 +1,12 @@
 //! What `show` writes.
+use crate::tests::registry::same::{is_text, same};
 use span_registry::Report;
-use span_run::Counted;
+use span_run::{Counted, RunFault};
 use span_storm::show;
 use std::alloc::Global;
 use std::io;
 use std::io::{ErrorKind, Write};
+use std::process::Abort;
 
 // A report of numbers that all differ.
 fn report(alloc: Global) -> Report {
@@ -46,33 +48,42 @@ impl Write for Narrow<'_> {
 }
 
 #[test]
-fn shows_eight_lines(rt: HostRuntime) -> io::Result<()> {
+fn shows_eight_lines(rt: HostRuntime) {
     let alloc = rt.alloc();
     let mut output = Counted::new(Vec::new(alloc));
-    assert!(rt; show(16, 400, &report(alloc), &mut output).is_ok());
-    assert!(rt; output.flushes() == 0 && output.failed() == 0);
-    assert!(rt; output.into_inner().as_slice() == SHOWN.as_bytes());
-    Ok(())
+    let shown = show(16, 400, &report(alloc), &mut output).is_ok();
+    same(&rt, shown, true);
+    same(&rt, (output.flushes(), output.failed()), (0, 0));
+    is_text(&rt, output.into_inner().as_slice(), SHOWN);
+}
+
+// Whether the writer failed, as the text of the fault says; the room tells the case.
+fn has_failed(rt: &impl Abort, alloc: Global, shown: &Result<(), RunFault>, room: usize) {
+    match shown {
+        Ok(()) => assert!(rt; false, "with room for {room}"),
+        Err(fault) => {
+            let text = fault.to_string(alloc).expect(rt, "memory");
+            same(rt, (room, text.as_str()), (room, "device: write failed"));
+        }
+    }
+}
+
+// Where the writer takes so many bytes, these are the first ones, and it fails once.
+fn fails_after(rt: &impl Abort, alloc: Global, room: usize, expected: &[u8]) {
+    let mut taken = Vec::new(alloc);
+    let mut output = Counted::new(Narrow {
+        taken: &mut taken,
+        room,
+    });
+    let shown = show(16, 400, &report(alloc), &mut output);
+    has_failed(rt, alloc, &shown, room);
+    same(rt, (room, output.failed()), (room, 1));
+    same(rt, (room, taken.as_slice()), (room, expected));
 }
 
 #[test]
-fn a_writer_that_fails_has_a_front(rt: HostRuntime) -> io::Result<()> {
-    let alloc = rt.alloc();
+fn a_writer_that_fails_has_a_front(rt: HostRuntime) {
     for room in 0..SHOWN.len() {
-        let mut taken = Vec::new(alloc);
-        let mut output = Counted::new(Narrow {
-            taken: &mut taken,
-            room,
-        });
-        match show(16, 400, &report(alloc), &mut output) {
-            Ok(()) => assert!(rt; false, "with room for {room}"),
-            Err(fault) => assert!(rt; fault.to_string(alloc)?.as_str() == "device: write failed"),
-        }
-        assert!(rt; output.failed() == 1);
-        assert!(rt;
-            taken.as_slice() == &SHOWN.as_bytes()[..room],
-            "with room for {room}"
-        );
+        fails_after(&rt, rt.alloc(), room, &SHOWN.as_bytes()[..room]);
     }
-    Ok(())
 }

@@ -2,6 +2,7 @@
 ghost use Rattle.std.specs.Prelude.{◌<◌, ◌≤◌};
 
 use crate::tests::registry::acts::numbered;
+use crate::tests::registry::same::{is_text, same};
 use crate::tests::storm::layer::{REFUSED_FROM, storm_of_all};
 use crate::tests::storm::meeting::{HoldsAt, HoldsWorkers, InOrder, Meeting};
 use span_layers::Layers;
@@ -9,29 +10,40 @@ use span_registry::Report;
 use span_run::{Counted, RunFault};
 use span_storm::{Gate, Open, show, storm};
 use std::alloc::Global;
+use std::process::Abort;
 use std::sync::atomic::{AtomicU64, Ordering};
 use std::sync::{Arc, Wait};
-use std::test::Fail;
 use std::thread;
 use std::thread::Threads;
 
 const TWO_BY_THREE: &str =
     "workers 2\nrounds 3\nmade 12\nclosed 12\ncalls 54\nlines 42\nrefused 0\nleft 0\n";
 
-// How a storm ended, as text: its numbers, or the fault.
-fn told(
+// The text of a storm that ended: its numbers.
+fn numbers(rt: &impl Abort, alloc: Global, workers: u32, rounds: u32, report: &Report) -> Vec<u8> {
+    let mut output = Counted::new(Vec::new(alloc));
+    show(workers, rounds, report, &mut output).expect(rt, "memory");
+    output.into_inner()
+}
+
+// A storm ended so: this is the text of its numbers, or of the fault.
+fn ends(
+    rt: &impl Abort,
     alloc: Global,
     workers: u32,
     rounds: u32,
-    ended: Result<Report, RunFault>,
-) -> Result<String, Fail> {
+    ended: &Result<Report, RunFault>,
+    expected: &str,
+) {
     match ended {
         Ok(report) => {
-            let mut output = Counted::new(Vec::new(alloc));
-            show(workers, rounds, &report, &mut output)?;
-            Ok(String::from_utf8(output.into_inner())?)
+            let text = numbers(rt, alloc, workers, rounds, report);
+            is_text(rt, text.as_slice(), expected);
         }
-        Err(fault) => Ok(fault.to_string(alloc)?),
+        Err(fault) => {
+            let text = fault.to_string(alloc).expect(rt, "memory");
+            same(rt, text.as_str(), expected);
+        }
     }
 }
 
@@ -48,108 +60,107 @@ fn met<R: Threads + Wait + Sync>(rt: &R, alloc: Global) -> Result<Report, RunFau
 }
 
 #[test]
-fn workers_and_drain_run_at_the_same_time(rt: HostRuntime) -> Result<(), Fail> {
+fn workers_and_drain_run_at_the_same_time(rt: HostRuntime) {
     let ended = met(&rt, rt.alloc());
-    assert_eq!(&rt; told(rt.alloc(), 2, 3, ended)?.as_str(), TWO_BY_THREE);
-    Ok(())
+    ends(&rt, rt.alloc(), 2, 3, &ended, TWO_BY_THREE);
 }
 
 #[test]
-fn two_storms_run_at_once(rt: HostRuntime) -> Result<(), Fail> {
+fn two_storms_run_at_once(rt: HostRuntime) {
     let (one, other) = thread::join(
         &rt,
         || -> Result<Report, RunFault> { met(&rt, rt.alloc()) },
         || -> Result<Report, RunFault> { met(&rt, rt.alloc()) },
     );
-    for ended in [one, other] {
-        assert_eq!(&rt; told(rt.alloc(), 2, 3, ended)?.as_str(), TWO_BY_THREE);
-    }
-    Ok(())
+    ends(&rt, rt.alloc(), 2, 3, &one, TWO_BY_THREE);
+    ends(&rt, rt.alloc(), 2, 3, &other, TWO_BY_THREE);
 }
 
 #[test]
-fn a_storm_needs_no_layer(rt: HostRuntime) -> Result<(), Fail> {
+fn a_storm_needs_no_layer(rt: HostRuntime) {
     let alloc = rt.alloc();
     let ended = storm(&rt, alloc, 3, 2, Layers::new(alloc), &Open);
     let expected =
         "workers 3\nrounds 2\nmade 12\nclosed 12\ncalls 54\nlines 0\nrefused 0\nleft 0\n";
-    assert_eq!(&rt; told(alloc, 3, 2, ended)?.as_str(), expected);
-    Ok(())
+    ends(&rt, alloc, 3, 2, &ended, expected);
+}
+
+// A number that is shared.
+fn shared(rt: &impl Abort, alloc: Global, number: u64) -> Arc<AtomicU64> {
+    Arc::new(alloc, AtomicU64::new(number)).expect(rt, "memory")
 }
 
 #[test]
-fn texts_that_are_refused_memory_are_counted(rt: HostRuntime) -> Result<(), Fail> {
+fn texts_that_are_refused_memory_are_counted(rt: HostRuntime) {
     let alloc = rt.alloc();
-    let said = Arc::new(alloc, AtomicU64::new(REFUSED_FROM))?;
+    let said = shared(&rt, alloc, REFUSED_FROM);
     let ended = storm_of_all(&rt, alloc, 2, 3, said, &Open);
     let expected =
         "workers 2\nrounds 3\nmade 12\nclosed 12\ncalls 54\nlines 0\nrefused 42\nleft 0\n";
-    assert_eq!(&rt; told(alloc, 2, 3, ended)?.as_str(), expected);
-    Ok(())
+    ends(&rt, alloc, 2, 3, &ended, expected);
 }
 
-// How a storm of two workers and so many rounds, 1 or 2, ends with this gate.
-fn with_gate<G: Gate + Sync, R: Threads + Wait + Sync>(
+// A storm of two workers and so many rounds ends so with this gate.
+fn ends_with_gate<G: Gate + Sync, R: Threads + Wait + Abort + Sync>(
     rt: &R,
     alloc: Global,
     rounds: u32,
     gate: &G,
-) -> Result<String, Fail>
+    expected: &str,
+)
     requires { (0 < rounds) × (rounds ≤ 400) }
 {
-    let said = Arc::new(alloc, AtomicU64::new(0))?;
+    let said = shared(rt, alloc, 0);
     let ended = storm_of_all(rt, alloc, 2, rounds, said, gate);
-    told(alloc, 2, rounds, ended)
+    ends(rt, alloc, 2, rounds, &ended, expected);
 }
 
+const ONE_ROUND: &str =
+    "workers 2\nrounds 1\nmade 4\nclosed 4\ncalls 18\nlines 14\nrefused 0\nleft 0\n";
+
+// From which party on and from which of its calls on the parties are held in one round, and how the storm ends.
+const HELD: [(u32, u64, &str); 7] = [
+    (0, 1, "worker 0 was held"),
+    (0, 9, "worker 0 was held"),
+    (1, 1, "worker 1 was held"),
+    (1, 4, "worker 1 was held"),
+    (2, 1, "worker 2 was held"),
+    (2, 2, ONE_ROUND),
+    (0, 10, ONE_ROUND),
+];
+
 #[test]
-fn the_lowest_party_that_is_held_is_told(rt: HostRuntime) -> Result<(), Fail> {
-    let all = "workers 2\nrounds 1\nmade 4\nclosed 4\ncalls 18\nlines 14\nrefused 0\nleft 0\n";
-    for (first, call, end) in [
-        (0, 1, "worker 0 was held"),
-        (0, 9, "worker 0 was held"),
-        (1, 1, "worker 1 was held"),
-        (1, 4, "worker 1 was held"),
-        (2, 1, "worker 2 was held"),
-        (2, 2, all),
-        (0, 10, all),
-    ] {
-        let gate = HoldsAt { first, call };
-        assert_eq!(&rt; with_gate(&rt, rt.alloc(), 1, &gate)?.as_str(), end);
+fn the_lowest_party_that_is_held_is_told(rt: HostRuntime) {
+    for (first, call, end) in &HELD {
+        let gate = HoldsAt {
+            first: *first,
+            call: *call,
+        };
+        ends_with_gate(&rt, rt.alloc(), 1, &gate, end);
     }
-    Ok(())
 }
 
 #[test]
-fn each_call_is_asked_for_once(rt: HostRuntime) -> Result<(), Fail> {
+fn each_call_is_asked_for_once(rt: HostRuntime) {
     let gate = InOrder::new();
-    assert_eq!(&rt;
-        with_gate(&rt, rt.alloc(), 3, &gate)?.as_str(),
-        TWO_BY_THREE
-    );
-    assert_eq!(&rt; gate.last(), (27, 27, 1));
-    Ok(())
+    ends_with_gate(&rt, rt.alloc(), 3, &gate, TWO_BY_THREE);
+    same(&rt, gate.last(), (27, 27, 1));
 }
 
 #[test]
-fn calls_are_counted_over_all_rounds(rt: HostRuntime) -> Result<(), Fail> {
+fn calls_are_counted_over_all_rounds(rt: HostRuntime) {
     let gate = HoldsAt { first: 0, call: 10 };
-    assert_eq!(&rt;
-        with_gate(&rt, rt.alloc(), 2, &gate)?.as_str(),
-        "worker 0 was held"
-    );
-    Ok(())
+    ends_with_gate(&rt, rt.alloc(), 2, &gate, "worker 0 was held");
 }
 
 #[test]
-fn workers_that_are_held_at_once_make_no_call(rt: HostRuntime) -> Result<(), Fail> {
+fn workers_that_are_held_at_once_make_no_call(rt: HostRuntime) {
     let alloc = rt.alloc();
-    let said = Arc::new(alloc, AtomicU64::new(0))?;
-    let seen = said.clone()?;
+    let said = shared(&rt, alloc, 0);
+    let seen = said.clone().expect(&rt, "memory");
     let ended = storm_of_all(&rt, alloc, 2, 1, said, &HoldsWorkers { workers: 2 });
-    assert_eq!(&rt; told(alloc, 2, 1, ended)?.as_str(), "worker 0 was held");
-    assert_eq!(&rt; seen.load(Ordering::SeqCst), 0);
-    Ok(())
+    ends(&rt, alloc, 2, 1, &ended, "worker 0 was held");
+    same(&rt, seen.load(Ordering::SeqCst), 0);
 }
 
 // The lines of two rounds of one worker: the number of the batch, the place, the layer and the text.
@@ -171,13 +182,16 @@ const TWO_ROUNDS: &str = "\
 ";
 
 #[test]
-fn the_calls_of_two_rounds(rt: HostRuntime) -> Result<(), Fail> {
+fn the_calls_of_two_rounds(rt: HostRuntime) {
     let alloc = rt.alloc();
-    let said = Arc::new(alloc, AtomicU64::new(0))?;
-    let report = storm_of_all(&rt, alloc, 1, 2, said, &Open)?;
-    assert_eq!(&rt;
-        numbered(alloc, report.lines.as_slice())?.as_str(),
-        TWO_ROUNDS
-    );
-    Ok(())
+    let said = shared(&rt, alloc, 0);
+    let ended = storm_of_all(&rt, alloc, 1, 2, said, &Open);
+    has_lines(&rt, alloc, &ended, TWO_ROUNDS);
+}
+
+// A storm ended with these lines.
+fn has_lines(rt: &impl Abort, alloc: Global, ended: &Result<Report, RunFault>, expected: &str) {
+    let report = ended.as_ref().ok().expect(rt, "a report");
+    let text = numbered(rt, alloc, report.lines.as_slice());
+    is_text(rt, text.as_slice(), expected);
 }
