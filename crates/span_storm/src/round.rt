@@ -1,5 +1,5 @@
 //! What one worker does.
-ghost use Rattle.std.specs.Prelude.{◌≡◌, ◌+◌, ◌-◌, ◌<◌, true, IfOk, OnOk};
+ghost use Rattle.std.specs.Prelude.{◌≡◌, ◌+◌, ◌*◌, ◌-◌, ◌<◌, true, IfOk, OnOk};
 ghost use Rattle.span_id.specs.Meta.{plain_meta};
 ghost use Rattle.span_core.specs.Step.{is_wanted};
 ghost use Rattle.span_registry.specs.Worker.{after_call};
@@ -28,13 +28,32 @@ pub(crate) fn work<H: Ledger, C: Ledger, S: Setup, G: Gate, R: Wait>(
     ensures { IfOk result (λ share. ComesBack worker rounds share) }
 {
     let mut worker = worker;
-    for _ in 0..rounds {
-        round(rt, registry, gate, metas, &mut worker)?;
+    match make_rounds(rt, registry, gate, metas, &mut worker, rounds) {
+        Ok(()) => Ok(worker.leave()),
+        Err(stopped) => Err(stopped),
     }
-    Ok(worker.leave())
 }
 
-// Nine calls: a job, of which there are two handles for a time, and what is made inside it.
+// Makes so many rounds.
+fn make_rounds<H: Ledger, C: Ledger, S: Setup, G: Gate, R: Wait>(
+    rt: &R,
+    registry: &Registry<H, C, S, Ring>,
+    gate: &G,
+    metas: &Metas,
+    worker: &mut Worker<H, C>,
+    rounds: u32,
+) -> Result<(), Stopped>
+    requires { wants_jobs S.rules ≡ true }
+    ensures accepted { OnOk result (worker.new.accepted ≡ worker.old.accepted + 9 * rounds) }
+    ensures spare { OnOk result (worker.new.spare ≡ worker.old.spare) }
+{
+    for _ in 0..rounds {
+        round(rt, registry, gate, metas, worker)?;
+    }
+    Ok(())
+}
+
+// Nine calls: a job, and what is made with it.
 fn round<H: Ledger, C: Ledger, S: Setup, G: Gate, R: Wait>(
     rt: &R,
     registry: &Registry<H, C, S, Ring>,
@@ -46,15 +65,50 @@ fn round<H: Ledger, C: Ledger, S: Setup, G: Gate, R: Wait>(
     ensures accepted { OnOk result (worker.new.accepted ≡ worker.old.accepted + 9) }
     ensures spare { OnOk result (worker.new.spare ≡ worker.old.spare) }
 {
-    let mut job = open(rt, registry, gate, worker, &metas.job, ParentOf::Root)?;
-    ask(gate, worker)?;
-    let other = match registry.clone_span(rt, worker, &mut job.handle) {
-        Ok(handle) => Held { handle },
-        Err(fault) => return Err(Stopped::Refused(fault)),
-    };
-    inside(rt, registry, gate, metas, worker, &mut job.handle)?;
-    close(rt, registry, gate, worker, other)?;
-    close(rt, registry, gate, worker, job)
+    match open(rt, registry, gate, worker, &metas.job, ParentOf::Root) {
+        Ok(job) => with_job(rt, registry, gate, metas, worker, job),
+        Err(stopped) => Err(stopped),
+    }
+}
+
+// Eight calls: what is made with a job, which is closed at the end.
+fn with_job<H: Ledger, C: Ledger, S: Setup, G: Gate, R: Wait>(
+    rt: &R,
+    registry: &Registry<H, C, S, Ring>,
+    gate: &G,
+    metas: &Metas,
+    worker: &mut Worker<H, C>,
+    job: Held<H, C, S>,
+) -> Result<(), Stopped>
+    requires { wants_jobs S.rules ≡ true }
+    ensures accepted { OnOk result (worker.new.accepted ≡ worker.old.accepted + 8) }
+    ensures spare { OnOk result (worker.new.spare ≡ worker.old.spare + 1) }
+{
+    let mut job = job;
+    match with_clone(rt, registry, gate, metas, worker, &mut job.handle) {
+        Ok(()) => close(rt, registry, gate, worker, job),
+        Err(stopped) => Err(stopped),
+    }
+}
+
+// Seven calls: the job has two handles while the worker is inside it.
+fn with_clone<H: Ledger, C: Ledger, S: Setup, G: Gate, R: Wait>(
+    rt: &R,
+    registry: &Registry<H, C, S, Ring>,
+    gate: &G,
+    metas: &Metas,
+    worker: &mut Worker<H, C>,
+    job: &mut Handle<H, C, S>,
+) -> Result<(), Stopped>
+    requires { wants_jobs S.rules ≡ true }
+    ensures accepted { OnOk result (worker.new.accepted ≡ worker.old.accepted + 7) }
+    ensures spare { OnOk result (worker.new.spare ≡ worker.old.spare) }
+{
+    let other = clone_handle(rt, registry, gate, worker, job)?;
+    match inside(rt, registry, gate, metas, worker, job) {
+        Ok(()) => close(rt, registry, gate, worker, other),
+        Err(stopped) => Err(stopped),
+    }
 }
 
 // Five calls: the worker enters the job, tells the event, makes a step and closes it, and leaves the job.
@@ -114,6 +168,24 @@ fn open<H: Ledger, C: Ledger, S: Setup, G: Gate, R: Wait>(
     match registry.new_span(rt, worker, meta, &[], parent) {
         Ok(Some(handle)) => Ok(Held { handle }),
         Ok(None) => unreachable!(),
+        Err(fault) => Err(Stopped::Refused(fault)),
+    }
+}
+
+// Makes one more handle of a span.
+fn clone_handle<H: Ledger, C: Ledger, S: Setup, G: Gate, R: Wait>(
+    rt: &R,
+    registry: &Registry<H, C, S, Ring>,
+    gate: &G,
+    worker: &mut Worker<H, C>,
+    handle: &mut Handle<H, C, S>,
+) -> Result<Held<H, C, S>, Stopped>
+    ensures worker { OnOk result (worker.new ≡ after_call worker.old (worker.old.spare - 1)) }
+    ensures part { OnOk result (0 < worker.old.spare) }
+{
+    ask(gate, worker)?;
+    match registry.clone_span(rt, worker, handle) {
+        Ok(handle) => Ok(Held { handle }),
         Err(fault) => Err(Stopped::Refused(fault)),
     }
 }

@@ -2,7 +2,7 @@
 ghost use Rattle.std.specs.Prelude.{◌≡◌, ◌+◌, ◌*◌, ◌<◌, ◌≤◌, ◌↔◌, [], Some, true, IfOk, IfErr};
 ghost use Rattle.span_layers.specs.Layers.{filters_in, forms_in};
 ghost use Rattle.span_storm.specs.Storm.{IsStormEnd, IsStormFault, storm_limits, wants_jobs};
-ghost use Rattle.span_storm.specs.inside.Back.{Adds};
+ghost use Rattle.span_storm.specs.inside.Back.{HasNumbers};
 
 use crate::gate::Gate;
 use crate::metas::Metas;
@@ -75,7 +75,7 @@ fn with_metas<G: Gate + Sync, R: Threads + Wait + Sync>(
     requires workers { checked.now.workers ≤ 16 }
     requires rounds { rounds ≤ 400 }
     requires wanted { wants_jobs (filters_in layers) ≡ true }
-    ensures numbers { IfOk result (λ report. Adds checked.now.workers rounds report) }
+    ensures numbers { IfOk result (λ report. HasNumbers checked.now.workers rounds report) }
     ensures ended { IfOk result (λ report.
         IsStormEnd checked.now (filters_in layers) (forms_in layers) report) }
     ensures faults { IfErr result IsStormFault }
@@ -134,7 +134,7 @@ fn run<
     requires handles { (handles.name ≡ H.name) × (handles.parts ≡ H.parts) × (H.parts ≡ HANDLE_PARTS) }
     requires calls { (calls.name ≡ C.name) × (calls.parts ≡ C.parts) × (C.parts ≡ checked.now.workers) }
     requires table { (table ≡ S.table) × (table.words ≡ checked.now.slots) }
-    ensures numbers { IfOk result (λ report. Adds checked.now.workers rounds report) }
+    ensures numbers { IfOk result (λ report. HasNumbers checked.now.workers rounds report) }
     ensures ended { IfOk result (λ report. IsStormEnd S.limits S.rules drain.forms report) }
     ensures faults { IfErr result IsStormFault }
 {

@@ -1,7 +1,7 @@
 //! All threads of a storm, and what comes back of them.
 ghost use Rattle.std.specs.Prelude.{◌≡◌, ◌+◌, ◌*◌, ◌^◌, ◌<◌, ◌≤◌, true, IfOk, All, map, length, vec_len, sum_by, Ok};
 ghost use Rattle.span_storm.specs.Storm.{wants_jobs};
-ghost use Rattle.span_storm.specs.inside.Back.{AreReady, BothBack, both_shares, Fit, Gathers, HasAll};
+ghost use Rattle.span_storm.specs.inside.Back.{AreBothBack, AreReady, both_shares, Fit, Gathers, HasAll};
 
 use crate::draining::start_drain;
 use crate::gate::Gate;
@@ -37,7 +37,7 @@ pub(crate) fn in_threads<
     drain: Drain<V>,
 ) -> Result<(Share<H, C>, Drain<V>), Stopped>
     requires { AreReady S.rules (vec_len workers) workers.items rounds }
-    ensures { IfOk result (λ back. BothBack workers.items rounds drain back.0 back.1) }
+    ensures { IfOk result (λ back. AreBothBack workers.items rounds drain back.0 back.1) }
 {
     let all_back = AtomicBool::new(false);
     let flag = &all_back;
@@ -46,7 +46,7 @@ pub(crate) fn in_threads<
         rt,
         move |scope| -> Result<(Share<H, C>, Drain<V>), Stopped>
             requires { AreReady S.rules (vec_len workers) workers.items rounds }
-            ensures { IfOk result (λ back. BothBack workers.items rounds drain back.0 back.1) }
+            ensures { IfOk result (λ back. AreBothBack workers.items rounds drain back.0 back.1) }
         {
             let draining = start_drain(rt, scope, gate, workers.len() as u32, drain, flag);
             let whole = run_workers(rt, scope, alloc, registry, gate, metas, workers, rounds);

@@ -54,7 +54,7 @@ Fit one other = IfOk one (λ a. IfOk other (λ b. (a.units + b.units < 2 ^ 64) �
 
 -- The numbers of a report of so many workers and rounds: nine calls for each round of each worker, each handle given
 -- back, and each span closed or left.
-pub record Adds (workers rounds : ℕ) (report : Report) : Type 0 where
+pub record HasNumbers (workers rounds : ℕ) (report : Report) : Type 0 where
   pub calls : report.calls ≡ 9 * (workers * rounds)
   pub handles : report.handles ≡ 0
   pub empty : (report.left ≡ 0) ↔ (report.entries ≡ 0)
@@ -66,6 +66,6 @@ pub record IsSameDrain (went back : DrainView) : Type 0 where
   pub forms : back.forms ≡ went.forms
 
 -- the whole share of these workers and the drain that went with them
-pub record BothBack (workers : List WorkerView) (rounds : ℕ) (went : DrainView) (share : ShareView) (back : DrainView) : Type 0 where
+pub record AreBothBack (workers : List WorkerView) (rounds : ℕ) (went : DrainView) (share : ShareView) (back : DrainView) : Type 0 where
   pub whole : HasAll workers rounds share
   pub drain : IsSameDrain went back
