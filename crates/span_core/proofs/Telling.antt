@@ -52,13 +52,6 @@ one_happening rules worker what first notes none are =
     append_nil [] = refl
     append_nil (x ∷ xs) = ap (λ ys. x ∷ ys) (append_nil xs)
 
--- the notes of spans that close
-pub closes_told : (rules : List Filter) (worker : ℕ) (spans : Spans) (listed closed : List ℕ) (first notes : List PlainNote) → first ≡ [] → listed ≡ closed
-    → notes ≡ first ++ flat_map (notes_of rules worker) (map (close_of spans) listed) → notes ≡ notes_of_all rules worker (map (close_of spans) closed)
-closes_told rules worker spans listed closed first notes none same are =
-    are ∙ ap (λ xs. xs ++ flat_map (notes_of rules worker) (map (close_of spans) listed)) none
-    ∙ ap (λ ids. flat_map (notes_of rules worker) (map (close_of spans) ids)) same
-
 -- the notes of an event
 pub event_notes : (rules : List Filter) (worker : ℕ) (spans : Spans) (stack seen : List ℕ) (bits admitted : ℕ) (meta : PlainMeta) (message : List ℕ) (fields : List KeyValue) (notes : List PlainNote)
     → seen ≡ stack → bits ≡ admitted

@@ -29,7 +29,7 @@ pub(crate) enum GivenText<'a> {
     Shared(&'a ArcStr),
 }
 
-/// An event.
+/// An event as a caller gives it: lent or shared.
 #[derive(Clone, Copy)]
 pub(crate) struct GivenEvent<'a> {
     pub(crate) meta: GivenMeta<'a>,

@@ -1,6 +1,6 @@
 -- Each call keeps the seats and the core agreed. `r` is the root's view before the call, `r₁`, `r₂` .. after its steps.
 use Rattle.std.proofs.Common.{◌≡◌, ◌≢◌, ℕ, ◌+◌, ◌<◌, Bool, true, false, cond, List, length, Option, Some, refl, sym, ap, ◌∙◌, subst, true≢false}
-use Rattle.std.specs.Prelude.{◌^◌, IfSome, IsSomeAnd, Result, Ok, Err, IfOk, IfErr, MatchResult}
+use Rattle.std.specs.Prelude.{◌^◌, IsSomeAnd, Result, Ok, Err, IfOk, IfErr, MatchResult}
 use Rattle.span_id.specs.Id.{slot_of, generation_of}
 use Rattle.span_id.specs.Meta.{KeyValue, PlainMeta}
 use Rattle.span_id.specs.declared.fault.Fault.{Fault}
@@ -15,7 +15,7 @@ use Rattle.span_outlet.specs.Request.{Request, Answer, clone_span, cloned, try_c
 use Rattle.span_core.specs.World.{World}
 use Rattle.span_core.specs.Step.{closed_by_exit, stays_inside, is_open}
 use Rattle.span_core.specs.History.{IsLegal}
-use Rattle.span_core.specs.Core.{CoreView, IsAccepted, IsRefused, IsNotWanted, is_known}
+use Rattle.span_core.specs.Core.{CoreView, IsAccepted, IsRefused, is_known}
 use Rattle.span_core.proofs.Legal.{whole}
 use Rattle.span_core.proofs.Holds.{held-changed}
 use Rattle.span_seats.specs.declared.view.HandleView.{HandleView}
@@ -27,10 +27,6 @@ use Rattle.span_registry.specs.inside.Seated.{spans_seen, AreSeated}
 use Rattle.span_registry.specs.inside.Called.{MayBeCounted, IsRefusedWhereHeld}
 use Rattle.span_registry.proofs.Totals.{counted_of}
 use Rattle.span_registry.proofs.Bridge.{open-changed, cloned_of, sound_left, released_of, spans_exited, sound_exited, exited_of}
-
--- what stands in an option
-pub some_of : {X : Type 0} (o : Option X) (P : X → Type 0) (x : X) → o ≡ Some x → IfSome o P → P x
-some_of o P x is h = subst (λ o. IfSome o P) is h
 
 -- a seat was joined, and its span is open: a seat of that id may be split off, and once more
 pub joined_opens : (r r₁ : RootView) (id number : ℕ) → r₁ ≡ without_number r id number → IsOpenIn r.words id → IsOpenIn r₁.words r₁.split_id
@@ -51,9 +47,6 @@ seated_slots core new r limits a = subst (λ k. Agree r k (spans_seen new.world.
 
 pub seated_refused : (core new : CoreView) (request : Request) (fault : Fault) (r : RootView) → IsRefused core request fault new → AreSeated r core → AreSeated r new
 seated_refused core new request fault r refused a = subst (λ (v : CoreView). AreSeated r v) (sym refused.unchanged) a
-
-pub seated_not_wanted : (core new : CoreView) (request : Request) (r : RootView) → IsNotWanted core request new → AreSeated r core → AreSeated r new
-seated_not_wanted core new request r none a = subst (λ (v : CoreView). AreSeated r v) (sym none.same) a
 
 -- what the call names is there, so it isn't refused as unknown
 pub never_unknown : (core new : CoreView) (request : Request) (fault : Fault) → is_known core request ≡ true → IsRefused core request fault new → fault ≢ Unknown

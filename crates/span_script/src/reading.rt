@@ -14,7 +14,7 @@ use crate::fields::fields;
 use crate::key::Key;
 use crate::key_values::{form, kinds, level, limit, parent, required_text, span, text, worker};
 use crate::meta::meta;
-use crate::operations::{NewEvent, NewLayer, NewSpan, Operation, Parent, SpanCall, SpanKey};
+use crate::operations::{NewEvent, NewLayer, NewSpan, Operation, SpanCall, SpanKey};
 use crate::reason::Reason;
 use crate::rules::rule;
 use crate::stop::Stop;

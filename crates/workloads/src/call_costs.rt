@@ -32,7 +32,12 @@ pub fn run<R: Print + Eprint + Threads + Wait + Clock + Sync>(
     words: &[String],
 ) -> io::Result<ExitCode> {
     if words.is_empty() {
-        return run_shortly(rt, alloc);
+        let is_made = run_shortly(rt, alloc)?;
+        return Ok(if is_made {
+            ExitCode::SUCCESS
+        } else {
+            ExitCode::FAILURE
+        });
     }
     let Some(order) = read_order(words) else {
         return wrong_words(rt, USAGE);
@@ -40,27 +45,30 @@ pub fn run<R: Print + Eprint + Threads + Wait + Clock + Sync>(
     match make(rt, alloc, &order) {
         Ok(made) => {
             eprintln!(rt; "{} left, {} times no place", made.left, made.backlogs)?;
-            tell(rt, &made)
+            tell(rt, &made)?;
+            Ok(ExitCode::SUCCESS)
         }
         Err(fault) => ended_by(rt, fault),
     }
 }
 
-// Makes a few rounds of each run.
-fn run_shortly<R: Print + Eprint + Threads + Wait + Clock + Sync>(
+/// Makes a few rounds of each run. Whether all of them were made.
+pub fn run_shortly<R: Print + Eprint + Threads + Wait + Clock + Sync>(
     rt: &R,
     alloc: Global,
-) -> io::Result<ExitCode> {
+) -> io::Result<bool> {
     for order in SHORT_RUNS {
         match make(rt, alloc, &order) {
             Ok(made) => tell(rt, &made)?,
-            Err(fault) => return ended_by(rt, fault),
-        };
+            Err(fault) => {
+                ended_by(rt, fault)?;
+                return Ok(false);
+            }
+        }
     }
-    Ok(ExitCode::SUCCESS)
+    Ok(true)
 }
 
-fn tell<R: Print>(rt: &R, made: &Made) -> io::Result<ExitCode> {
-    println!(rt; "{} calls, {} lines", made.calls, made.lines)?;
-    Ok(ExitCode::SUCCESS)
+fn tell<R: Print>(rt: &R, made: &Made) -> io::Result<()> {
+    println!(rt; "{} calls, {} lines", made.calls, made.lines)
 }

@@ -1,4 +1,4 @@
-//! Layers that are told of everything.
+//! Layers that admit everything.
 ghost use Rattle.std.specs.Prelude.{◌≡◌};
 ghost use Rattle.std.specs.Result.{ForOk};
 ghost use Rattle.span_layers.specs.Note.{plain_note};

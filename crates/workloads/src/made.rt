@@ -22,7 +22,7 @@ use std::sync::Wait;
 use std::thread::Threads;
 use std::time::Clock;
 
-/// Makes a run. Its layers are told of everything. The closures' contracts are what `Hooks::new` asks for.
+/// Makes a run. Its layers admit everything. The closures' contracts are what `Hooks::new` asks for.
 pub fn make<R: Threads + Wait + Clock + Sync>(
     rt: &R,
     alloc: Global,

@@ -39,7 +39,9 @@ fn run<R: Print + Eprint + Threads + Wait + Clock + Sync>(
     words: &[String],
 ) -> io::Result<ExitCode> {
     let [_, name, words @ ..] = words else {
-        call_costs::run(rt, alloc, &[])?;
+        if !call_costs::run_shortly(rt, alloc)? {
+            return Ok(ExitCode::FAILURE);
+        }
         return soak::run(rt, alloc, &[]);
     };
     match name.as_str() {

@@ -23,6 +23,7 @@ impl CoreParts {
         CoreParts::of(alloc, limits.check()?, fields)
     }
 
+    // The same, with limits that were checked.
     fn of(alloc: Global, checked: Checked, fields: u32) -> Result<CoreParts, Fault>
         ensures limits { IfOk result (λ parts. parts.checked ≡ checked) }
         ensures ring { IfOk result (λ parts. (parts.ring.sent ≡ []) × (parts.ring.name ≡ parts.tap)) }

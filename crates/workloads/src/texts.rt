@@ -1,8 +1,8 @@
-//! What the spans and events of the loops are called, and their fields.
+//! What spans and events are called, and their fields.
 use span_id::{Fault, Field, Level, Meta, copy_text};
 use std::alloc::Global;
 
-/// What each round passes, made once.
+/// What each call passes, made once.
 #[derive(Drop)]
 pub struct Texts {
     pub meta: Meta,

@@ -53,7 +53,7 @@ pub fn write_answer(text: &mut Vec<u8>, answer: Answer) -> Result<(), Stop>
     }
 }
 
-/// Appends the line of an answer to a text. The only error is that memory was refused.
+/// The same, with the error of a text that is written to.
 fn answer_line(text: &mut Vec<u8>, answer: Answer) -> io::Result<()>
     ensures { OnOk result (text.new.items ≡ text.old.items ++ answer_text answer) }
 {

@@ -19,7 +19,7 @@ pub fn read_order(words: &[String]) -> Option<Order>
             Some(Order::Storm { workers, rounds })
         }
         "chain" => Some(Order::Chain {
-            length: small_number(numbers, 0, 1, 1_000_000)?,
+            length: one(numbers, 1_000_000)?,
         }),
         "slow" => {
             let (places, rounds) = two(numbers, 65536, 1_000_000)?;
@@ -29,11 +29,24 @@ pub fn read_order(words: &[String]) -> Option<Order>
     }
 }
 
-// Two numbers, each from 1 to its greatest value.
+// The only number, from 1 to its greatest value.
+fn one(numbers: &[String], most: u32) -> Option<u32>
+    ensures { IfSome result (λ number. (1 ≤ number) × (number ≤ most)) }
+{
+    if numbers.len() != 1 {
+        return None;
+    }
+    small_number(numbers, 0, 1, most)
+}
+
+// The only two numbers, each from 1 to its greatest value.
 fn two(numbers: &[String], most: u32, other_most: u32) -> Option<(u32, u32)>
     ensures one { IfSome result (λ pair. (1 ≤ pair.0) × (pair.0 ≤ most)) }
     ensures other { IfSome result (λ pair. (1 ≤ pair.1) × (pair.1 ≤ other_most)) }
 {
+    if numbers.len() != 2 {
+        return None;
+    }
     Some((
         small_number(numbers, 0, 1, most)?,
         small_number(numbers, 1, 1, other_most)?,
@@ -42,6 +55,9 @@ fn two(numbers: &[String], most: u32, other_most: u32) -> Option<(u32, u32)>
 
 // The shape that four numbers give.
 fn read_shape(numbers: &[String]) -> Option<Shape> {
+    if numbers.len() != 4 {
+        return None;
+    }
     Some(Shape {
         layers: small_number(numbers, 0, 0, 64)?,
         fields: small_number(numbers, 1, 0, 64)?,
