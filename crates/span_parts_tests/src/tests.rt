@@ -11,3 +11,4 @@ mod script;
 mod seats;
 mod slots;
 mod stack;
+mod values;

@@ -3,7 +3,6 @@ mod acts;
 mod answers;
 mod chain;
 mod closing_lists;
-mod layers;
 mod missed;
 mod on_a_ring;
 mod play;

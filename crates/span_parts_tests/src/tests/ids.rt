@@ -22,17 +22,19 @@ fn packs_slot_and_generation(rt: HostRuntime) {
     consists_of(&rt, again, 16777217, 0, 1);
 }
 
+// A number of the older layout, and that of its id.
+static OLDER: [(u64, u64); 4] = [
+    (1, 1),
+    (65536, 65536),
+    (65537, 16777217),
+    (4294967296, 1099494916096),
+];
+
 #[test]
 fn reads_the_older_layout(rt: HostRuntime) {
-    let cases = [
-        (1, Some(1)),
-        (65536, Some(65536)),
-        (65537, Some(16777217)),
-        (4294967296, Some(1099494916096)),
-    ];
-    for (number, want) in cases {
-        let id = Id::from_v1(number).map(Id::get);
-        same(&rt, id, want, number);
+    for (number, want) in &OLDER {
+        let id = Id::from_v1(*number).map(Id::get);
+        same(&rt, id, Some(*want), *number);
     }
 }
 
@@ -82,35 +84,39 @@ fn orders_levels_by_verbosity(rt: HostRuntime) {
     }
 }
 
+// Slots, the last generation, the greatest count, workers and the ring, and whether they are in their ranges.
+type LimitCase = ([u32; 5], bool);
+
+static LIMITS: [LimitCase; 10] = [
+    ([1024, 4294967295, 4294967295, 4, 1024], true),
+    ([1, 0, 1, 1, 1], true),
+    ([16777216, 4294967295, 4294967295, 256, 65536], true),
+    ([0, 0, 1, 1, 1], false),
+    ([16777217, 0, 1, 1, 1], false),
+    ([1, 0, 0, 1, 1], false),
+    ([1, 0, 1, 0, 1], false),
+    ([1, 0, 1, 257, 1], false),
+    ([1, 0, 1, 1, 0], false),
+    ([1, 0, 1, 1, 65537], false),
+];
+
+fn is_checked(rt: &impl Abort, case: &LimitCase) {
+    let ([slots, last_generation, max_count, workers, ring], want) = *case;
+    let limits = Limits {
+        slots,
+        last_generation,
+        max_count,
+        workers,
+        ring,
+    };
+    let checked = (limits, limits.check().is_ok());
+    same(rt, checked, (limits, want), "limits");
+}
+
 #[test]
 fn checks_each_limit(rt: HostRuntime) {
-    let most = u32::MAX;
-    let cases = [
-        ([1024, most, most, 4, 1024], true),
-        ([1, 0, 1, 1, 1], true),
-        ([16777216, most, most, 256, 65536], true),
-        ([0, 0, 1, 1, 1], false),
-        ([16777217, 0, 1, 1, 1], false),
-        ([1, 0, 0, 1, 1], false),
-        ([1, 0, 1, 0, 1], false),
-        ([1, 0, 1, 257, 1], false),
-        ([1, 0, 1, 1, 0], false),
-        ([1, 0, 1, 1, 65537], false),
-    ];
-    for ([slots, last_generation, max_count, workers, ring], want) in cases {
-        let limits = Limits {
-            slots,
-            last_generation,
-            max_count,
-            workers,
-            ring,
-        };
-        same(
-            &rt,
-            (limits, limits.check().is_ok()),
-            (limits, want),
-            "limits",
-        );
+    for case in &LIMITS {
+        is_checked(&rt, case);
     }
 }
 
@@ -120,24 +126,28 @@ fn fits(rt: &impl Abort, alloc: Global, name: &str, want: bool) {
     same(rt, fit, (want, want), name);
 }
 
+fn fits_so_long(rt: &impl Abort, alloc: Global, length: usize, want: bool) {
+    let name = "x".repeat(alloc, length).expect(rt, "memory");
+    fits(rt, alloc, name.as_str(), want);
+}
+
+static NAMES: [(&str, bool); 7] = [
+    ("a", true),
+    ("Az09_.-", true),
+    ("", false),
+    ("a b", false),
+    ("a:b", false),
+    ("k=v", false),
+    ("\u{e9}", false),
+];
+
 #[test]
 fn knows_names(rt: HostRuntime) {
-    let cases = [
-        ("a", true),
-        ("Az09_.-", true),
-        ("", false),
-        ("a b", false),
-        ("a:b", false),
-        ("k=v", false),
-        ("\u{e9}", false),
-    ];
-    for (name, want) in cases {
-        fits(&rt, rt.alloc(), name, want);
+    for (name, want) in &NAMES {
+        fits(&rt, rt.alloc(), name, *want);
     }
-    for (length, want) in [(64, true), (65, false)] {
-        let name = "x".repeat(rt.alloc(), length).expect(&rt, "memory");
-        fits(&rt, rt.alloc(), name.as_str(), want);
-    }
+    fits_so_long(&rt, rt.alloc(), 64, true);
+    fits_so_long(&rt, rt.alloc(), 65, false);
 }
 
 fn field_has_a_copy(rt: &impl Abort, alloc: Global, key: &str, value: &str) {

@@ -1,4 +1,5 @@
 //! Whole runs of scripts, devices that fail, and which hooks a layer takes.
+mod fixtures;
 mod flushes;
 mod hooks;
 mod runs;

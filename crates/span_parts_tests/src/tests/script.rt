@@ -123,7 +123,7 @@ const LATE_WHEN_RUNNING: [Row; 6] = [
 ];
 
 /// The stages at which lines are read, and the lines; those of the last two tables are at fault there.
-const READ: [(&[Stage], &[Row]); 5] = [
+static READ: [(&[Stage], &[Row]); 5] = [
     (&[Stage::AtStart, Stage::InSetup], &LAYERS),
     (&[Stage::AtStart, Stage::Running], &RECORDS),
     (&[Stage::AtStart, Stage::Running], &EVENTS),
@@ -230,7 +230,7 @@ fn has_bad_key(rt: &impl Abort, alloc: Global, op: &str, keys: &str, key: &str) 
 }
 
 /// A line, and whether it belongs to the setup.
-const SETUP_LINES: [(&str, bool); 10] = [
+static SETUP_LINES: [(&str, bool); 10] = [
     ("{\"op\":\"limits\",\"slots\":null}", true),
     ("{\"op\":\"layer\",\"form\":null}", true),
     ("{\"op\":\"new\",\"op\":\"layer\"}", true),

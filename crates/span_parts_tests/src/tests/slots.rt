@@ -118,7 +118,7 @@ fn plays(rt: &impl Abort, alloc: Global, play: &Play) {
     }
 }
 
-const PLAYS: [Play; 4] = [
+static PLAYS: [Play; 4] = [
     // A slot at its last generation is retired.
     (
         (2, 0),
@@ -191,6 +191,13 @@ fn tables_of_many_sizes(rt: HostRuntime) {
     }
 }
 
+static THE_THIRD: [Act<'static>; 4] = [
+    Act::Sizes(1, 1),
+    Act::Put(30, 3),
+    Act::Next(None),
+    Act::Get(1, Some(10)),
+];
+
 #[test]
 fn a_slot_is_given_at_one_generation_after_another(rt: HostRuntime) {
     let mut slots = table(&rt, rt.alloc(), 3, 2);
@@ -199,13 +206,7 @@ fn a_slot_is_given_at_one_generation_after_another(rt: HostRuntime) {
         gives_and_takes_back(&rt, &mut slots, number);
     }
     // The second slot gave its last id, so the third comes next.
-    let acts = [
-        Act::Sizes(1, 1),
-        Act::Put(30, 3),
-        Act::Next(None),
-        Act::Get(1, Some(10)),
-    ];
-    for act in &acts {
+    for act in &THE_THIRD {
         does(&rt, &mut slots, act);
     }
 }

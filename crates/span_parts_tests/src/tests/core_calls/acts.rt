@@ -1,14 +1,14 @@
-//! Calls and looks as data. The calls are made here and in `shared`; what a whole run is asked is answered in `play`,
-//! and what its ring and its drain are asked in `on_a_ring`.
+//! Calls and looks as data. The calls are made here; what a whole run is asked is answered in `play`, and what its ring
+//! and its drain are asked in `on_a_ring`.
 ghost use Rattle.std.specs.Prelude.{◌<◌};
 
-use crate::tests::core_calls::answers::Answer;
-use crate::tests::core_calls::layers::{fields_of, meta_of};
-use crate::tests::core_calls::shared::{Texts, Way, share};
+use crate::tests::core_calls::answers::{Answer, accepted, closed, entered, found, made};
+use crate::tests::values::{id, list, meta};
 use span_core::Core;
 use span_id::{Fault, Field, Id, Level, Meta};
 use span_outlet::{Outlet, ParentOf};
-use std::alloc::{AllocError, Global};
+use std::alloc::Global;
+use std::process::Abort;
 
 /// Keys and values.
 pub(crate) type Fields<'a> = &'a [(&'a str, &'a str)];
@@ -16,11 +16,15 @@ pub(crate) type Fields<'a> = &'a [(&'a str, &'a str)];
 /// A call, or a look; spans stand under the numbers of their ids.
 #[derive(Clone, Copy)]
 pub(crate) enum Act<'a> {
-    New {
+    /// A new span of the target `app` at INFO, whose parent is the current span.
+    New(&'a str),
+    /// The same under the span of this id; under 0 a root.
+    Child(&'a str, u64),
+    /// A new span whose parent is the current span.
+    NewWith {
         name: &'a str,
         target: &'a str,
         level: Level,
-        parent: ParentOf,
         fields: Fields<'a>,
     },
     Clone(u64),
@@ -37,8 +41,6 @@ pub(crate) enum Act<'a> {
         message: &'a str,
         fields: Fields<'a>,
     },
-    /// A call that shares what its caller has.
-    Share(Way, &'a Texts),
     Find(u64),
     /// What is counted of the core.
     Count,
@@ -54,49 +56,15 @@ pub(crate) enum Act<'a> {
     Drain(u32),
 }
 
-/// A new span whose parent is the current span.
-pub(crate) fn new<'a>(name: &'a str) -> Act<'a> {
-    Act::New {
-        name,
-        target: "app",
-        level: Level::Info,
-        parent: ParentOf::Current,
-        fields: &[],
-    }
-}
-
-/// A new span under the span of this id; where the number is no id, a root.
-pub(crate) fn child<'a>(name: &'a str, parent: u64) -> Act<'a> {
-    Act::New {
-        name,
-        target: "app",
-        level: Level::Info,
-        parent: Id::from_u64(parent).map_or(ParentOf::Root, ParentOf::Of),
-        fields: &[],
-    }
-}
-
 // A call that is told a worker and a span, and no more.
 fn hold<O: Outlet>(core: &mut Core<O>, worker: u32, act: &Act, id: Id) -> Answer
     requires { worker < core.old.limits.workers }
 {
     match act {
-        Act::Clone(_) => match core.clone_span(worker, id) {
-            Ok(()) => Answer::Cloned,
-            Err(fault) => Answer::Refused(fault),
-        },
-        Act::Enter(_) => match core.enter(worker, id) {
-            Ok(first) => Answer::Entered(first),
-            Err(fault) => Answer::Refused(fault),
-        },
-        Act::Exit(_) => match core.exit(worker, id) {
-            Ok(closed) => Answer::Closed(closed),
-            Err(fault) => Answer::Refused(fault),
-        },
-        _ => match core.try_close(worker, id) {
-            Ok(closed) => Answer::Closed(closed),
-            Err(fault) => Answer::Refused(fault),
-        },
+        Act::Clone(_) => accepted(core.clone_span(worker, id), Answer::Cloned),
+        Act::Enter(_) => entered(core.enter(worker, id)),
+        Act::Exit(_) => closed(core.exit(worker, id)),
+        _ => closed(core.try_close(worker, id)),
     }
 }
 
@@ -149,26 +117,6 @@ pub(crate) fn counts_of<O: Outlet>(core: &Core<O>, id: Id) -> Option<[u64; 4]> {
     ])
 }
 
-fn find<O: Outlet>(core: &Core<O>, id: Id) -> Answer {
-    match counts_of(core, id) {
-        Some(counts) => Answer::Found(counts),
-        None => Answer::Refused(Fault::Unknown),
-    }
-}
-
-fn perform_on<O: Outlet>(core: &mut Core<O>, worker: u32, act: &Act, number: u64) -> Answer
-    requires { worker < core.old.limits.workers }
-{
-    let Some(id) = Id::from_u64(number) else {
-        return Answer::Refused(Fault::Unknown);
-    };
-    match act {
-        Act::Find(_) => find(core, id),
-        Act::ExitShown(_) | Act::CloseShown(_) => show(core, worker, act, id),
-        _ => hold(core, worker, act, id),
-    }
-}
-
 // What a call passes.
 #[derive(Drop)]
 struct Parts {
@@ -177,89 +125,77 @@ struct Parts {
 }
 
 fn given(
+    rt: &impl Abort,
     alloc: Global,
     name: &str,
     target: &str,
     level: Level,
     fields: Fields,
-) -> Result<Parts, AllocError> {
-    let fields = fields_of(alloc, fields)?;
-    Ok(Parts {
-        meta: meta_of(alloc, name, target, level)?,
-        fields,
-    })
+) -> Parts {
+    Parts {
+        meta: meta(rt, alloc, name, target, level),
+        fields: list(rt, alloc, fields),
+    }
 }
 
 // What this call passes, where it passes something.
-fn given_by(alloc: Global, act: &Act) -> Result<Parts, AllocError> {
+fn given_by(rt: &impl Abort, alloc: Global, act: &Act) -> Parts {
     match act {
-        Act::New {
+        Act::New(name) | Act::Child(name, _) => given(rt, alloc, name, "app", Level::Info, &[]),
+        Act::NewWith {
             name,
             target,
             level,
-            parent: _,
             fields,
-        } => given(alloc, name, target, *level, fields),
+        } => given(rt, alloc, name, target, *level, fields),
         Act::Event {
             target,
             level,
             message: _,
             fields,
-        } => given(alloc, "event", target, *level, fields),
-        Act::Record(_, fields) => given(alloc, "", "", Level::Info, fields),
-        _ => given(alloc, "", "", Level::Info, &[]),
+        } => given(rt, alloc, "event", target, *level, fields),
+        Act::Record(_, fields) => given(rt, alloc, "", "", Level::Info, fields),
+        _ => given(rt, alloc, "", "", Level::Info, &[]),
     }
 }
 
 fn make<O: Outlet>(core: &mut Core<O>, worker: u32, parent: ParentOf, given: &Parts) -> Answer
     requires { worker < core.old.limits.workers }
 {
-    match core.new_span(worker, &given.meta, given.fields.as_slice(), parent) {
-        Ok(Some(id)) => Answer::Made(id),
-        Ok(None) => Answer::NotWanted,
-        Err(fault) => Answer::Refused(fault),
-    }
+    made(core.new_span(worker, &given.meta, given.fields.as_slice(), parent))
 }
 
 fn tell<O: Outlet>(core: &mut Core<O>, worker: u32, message: &str, given: &Parts) -> Answer
     requires { worker < core.old.limits.workers }
 {
-    match core.event(worker, &given.meta, message, given.fields.as_slice()) {
-        Ok(()) => Answer::Told,
-        Err(fault) => Answer::Refused(fault),
-    }
+    let told = core.event(worker, &given.meta, message, given.fields.as_slice());
+    accepted(told, Answer::Told)
 }
 
-fn record<O: Outlet>(core: &mut Core<O>, worker: u32, number: u64, given: &Parts) -> Answer
+fn record<O: Outlet>(core: &mut Core<O>, worker: u32, id: Id, given: &Parts) -> Answer
     requires { worker < core.old.limits.workers }
 {
-    let Some(id) = Id::from_u64(number) else {
-        return Answer::Refused(Fault::Unknown);
-    };
-    match core.record(worker, id, given.fields.as_slice()) {
-        Ok(()) => Answer::Recorded,
-        Err(fault) => Answer::Refused(fault),
-    }
+    let recorded = core.record(worker, id, given.fields.as_slice());
+    accepted(recorded, Answer::Recorded)
 }
 
 // A call that passes what is given; any other act is none.
-fn pass<O: Outlet>(core: &mut Core<O>, worker: u32, act: &Act, given: &Parts) -> Answer
+fn pass<O: Outlet>(
+    rt: &impl Abort,
+    core: &mut Core<O>,
+    worker: u32,
+    act: &Act,
+    given: &Parts,
+) -> Answer
     requires { worker < core.old.limits.workers }
 {
     match act {
-        Act::New { parent, .. } => make(core, worker, *parent, given),
+        Act::New(_) | Act::NewWith { .. } => make(core, worker, ParentOf::Current, given),
+        Act::Child(_, 0) => make(core, worker, ParentOf::Root, given),
+        Act::Child(_, parent) => make(core, worker, ParentOf::Of(id(rt, *parent)), given),
         Act::Event { message, .. } => tell(core, worker, message, given),
-        Act::Record(number, _) => record(core, worker, *number, given),
+        Act::Record(number, _) => record(core, worker, id(rt, *number), given),
         _ => Answer::NoCall,
-    }
-}
-
-fn give<O: Outlet>(alloc: Global, core: &mut Core<O>, worker: u32, act: &Act) -> Answer
-    requires { worker < core.old.limits.workers }
-{
-    match given_by(alloc, act) {
-        Ok(given) => pass(core, worker, act, &given),
-        Err(_) => Answer::Refused(Fault::Memory),
     }
 }
 
@@ -279,6 +215,7 @@ pub(crate) fn counts<O: Outlet>(core: &Core<O>) -> [u64; 7] {
 
 /// What a core answers to a call of this worker, or to a look.
 pub(crate) fn perform<O: Outlet>(
+    rt: &impl Abort,
     alloc: Global,
     core: &mut Core<O>,
     worker: u32,
@@ -288,15 +225,14 @@ pub(crate) fn perform<O: Outlet>(
         return Answer::NoWorker;
     }
     match act {
-        Act::Clone(number)
-        | Act::Enter(number)
-        | Act::Exit(number)
-        | Act::Close(number)
-        | Act::ExitShown(number)
-        | Act::CloseShown(number)
-        | Act::Find(number) => perform_on(core, worker, act, *number),
+        Act::Find(number) => found(counts_of(core, id(rt, *number))),
+        Act::ExitShown(number) | Act::CloseShown(number) => {
+            show(core, worker, act, id(rt, *number))
+        }
+        Act::Clone(number) | Act::Enter(number) | Act::Exit(number) | Act::Close(number) => {
+            hold(core, worker, act, id(rt, *number))
+        }
         Act::Count => Answer::Counted(counts(core)),
-        Act::Share(way, texts) => share(core, worker, *way, texts),
-        _ => give(alloc, core, worker, act),
+        _ => pass(rt, core, worker, act, &given_by(rt, alloc, act)),
     }
 }

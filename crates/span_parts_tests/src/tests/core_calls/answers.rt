@@ -1,8 +1,9 @@
 //! What is answered to calls, as text.
-use crate::tests::outlet::batches::push_line;
+use crate::tests::outlet::batches::push;
 use span_id::{Fault, Id};
 use span_outlet::{Line, Step};
-use std::alloc::{AllocError, Global};
+use std::alloc::Global;
+use std::process::Abort;
 
 /// What a call answers, or what a look shows.
 #[derive(Clone, Copy)]
@@ -33,6 +34,44 @@ pub(crate) enum Answer {
     NoCall,
 }
 
+/// What a call answers that is accepted with no value, or refused.
+pub(crate) fn accepted(answer: Result<(), Fault>, done: Answer) -> Answer {
+    match answer {
+        Ok(()) => done,
+        Err(fault) => Answer::Refused(fault),
+    }
+}
+
+/// What a call answers by which a span closes or stays open.
+pub(crate) fn closed(answer: Result<bool, Fault>) -> Answer {
+    match answer {
+        Ok(closed) => Answer::Closed(closed),
+        Err(fault) => Answer::Refused(fault),
+    }
+}
+
+pub(crate) fn entered(answer: Result<bool, Fault>) -> Answer {
+    match answer {
+        Ok(first) => Answer::Entered(first),
+        Err(fault) => Answer::Refused(fault),
+    }
+}
+
+pub(crate) fn made(answer: Result<Option<Id>, Fault>) -> Answer {
+    match answer {
+        Ok(Some(id)) => Answer::Made(id),
+        Ok(None) => Answer::NotWanted,
+        Err(fault) => Answer::Refused(fault),
+    }
+}
+
+pub(crate) fn found(counts: Option<[u64; 4]>) -> Answer {
+    match counts {
+        Some(counts) => Answer::Found(counts),
+        None => Answer::Refused(Fault::Unknown),
+    }
+}
+
 // An answer that has no number.
 fn word(answer: &Answer) -> &'static str {
     match answer {
@@ -54,72 +93,52 @@ fn word(answer: &Answer) -> &'static str {
 }
 
 // A word and numbers, on a line.
-fn push_numbers(
-    alloc: Global,
-    text: &mut Vec<u8>,
-    word: &str,
-    numbers: &[u64],
-) -> Result<(), AllocError> {
-    text.extend_from_slice(word.as_bytes())?;
+fn push_numbers(rt: &impl Abort, alloc: Global, text: &mut Vec<u8>, word: &str, numbers: &[u64]) {
+    push(rt, text, word.as_bytes());
     for number in numbers {
-        let number = format!(in alloc; " {number}")?;
-        text.extend_from_slice(number.as_bytes())?;
+        let number = format!(in alloc; " {number}").expect(rt, "memory");
+        push(rt, text, number.as_bytes());
     }
-    text.extend_from_slice(b"\n")
+    push(rt, text, b"\n");
+}
+
+// A refusal, on a line.
+fn push_refusal(rt: &impl Abort, alloc: Global, text: &mut Vec<u8>, fault: Fault) {
+    let line = format!(in alloc; "! {fault}\n").expect(rt, "memory");
+    push(rt, text, line.as_bytes());
 }
 
 /// `= ` and the answer, or `! ` and the refusal, on a line.
-pub(crate) fn push_answer(
-    alloc: Global,
-    text: &mut Vec<u8>,
-    answer: &Answer,
-) -> Result<(), AllocError> {
+pub(crate) fn push_answer(rt: &impl Abort, alloc: Global, text: &mut Vec<u8>, answer: &Answer) {
     match answer {
-        Answer::Made(id) => {
-            let line = format!(in alloc; "= {id}\n")?;
-            text.extend_from_slice(line.as_bytes())
-        }
-        Answer::Refused(fault) => {
-            let line = format!(in alloc; "! {fault}\n")?;
-            text.extend_from_slice(line.as_bytes())
-        }
-        Answer::Shown(true, list) => push_numbers(alloc, text, "= closed", list),
-        Answer::Shown(false, list) => push_numbers(alloc, text, "= open", list),
-        Answer::Found(numbers) => push_numbers(alloc, text, "= found", numbers),
-        Answer::Counted(counts) => push_numbers(alloc, text, "= counts", counts),
-        Answer::Right(number) => push_numbers(alloc, text, "= right", &[*number]),
+        Answer::Made(id) => push_numbers(rt, alloc, text, "=", &[id.get()]),
+        Answer::Refused(fault) => push_refusal(rt, alloc, text, *fault),
+        Answer::Shown(true, list) => push_numbers(rt, alloc, text, "= closed", list),
+        Answer::Shown(false, list) => push_numbers(rt, alloc, text, "= open", list),
+        Answer::Found(numbers) => push_numbers(rt, alloc, text, "= found", numbers),
+        Answer::Counted(counts) => push_numbers(rt, alloc, text, "= counts", counts),
+        Answer::Right(number) => push_numbers(rt, alloc, text, "= right", &[*number]),
         Answer::Stepped(Some(Step { told, refused })) => {
-            push_numbers(alloc, text, "= step", &[*told as u64, *refused as u64])
+            let numbers = [*told as u64, *refused as u64];
+            push_numbers(rt, alloc, text, "= step", &numbers);
         }
-        Answer::Drained(numbers) => push_numbers(alloc, text, "= drained", numbers),
-        _ => text.extend_from_slice(word(answer).as_bytes()),
+        Answer::Drained(numbers) => push_numbers(rt, alloc, text, "= drained", numbers),
+        _ => push(rt, text, word(answer).as_bytes()),
     }
 }
 
 /// `L<layer> <text>`, on a line each, of the lines from this one on.
 pub(crate) fn push_lines(
+    rt: &impl Abort,
     alloc: Global,
     text: &mut Vec<u8>,
     lines: &[Line],
     first: usize,
-) -> Result<(), AllocError> {
+) {
     for line in lines.iter().skip(first) {
-        let layer = format!(in alloc; "L{} ", line.layer)?;
-        text.extend_from_slice(layer.as_bytes())?;
-        text.extend_from_slice(line.text.as_slice())?;
-        text.extend_from_slice(b"\n")?;
+        let layer = format!(in alloc; "L{} ", line.layer).expect(rt, "memory");
+        push(rt, text, layer.as_bytes());
+        push(rt, text, line.text.as_slice());
+        push(rt, text, b"\n");
     }
-    Ok(())
-}
-
-/// The number of the batch, the place, the layer and the text of each line.
-pub(crate) fn push_numbered(
-    alloc: Global,
-    text: &mut Vec<u8>,
-    lines: &[Line],
-) -> Result<(), AllocError> {
-    for line in lines {
-        push_line(alloc, text, line)?;
-    }
-    Ok(())
 }

@@ -1,6 +1,6 @@
 //! The closing lists that calls show, and the counts after them.
-use crate::tests::core_calls::acts::{Act, child};
-use crate::tests::core_calls::play::plays;
+use crate::tests::core_calls::acts::Act;
+use crate::tests::core_calls::play::{Play, plays};
 use span_id::Limits;
 
 const LIMITS: Limits = Limits {
@@ -38,14 +38,16 @@ const ANSWERS: &str = "\
 = counts 0 0 0 0 10 2 2
 ";
 
-#[test]
-fn closing_lists_come_out(rt: HostRuntime) {
-    // Generation 7 of the child's slot.
-    let stranger = 117440514;
-    let acts = [
+// Generation 7 of the child's slot.
+const STRANGER: u64 = 117440514;
+
+const PLAY: Play<'static> = Play {
+    limits: LIMITS,
+    plans: &[],
+    acts: &[
         (0, Act::Count),
-        (0, child("a", 0)),
-        (0, child("b", 1)),
+        (0, Act::Child("a", 0)),
+        (0, Act::Child("b", 1)),
         (0, Act::Enter(2)),
         (0, Act::Close(1)),
         (0, Act::Count),
@@ -58,11 +60,16 @@ fn closing_lists_come_out(rt: HostRuntime) {
         (1, Act::Exit(2)),
         (0, Act::Count),
         (1, Act::ExitShown(2)),
-        (1, Act::CloseShown(stranger)),
+        (1, Act::CloseShown(STRANGER)),
         (0, Act::CloseShown(2)),
         (0, Act::Count),
         (0, Act::ExitShown(2)),
         (0, Act::Count),
-    ];
-    plays(&rt, rt.alloc(), LIMITS, &[], &acts, ANSWERS);
+    ],
+    expected: ANSWERS,
+};
+
+#[test]
+fn closing_lists_come_out(rt: HostRuntime) {
+    plays(&rt, rt.alloc(), &PLAY);
 }

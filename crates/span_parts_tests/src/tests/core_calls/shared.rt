@@ -1,14 +1,15 @@
 //! The calls that share what their caller has.
-ghost use Rattle.std.specs.Prelude.{◌<◌};
+ghost use Rattle.std.specs.Prelude.{◌≡◌, []};
 
-use crate::tests::compare::equal;
 use crate::tests::core_calls::acts::Act;
-use crate::tests::core_calls::answers::Answer;
-use crate::tests::core_calls::layers::{EVERYTHING, fields_of, meta_of};
-use crate::tests::core_calls::play::plays;
+use crate::tests::core_calls::answers::{Answer, accepted, made};
+use crate::tests::core_calls::play::{ends, perform_all, push_told, written};
+use crate::tests::layers::fixtures::{EVERYTHING, layers};
+use crate::tests::values::{id, list, meta};
 use span_core::Core;
-use span_id::{Fault, Fields, Id, Level, Limits, SharedMeta};
-use span_outlet::{Outlet, ParentOf};
+use span_id::{Fields, Level, Limits, SharedMeta};
+use span_layers::{Filters, Say};
+use span_outlet::{Kept, ParentOf};
 use std::alloc::Global;
 use std::process::Abort;
 use std::sync::ArcStr;
@@ -21,75 +22,66 @@ const LIMITS: Limits = Limits {
     ring: 1,
 };
 
-/// What the calls share.
+// What the calls share.
 #[derive(Drop)]
-pub(crate) struct Texts {
+struct Texts {
     meta: SharedMeta,
     fields: Fields,
     message: ArcStr,
 }
 
-/// The calls that share.
+// The calls that share.
 #[derive(Clone, Copy)]
-pub(crate) enum Way {
-    /// A new root with the fields, and one without.
+enum Way {
+    // A new root with the fields, and one without.
     New,
     NewBare,
     Record(u64),
     Event,
 }
 
-fn shares_with(alloc: Global, key: &str, message: &str) -> Result<Texts, Fault> {
-    let meta = SharedMeta::new(alloc, meta_of(alloc, "a", "app", Level::Info)?)?;
-    let fields = Fields::new(alloc, fields_of(alloc, &[(key, "1")])?)?;
-    let message = ArcStr::from_str(alloc, message)?;
-    Ok(Texts {
-        meta,
-        fields,
-        message,
-    })
-}
-
-fn make<O: Outlet>(core: &mut Core<O>, worker: u32, meta: &SharedMeta, fields: &Fields) -> Answer
-    requires { worker < core.old.limits.workers }
-{
-    match core.new_span_shared(worker, meta, fields, ParentOf::Root) {
-        Ok(Some(id)) => Answer::Made(id),
-        Ok(None) => Answer::NotWanted,
-        Err(fault) => Answer::Refused(fault),
+fn shares_with(rt: &impl Abort, alloc: Global, key: &str, message: &str) -> Texts {
+    let meta = SharedMeta::new(alloc, meta(rt, alloc, "a", "app", Level::Info));
+    let fields = Fields::new(alloc, list(rt, alloc, &[(key, "1")]));
+    Texts {
+        meta: meta.expect(rt, "memory"),
+        fields: fields.expect(rt, "memory"),
+        message: ArcStr::from_str(alloc, message).expect(rt, "memory"),
     }
 }
 
-fn record<O: Outlet>(core: &mut Core<O>, worker: u32, number: u64, fields: &Fields) -> Answer
-    requires { worker < core.old.limits.workers }
-{
-    let Some(id) = Id::from_u64(number) else {
-        return Answer::Refused(Fault::Unknown);
-    };
-    match core.record_shared(worker, id, fields) {
-        Ok(()) => Answer::Recorded,
-        Err(fault) => Answer::Refused(fault),
+// What a core answers to a call of its first worker that shares these texts.
+fn share<V: Say>(rt: &impl Abort, core: &mut Core<Kept<V>>, way: Way, texts: &Texts) -> Answer {
+    if core.limits().workers == 0 {
+        return Answer::NoWorker;
     }
-}
-
-fn tell<O: Outlet>(core: &mut Core<O>, worker: u32, texts: &Texts) -> Answer
-    requires { worker < core.old.limits.workers }
-{
-    match core.event_shared(worker, &texts.meta, &texts.message, &texts.fields) {
-        Ok(()) => Answer::Told,
-        Err(fault) => Answer::Refused(fault),
-    }
-}
-
-/// What a core answers to a call that shares these texts.
-pub(crate) fn share<O: Outlet>(core: &mut Core<O>, worker: u32, way: Way, texts: &Texts) -> Answer
-    requires { worker < core.old.limits.workers }
-{
+    let (meta, fields) = (&texts.meta, &texts.fields);
     match way {
-        Way::New => make(core, worker, &texts.meta, &texts.fields),
-        Way::NewBare => make(core, worker, &texts.meta, &Fields::none()),
-        Way::Record(number) => record(core, worker, number, &texts.fields),
-        Way::Event => tell(core, worker, texts),
+        Way::New => made(core.new_span_shared(0, meta, fields, ParentOf::Root)),
+        Way::NewBare => made(core.new_span_shared(0, meta, &Fields::none(), ParentOf::Root)),
+        Way::Record(number) => {
+            let recorded = core.record_shared(0, id(rt, number), fields);
+            accepted(recorded, Answer::Recorded)
+        }
+        Way::Event => {
+            let told = core.event_shared(0, meta, &texts.message, fields);
+            accepted(told, Answer::Told)
+        }
+    }
+}
+
+// Makes calls that share these texts: for each call first the lines of its notes, then its answer.
+fn share_in_turn<V: Say>(
+    rt: &impl Abort,
+    alloc: Global,
+    core: &mut Core<Kept<V>>,
+    text: &mut Vec<u8>,
+    (ways, texts): (&[Way], &Texts),
+) {
+    for way in ways {
+        let first = core.outlet().all().len();
+        let answer = share(rt, core, *way, texts);
+        push_told(rt, alloc, text, (core, first), &answer);
     }
 }
 
@@ -117,39 +109,44 @@ L0 close 2 w0 a k=1 k=1
 = closed
 ";
 
-fn tells<'a>(rt: &impl Abort, alloc: Global, bad: &'a Texts, good: &'a Texts) {
-    let acts = [
-        (0, Act::Share(Way::New, bad)),
-        (0, Act::Share(Way::Record(1), bad)),
-        (0, Act::Share(Way::Event, bad)),
-        (0, Act::Share(Way::New, good)),
-        (0, Act::Share(Way::NewBare, good)),
-        (0, Act::Share(Way::Record(1), good)),
-        (0, Act::Share(Way::Record(2), good)),
-        (0, Act::Share(Way::Record(2), good)),
-        (0, Act::Share(Way::Event, good)),
-        (0, Act::Close(1)),
-        (0, Act::Close(2)),
-    ];
-    plays(rt, alloc, LIMITS, &[EVERYTHING], &acts, TOLD);
-}
+static BAD_WAYS: [Way; 3] = [Way::New, Way::Record(1), Way::Event];
 
-fn both_tell(
+static GOOD_WAYS: [Way; 6] = [
+    Way::New,
+    Way::NewBare,
+    Way::Record(1),
+    Way::Record(2),
+    Way::Record(2),
+    Way::Event,
+];
+
+static CLOSES: [(u32, Act<'static>); 2] = [(0, Act::Close(1)), (0, Act::Close(2))];
+
+fn tell<V: Say>(
     rt: &impl Abort,
     alloc: Global,
-    bad: &Result<Texts, Fault>,
-    good: &Result<Texts, Fault>,
-) {
-    match (bad, good) {
-        (Ok(bad), Ok(good)) => tells(rt, alloc, bad, good),
-        _ => equal(rt, Some("no memory"), None),
-    }
+    filters: Filters,
+    outlet: Kept<V>,
+    bad: &Texts,
+    good: &Texts,
+)
+    requires { outlet.sent ≡ [] }
+{
+    let checked = LIMITS.check().expect(rt, "limits");
+    let core = Core::new(alloc, &checked, filters, outlet);
+    let mut core = core.expect(rt, "memory");
+    let mut text = Vec::new(alloc);
+    share_in_turn(rt, alloc, &mut core, &mut text, (&BAD_WAYS, bad));
+    share_in_turn(rt, alloc, &mut core, &mut text, (&GOOD_WAYS, good));
+    perform_all(rt, alloc, &mut core, &mut text, &CLOSES);
+    ends(rt, &written(&core, text), TOLD, (0, 0));
 }
 
 #[test]
 fn what_is_shared_is_told_and_kept(rt: HostRuntime) {
-    let alloc = rt.alloc();
-    let bad = shares_with(alloc, "no name", "");
-    let good = shares_with(alloc, "k", "told");
-    both_tell(&rt, alloc, &bad, &good);
+    let bad = shares_with(&rt, rt.alloc(), "no name", "");
+    let good = shares_with(&rt, rt.alloc(), "k", "told");
+    let (filters, tellers) = layers(&rt, rt.alloc(), &[EVERYTHING]).split();
+    let outlet = Kept::new(rt.alloc(), tellers);
+    tell(&rt, rt.alloc(), filters, outlet, &bad, &good);
 }

@@ -1,11 +1,11 @@
 //! What the notes of a call share, by how many owners it has.
 use crate::tests::compare::equal;
-use crate::tests::core_calls::acts::{Act, Fields, child, new};
-use crate::tests::core_calls::layers::{EVERYTHING, Plan};
-use crate::tests::core_calls::play::{Transcript, played, plays};
-use span_id::{Fault, Level, Limits};
-use span_layers::{FmtSpan, Form, Note};
-use span_outlet::{Batch, Call, ParentOf};
+use crate::tests::core_calls::acts::Act;
+use crate::tests::core_calls::play::{Play, Transcript, played, plays};
+use crate::tests::layers::fixtures::{EVERYTHING, Plan, Wanted};
+use span_id::{Level, Limits};
+use span_layers::{Form, Note};
+use span_outlet::{Batch, Call};
 use std::process::Abort;
 use std::sync::ArcStr;
 
@@ -50,38 +50,38 @@ pub(crate) fn are_shared(batches: &[Batch], owners: &[(usize, usize)]) -> bool {
     right
 }
 
-// A new span of another target, under the current one.
-fn elsewhere<'a>(name: &'a str, fields: Fields<'a>) -> Act<'a> {
-    Act::New {
-        name,
-        target: "lib",
-        level: Level::Info,
-        parent: ParentOf::Current,
-        fields,
-    }
-}
+// New spans of another target, under the current one.
+const B: Act<'static> = Act::NewWith {
+    name: "b",
+    target: "lib",
+    level: Level::Info,
+    fields: &[],
+};
 
-fn acts<'a>() -> [(u32, Act<'a>); 11] {
-    let event = Act::Event {
-        target: "app",
-        level: Level::Info,
-        message: "hi",
-        fields: &[("k", "3")],
-    };
-    [
-        (0, new("a")),
-        (0, Act::Record(1, &[("k", "1")])),
-        (0, Act::Enter(1)),
-        (0, elsewhere("b", &[("k", "2")])),
-        (0, event),
-        (0, child("c", 2)),
-        (0, Act::Exit(1)),
-        (0, Act::Close(1)),
-        (0, Act::Close(2)),
-        (0, Act::Close(3)),
-        (0, Act::Owners(&OWNERS)),
-    ]
-}
+const B_WITH_FIELDS: Act<'static> = Act::NewWith {
+    name: "b",
+    target: "lib",
+    level: Level::Info,
+    fields: &[("k", "2")],
+};
+
+const X: Act<'static> = Act::NewWith {
+    name: "x",
+    target: "lib",
+    level: Level::Info,
+    fields: &[],
+};
+
+const EVENT: Act<'static> = Act::Event {
+    target: "app",
+    level: Level::Info,
+    message: "hi",
+    fields: &[("k", "3")],
+};
+
+const APP: Plan<'static> = (Form::Compact, Wanted::All, "app", Level::Trace);
+
+const LIB: Plan<'static> = (Form::Compact, Wanted::All, "lib", Level::Trace);
 
 // Of four layers the third doesn't admit `b`, so it sees another path below. The others share one, the last of them
 // too. The event's message belongs to its call and to four notes.
@@ -98,19 +98,24 @@ const OWNERS: [(usize, usize); 10] = [
     (3, 0),
 ];
 
-fn closing_acts<'a>() -> [(u32, Act<'a>); 9] {
-    [
-        (0, new("a")),
+const SHARED: Play<'static> = Play {
+    limits: LIMITS,
+    plans: &[EVERYTHING, EVERYTHING, APP, EVERYTHING],
+    acts: &[
+        (0, Act::New("a")),
+        (0, Act::Record(1, &[("k", "1")])),
         (0, Act::Enter(1)),
-        (0, elsewhere("b", &[])),
-        (0, Act::Enter(2)),
-        (0, new("c")),
-        (0, Act::Enter(3)),
+        (0, B_WITH_FIELDS),
+        (0, EVENT),
+        (0, Act::Child("c", 2)),
+        (0, Act::Exit(1)),
+        (0, Act::Close(1)),
+        (0, Act::Close(2)),
         (0, Act::Close(3)),
-        (0, Act::Exit(3)),
-        (0, Act::Owners(&CLOSING_OWNERS)),
-    ]
-}
+        (0, Act::Owners(&OWNERS)),
+    ],
+    expected: LAST,
+};
 
 // Of three layers the second doesn't admit `b`, and the first and the third share the path of `c` below it. The last
 // call closes `c`: both layers share one path for its exit and its close.
@@ -125,40 +130,55 @@ const CLOSING_OWNERS: [(usize, usize); 8] = [
     (4, 0),
 ];
 
-// The batches are looked at last, while the core has them.
-fn are_right(rt: &impl Abort, played: &Result<Transcript, Fault>) {
-    match played {
-        Ok(played) => equal(rt, played.text.ends_with(b"= yes\n"), true),
-        Err(fault) => equal(rt, Some(*fault), None),
-    }
-}
+const SHARED_AT_AN_EXIT: Play<'static> = Play {
+    limits: LIMITS,
+    plans: &[EVERYTHING, APP, EVERYTHING],
+    acts: &[
+        (0, Act::New("a")),
+        (0, Act::Enter(1)),
+        (0, B),
+        (0, Act::Enter(2)),
+        (0, Act::New("c")),
+        (0, Act::Enter(3)),
+        (0, Act::Close(3)),
+        (0, Act::Exit(3)),
+        (0, Act::Owners(&CLOSING_OWNERS)),
+    ],
+    expected: LAST,
+};
 
-const APP: Plan<'static> = (Form::Compact, FmtSpan::FULL, "app", Level::Trace);
+// The batches are looked at last, while the core has them; only this answer is compared.
+const LAST: &str = "= yes\n";
+
+fn are_right(rt: &impl Abort, played: &Transcript) {
+    equal(rt, played.text.ends_with(LAST.as_bytes()), true);
+}
 
 #[test]
 fn notes_share_with_the_call(rt: HostRuntime) {
-    let plans = [EVERYTHING, EVERYTHING, APP, EVERYTHING];
-    are_right(&rt, &played(rt.alloc(), LIMITS, &plans, &acts()));
+    are_right(&rt, &played(&rt, rt.alloc(), &SHARED));
 }
 
 #[test]
 fn an_exit_shares_with_its_closes(rt: HostRuntime) {
-    let plans = [EVERYTHING, APP, EVERYTHING];
-    are_right(&rt, &played(rt.alloc(), LIMITS, &plans, &closing_acts()));
+    are_right(&rt, &played(&rt, rt.alloc(), &SHARED_AT_AN_EXIT));
 }
 
-#[test]
-fn a_name_may_be_a_dash(rt: HostRuntime) {
-    let acts = [
-        (0, new("-")),
+const DASH: Play<'static> = Play {
+    limits: LIMITS,
+    plans: &[EVERYTHING, LIB],
+    acts: &[
+        (0, Act::New("-")),
         (0, Act::Enter(1)),
-        (0, elsewhere("x", &[])),
+        (0, X),
         (0, Act::Exit(1)),
         (0, Act::Close(1)),
         (0, Act::Close(2)),
-    ];
-    let lib = (Form::Compact, FmtSpan::FULL, "lib", Level::Trace);
-    let expected =
-        "L0 new 1 w0 -\n= 1\nL0 enter 1 w0 -\n= entered\nL0 new 2 w0 -:x\nL1 new 2 w0 x\n= 2\nL0 exit 1 w0 -\n= open\n= open\nL0 close 2 w0 -:x\nL1 close 2 w0 x\nL0 close 1 w0 -\n= closed\n";
-    plays(&rt, rt.alloc(), LIMITS, &[EVERYTHING, lib], &acts, expected);
+    ],
+    expected: "L0 new 1 w0 -\n= 1\nL0 enter 1 w0 -\n= entered\nL0 new 2 w0 -:x\nL1 new 2 w0 x\n= 2\nL0 exit 1 w0 -\n= open\n= open\nL0 close 2 w0 -:x\nL1 close 2 w0 x\nL0 close 1 w0 -\n= closed\n",
+};
+
+#[test]
+fn a_name_may_be_a_dash(rt: HostRuntime) {
+    plays(&rt, rt.alloc(), &DASH);
 }

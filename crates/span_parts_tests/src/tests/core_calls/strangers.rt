@@ -1,14 +1,15 @@
 //! Strangers' ids: ids of every kind that no span has, in every call that takes an id.
-use crate::tests::core_calls::acts::{Act, child, counts, counts_of, perform};
+use crate::tests::core_calls::acts::{Act, counts, counts_of, perform};
 use crate::tests::core_calls::answers::Answer;
-use crate::tests::core_calls::layers::{EVERYTHING, layers};
 use crate::tests::core_calls::on_a_ring::played_on_ring;
 use crate::tests::core_calls::play::ends;
 use crate::tests::forest::strangers::STRANGERS;
+use crate::tests::layers::fixtures::{EVERYTHING, layers};
 use span_core::Core;
 use span_id::{Fault, Id, Limits};
 use span_outlet::Outlet;
 use std::alloc::Global;
+use std::process::Abort;
 
 const LIMITS: Limits = Limits {
     slots: 4,
@@ -25,7 +26,7 @@ const OPEN: u64 = 16777218;
 fn calls_on<'a>(number: u64) -> [Act<'a>; 9] {
     [
         Act::Find(number),
-        child("a", number),
+        Act::Child("a", number),
         Act::Clone(number),
         Act::Enter(number),
         Act::Exit(number),
@@ -37,11 +38,11 @@ fn calls_on<'a>(number: u64) -> [Act<'a>; 9] {
 }
 
 // Whether this is an id, and each call finds no span of it.
-fn is_unknown<O: Outlet>(alloc: Global, core: &mut Core<O>, number: u64) -> bool {
+fn is_unknown<O: Outlet>(rt: &impl Abort, alloc: Global, core: &mut Core<O>, number: u64) -> bool {
     let mut unknown = Id::from_u64(number).is_some();
     let acts = calls_on(number);
     for act in &acts {
-        let answer = perform(alloc, core, 0, act);
+        let answer = perform(rt, alloc, core, 0, act);
         unknown = unknown & matches!(answer, Answer::Refused(Fault::Unknown));
     }
     unknown
@@ -54,6 +55,7 @@ fn all_counts<O: Outlet>(core: &Core<O>) -> ([u64; 7], Option<[u64; 4]>) {
 
 /// How many strangers each call refused as unknown, without a change of what is counted.
 pub(crate) fn unknown_strangers<O: Outlet>(
+    rt: &impl Abort,
     alloc: Global,
     core: &mut Core<O>,
     numbers: &[u64],
@@ -61,33 +63,31 @@ pub(crate) fn unknown_strangers<O: Outlet>(
     let before = all_counts(core);
     let mut unknown = 0u64;
     for number in numbers {
-        let refused = is_unknown(alloc, core, *number);
+        let refused = is_unknown(rt, alloc, core, *number);
         unknown = unknown.saturating_add(u64::from(refused & (all_counts(core) == before)));
     }
     unknown
 }
 
 // Slot 0 is retired, slot 1 has its second span, which is open, slot 2 is free again, slot 3 was never used.
-fn acts<'a>() -> [(u32, Act<'a>); 16] {
-    [
-        (0, child("a", 0)),
-        (0, Act::Close(1)),
-        (0, child("a", 0)),
-        (0, Act::Close(16777217)),
-        (0, child("a", 0)),
-        (0, Act::Close(2)),
-        (0, child("a", 0)),
-        (0, Act::Enter(OPEN)),
-        (0, Act::Clone(OPEN)),
-        (0, child("a", 0)),
-        (0, Act::Close(3)),
-        (0, Act::Strangers(&STRANGERS)),
-        (0, Act::Count),
-        (0, Act::Find(OPEN)),
-        (0, Act::Drain(LIMITS.ring)),
-        (0, Act::Step),
-    ]
-}
+static ACTS: [(u32, Act<'static>); 16] = [
+    (0, Act::Child("a", 0)),
+    (0, Act::Close(1)),
+    (0, Act::Child("a", 0)),
+    (0, Act::Close(16777217)),
+    (0, Act::Child("a", 0)),
+    (0, Act::Close(2)),
+    (0, Act::Child("a", 0)),
+    (0, Act::Enter(OPEN)),
+    (0, Act::Clone(OPEN)),
+    (0, Act::Child("a", 0)),
+    (0, Act::Close(3)),
+    (0, Act::Strangers(&STRANGERS)),
+    (0, Act::Count),
+    (0, Act::Find(OPEN)),
+    (0, Act::Drain(LIMITS.ring)),
+    (0, Act::Step),
+];
 
 // One span is open, with two handles and an entry; eleven calls were accepted.
 const ANSWERS: &str = "\
@@ -122,6 +122,7 @@ const ANSWERS: &str = "\
 #[test]
 fn strangers_ids_are_unknown_and_change_nothing(rt: HostRuntime) {
     let alloc = rt.alloc();
-    let played = played_on_ring(alloc, LIMITS, layers(alloc, &[EVERYTHING]), &acts());
+    let layers = layers(&rt, alloc, &[EVERYTHING]);
+    let played = played_on_ring(&rt, alloc, &LIMITS, layers, &ACTS);
     ends(&rt, &played, ANSWERS, (1, 0));
 }

@@ -1,10 +1,9 @@
 //! Several workers and layers with rules of their own.
-use crate::tests::core_calls::acts::{Act, new};
-use crate::tests::core_calls::layers::{EVERYTHING, Plan};
-use crate::tests::core_calls::play::plays;
+use crate::tests::core_calls::acts::Act;
+use crate::tests::core_calls::play::{Play, plays};
+use crate::tests::layers::fixtures::{EVERYTHING, Plan, Wanted};
 use span_id::{Level, Limits};
-use span_layers::{FmtSpan, Form};
-use span_outlet::ParentOf;
+use span_layers::Form;
 
 const LIMITS: Limits = Limits {
     slots: 8,
@@ -15,11 +14,10 @@ const LIMITS: Limits = Limits {
 };
 
 // The second layer admits spans of `app` up to INFO, the third those of `app.db` up to DEBUG.
-const QUERY: Act<'static> = Act::New {
+const QUERY: Act<'static> = Act::NewWith {
     name: "query",
     target: "app.db",
     level: Level::Debug,
-    parent: ParentOf::Current,
     fields: &[],
 };
 
@@ -79,19 +77,16 @@ L1 close 1 w2 serve user=ann
 = closed
 ";
 
-fn plans<'a>() -> [Plan<'a>; 3] {
-    let spans = FmtSpan::NEW | FmtSpan::CLOSE;
-    [
-        EVERYTHING,
-        (Form::Compact, spans, "app", Level::Info),
-        (Form::Json, FmtSpan::ACTIVE, "app.db", Level::Debug),
-    ]
-}
-
 // What each worker calls, in turn.
-fn acts<'a>() -> [(u32, Act<'a>); 15] {
-    [
-        (0, new("serve")),
+const PLAY: Play<'static> = Play {
+    limits: LIMITS,
+    plans: &[
+        EVERYTHING,
+        (Form::Compact, Wanted::NewAndClose, "app", Level::Info),
+        (Form::Json, Wanted::EnterAndExit, "app.db", Level::Debug),
+    ],
+    acts: &[
+        (0, Act::New("serve")),
         (0, Act::Enter(1)),
         (0, QUERY),
         (1, Act::Enter(2)),
@@ -106,10 +101,11 @@ fn acts<'a>() -> [(u32, Act<'a>); 15] {
         (0, Act::Exit(1)),
         (2, Act::Record(2, &[])),
         (2, Act::Exit(2)),
-    ]
-}
+    ],
+    expected: ANSWERS,
+};
 
 #[test]
 fn three_workers_and_three_layers(rt: HostRuntime) {
-    plays(&rt, rt.alloc(), LIMITS, &plans(), &acts(), ANSWERS);
+    plays(&rt, rt.alloc(), &PLAY);
 }

@@ -9,7 +9,7 @@ use std::process::Abort;
 // The limits of a new forest, and what is done with it in this order.
 type Play = ((u32, u32, u32), &'static [Act<'static>]);
 
-const PLAYS: [Play; 4] = [
+static PLAYS: [Play; 4] = [
     // A path names what the layer admits.
     (
         WIDE,
@@ -71,29 +71,36 @@ fn forests_of_few_spans(rt: HostRuntime) {
     }
 }
 
-// Whether this is the text of a path, and these of the first four layers see that path.
-fn sees(rt: &impl Abort, forest: &Forest, (layer, id): (u32, Id), text: &str, bits: u64) {
-    let path = forest.path_text(layer, id).expect(rt, "an open span");
+// A layer, a span, the text of the path, and the bits of the first four layers that see that path.
+type Seen = (u32, u64, &'static str, u64);
+
+static SEEN: [Seen; 5] = [
+    (0, 3, "a:b:c", 3),
+    (1, 3, "a:b:c", 3),
+    (2, 3, "b", 4),
+    (3, 3, "-", 8),
+    (64, 1, "-", 12),
+];
+
+static THREE: [Act<'static>; 3] = [
+    Act::Add("a", 0, 3),
+    Act::Add("b", 1, 7),
+    Act::Add("c", 2, 3),
+];
+
+fn sees(rt: &impl Abort, forest: &Forest, seen: &Seen) {
+    let (layer, number, text, bits) = *seen;
+    let path = forest.path_text(layer, id(rt, number));
+    let path = path.expect(rt, "an open span");
     let seen = (path.text.as_str(), path.same.and(Bits(15)));
     same(rt, seen, (text, Bits(bits)), layer);
 }
 
 #[test]
 fn a_text_is_of_the_layers_that_see_its_path(rt: HostRuntime) {
-    let acts = [
-        Act::Add("a", 0, 3),
-        Act::Add("b", 1, 7),
-        Act::Add("c", 2, 3),
-    ];
-    let forest = played(&rt, rt.alloc(), &acts);
-    for (layer, number, text, bits) in [
-        (0, 3, "a:b:c", 3),
-        (1, 3, "a:b:c", 3),
-        (2, 3, "b", 4),
-        (3, 3, "-", 8),
-        (64, 1, "-", 12),
-    ] {
-        sees(&rt, &forest, (layer, id(&rt, number)), text, bits);
+    let forest = played(&rt, rt.alloc(), &THREE);
+    for seen in &SEEN {
+        sees(&rt, &forest, seen);
     }
 }
 
@@ -107,18 +114,19 @@ fn is_closed(rt: &impl Abort, forest: &mut Forest, closed: Id) {
     same(rt, answers, [true; 3], "what is refused");
 }
 
+static KEPT_OPEN: [Act<'static>; 7] = [
+    Act::Add("a", 0, 1),
+    Act::Add("b", 1, 1),
+    Act::Release(1, Holder::Handle, ""),
+    Act::Keep(1, Holder::Handle, Err(Fault::Unknown)),
+    Act::Sizes(2, 1),
+    Act::Release(2, Holder::Handle, "2,1"),
+    Act::Sizes(0, 0),
+];
+
 #[test]
 fn a_child_keeps_its_parent_open(rt: HostRuntime) {
-    let acts = [
-        Act::Add("a", 0, 1),
-        Act::Add("b", 1, 1),
-        Act::Release(1, Holder::Handle, ""),
-        Act::Keep(1, Holder::Handle, Err(Fault::Unknown)),
-        Act::Sizes(2, 1),
-        Act::Release(2, Holder::Handle, "2,1"),
-        Act::Sizes(0, 0),
-    ];
-    let mut forest = played(&rt, rt.alloc(), &acts);
+    let mut forest = played(&rt, rt.alloc(), &KEPT_OPEN);
     is_closed(&rt, &mut forest, id(&rt, 2));
     // The root's slot was freed last.
     same(&rt, next_number(&forest), 16777217, "the next id");

@@ -28,7 +28,7 @@ fn state(rt: &impl Abort, forest: &Forest) -> (Counts, Spans) {
 /// Who gives back which holder, what closes with it, and what it leaves.
 type Step = (u64, Holder, &'static str, Counts, Spans);
 
-const STEPS: [Step; 5] = [
+static STEPS: [Step; 5] = [
     (
         1,
         Holder::Handle,
@@ -66,18 +66,26 @@ const STEPS: [Step; 5] = [
     ),
 ];
 
-fn takes(rt: &impl Abort, forest: &mut Forest, alloc: Global, step: Step) {
-    let (number, holder, closed, counts, spans) = step;
+fn takes(rt: &impl Abort, forest: &mut Forest, alloc: Global, step: &Step) {
+    let (number, holder, closed, counts, spans) = *step;
     release(rt, alloc, forest, (number, holder), closed);
     same(rt, state(rt, forest), (counts, spans), number);
     keep(rt, forest, (4, holder), Err(Fault::Unknown));
 }
 
 // A root `a` that layer 0 admits, `b` below it that layer 1 admits, and `c` below `b` that both admit.
-const THREE: [Act<'static>; 3] = [
+static THREE: [Act<'static>; 3] = [
     Act::Add("a", 0, 1),
     Act::Add("b", 1, 2),
     Act::Add("c", 2, 3),
+];
+
+static PATHS_AND_HOLDERS: [Act<'static>; 5] = [
+    Act::Path(0, 3, "a:c:"),
+    Act::Path(1, 3, "b:c:"),
+    Act::Path(2, 3, ""),
+    Act::Keep(2, Holder::Entry, Ok(())),
+    Act::Keep(3, Holder::Handle, Ok(())),
 ];
 
 #[test]
@@ -86,15 +94,8 @@ fn three_spans_with_each_answer(rt: HostRuntime) {
     let mut forest = played(&rt, alloc, &THREE);
     let spans = [Some((1, 0, 2)), Some((1, 0, 2)), Some((1, 0, 1))];
     same(&rt, state(&rt, &forest), ((3, 3, 3, 4), spans), "three");
-    let acts = [
-        Act::Path(0, 3, "a:c:"),
-        Act::Path(1, 3, "b:c:"),
-        Act::Path(2, 3, ""),
-        Act::Keep(2, Holder::Entry, Ok(())),
-        Act::Keep(3, Holder::Handle, Ok(())),
-    ];
-    plays(&rt, alloc, &mut forest, &acts);
-    for step in STEPS {
+    plays(&rt, alloc, &mut forest, &PATHS_AND_HOLDERS);
+    for step in &STEPS {
         takes(&rt, &mut forest, alloc, step);
     }
 }

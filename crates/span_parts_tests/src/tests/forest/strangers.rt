@@ -109,8 +109,8 @@ fn strangers_ids_find_nothing_and_change_nothing(rt: HostRuntime) {
     let mut forest = forest_with_a_past(&rt, alloc);
     let before = counts(&forest);
     same(&rt, before, [1, 1, 1, 1, 0, 0], "before");
-    for number in STRANGERS {
-        is_unknown(&rt, alloc, &mut forest, number);
+    for number in &STRANGERS {
+        is_unknown(&rt, alloc, &mut forest, *number);
     }
     same(&rt, counts(&forest), before, "after");
     let next = forest.next_id();

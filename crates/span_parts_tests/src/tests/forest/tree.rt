@@ -15,7 +15,7 @@ fn add_below(rt: &impl Abort, alloc: Global, forest: &mut Forest, parent: &str) 
     add(rt, alloc, forest, "s", Id::from_u64(parent), 1);
 }
 
-const HELD: [Act<'static>; 8] = [
+static HELD: [Act<'static>; 8] = [
     Act::Next(31),
     Act::Keep(17, Holder::Handle, Ok(())),
     Act::Keep(4, Holder::Entry, Ok(())),

@@ -6,11 +6,9 @@ ghost use Rattle.span_layers.specs.Rule.{pairs_of, is_admitted};
 ghost use Rattle.span_layers.specs.Text.{text_of};
 
 use crate::tests::compare::same;
-use crate::tests::layers::fixtures::{add, admission, rule, tells};
+use crate::tests::layers::fixtures::{Wanted, add, admission, layer_with, tells};
 use span_id::{Level, Meta};
-use span_layers::{
-    Filters, FmtSpan, Form, Hooks, Layer, Layers, Note, Rule, Style, Tellers, admits, text,
-};
+use span_layers::{Filters, Form, Hooks, Layers, Note, Rule, Tellers, admits, text};
 use std::alloc::{AllocError, Global};
 use std::process::Abort;
 use std::sync::Arc;
@@ -36,60 +34,42 @@ fn calls_since(calls: &Calls) -> u64 {
 type Digits = (u64, u64);
 
 /// Closures that write down their digits at each call.
-fn noting_hooks(alloc: Global, calls: &Calls, digits: Digits) -> Result<Hooks, AllocError> {
+fn noting_hooks(rt: &impl Abort, alloc: Global, calls: &Calls, digits: Digits) -> Hooks {
     let (admit_digit, say_digit) = digits;
-    let admit_calls = Arc::try_clone(calls)?;
-    let say_calls = Arc::try_clone(calls)?;
-    Ok(Hooks::new(
-        Box::new(
-            alloc,
-            move |rule: &Rule, meta: &Meta| -> bool
-                ensures { result
-                    ≡ is_admitted (pairs_of rule.now) (string_bytes meta.now.target) meta.now.level }
-            {
-                write_down(&admit_calls, admit_digit);
-                admits(rule, meta)
-            },
-        )?,
-        Box::new(
-            alloc,
-            move |alloc: Global, form: Form, note: &Note| -> Result<Vec<u8>, AllocError>
-                ensures { ForOk result (λ text. text.items ≡ text_of form (plain_note note.now)) }
-            {
-                write_down(&say_calls, say_digit);
-                text(alloc, form, note)
-            },
-        )?,
-    ))
-}
-
-/// A layer whose closures write down their digits. It admits targets that begin with `app`.
-fn noting_layer(
-    rt: &impl Abort,
-    alloc: Global,
-    form: Form,
-    calls: &Calls,
-    digits: Digits,
-) -> Layer {
-    Layer {
-        style: Style {
-            form,
-            spans: FmtSpan::FULL,
+    let admit_calls = Arc::try_clone(calls).expect(rt, "memory");
+    let say_calls = Arc::try_clone(calls).expect(rt, "memory");
+    let admit = Box::new(
+        alloc,
+        move |rule: &Rule, meta: &Meta| -> bool
+            ensures { result
+                ≡ is_admitted (pairs_of rule.now) (string_bytes meta.now.target) meta.now.level }
+        {
+            write_down(&admit_calls, admit_digit);
+            admits(rule, meta)
         },
-        rule: rule(alloc, &[("app", Level::Info)]).expect(rt, "memory"),
-        hooks: noting_hooks(alloc, calls, digits).expect(rt, "memory"),
-    }
+    );
+    let say = Box::new(
+        alloc,
+        move |alloc: Global, form: Form, note: &Note| -> Result<Vec<u8>, AllocError>
+            ensures { ForOk result (λ text. text.items ≡ text_of form (plain_note note.now)) }
+        {
+            write_down(&say_calls, say_digit);
+            text(alloc, form, note)
+        },
+    );
+    Hooks::new(admit.expect(rt, "memory"), say.expect(rt, "memory"))
 }
 
-/// Two layers: the closures of the first write down 1 and 2, those of the second 3 and 4.
+/// The form of each layer, and the digits of its closures.
+static TWO: [(Form, Digits); 2] = [(Form::Compact, (1, 2)), (Form::Json, (3, 4))];
+
+/// Two layers that admit targets that begin with `app`, and whose closures write down their digits.
 fn two_layers(rt: &impl Abort, alloc: Global, calls: &Calls) -> (Filters, Tellers) {
     let mut layers = Layers::new(alloc);
-    for (form, digits) in [(Form::Compact, (1, 2)), (Form::Json, (3, 4))] {
-        add(
-            rt,
-            &mut layers,
-            noting_layer(rt, alloc, form, calls, digits),
-        );
+    for (form, digits) in &TWO {
+        let hooks = noting_hooks(rt, alloc, calls, *digits);
+        let plan = (*form, Wanted::All, "app", Level::Info);
+        add(rt, &mut layers, layer_with(rt, alloc, &plan, hooks));
     }
     layers.split()
 }
@@ -104,9 +84,9 @@ fn each_layer_is_asked_once(rt: HostRuntime) {
 }
 
 fn asks_each(rt: &impl Abort, alloc: Global, calls: &Calls, filters: &Filters) {
-    for (target, want) in [("app", 3), ("web", 0)] {
+    for (target, want) in &[("app", 3), ("web", 0)] {
         let bits = admission(rt, alloc, filters, target, Level::Info);
-        same(rt, bits.0, want, target);
+        same(rt, bits.0, *want, *target);
         same(rt, calls_since(calls), 13, target);
     }
 }
@@ -119,11 +99,21 @@ fn a_layer_writes_its_own_notes(rt: HostRuntime) {
     asks_one(&rt, alloc, &calls, &tellers);
 }
 
+const COMPACT: &str = "new 1 w3 a k=1";
+
+const JSON: &str = r#"{"fields":[["k","1"]],"id":1,"kind":"new","path":"a","worker":3}"#;
+
+/// The layer that is asked, its text, and the digit that is written down.
+static ASKED: [(u32, &str, u64); 4] = [
+    (0, COMPACT, 2),
+    (1, JSON, 4),
+    (1, JSON, 4),
+    (0, COMPACT, 2),
+];
+
 fn asks_one(rt: &impl Abort, alloc: Global, calls: &Calls, tellers: &Tellers) {
-    let compact = "new 1 w3 a k=1";
-    let json = r#"{"fields":[["k","1"]],"id":1,"kind":"new","path":"a","worker":3}"#;
-    for (layer, want, digit) in [(0, compact, 2), (1, json, 4), (1, json, 4), (0, compact, 2)] {
-        tells(rt, alloc, tellers, layer, want);
-        same(rt, calls_since(calls), digit, layer);
+    for (layer, want, digit) in &ASKED {
+        tells(rt, alloc, tellers, *layer, want);
+        same(rt, calls_since(calls), *digit, *layer);
     }
 }

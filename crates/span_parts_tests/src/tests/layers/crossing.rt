@@ -1,9 +1,9 @@
 //! Hooks and what is made of them go from thread to thread.
 
 use crate::tests::compare::same;
-use crate::tests::layers::fixtures::{add, layer};
+use crate::tests::layers::fixtures::{Wanted, add, layer};
 use span_id::Level;
-use span_layers::{FmtSpan, Form, Layer, Layers, Style};
+use span_layers::{Form, Layer, Layers};
 
 fn crosses_threads<T: Send>(value: T) -> T {
     value
@@ -20,11 +20,8 @@ fn with_crossed_hooks(layer: Layer) -> Layer {
 #[test]
 fn hooks_cross_threads(rt: HostRuntime) {
     let alloc = rt.alloc();
-    let style = Style {
-        form: Form::Json,
-        spans: FmtSpan::FULL,
-    };
-    let layer = layer(&rt, alloc, style, "", Level::Trace);
+    let plan = (Form::Json, Wanted::All, "", Level::Trace);
+    let layer = layer(&rt, alloc, &plan);
     let mut layers = Layers::new(alloc);
     add(&rt, &mut layers, with_crossed_hooks(layer));
     let (filters, tellers) = layers.split();

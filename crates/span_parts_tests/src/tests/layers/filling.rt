@@ -1,9 +1,9 @@
 //! As many layers as there may be, and one more.
 
 use crate::tests::compare::same;
-use crate::tests::layers::fixtures::{admission, layer};
+use crate::tests::layers::fixtures::{Plan, Wanted, admission, layer};
 use span_id::{Fault, Level};
-use span_layers::{FmtSpan, Form, Layer, Layers, MAX_LAYERS, Style};
+use span_layers::{FmtSpan, Form, Layer, Layers, MAX_LAYERS};
 use std::alloc::Global;
 use std::process::Abort;
 
@@ -18,33 +18,26 @@ fn sixty_four_layers_and_no_more(rt: HostRuntime) {
     admit_all(&rt, alloc, layers);
 }
 
+const ONE_OF_MANY: Plan<'static> = (Form::Compact, Wanted::None, "", Level::Trace);
+
 fn add_as(rt: &impl Abort, alloc: Global, layers: &mut Layers, number: usize) {
-    let style = Style {
-        form: Form::Compact,
-        spans: FmtSpan::NONE,
-    };
-    let layer = layer(rt, alloc, style, "", Level::Trace);
+    let layer = layer(rt, alloc, &ONE_OF_MANY);
     same(rt, layers.add(layer).ok(), Some(number), number);
 }
 
+const ONE_MORE: Plan<'static> = (Form::Json, Wanted::EnterAndExit, "app", Level::Warn);
+
 fn refuse_another(rt: &impl Abort, alloc: Global, layers: &mut Layers) {
-    let style = Style {
-        form: Form::Json,
-        spans: FmtSpan::ACTIVE,
-    };
-    match layers.add(layer(rt, alloc, style, "app", Level::Warn)) {
-        Ok(_) => panic!(rt; "a layer too many was added"),
-        Err((back, fault)) => {
-            same(rt, fault, Fault::TooManyLayers, "one more");
-            came_back(rt, &back);
-        }
-    }
+    let added = layers.add(layer(rt, alloc, &ONE_MORE));
+    let (back, fault) = added.err().expect(rt, "a layer too many was added");
+    same(rt, fault, Fault::TooManyLayers, "one more");
+    came_back(rt, &back);
 }
 
 fn came_back(rt: &impl Abort, back: &Layer) {
     let spans = FmtSpan::ENTER | FmtSpan::EXIT;
-    same(rt, back.style.form, Form::Json, "one more");
-    same(rt, back.style.spans, spans, "one more");
+    let style = (back.style.form, back.style.spans);
+    same(rt, style, (Form::Json, spans), "one more");
     same(rt, back.rule.pairs.len(), 1, "one more");
 }
 

@@ -1,10 +1,9 @@
 //! Which kinds of notes a layer wants.
 
-use crate::tests::compare::same;
-use crate::tests::layers::fixtures::{add, layer};
+use crate::tests::compare::{holds, same};
+use crate::tests::layers::fixtures::{EVERYTHING, add, layer};
 use bitflags::Flags;
-use span_id::Level;
-use span_layers::{Filters, FmtSpan, Form, Kind, Layers, Style};
+use span_layers::{Filters, FmtSpan, Kind, Layers};
 use std::alloc::Global;
 use std::process::Abort;
 
@@ -19,15 +18,13 @@ fn every_set_of_kinds(rt: HostRuntime) {
     for layer in 0..16u32 {
         wants(&rt, &filters, layer);
     }
-    assert!(rt; FmtSpan::from_bits(16).is_none());
+    holds(&rt, FmtSpan::from_bits(16).is_none(), "a fifth bit");
 }
 
 fn add_with(rt: &impl Abort, alloc: Global, layers: &mut Layers, bits: u8) {
-    let style = Style {
-        form: Form::Compact,
-        spans: FmtSpan::from_bits(bits).expect(rt, "a set of the four bits"),
-    };
-    add(rt, layers, layer(rt, alloc, style, "", Level::Trace));
+    let mut layer = layer(rt, alloc, &EVERYTHING);
+    layer.style.spans = FmtSpan::from_bits(bits).expect(rt, "a set of the four bits");
+    add(rt, layers, layer);
 }
 
 // The layer of each number has the set of that number.

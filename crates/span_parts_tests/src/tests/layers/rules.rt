@@ -1,7 +1,8 @@
 //! Which targets and levels a rule admits.
 
 use crate::tests::compare::same;
-use crate::tests::layers::fixtures::{meta, rule};
+use crate::tests::layers::fixtures::rule;
+use crate::tests::values::meta;
 use span_id::Level;
 use span_layers::admits;
 use std::alloc::Global;
@@ -17,7 +18,7 @@ const APP: &[(&str, Level)] = &[
 ];
 
 // The longest prefix decides, and of equal ones the later.
-const LONGEST: [Case; 8] = [
+static LONGEST: [Case; 8] = [
     (APP, "app", Level::Info, true),
     (APP, "app", Level::Debug, false),
     (APP, "app.db", Level::Debug, true),
@@ -35,7 +36,7 @@ const ONE: &[(&str, Level)] = &[("", Level::Error)];
 const LATER: &[(&str, Level)] = &[("", Level::Trace), ("", Level::Error)];
 
 // The empty rule, and the empty prefix.
-const EMPTY: [Case; 7] = [
+static EMPTY: [Case; 7] = [
     (NONE, "", Level::Error, false),
     (NONE, "app", Level::Error, false),
     (ONE, "", Level::Error, true),
@@ -47,7 +48,7 @@ const EMPTY: [Case; 7] = [
 
 // Prefixes are bytes: U+00E9 is the bytes C3 A9, U+00E8 is C3 A8, and an `e` with U+0301 behind it is the bytes
 // 65 CC 81.
-const BYTES: [Case; 5] = [
+static BYTES: [Case; 5] = [
     (
         &[("\u{e9}", Level::Trace)],
         "\u{e9}t\u{e9}",
@@ -72,17 +73,21 @@ const BYTES: [Case; 5] = [
 
 fn is_judged(rt: &impl Abort, alloc: Global, case: &Case) {
     let (pairs, target, level, want) = *case;
-    let rule = rule(alloc, pairs).expect(rt, "memory");
-    let meta = meta(alloc, target, level).expect(rt, "memory");
+    let rule = rule(rt, alloc, pairs);
+    let meta = meta(rt, alloc, "a", target, level);
     let of = (pairs.len(), level);
     same(rt, (of, admits(&rule, &meta)), (of, want), target);
 }
 
+fn are_judged(rt: &impl Abort, alloc: Global, cases: &[Case]) {
+    for case in cases {
+        is_judged(rt, alloc, case);
+    }
+}
+
 #[test]
 fn rules_judge_targets_and_levels(rt: HostRuntime) {
-    for cases in [LONGEST.as_slice(), EMPTY.as_slice(), BYTES.as_slice()] {
-        for case in cases {
-            is_judged(&rt, rt.alloc(), case);
-        }
-    }
+    are_judged(&rt, rt.alloc(), &LONGEST);
+    are_judged(&rt, rt.alloc(), &EMPTY);
+    are_judged(&rt, rt.alloc(), &BYTES);
 }

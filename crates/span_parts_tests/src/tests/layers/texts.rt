@@ -2,9 +2,9 @@
 
 use crate::tests::compare::same;
 use crate::tests::layers::fixtures::fields;
-use span_id::{Fault, Level};
+use span_id::Level;
 use span_layers::{Form, Kind, Note, text};
-use std::alloc::{AllocError, Global};
+use std::alloc::Global;
 use std::process::Abort;
 use std::sync::ArcStr;
 
@@ -21,31 +21,36 @@ struct Case<'a> {
     json: &'a str,
 }
 
-fn note(alloc: Global, case: &Case<'_>) -> Result<Note, Fault> {
-    Ok(Note {
+fn note(rt: &impl Abort, alloc: Global, case: &Case<'_>) -> Note {
+    Note {
         layer: 0,
         kind: case.kind,
         worker: 0,
         id: case.id,
-        path: ArcStr::from_str(alloc, case.path)?,
-        fields: fields(alloc, case.fields)?,
-        tail: tail(alloc, case.level, case.message)?,
-    })
+        path: arc(rt, alloc, case.path),
+        fields: fields(rt, alloc, case.fields),
+        tail: tail(rt, alloc, case.level, case.message),
+    }
+}
+
+fn arc(rt: &impl Abort, alloc: Global, text: &str) -> ArcStr {
+    ArcStr::from_str(alloc, text).expect(rt, "memory")
 }
 
 fn tail(
+    rt: &impl Abort,
     alloc: Global,
     level: Option<Level>,
     message: &str,
-) -> Result<Option<(Level, ArcStr)>, AllocError> {
+) -> Option<(Level, ArcStr)> {
     match level {
-        Some(level) => Ok(Some((level, ArcStr::from_str(alloc, message)?))),
-        None => Ok(None),
+        Some(level) => Some((level, arc(rt, alloc, message))),
+        None => None,
     }
 }
 
 fn case_is_written(rt: &impl Abort, alloc: Global, case: &Case<'_>) {
-    let note = note(alloc, case).expect(rt, "memory");
+    let note = note(rt, alloc, case);
     is_written(rt, alloc, &note, case.compact, case.json);
 }
 
@@ -57,7 +62,7 @@ fn is_written(rt: &impl Abort, alloc: Global, note: &Note, compact: &str, json: 
     }
 }
 
-const CASES: [Case<'static>; 11] = [
+static CASES: [Case<'static>; 11] = [
     // New spans and records.
     Case {
         kind: Kind::OnNew,
@@ -188,47 +193,49 @@ fn each_kind_in_both_forms(rt: HostRuntime) {
 }
 
 // The texts one behind the other, each as often as its number says.
-fn joined(alloc: Global, parts: &[(&str, u32)]) -> Result<String, AllocError> {
+fn joined(rt: &impl Abort, alloc: Global, parts: &[(&str, usize)]) -> String {
     let mut made = String::new(alloc);
     for (text, times) in parts {
-        for _ in 0..*times {
-            made.push_str(text)?;
-        }
+        let part = text.repeat(alloc, *times).expect(rt, "memory");
+        made.push_str(part.as_str()).expect(rt, "memory");
     }
-    Ok(made)
+    made
 }
 
 // A note of 1000 lines and 300 fields.
-fn long_note(alloc: Global) -> Result<Note, Fault> {
-    let message = joined(alloc, &[("line\n", 1000)])?;
-    Ok(Note {
+fn long_note(rt: &impl Abort, alloc: Global) -> Note {
+    let message = "line\n".repeat(alloc, 1000).expect(rt, "memory");
+    let pairs = [("key", "value"); 300];
+    Note {
         layer: 0,
         kind: Kind::OnEvent,
         worker: 0,
         id: 0,
-        path: ArcStr::from_str(alloc, "-")?,
-        fields: fields(alloc, &[("key", "value"); 300])?,
-        tail: Some((Level::Warn, ArcStr::from_string(message)?)),
-    })
+        path: arc(rt, alloc, "-"),
+        fields: fields(rt, alloc, &pairs),
+        tail: Some((Level::Warn, arc(rt, alloc, message.as_str()))),
+    }
 }
+
+static LONG_COMPACT: [(&str, usize); 3] = [
+    ("event 0 w0 - WARN ", 1),
+    ("line\\n", 1000),
+    (" key=value", 300),
+];
+
+static LONG_JSON: [(&str, usize); 5] = [
+    (r#"{"fields":[["key","value"]"#, 1),
+    (r#",["key","value"]"#, 299),
+    (r#"],"id":0,"kind":"event","level":"WARN","message":""#, 1),
+    ("line\\n", 1000),
+    (r#"","path":"-","worker":0}"#, 1),
+];
 
 #[test]
 fn long_texts_and_many_fields(rt: HostRuntime) {
     let alloc = rt.alloc();
-    let note = long_note(alloc).expect(&rt, "memory");
-    let compact = [
-        ("event 0 w0 - WARN ", 1),
-        ("line\\n", 1000),
-        (" key=value", 300),
-    ];
-    let json = [
-        (r#"{"fields":[["key","value"]"#, 1),
-        (r#",["key","value"]"#, 299),
-        (r#"],"id":0,"kind":"event","level":"WARN","message":""#, 1),
-        ("line\\n", 1000),
-        (r#"","path":"-","worker":0}"#, 1),
-    ];
-    let compact = joined(alloc, &compact).expect(&rt, "memory");
-    let json = joined(alloc, &json).expect(&rt, "memory");
+    let note = long_note(&rt, alloc);
+    let compact = joined(&rt, alloc, &LONG_COMPACT);
+    let json = joined(&rt, alloc, &LONG_JSON);
     is_written(&rt, alloc, &note, compact.as_str(), json.as_str());
 }

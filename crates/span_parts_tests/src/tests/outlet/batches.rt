@@ -2,11 +2,12 @@
 ghost use Rattle.std.specs.Prelude.{◌≡◌, ◌+◌, ◌-◌, ◌^◌, ◌<◌, ◌≤◌, [], length};
 
 use crate::tests::compare::same;
-use crate::tests::layers::fixtures::hooks;
-use span_id::{Fields, Id, Limits};
-use span_layers::{FmtSpan, Form, Kind, Layer, Layers, Note, Rule, Style, Tellers};
+use crate::tests::layers::fixtures::{Refused, Wanted, add_refused};
+use crate::tests::values::id;
+use span_id::{Fields, Level, Limits};
+use span_layers::{Form, Kind, Layers, Note, Tellers};
 use span_outlet::{Batch, Call, Drain, Line, Outlet, Reply, Ring, Tap};
-use std::alloc::{AllocError, Global};
+use std::alloc::Global;
 use std::process::Abort;
 use std::sync::ArcStr;
 
@@ -14,17 +15,9 @@ use std::sync::ArcStr;
 pub(crate) fn tellers(rt: &impl Abort, alloc: Global, forms: &[Form]) -> Tellers {
     let mut layers = Layers::new(alloc);
     for form in forms {
-        let layer = Layer {
-            style: Style {
-                form: *form,
-                spans: FmtSpan::FULL,
-            },
-            rule: Rule {
-                pairs: Vec::new(alloc),
-            },
-            hooks: hooks(alloc, true).expect(rt, "memory"),
-        };
-        let _number = layers.add(layer).ok().expect(rt, "a layer");
+        let plan = (*form, Wanted::All, "", Level::Trace);
+        let at_new = Refused::At(Kind::OnNew);
+        add_refused(rt, alloc, &mut layers, &plan, at_new);
     }
     layers.split().1
 }
@@ -83,15 +76,16 @@ pub(crate) fn sends<O: Outlet>(
 }
 
 fn batch(rt: &impl Abort, alloc: Global, kind: Kind, layers: &[u32]) -> Batch {
-    let id = Id::from_u64(1).expect(rt, "an id");
     let mut notes = Vec::new(alloc);
     for layer in layers {
-        notes
-            .push(note(rt, alloc, kind, *layer))
-            .expect(rt, "memory");
+        let note = note(rt, alloc, kind, *layer);
+        notes.push(note).expect(rt, "memory");
     }
     Batch {
-        call: Call::CloneSpan { worker: 0, id },
+        call: Call::CloneSpan {
+            worker: 0,
+            id: id(rt, 1),
+        },
         reply: Reply::Cloned,
         notes,
     }
@@ -113,7 +107,7 @@ fn note(rt: &impl Abort, alloc: Global, kind: Kind, layer: u32) -> Note {
 pub(crate) fn shown(rt: &impl Abort, alloc: Global, lines: &[Line]) -> String {
     let mut all = Vec::new(alloc);
     for line in lines {
-        push_line(alloc, &mut all, line).expect(rt, "memory");
+        push_line(rt, alloc, &mut all, line);
     }
     String::from_utf8(all).ok().expect(rt, "a text")
 }
@@ -134,16 +128,22 @@ pub(crate) fn are_lines_of<V>(
 ) {
     let mut all = Vec::new(alloc);
     for line in drain.lines(layer) {
-        push_line(alloc, &mut all, line).expect(rt, "memory");
+        push_line(rt, alloc, &mut all, line);
     }
     let lines = String::from_utf8(all).ok().expect(rt, "a text");
     same(rt, lines.as_str(), want, layer);
 }
 
 /// Writes the numbers and the text of a line, and a newline.
-pub(crate) fn push_line(alloc: Global, all: &mut Vec<u8>, line: &Line) -> Result<(), AllocError> {
-    let numbers = format!(in alloc; "{} {} {} ", line.batch, line.place, line.layer)?;
-    all.extend_from_slice(numbers.as_bytes())?;
-    all.extend_from_slice(line.text.as_slice())?;
-    all.extend_from_slice(b"\n")
+pub(crate) fn push_line(rt: &impl Abort, alloc: Global, all: &mut Vec<u8>, line: &Line) {
+    let (batch, place, layer) = (line.batch, line.place, line.layer);
+    let numbers = format!(in alloc; "{batch} {place} {layer} ").expect(rt, "memory");
+    push(rt, all, numbers.as_bytes());
+    push(rt, all, line.text.as_slice());
+    push(rt, all, b"\n");
+}
+
+/// Writes these bytes behind the others.
+pub(crate) fn push(rt: &impl Abort, all: &mut Vec<u8>, bytes: &[u8]) {
+    all.extend_from_slice(bytes).expect(rt, "memory");
 }

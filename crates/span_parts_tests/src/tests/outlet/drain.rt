@@ -8,7 +8,7 @@ use span_outlet::{Drain, Kept, Outlet, Ring, Step};
 use std::alloc::Global;
 use std::process::Abort;
 
-const FORMS: [Form; 2] = [Form::Json, Form::Compact];
+static FORMS: [Form; 2] = [Form::Json, Form::Compact];
 
 // Sends an entry that two layers are told of, one that none is told of, and an exit.
 fn send_three<O: Outlet>(rt: &impl Abort, alloc: Global, outlet: &mut O)
@@ -103,7 +103,7 @@ fn played(rt: &impl Abort, alloc: Global, places: u32, forms: &[Form], acts: &[A
 }
 
 // Nothing is there; three batches are sent, taken one by one, and then there is none.
-const THREE: [Act<'static>; 10] = [
+static THREE: [Act<'static>; 10] = [
     Act::Idle,
     Act::Send(Kind::OnEnter, &[0, 1], true),
     Act::Send(Kind::OnEnter, &[], true),
@@ -139,13 +139,13 @@ const COMPACT: &str = "0 1 1 enter 1 w0 a\n2 0 1 exit 1 w0 a\n";
 #[test]
 fn the_lines_of_each_layer(rt: HostRuntime) {
     let drain = played(&rt, rt.alloc(), 8, &FORMS, &THREE);
-    for (layer, want) in [(0, JSON), (1, COMPACT), (2, "")] {
-        are_lines_of(&rt, rt.alloc(), &drain, layer, want);
+    for (layer, want) in &[(0, JSON), (1, COMPACT), (2, "")] {
+        are_lines_of(&rt, rt.alloc(), &drain, *layer, want);
     }
 }
 
 // The places of a ring, and what is done in this order with it and a drain that writes in the compact form.
-const PLAYS: [(u32, &[Act<'static>]); 4] = [
+static PLAYS: [(u32, &[Act<'static>]); 4] = [
     // A note's text is refused memory.
     (
         8,

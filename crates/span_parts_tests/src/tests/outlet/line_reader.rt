@@ -2,11 +2,10 @@
 ghost use Rattle.std.specs.Prelude.{◌≡◌, []};
 
 use crate::tests::compare::same;
+use crate::tests::layers::fixtures::{Plan, Wanted, plain_layers};
 use crate::tests::outlet::batches::{pair, push_line, sends, tellers};
-use span_layers::{
-    ByForm, ByRule, FmtSpan, Form, Formatters, Hooks, Kind, Layer, Layers, Rule, Say, Style,
-    Tellers,
-};
+use span_id::Level;
+use span_layers::{ByForm, Form, Formatters, Kind, Say};
 use span_outlet::{LineReader, Ring};
 use std::alloc::Global;
 use std::process::Abort;
@@ -31,7 +30,7 @@ fn read<V: Say>(rt: &impl Abort, alloc: Global, reader: &mut LineReader<V>, most
             break;
         }
         let line = reader.next().expect(rt, "the line that waits is lost");
-        push_line(alloc, &mut all, &line).expect(rt, "memory");
+        push_line(rt, alloc, &mut all, &line);
     }
     String::from_utf8(all).ok().expect(rt, "a text")
 }
@@ -125,7 +124,7 @@ const THREE_LINES: &str = r#"0 0 0 {"fields":[],"id":1,"kind":"enter","path":"a"
 // The places of a ring, the forms in which a reader of it writes, and what is done in this order.
 type Play = (u32, &'static [Form], &'static [Act<'static>]);
 
-const PLAYS: [Play; 4] = [
+static PLAYS: [Play; 4] = [
     // Lines of three batches.
     (
         8,
@@ -254,24 +253,11 @@ fn both_ends_in_one_thread(rt: HostRuntime) {
     stands_at(&rt, &mut reader, 2, 1);
 }
 
-// Tellers of layers with these forms, and with no closures.
-fn plain_tellers(rt: &impl Abort, alloc: Global, forms: &[Form]) -> Tellers<ByForm> {
-    let mut layers: Layers<ByRule, ByForm> = Layers::new(alloc);
-    for form in forms {
-        let layer = Layer {
-            style: Style {
-                form: *form,
-                spans: FmtSpan::FULL,
-            },
-            rule: Rule {
-                pairs: Vec::new(alloc),
-            },
-            hooks: Hooks::by_rule_and_form(),
-        };
-        let _number = layers.add(layer).ok().expect(rt, "a layer");
-    }
-    layers.split().1
-}
+// Layers of both forms.
+static PLANS: [Plan<'static>; 2] = [
+    (Form::Json, Wanted::All, "", Level::Trace),
+    (Form::Compact, Wanted::All, "", Level::Trace),
+];
 
 type PlainReader = LineReader<Formatters<ByForm>>;
 
@@ -280,23 +266,24 @@ fn plain(rt: &impl Abort, alloc: Global, places: u32) -> (Ring, PlainReader)
     ensures new { result.0.sent ≡ [] }
 {
     let (ring, tap) = pair(rt, alloc, places);
-    let reader = LineReader::new(alloc, tap, plain_tellers(rt, alloc, &FORMS));
-    (ring, reader)
+    let (_, tellers) = plain_layers(rt, alloc, &PLANS).split();
+    (ring, LineReader::new(alloc, tap, tellers))
 }
 
 const PLAIN_LINES: &str = r#"0 0 1 new 1 w0 a
 0 1 0 {"fields":[],"id":1,"kind":"new","path":"a","worker":0}
 "#;
 
+static PLAIN_ACTS: [Act<'static>; 3] = [
+    Act::Send(Kind::OnNew, &[1, 0], true),
+    Act::Read(PLAIN_LINES),
+    Act::StandAt(1, 0),
+];
+
 #[test]
 fn lines_of_layers_without_closures(rt: HostRuntime) {
     let (mut ring, mut reader) = plain(&rt, rt.alloc(), 2);
-    let acts = [
-        Act::Send(Kind::OnNew, &[1, 0], true),
-        Act::Read(PLAIN_LINES),
-        Act::StandAt(1, 0),
-    ];
-    plays(&rt, rt.alloc(), &mut ring, &mut reader, &acts);
+    plays(&rt, rt.alloc(), &mut ring, &mut reader, &PLAIN_ACTS);
 }
 
 // What it is given may go to another thread.

@@ -1,13 +1,12 @@
 //! When a run flushes its writer.
-ghost use Rattle.std.specs.Prelude.{◌≡◌};
-ghost use Rattle.span_run.specs.Counted.{failed_of};
-
-use crate::tests::replay::hooks::hooks;
-use span_replay::{Remains, replay, replay_with_layers};
-use span_run::{Counted, RunFault};
-use std::alloc::{AllocError, Global};
+use crate::tests::compare::same;
+use crate::tests::layers::fixtures::Refused;
+use crate::tests::replay::fixtures::{Ran, run, run_with};
+use crate::tests::replay::hooks::hooks_of;
+use std::alloc::Global;
 use std::io;
 use std::io::{ErrorKind, Read, Write};
+use std::process::Abort;
 
 const ONE_SPAN: &str = "{\"op\":\"new\",\"name\":\"a\"}\n";
 
@@ -16,7 +15,7 @@ const NO_OBJECT: &str = "{\"op\":\"new\",\"name\":\"a\"}\n[1]\n";
 const ONE_LAYER: &str = "{\"op\":\"layer\"}\n{\"op\":\"new\",\"name\":\"a\"}\n";
 
 /// A writer that takes so many bytes and then fails, counts its flushes, and may fail at each.
-#[derive(Drop)]
+#[derive(Clone, Copy)]
 struct FlushedWriter {
     room: usize,
     flushes: u64,
@@ -44,7 +43,7 @@ impl Write for FlushedWriter {
 }
 
 /// A reader that fails at once.
-#[derive(Drop)]
+#[derive(Clone, Copy)]
 struct NoReader;
 
 impl Read for NoReader {
@@ -54,71 +53,64 @@ impl Read for NoReader {
 }
 
 /// A writer that was not flushed yet.
-fn writer(room: usize, can_flush: bool) -> Counted<FlushedWriter>
-    ensures { failed_of result ≡ 0 }
-{
-    Counted::new(FlushedWriter {
+fn writer(room: usize, can_flush: bool) -> FlushedWriter {
+    FlushedWriter {
         room,
         flushes: 0,
         can_flush,
-    })
-}
-
-/// Whether a run ended so, and flushed so often.
-fn ended_so(
-    alloc: Global,
-    ended: Result<u64, RunFault>,
-    output: Counted<FlushedWriter>,
-    end: &str,
-    flushes: u64,
-) -> Result<bool, AllocError> {
-    let told = match ended {
-        Ok(left) => left.to_string(alloc)?,
-        Err(fault) => fault.to_string(alloc)?,
-    };
-    let counted = output.flushes() == flushes && output.into_inner().flushes == flushes;
-    Ok(told.as_str() == end && counted)
-}
-
-#[test]
-fn flushes_once_at_the_end(rt: HostRuntime) -> io::Result<()> {
-    let rows = [
-        (ONE_SPAN, true, "0"),
-        (ONE_SPAN, false, "device: write failed"),
-        // After a fault of the script too: a flush that fails takes its place.
-        (NO_OBJECT, true, "line 2: not an object"),
-        (NO_OBJECT, false, "device: write failed"),
-    ];
-    for (script, can_flush, end) in rows {
-        let mut input = Counted::new(script.as_bytes());
-        let mut output = writer(64, can_flush);
-        let ended = replay_with_layers(rt.alloc(), &mut input, &mut output, 0, Remains::Freed);
-        assert!(rt; ended_so(rt.alloc(), ended, output, end, 1)?, "{script}");
     }
-    Ok(())
+}
+
+/// Whether a run ended so, and flushed so often; `of` tells the case.
+fn ended_so(rt: &impl Abort, ran: &Ran, writer: &FlushedWriter, want: (&str, u64), of: &str) {
+    let (end, flushes) = want;
+    let ended = (ran.end.as_str(), ran.flushes, writer.flushes);
+    same(rt, ended, (end, flushes, flushes), of);
+}
+
+/// A script, whether the writer can flush, and how the run ends.
+type Row = (&'static str, bool, &'static str);
+
+static ROWS: [Row; 4] = [
+    (ONE_SPAN, true, "0"),
+    (ONE_SPAN, false, "device: write failed"),
+    // After a fault of the script too: a flush that fails takes its place.
+    (NO_OBJECT, true, "line 2: not an object"),
+    (NO_OBJECT, false, "device: write failed"),
+];
+
+fn flushes_once(rt: &impl Abort, alloc: Global, row: &Row) {
+    let (script, can_flush, end) = *row;
+    let mut writer = writer(64, can_flush);
+    let ran = run(rt, alloc, script.as_bytes(), &mut writer, 0);
+    ended_so(rt, &ran, &writer, (end, 1), script);
 }
 
 #[test]
-fn does_not_flush_after_a_device_that_failed(rt: HostRuntime) -> io::Result<()> {
-    let mut input = Counted::new(ONE_SPAN.as_bytes());
-    let mut output = writer(2, true);
-    let ended = replay_with_layers(rt.alloc(), &mut input, &mut output, 0, Remains::Freed);
-    assert!(rt; ended_so(rt.alloc(), ended, output, "device: write failed", 0)?);
-    let mut input = Counted::new(NoReader);
-    let mut output = writer(64, true);
-    let ended = replay_with_layers(rt.alloc(), &mut input, &mut output, 0, Remains::Freed);
-    assert!(rt; ended_so(rt.alloc(), ended, output, "device: read failed", 0)?);
-    Ok(())
+fn flushes_once_at_the_end(rt: HostRuntime) {
+    for row in &ROWS {
+        flushes_once(&rt, rt.alloc(), row);
+    }
+}
+
+/// A run with no layers over this reader and a writer of so much room doesn't flush.
+fn fails<R: Read + Drop>(rt: &impl Abort, alloc: Global, reader: R, room: usize, end: &str) {
+    let mut writer = writer(room, true);
+    let ran = run(rt, alloc, reader, &mut writer, 0);
+    ended_so(rt, &ran, &writer, (end, 0), end);
 }
 
 #[test]
-fn does_not_flush_after_want_of_memory(rt: HostRuntime) -> io::Result<()> {
-    let alloc = rt.alloc();
-    let mut all = Vec::new(alloc);
-    all.push(hooks(alloc, false)?)?;
-    let mut input = Counted::new(ONE_LAYER.as_bytes());
-    let mut output = writer(64, true);
-    let ended = replay(alloc, &mut input, &mut output, all, Remains::Freed);
-    assert!(rt; ended_so(alloc, ended, output, "out of memory", 0)?);
-    Ok(())
+fn does_not_flush_after_a_device_that_failed(rt: HostRuntime) {
+    let script = ONE_SPAN.as_bytes();
+    fails(&rt, rt.alloc(), script, 2, "device: write failed");
+    fails(&rt, rt.alloc(), NoReader, 64, "device: read failed");
+}
+
+#[test]
+fn does_not_flush_after_want_of_memory(rt: HostRuntime) {
+    let hooks = hooks_of(&rt, rt.alloc(), &[Refused::All]);
+    let mut writer = writer(64, true);
+    let ran = run_with(&rt, rt.alloc(), ONE_LAYER.as_bytes(), &mut writer, hooks);
+    ended_so(&rt, &ran, &writer, ("out of memory", 0), "a layer");
 }

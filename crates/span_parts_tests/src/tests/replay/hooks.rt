@@ -1,16 +1,10 @@
 //! Which hooks the layers of a run call.
-ghost use Rattle.std.specs.Prelude.{◌≡◌, string_bytes};
-ghost use Rattle.std.specs.Result.{ForOk};
-ghost use Rattle.span_layers.specs.Note.{plain_note};
-ghost use Rattle.span_layers.specs.Rule.{pairs_of, is_admitted};
-ghost use Rattle.span_layers.specs.Text.{text_of};
-
-use span_id::Meta;
-use span_layers::{Form, Hooks, Note, Rule, admits, text};
-use span_replay::{Remains, replay};
-use span_run::Counted;
-use std::alloc::{AllocError, Global};
-use std::io;
+use crate::tests::compare::same;
+use crate::tests::layers::fixtures::{Refused, hooks};
+use crate::tests::replay::fixtures::run_with;
+use span_layers::Hooks;
+use std::alloc::Global;
+use std::process::Abort;
 
 const ONE_LAYER: &str =
     "{\"op\":\"layer\"}\n{\"op\":\"new\",\"name\":\"a\"}\n{\"op\":\"close\",\"span\":\"a\"}\n";
@@ -18,87 +12,72 @@ const ONE_LAYER: &str =
 const TWO_LAYERS: &str =
     "{\"op\":\"layer\"}\n{\"op\":\"layer\"}\n{\"op\":\"new\",\"name\":\"a\"}\n{\"op\":\"close\",\"span\":\"a\"}\n";
 
-/// Hooks whose formatter has memory, or never any.
-pub(crate) fn hooks(alloc: Global, has_memory: bool) -> Result<Hooks, AllocError> {
-    let admit = Box::new(
-        alloc,
-        |rule: &Rule, meta: &Meta| -> bool
-            ensures { result
-                ≡ is_admitted (pairs_of rule.now) (string_bytes meta.now.target) meta.now.level }
-        { admits(rule, meta) },
-    )?;
-    let say = Box::new(
-        alloc,
-        move |alloc: Global, form: Form, note: &Note| -> Result<Vec<u8>, AllocError>
-            ensures { ForOk result (λ text. text.items ≡ text_of form (plain_note note.now)) }
-        {
-            if has_memory {
-                text(alloc, form, note)
-            } else {
-                Err(AllocError)
-            }
-        },
-    )?;
-    Ok(Hooks::new(admit, say))
+const HAS_MEMORY: Refused = Refused::None;
+
+const HAS_NONE: Refused = Refused::All;
+
+/// Hooks for each layer in turn, whose formatter has memory or never any.
+pub(crate) fn hooks_of(rt: &impl Abort, alloc: Global, refused: &[Refused]) -> Vec<Hooks> {
+    let mut all = Vec::new(alloc);
+    for refused in refused {
+        let hooks = hooks(rt, alloc, *refused);
+        all.push(hooks).expect(rt, "memory");
+    }
+    all
 }
 
-/// Whether a run with these hooks writes this text and ends so.
-fn runs_so(
-    alloc: Global,
-    script: &str,
-    hooks: Vec<Hooks>,
-    text: &str,
-    end: &str,
-) -> Result<bool, AllocError> {
-    let mut input = Counted::new(script.as_bytes());
+/// A script, the hooks of its layers, what a run with them writes, and how it ends.
+type Row = (&'static str, &'static [Refused], &'static str, &'static str);
+
+fn runs(rt: &impl Abort, alloc: Global, row: &Row) {
+    let (script, refused, text, end) = *row;
+    let hooks = hooks_of(rt, alloc, refused);
     let mut taken = Vec::new(alloc);
-    let mut output = Counted::new(&mut taken);
-    let ended = match replay(alloc, &mut input, &mut output, hooks, Remains::Freed) {
-        Ok(left) => left.to_string(alloc)?,
-        Err(fault) => fault.to_string(alloc)?,
-    };
-    Ok(taken.as_slice() == text.as_bytes() && ended.as_str() == end)
+    let ran = run_with(rt, alloc, script.as_bytes(), &mut taken, hooks);
+    let ended = (taken.as_slice(), ran.end.as_str());
+    same(rt, ended, (text.as_bytes(), end), script);
 }
 
-#[test]
-fn a_formatter_without_memory_ends_the_run(rt: HostRuntime) -> io::Result<()> {
-    let alloc = rt.alloc();
-    let mut all = Vec::new(alloc);
-    all.push(hooks(alloc, false)?)?;
-    assert!(rt; runs_so(alloc, ONE_LAYER, all, "= layer 0\n", "out of memory")?);
-    Ok(())
-}
+/// Hooks whose formatter never has memory.
+const NO_MEMORY: Row = (ONE_LAYER, &[HAS_NONE], "= layer 0\n", "out of memory");
 
 #[test]
-fn layers_take_the_hooks_in_their_order(rt: HostRuntime) -> io::Result<()> {
-    let alloc = rt.alloc();
-    let text = "= layer 0\nL0 new 1 w0 a\n= 1\nL0 close 1 w0 a\n= closed\nleft 0\n";
-    let mut all = Vec::new(alloc);
-    all.push(hooks(alloc, true)?)?;
-    all.push(hooks(alloc, false)?)?;
-    assert!(rt; runs_so(alloc, ONE_LAYER, all, text, "0")?);
-    let mut all = Vec::new(alloc);
-    all.push(hooks(alloc, true)?)?;
-    all.push(hooks(alloc, false)?)?;
-    assert!(rt;
-        runs_so(
-            alloc,
-            TWO_LAYERS,
-            all,
-            "= layer 0\n= layer 1\n",
-            "out of memory"
-        )?
-    );
-    Ok(())
+fn a_formatter_without_memory_ends_the_run(rt: HostRuntime) {
+    runs(&rt, rt.alloc(), &NO_MEMORY);
 }
 
+/// With hooks for two layers.
+static IN_ORDER: [Row; 2] = [
+    (
+        ONE_LAYER,
+        &[HAS_MEMORY, HAS_NONE],
+        "= layer 0\nL0 new 1 w0 a\n= 1\nL0 close 1 w0 a\n= closed\nleft 0\n",
+        "0",
+    ),
+    (
+        TWO_LAYERS,
+        &[HAS_MEMORY, HAS_NONE],
+        "= layer 0\n= layer 1\n",
+        "out of memory",
+    ),
+];
+
 #[test]
-fn no_layer_is_there_without_hooks(rt: HostRuntime) -> io::Result<()> {
-    let alloc = rt.alloc();
-    let text =
-        "= layer 0\n! too many layers\nL0 new 1 w0 a\n= 1\nL0 close 1 w0 a\n= closed\nleft 0\n";
-    let mut all = Vec::new(alloc);
-    all.push(hooks(alloc, true)?)?;
-    assert!(rt; runs_so(alloc, TWO_LAYERS, all, text, "0")?);
-    Ok(())
+fn layers_take_the_hooks_in_their_order(rt: HostRuntime) {
+    for row in &IN_ORDER {
+        runs(&rt, rt.alloc(), row);
+    }
+}
+
+/// With hooks for one layer.
+const TOO_FEW: Row = (
+    TWO_LAYERS,
+    &[HAS_MEMORY],
+    "= layer 0\n! too many layers\nL0 new 1 w0 a\n= 1\nL0 close 1 w0 a\n= closed\nleft 0\n",
+    "0",
+);
+
+#[test]
+fn no_layer_is_there_without_hooks(rt: HostRuntime) {
+    runs(&rt, rt.alloc(), &TOO_FEW);
 }

@@ -1,9 +1,10 @@
 //! Whole runs of scripts.
-use span_replay::{Remains, replay_with_layers};
-use span_run::{Counted, RunFault};
-use std::alloc::{AllocError, Global};
+use crate::tests::compare::same;
+use crate::tests::replay::fixtures::{Ran, run};
+use std::alloc::Global;
 use std::io;
 use std::io::{ErrorKind, Read, Write};
+use std::process::Abort;
 
 /// A reader that gives at most seven bytes a call, and fails after so many calls.
 #[derive(Drop)]
@@ -55,27 +56,21 @@ impl Write for FailingWriter<'_> {
     }
 }
 
-/// How a run ended, as text: how many spans are left, or the fault.
-fn told(alloc: Global, ended: Result<u64, RunFault>) -> Result<String, AllocError> {
-    match ended {
-        Ok(left) => left.to_string(alloc),
-        Err(fault) => fault.to_string(alloc),
-    }
+/// A script, how many layers it may have, and what it writes.
+type Row = (&'static str, usize, &'static str);
+
+/// A run of the script writes this text and ends so.
+fn runs_so(rt: &impl Abort, alloc: Global, row: &Row, end: &str) {
+    let (script, layers, text) = *row;
+    let mut taken = Vec::new(alloc);
+    let ran = run(rt, alloc, script.as_bytes(), &mut taken, layers);
+    has_written(rt, taken.as_slice(), &ran, (text, end), script);
 }
 
-/// Whether a run that may have so many layers writes this text and ends so.
-fn runs_so(
-    alloc: Global,
-    script: &str,
-    layers: usize,
-    text: &str,
-    end: &str,
-) -> Result<bool, AllocError> {
-    let mut input = Counted::new(script.as_bytes());
-    let mut taken = Vec::new(alloc);
-    let mut output = Counted::new(&mut taken);
-    let ended = replay_with_layers(alloc, &mut input, &mut output, layers, Remains::Freed);
-    Ok(taken.as_slice() == text.as_bytes() && told(alloc, ended)?.as_str() == end)
+/// These bytes are the text, and the run ended so; `of` tells the case.
+fn has_written(rt: &impl Abort, taken: &[u8], ran: &Ran, want: (&str, &str), of: &str) {
+    let (text, end) = want;
+    same(rt, (taken, ran.end.as_str()), (text.as_bytes(), end), of);
 }
 
 const TWO_SPANS: &str = r#"{"op":"new","name":"a"}
@@ -128,192 +123,201 @@ L1 close 1 w0 a k=1 k=2
 left 0
 "#;
 
-#[test]
-fn answers_spans(rt: HostRuntime) -> io::Result<()> {
-    let rows = [
-        ("", "left 0\n"),
-        (TWO_SPANS, TWO_SPANS_TEXT),
-        (
-            "{\"op\":\"new\",\"name\":\"a\"}\n{\"op\":\"clone\",\"span\":\"a\"}\n \t\r\n\
-             {\"op\":\"close\",\"span\":\"a\"}\n{\"op\":\"close\",\"span\":\"a\"}",
-            "= 1\n= cloned\n= open\n= closed\nleft 0\n",
-        ),
-        (SECOND_ENTRY, SECOND_ENTRY_TEXT),
-        (
-            "{\"op\":\"new\",\"name\":\"b\"}\n{\"op\":\"new\",\"name\":\"a\"}\n{\"op\":\"enter\",\"span\":\"b\",\"w\":1}",
-            "= 1\n= 2\n= entered\n= open\n= closed\n= closed\nleft 0\n",
-        ),
-    ];
-    for (script, text) in rows {
-        assert!(rt; runs_so(rt.alloc(), script, 0, text, "0")?, "at {script}");
-    }
-    Ok(())
-}
+static SPANS: [Row; 5] = [
+    ("", 0, "left 0\n"),
+    (TWO_SPANS, 0, TWO_SPANS_TEXT),
+    (
+        "{\"op\":\"new\",\"name\":\"a\"}\n{\"op\":\"clone\",\"span\":\"a\"}\n \t\r\n\
+         {\"op\":\"close\",\"span\":\"a\"}\n{\"op\":\"close\",\"span\":\"a\"}",
+        0,
+        "= 1\n= cloned\n= open\n= closed\nleft 0\n",
+    ),
+    (SECOND_ENTRY, 0, SECOND_ENTRY_TEXT),
+    (
+        "{\"op\":\"new\",\"name\":\"b\"}\n{\"op\":\"new\",\"name\":\"a\"}\n{\"op\":\"enter\",\"span\":\"b\",\"w\":1}",
+        0,
+        "= 1\n= 2\n= entered\n= open\n= closed\n= closed\nleft 0\n",
+    ),
+];
 
 #[test]
-fn answers_layers(rt: HostRuntime) -> io::Result<()> {
-    let rows = [
-        (ONE_LAYER, 1, ONE_LAYER_TEXT),
-        (ONE_LAYER, 64, ONE_LAYER_TEXT),
-        (BOTH_FORMS, 2, BOTH_FORMS_TEXT),
-        ("{\"op\":\"layer\"}", 0, "! too many layers\nleft 0\n"),
-        (
-            "{\"op\":\"layer\"}\n{\"op\":\"layer\"}\n{\"op\":\"new\",\"name\":\"a\"}",
-            1,
-            "= layer 0\n! too many layers\nL0 new 1 w0 a\n= 1\nL0 close 1 w0 a\n= closed\nleft 0\n",
-        ),
-        (
-            "{\"op\":\"layer\"}\n{\"op\":\"layer\"}\n{\"op\":\"new\",\"name\":\"a\"}",
-            2,
-            "= layer 0\n= layer 1\nL0 new 1 w0 a\nL1 new 1 w0 a\n= 1\nL0 close 1 w0 a\nL1 close 1 w0 a\n= closed\nleft 0\n",
-        ),
-    ];
-    for (script, count, text) in rows {
-        assert!(rt;
-            runs_so(rt.alloc(), script, count, text, "0")?,
-            "at {script}"
-        );
+fn answers_spans(rt: HostRuntime) {
+    for row in &SPANS {
+        runs_so(&rt, rt.alloc(), row, "0");
     }
-    Ok(())
 }
 
+static LAYERS: [Row; 6] = [
+    (ONE_LAYER, 1, ONE_LAYER_TEXT),
+    (ONE_LAYER, 64, ONE_LAYER_TEXT),
+    (BOTH_FORMS, 2, BOTH_FORMS_TEXT),
+    ("{\"op\":\"layer\"}", 0, "! too many layers\nleft 0\n"),
+    (
+        "{\"op\":\"layer\"}\n{\"op\":\"layer\"}\n{\"op\":\"new\",\"name\":\"a\"}",
+        1,
+        "= layer 0\n! too many layers\nL0 new 1 w0 a\n= 1\nL0 close 1 w0 a\n= closed\nleft 0\n",
+    ),
+    (
+        "{\"op\":\"layer\"}\n{\"op\":\"layer\"}\n{\"op\":\"new\",\"name\":\"a\"}",
+        2,
+        "= layer 0\n= layer 1\nL0 new 1 w0 a\nL1 new 1 w0 a\n= 1\nL0 close 1 w0 a\nL1 close 1 w0 a\n= closed\nleft 0\n",
+    ),
+];
+
 #[test]
-fn writes_what_comes_before_a_fault(rt: HostRuntime) -> io::Result<()> {
-    let rows = [
-        (
-            "{\"op\":\"new\",\"name\":\"a\"}\n{\"op\":\"limits\",\"slots\":-1}",
-            "line 2: late line",
-        ),
-        (
-            "{\"op\":\"new\",\"name\":\"a\"}\n{\"op\":\"layer\"}",
-            "line 2: late line",
-        ),
-        (
-            "{\"op\":\"new\",\"name\":\"a\"}\n{\"op\":\"new\",\"name\":\"a b\",\"label\":\"a\"}",
-            "line 2: label taken",
-        ),
-        (
-            "{\"op\":\"new\",\"name\":\"a\"}\n{\"op\":\"new\",\"name\":\"b\",\"label\":\"a\",\"parent\":\"x\"}",
-            "line 2: no such label",
-        ),
-    ];
-    for (script, end) in rows {
-        assert!(rt;
-            runs_so(rt.alloc(), script, 1, "= 1\n", end)?,
-            "at {script}"
-        );
+fn answers_layers(rt: HostRuntime) {
+    for row in &LAYERS {
+        runs_so(&rt, rt.alloc(), row, "0");
     }
-    Ok(())
+}
+
+/// Scripts at fault in their second line, and the fault.
+static FAULTS: [(&str, &str); 4] = [
+    (
+        "{\"op\":\"new\",\"name\":\"a\"}\n{\"op\":\"limits\",\"slots\":-1}",
+        "line 2: late line",
+    ),
+    (
+        "{\"op\":\"new\",\"name\":\"a\"}\n{\"op\":\"layer\"}",
+        "line 2: late line",
+    ),
+    (
+        "{\"op\":\"new\",\"name\":\"a\"}\n{\"op\":\"new\",\"name\":\"a b\",\"label\":\"a\"}",
+        "line 2: label taken",
+    ),
+    (
+        "{\"op\":\"new\",\"name\":\"a\"}\n{\"op\":\"new\",\"name\":\"b\",\"label\":\"a\",\"parent\":\"x\"}",
+        "line 2: no such label",
+    ),
+];
+
+#[test]
+fn writes_what_comes_before_a_fault(rt: HostRuntime) {
+    for (script, end) in &FAULTS {
+        runs_so(&rt, rt.alloc(), &(script, 1, "= 1\n"), end);
+    }
+}
+
+/// How a run ended, how many calls of its reader came before the last, how many failed, and how much was written.
+type Stop<'a> = (&'a str, Option<u64>, u64, usize);
+
+fn stopped_at<'a>(ran: &'a Ran, taken: &[u8]) -> Stop<'a> {
+    let before = ran.reads.checked_sub(1);
+    (ran.end.as_str(), before, ran.failed_reads, taken.len())
 }
 
 /// Whether a run whose reader fails after so many calls writes nothing and ends at the failed call.
-fn stops_reading(alloc: Global, script: &str, good_calls: u64) -> Result<bool, AllocError> {
-    let mut input = Counted::new(FailingReader {
-        rest: script.as_bytes(),
-        good_calls,
-    });
+fn stops_reading(rt: &impl Abort, alloc: Global, script: &str, good_calls: u64) -> bool {
+    let rest = script.as_bytes();
     let mut taken = Vec::new(alloc);
-    let mut output = Counted::new(&mut taken);
-    let ended = replay_with_layers(alloc, &mut input, &mut output, 1, Remains::Freed);
-    let ended = told(alloc, ended)?;
-    let stopped = input.calls().checked_sub(1) == Some(good_calls) && input.failed() == 1;
-    Ok(stopped && taken.is_empty() && ended.as_str() == "device: read failed")
+    let reader = FailingReader { rest, good_calls };
+    let ran = run(rt, alloc, reader, &mut taken, 1);
+    stopped_at(&ran, taken.as_slice()) == ("device: read failed", Some(good_calls), 1, 0)
+}
+
+/// A reader may fail at each of the calls that this script takes.
+fn stops_at_each_call(rt: &impl Abort, alloc: Global, script: &str, calls: u64) {
+    for good_calls in 0..calls {
+        let stopped = stops_reading(rt, alloc, script, good_calls);
+        same(rt, stopped, true, good_calls);
+    }
+    same(rt, stops_reading(rt, alloc, script, calls), false, calls);
 }
 
 #[test]
-fn a_reader_that_fails_ends_the_run(rt: HostRuntime) -> io::Result<()> {
+fn a_reader_that_fails_ends_the_run(rt: HostRuntime) {
     // By sevens the scripts take 17 and 10 calls, and one more finds the end.
-    for (script, calls) in [(TWO_SPANS, 18), (ONE_LAYER, 11)] {
-        for good_calls in 0..calls {
-            assert!(rt;
-                stops_reading(rt.alloc(), script, good_calls)?,
-                "after {good_calls}"
-            );
-        }
-        assert!(rt; !stops_reading(rt.alloc(), script, calls)?);
-    }
-    Ok(())
+    stops_at_each_call(&rt, rt.alloc(), TWO_SPANS, 18);
+    stops_at_each_call(&rt, rt.alloc(), ONE_LAYER, 11);
 }
 
-/// What a run writes to such a writer, and how it ends.
-fn run_failing(
+/// A script, what it writes, and how many calls of a writer that takes three bytes at most this takes.
+type Written = (&'static str, &'static str, u64);
+
+/// A run whose writer fails after so many calls ends with that fault and a front of the text.
+fn stops_writing(
+    rt: &impl Abort,
     alloc: Global,
-    script: &str,
+    written: &Written,
     good_calls: u64,
     takes_none: bool,
-    can_flush: bool,
-) -> Result<(Vec<u8>, String), AllocError> {
-    let mut input = Counted::new(script.as_bytes());
+) {
+    let (script, text, _) = *written;
     let mut taken = Vec::new(alloc);
-    let mut output = Counted::new(FailingWriter {
+    let writer = FailingWriter {
         taken: &mut taken,
         good_calls,
         takes_none,
+        can_flush: true,
+    };
+    let ran = run(rt, alloc, script.as_bytes(), writer, 1);
+    let end = ran.end.as_str();
+    same(rt, end, "device: write failed", good_calls);
+    is_front(rt, taken.as_slice(), text.as_bytes(), good_calls);
+}
+
+fn is_front(rt: &impl Abort, taken: &[u8], text: &[u8], good_calls: u64) {
+    let front = (text.starts_with(taken), taken.len() < text.len());
+    same(rt, front, (true, true), good_calls);
+}
+
+/// A writer that doesn't fail for so many calls takes the whole text, and the run ends so.
+fn writes_all(rt: &impl Abort, alloc: Global, written: &Written, can_flush: bool, end: &str) {
+    let (script, text, good_calls) = *written;
+    let mut taken = Vec::new(alloc);
+    let writer = FailingWriter {
+        taken: &mut taken,
+        good_calls,
+        takes_none: false,
         can_flush,
-    });
-    let ended = replay_with_layers(alloc, &mut input, &mut output, 1, Remains::Freed);
-    let ended = told(alloc, ended)?;
-    Ok((taken, ended))
+    };
+    let ran = run(rt, alloc, script.as_bytes(), writer, 1);
+    has_written(rt, taken.as_slice(), &ran, (text, end), script);
 }
 
-/// Whether a run whose writer fails after so many calls ends with that fault and a front of the text.
-fn stops_writing(
-    alloc: Global,
-    script: &str,
-    text: &str,
-    good_calls: u64,
-    takes_none: bool,
-) -> Result<bool, AllocError> {
-    let (taken, ended) = run_failing(alloc, script, good_calls, takes_none, true)?;
-    let is_front = text.as_bytes().starts_with(taken.as_slice()) && taken.len() < text.len();
-    Ok(is_front && ended.as_str() == "device: write failed")
-}
-
-#[test]
-fn a_writer_that_fails_ends_the_run(rt: HostRuntime) -> io::Result<()> {
-    // By threes the lines' texts take 2, 2, 3, 3 and 3 calls, and 4, 6, 9 and 3.
-    for (script, text, calls) in [
-        (TWO_SPANS, TWO_SPANS_TEXT, 13),
-        (ONE_LAYER, ONE_LAYER_TEXT, 22),
-    ] {
-        for good_calls in 0..calls {
-            assert!(rt;
-                stops_writing(rt.alloc(), script, text, good_calls, false)?,
-                "after {good_calls}"
-            );
-            assert!(rt;
-                stops_writing(rt.alloc(), script, text, good_calls, true)?,
-                "after {good_calls}"
-            );
-        }
-        let (taken, ended) = run_failing(rt.alloc(), script, calls, false, true)?;
-        assert!(rt; taken.as_slice() == text.as_bytes() && ended.as_str() == "0");
+/// A writer may fail at each of the calls that the text takes.
+fn stops_at_each_write(rt: &impl Abort, alloc: Global, written: &Written) {
+    for good_calls in 0..written.2 {
+        stops_writing(rt, alloc, written, good_calls, false);
+        stops_writing(rt, alloc, written, good_calls, true);
     }
-    Ok(())
 }
 
+/// By threes the lines' texts take 2, 2, 3, 3 and 3 calls, and 4, 6, 9 and 3.
+static WRITTEN: [Written; 2] = [
+    (TWO_SPANS, TWO_SPANS_TEXT, 13),
+    (ONE_LAYER, ONE_LAYER_TEXT, 22),
+];
+
 #[test]
-fn a_flush_that_fails_ends_the_run(rt: HostRuntime) -> io::Result<()> {
-    for (script, text) in [(TWO_SPANS, TWO_SPANS_TEXT), (ONE_LAYER, ONE_LAYER_TEXT)] {
-        let (taken, ended) = run_failing(rt.alloc(), script, 22, false, false)?;
-        assert!(rt; taken.as_slice() == text.as_bytes(), "at {script}");
-        assert_eq!(rt; ended.as_str(), "device: write failed");
+fn a_writer_that_fails_ends_the_run(rt: HostRuntime) {
+    for written in &WRITTEN {
+        stops_at_each_write(&rt, rt.alloc(), written);
+        writes_all(&rt, rt.alloc(), written, true, "0");
     }
-    Ok(())
 }
 
 #[test]
-fn faults_have_their_status(rt: HostRuntime) -> io::Result<()> {
-    let alloc = rt.alloc();
-    let mut input = Counted::new("[1]".as_bytes());
-    let mut output = Counted::new(Vec::new(alloc));
-    let ended = replay_with_layers(alloc, &mut input, &mut output, 0, Remains::Freed);
-    assert!(rt; matches!(&ended, Err(fault) if fault.status() == 1));
-    let mut input = Counted::new(FailingReader {
+fn a_flush_that_fails_ends_the_run(rt: HostRuntime) {
+    let failed = "device: write failed";
+    for (script, text, _) in &WRITTEN {
+        writes_all(&rt, rt.alloc(), &(script, text, 22), false, failed);
+    }
+}
+
+/// A run with no layers over this reader ends with a fault of this status.
+fn ends_with<R: Read + Drop>(rt: &impl Abort, alloc: Global, reader: R, status: u8) {
+    let mut taken = Vec::new(alloc);
+    let ran = run(rt, alloc, reader, &mut taken, 0);
+    same(rt, ran.status, Some(status), status);
+}
+
+#[test]
+fn faults_have_their_status(rt: HostRuntime) {
+    let failing = FailingReader {
         rest: [].as_slice(),
         good_calls: 0,
-    });
-    let ended = replay_with_layers(alloc, &mut input, &mut output, 0, Remains::Freed);
-    assert!(rt; matches!(&ended, Err(fault) if fault.status() == 3));
-    Ok(())
+    };
+    ends_with(&rt, rt.alloc(), "[1]".as_bytes(), 1);
+    ends_with(&rt, rt.alloc(), failing, 3);
 }
