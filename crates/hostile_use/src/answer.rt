@@ -1,5 +1,6 @@
 //! What calls answer.
 
+use span_forest::Span;
 use span_id::{Fault, Id};
 use span_registry::Found;
 use std::fmt;
@@ -26,7 +27,34 @@ pub(crate) enum Answer {
 
 impl From<Option<Id>> for Answer {
     fn from(id: Option<Id>) -> Answer {
-        id.map_or(Answer::Nothing, Answer::Span)
+        match id {
+            Some(id) => Answer::Span(id),
+            None => Answer::Nothing,
+        }
+    }
+}
+
+/// The answer of a call that tells only that it is done.
+pub(crate) fn done(made: Result<(), Fault>) -> Result<Answer, Fault> {
+    match made {
+        Ok(()) => Ok(Answer::Done),
+        Err(fault) => Err(fault),
+    }
+}
+
+/// The answer of a call that tells yes or no.
+pub(crate) fn yes_or_no(made: Result<bool, Fault>) -> Result<Answer, Fault> {
+    match made {
+        Ok(yes) => Ok(Answer::Yes(yes)),
+        Err(fault) => Err(fault),
+    }
+}
+
+/// What holds a span, if it is open.
+pub(crate) fn held(span: Option<&Span>) -> Answer {
+    match span {
+        Some(span) => Answer::Held(span.handles, span.entries, span.count),
+        None => Answer::Nothing,
     }
 }
 
@@ -35,19 +63,30 @@ impl fmt::Display for Answer {
         match self {
             Answer::Done => f.write_str("done"),
             Answer::Nothing => f.write_str("none"),
-            Answer::Yes(yes) => write!(f, "{yes}"),
-            Answer::Number(number) => write!(f, "{number}"),
-            Answer::Span(id) => write!(f, "{id}"),
+            Answer::Yes(yes) => yes.fmt(f),
+            Answer::Number(number) => number.fmt(f),
+            Answer::Span(id) => id.fmt(f),
             Answer::Spans(ids) => write_all(f, ids.as_slice()),
             Answer::Names(names) => write_all(f, names.as_slice()),
             Answer::Text(text) => f.write_str(text.as_str()),
             Answer::Found(found) => write_found(f, found),
-            Answer::Held(handles, entries, count) => {
-                write!(f, "handles {handles} entries {entries} count {count}")
-            }
-            Answer::Refused(fault) => write!(f, "! {fault}"),
+            Answer::Held(handles, entries, count) => write_held(f, *handles, *entries, *count),
+            Answer::Refused(fault) => write_refused(f, *fault),
         }
     }
+}
+
+fn write_held<W: fmt::Write>(
+    f: &mut fmt::Formatter<W>,
+    handles: u32,
+    entries: u32,
+    count: u32,
+) -> fmt::Result {
+    write!(f, "handles {handles} entries {entries} count {count}")
+}
+
+fn write_refused<W: fmt::Write>(f: &mut fmt::Formatter<W>, fault: Fault) -> fmt::Result {
+    write!(f, "! {fault}")
 }
 
 fn write_all<T: fmt::Display, W: fmt::Write>(
@@ -70,8 +109,6 @@ fn write_found<W: fmt::Write>(f: &mut fmt::Formatter<W>, found: &Found) -> fmt::
         count,
     } = found;
     let parent = parent.map_or(0, Id::get);
-    write!(
-        f,
-        "{name} parent {parent} handles {handles} entries {entries} count {count}"
-    )
+    write!(f, "{name} parent {parent} ")?;
+    write_held(f, *handles, *entries, *count)
 }

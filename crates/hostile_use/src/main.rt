@@ -2,6 +2,7 @@
 #![tactic(auto)]
 
 mod answer;
+mod named;
 mod rows;
 mod stage;
 mod stop;
@@ -29,7 +30,7 @@ fn main(rt: HostRuntime) -> io::Result<ExitCode> {
     }
 }
 
-// Runs rows, one after the other.
+// Runs rows, one after the other, until one ends early.
 fn run<R: Print + Threads + Wait + Sync>(
     rt: &R,
     alloc: Global,
@@ -37,20 +38,27 @@ fn run<R: Print + Threads + Wait + Sync>(
     rows: &[Row],
 ) -> io::Result<ExitCode> {
     for row in rows {
-        let stage = Stage::new(rt, *row, marked);
-        let ended = row.run(&stage, alloc);
-        stage.end()?;
-        match ended {
-            Ok(()) => {}
-            Err(Stop::Output(error)) => return Err(error),
-            Err(Stop::Told) => return Ok(ExitCode::FAILURE),
-            Err(Stop::Memory) => {
-                println!(rt; "out of memory: {}", row.name())?;
-                return Ok(ExitCode::FAILURE);
-            }
+        if !is_whole(rt, alloc, marked, *row)? {
+            return Ok(ExitCode::FAILURE);
         }
     }
     Ok(ExitCode::SUCCESS)
+}
+
+// Runs a row: whether it came to its end.
+fn is_whole<R: Print + Threads + Wait + Sync>(
+    rt: &R,
+    alloc: Global,
+    marked: bool,
+    row: Row,
+) -> io::Result<bool> {
+    let stage = Stage::new(rt, row, marked);
+    let ended = row.run(&stage, alloc);
+    if let Err(Stop::Memory) = ended {
+        stage.wrote(println!(rt; "out of memory: {}", row.name()));
+    }
+    stage.end()?;
+    Ok(ended.is_ok())
 }
 
 // Tells how the program is called.

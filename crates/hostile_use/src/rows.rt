@@ -18,6 +18,7 @@ mod stack;
 mod storm;
 mod with_layers;
 
+use crate::rows::acts::Names;
 use crate::stage::{Stage, TRIES};
 use crate::stop::Stop;
 use std::alloc::Global;
@@ -93,7 +94,7 @@ impl Row {
         stage: &Stage<R>,
         alloc: Global,
     ) -> Result<(), Stop> {
-        println!(stage.rt; "== {}", self.name())?;
+        stage.wrote(println!(stage.rt; "== {}", self.name()));
         match self {
             Row::Meta => copies::run_meta(stage, alloc),
             Row::Field => copies::run_field(stage, alloc),
@@ -117,8 +118,21 @@ impl Row {
         alloc: Global,
         count: usize,
     ) -> Result<(), Stop> {
+        match Names::new(alloc) {
+            Ok(names) => self.again_and_again(stage, alloc, count, &names),
+            Err(_) => Err(Stop::Memory),
+        }
+    }
+
+    fn again_and_again<R: Print + Wait>(
+        self,
+        stage: &Stage<R>,
+        alloc: Global,
+        count: usize,
+        names: &Names,
+    ) -> Result<(), Stop> {
         for _ in 0..TRIES {
-            match with_layers::run(stage, alloc, self, count) {
+            match with_layers::run(stage, alloc, self, count, names) {
                 Err(Stop::Memory) => {}
                 ended => return ended,
             }

@@ -26,7 +26,7 @@ pub(crate) struct Stage<'a, R> {
     row: Row,
     /// Whether marks are written.
     marked: bool,
-    /// Why a mark could not be written. The row goes on, and its end tells.
+    /// Why an answer or a mark could not be written. The row goes on, and its end tells.
     lost: Cell<Option<io::Error>>,
 }
 
@@ -41,7 +41,14 @@ impl<'a, R> Stage<'a, R> {
         }
     }
 
-    /// The row is over: an error where a mark could not be written.
+    /// Takes what came of writing an answer or a mark.
+    pub(crate) fn wrote(&self, written: io::Result<()>) {
+        if let Err(error) = written {
+            self.lost.set(Some(error));
+        }
+    }
+
+    /// The row is over: an error where an answer or a mark could not be written.
     pub(crate) fn end(&self) -> io::Result<()> {
         match self.lost.replace(None) {
             Some(error) => Err(error),
@@ -80,18 +87,13 @@ impl<'a, R: Print> Stage<'a, R> {
     }
 
     fn tell(&self, what: &str, call: &str) -> Stop {
-        match println!(self.rt; "{what}: {} {call}", self.row.name()) {
-            Ok(()) => Stop::Told,
-            Err(error) => Stop::Output(error),
-        }
+        self.wrote(println!(self.rt; "{what}: {} {call}", self.row.name()));
+        Stop::Told
     }
 
     fn mark(&self, text: &str) {
-        if !self.marked {
-            return;
-        }
-        if let Err(error) = self.rt.println(text) {
-            self.lost.set(Some(error));
+        if self.marked {
+            self.wrote(self.rt.println(text));
         }
     }
 }

@@ -19,6 +19,17 @@ pub(crate) trait Subject<A> {
 /// A call: the words in which its answer is told, and whether it may take memory.
 pub(crate) type Planned<'a, A> = (&'a str, Memory, A);
 
+/// What came of a try.
+#[derive(Clone, Copy)]
+enum Tried {
+    /// It was answered, and the answer is told.
+    Told,
+    /// It was refused memory and changed nothing: it is made again.
+    Refused,
+    /// The row ends.
+    Stopped(Stop),
+}
+
 /// Makes all calls, and tells what they answer.
 pub(crate) fn perform<A, S: Subject<A>, R: Print>(
     stage: &Stage<R>,
@@ -26,49 +37,85 @@ pub(crate) fn perform<A, S: Subject<A>, R: Print>(
     subject: &mut S,
     plan: &[Planned<'_, A>],
 ) -> Result<(), Stop> {
-    for (name, memory, act) in plan {
-        let answer = attempt(stage, alloc, subject, name, *memory, act)?;
-        println!(stage.rt; "{name}: {answer}")?;
+    for planned in plan {
+        attempt(stage, alloc, subject, planned)?;
     }
     Ok(())
 }
 
-// Makes a call, and makes it again where it was refused memory. A refused call changes nothing.
+// Makes a call, and makes it again where it was refused memory.
 fn attempt<A, S: Subject<A>, R: Print>(
     stage: &Stage<R>,
     alloc: Global,
     subject: &mut S,
-    name: &str,
-    memory: Memory,
-    act: &A,
-) -> Result<Answer, Stop> {
+    planned: &Planned<'_, A>,
+) -> Result<(), Stop> {
     for _ in 0..TRIES {
-        let before = look_at(alloc, subject)?;
-        stage.begin(memory);
-        let answer = subject.call(act);
-        stage.over();
-        let fault = match answer {
-            Ok(answer) => return Ok(answer),
-            Err(fault) => fault,
-        };
-        if is_changed(alloc, subject, before.as_str())? {
-            return Err(stage.changed(name));
-        }
-        if fault != Fault::Memory {
-            return Ok(Answer::Refused(fault));
-        }
-        if let Memory::Untouched = memory {
-            return Err(stage.refused(name));
+        match once(stage, alloc, subject, planned) {
+            Tried::Told => return Ok(()),
+            Tried::Refused => {}
+            Tried::Stopped(stop) => return Err(stop),
         }
     }
+    let (name, _, _) = planned;
     Err(stage.refused_too_often(name))
+}
+
+// Makes a call once.
+fn once<A, S: Subject<A>, R: Print>(
+    stage: &Stage<R>,
+    alloc: Global,
+    subject: &mut S,
+    planned: &Planned<'_, A>,
+) -> Tried {
+    let (name, memory, act) = planned;
+    let Ok(before) = look_at(alloc, subject) else {
+        return Tried::Stopped(Stop::Memory);
+    };
+    stage.begin(*memory);
+    let answer = subject.call(act);
+    stage.over();
+    match answer {
+        Ok(answer) => tell(stage, name, &answer),
+        Err(fault) => match is_changed(alloc, subject, before.as_str()) {
+            Ok(changed) => judge(stage, name, *memory, fault, changed),
+            Err(_) => Tried::Stopped(Stop::Memory),
+        },
+    }
+}
+
+fn tell<R: Print>(stage: &Stage<R>, name: &str, answer: &Answer) -> Tried {
+    stage.wrote(println!(stage.rt; "{name}: {answer}"));
+    Tried::Told
+}
+
+// A refused call changes nothing, and one that takes no memory isn't refused any.
+fn judge<R: Print>(
+    stage: &Stage<R>,
+    name: &str,
+    memory: Memory,
+    fault: Fault,
+    changed: bool,
+) -> Tried {
+    if changed {
+        return Tried::Stopped(stage.changed(name));
+    }
+    if fault != Fault::Memory {
+        return tell(stage, name, &Answer::Refused(fault));
+    }
+    match memory {
+        Memory::Taken => Tried::Refused,
+        Memory::Untouched => Tried::Stopped(stage.refused(name)),
+    }
 }
 
 // All that can be looked at.
 fn look_at<A, S: Subject<A>>(alloc: Global, subject: &S) -> Result<String, AllocError> {
     let mut text = String::new(alloc);
-    subject.look(&mut text)?;
-    Ok(text)
+    match subject.look(&mut text) {
+        Ok(()) => Ok(text),
+        Err(error) => Err(error),
+    }
 }
 
 // Whether something else can be looked at than before.

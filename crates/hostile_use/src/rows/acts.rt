@@ -1,28 +1,38 @@
 //! Calls on spans, as data.
 
+use crate::named::Named;
 use crate::texts::{fields_of, meta_of};
-use span_id::{Field, Id, Level, Meta};
+use span_id::{Field, Level, Meta};
 use span_registry::ParentOf;
 use std::alloc::{AllocError, Global};
 
 /// A call; handles are named by the ids of their spans.
 #[derive(Clone, Copy)]
-pub(crate) enum Act<'a> {
-    New(&'a Meta, ParentOf),
-    Clone(Id),
-    Enter(Id),
-    Exit(Id),
-    Close(Id),
-    Record(Id, &'a [Field]),
-    Event(&'a Meta, &'a str),
-    Find(Id),
+pub(crate) enum Act {
+    New(Called, ParentOf),
+    Clone(Named),
+    Enter(Named),
+    Exit(Named),
+    Close(Named),
+    /// With the fields of `Names`.
+    Record(Named),
+    /// With this message.
+    Event(&'static str),
+    Find(Named),
+}
+
+/// What a span is called.
+#[derive(Clone, Copy)]
+pub(crate) enum Called {
+    A,
+    B,
 }
 
 /// What spans and events are called, and their fields.
 #[derive(Drop)]
 pub(crate) struct Names {
-    pub(crate) a: Meta,
-    pub(crate) b: Meta,
+    a: Meta,
+    b: Meta,
     pub(crate) event: Meta,
     pub(crate) fields: Vec<Field>,
 }
@@ -36,5 +46,13 @@ impl Names {
             event: meta_of(alloc, "event", Level::Info)?,
             fields: fields_of(alloc, &[("k", "v")])?,
         })
+    }
+
+    /// What a span is made with.
+    pub(crate) fn meta(&self, called: Called) -> &Meta {
+        match called {
+            Called::A => &self.a,
+            Called::B => &self.b,
+        }
     }
 }

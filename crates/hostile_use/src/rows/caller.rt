@@ -2,13 +2,13 @@
 ghost use Rattle.std.specs.Prelude.{◌≡◌, ◌+◌, ◌-◌, ◌^◌, vec_len, sum_by};
 ghost use Rattle.hostile_use.specs.Units.{units_in};
 
-use crate::answer::Answer;
-use crate::rows::acts::Act;
+use crate::answer::{Answer, done, yes_or_no};
+use crate::rows::acts::{Act, Names};
 use crate::rows::held::{Hands, Held};
 use span_id::{Fault, Field, Id, Meta};
 use span_layers::Admit;
 use span_outlet::{Outlet, ParentOf};
-use span_registry::{Registry, Setup, Worker};
+use span_registry::{Handle, Registry, Setup, Worker};
 use std::alloc::Global;
 use std::sync::Wait;
 use std::sync::ledger::Ledger;
@@ -21,6 +21,14 @@ pub(crate) struct Caller<H: Ledger, C: Ledger, S: Setup> {
     ghost whole: { worker.spare + units_in hands.first + units_in hands.second ≡ 2 ^ 64 - 1 },
 }
 
+/// A call with a handle that is lent.
+#[derive(Clone, Copy)]
+enum Lent<'a> {
+    Enter,
+    /// Writes these fields.
+    Record(&'a [Field]),
+}
+
 impl<H: Ledger, C: Ledger, S: Setup> Caller<H, C, S> {
     /// Makes a call.
     pub(crate) fn call<O: Outlet, A: Admit, R: Wait>(
@@ -28,17 +36,21 @@ impl<H: Ledger, C: Ledger, S: Setup> Caller<H, C, S> {
         rt: &R,
         alloc: Global,
         registry: &Registry<H, C, S, O, A>,
-        act: &Act,
+        names: &Names,
+        act: Act,
     ) -> Result<Answer, Fault> {
         match act {
-            Act::New(meta, parent) => self.new_span(rt, registry, meta, *parent),
-            Act::Clone(id) => self.clone_span(rt, registry, *id),
-            Act::Enter(id) => self.enter(rt, registry, *id),
-            Act::Exit(id) => self.exit(rt, registry, *id),
-            Act::Close(id) => self.try_close(rt, registry, *id),
-            Act::Record(id, fields) => self.record(rt, registry, *id, fields),
-            Act::Event(meta, message) => self.event(rt, registry, meta, message),
-            Act::Find(id) => find(rt, alloc, registry, *id),
+            Act::New(called, parent) => self.new_span(rt, registry, names.meta(called), parent),
+            Act::Clone(named) => self.clone_span(rt, registry, named.id()),
+            Act::Enter(named) => self.lend(rt, registry, named.id(), Lent::Enter),
+            Act::Record(named) => {
+                let fields = names.fields.as_slice();
+                self.lend(rt, registry, named.id(), Lent::Record(fields))
+            }
+            Act::Exit(named) => self.exit(rt, registry, named.id()),
+            Act::Close(named) => self.try_close(rt, registry, named.id()),
+            Act::Event(message) => self.event(rt, registry, &names.event, message),
+            Act::Find(named) => find(rt, alloc, registry, named.id()),
         }
     }
 
@@ -53,12 +65,15 @@ impl<H: Ledger, C: Ledger, S: Setup> Caller<H, C, S> {
         if !self.hands.has_place() {
             return Err(Fault::Full);
         }
-        let Some(handle) = registry.new_span(rt, &mut self.worker, meta, &[], parent)? else {
-            return Ok(Answer::Nothing);
-        };
-        let id = handle.id();
-        self.hands.put(Held { handle });
-        Ok(Answer::Span(id))
+        match registry.new_span(rt, &mut self.worker, meta, &[], parent) {
+            Ok(Some(handle)) => {
+                let id = handle.id();
+                self.hands.put(Held { handle });
+                Ok(Answer::Span(id))
+            }
+            Ok(None) => Ok(Answer::Nothing),
+            Err(fault) => Err(fault),
+        }
     }
 
     // One more handle, which is kept.
@@ -76,23 +91,29 @@ impl<H: Ledger, C: Ledger, S: Setup> Caller<H, C, S> {
         };
         let cloned = registry.clone_span(rt, &mut self.worker, &mut lent.handle);
         self.hands.put(lent);
-        let handle = cloned?;
-        self.hands.put(Held { handle });
-        Ok(Answer::Done)
+        match cloned {
+            Ok(handle) => {
+                self.hands.put(Held { handle });
+                Ok(Answer::Done)
+            }
+            Err(fault) => Err(fault),
+        }
     }
 
-    fn enter<O: Outlet, A: Admit, R: Wait>(
+    // A call with a handle that is lent.
+    fn lend<O: Outlet, A: Admit, R: Wait>(
         &mut self,
         rt: &R,
         registry: &Registry<H, C, S, O, A>,
         id: Id,
+        lent: Lent<'_>,
     ) -> Result<Answer, Fault> {
-        let Some(mut lent) = self.hands.take(id) else {
+        let Some(mut held) = self.hands.take(id) else {
             return Err(Fault::Unknown);
         };
-        let entered = registry.enter(rt, &mut self.worker, &mut lent.handle);
-        self.hands.put(lent);
-        Ok(Answer::Yes(entered?))
+        let answer = with_handle(rt, registry, &mut self.worker, &mut held.handle, lent);
+        self.hands.put(held);
+        answer
     }
 
     fn exit<O: Outlet, A: Admit, R: Wait>(
@@ -101,7 +122,7 @@ impl<H: Ledger, C: Ledger, S: Setup> Caller<H, C, S> {
         registry: &Registry<H, C, S, O, A>,
         id: Id,
     ) -> Result<Answer, Fault> {
-        Ok(Answer::Yes(registry.exit(rt, &mut self.worker, id)?))
+        yes_or_no(registry.exit(rt, &mut self.worker, id))
     }
 
     fn event<O: Outlet, A: Admit, R: Wait>(
@@ -111,24 +132,7 @@ impl<H: Ledger, C: Ledger, S: Setup> Caller<H, C, S> {
         meta: &Meta,
         message: &str,
     ) -> Result<Answer, Fault> {
-        registry.event(rt, &mut self.worker, meta, message, &[])?;
-        Ok(Answer::Done)
-    }
-
-    fn record<O: Outlet, A: Admit, R: Wait>(
-        &mut self,
-        rt: &R,
-        registry: &Registry<H, C, S, O, A>,
-        id: Id,
-        fields: &[Field],
-    ) -> Result<Answer, Fault> {
-        let Some(mut lent) = self.hands.take(id) else {
-            return Err(Fault::Unknown);
-        };
-        let recorded = registry.record(rt, &mut self.worker, &mut lent.handle, fields);
-        self.hands.put(lent);
-        recorded?;
-        Ok(Answer::Done)
+        done(registry.event(rt, &mut self.worker, meta, message, &[]))
     }
 
     // Gives a handle back. Where that is refused, the handle that comes back is kept.
@@ -151,15 +155,32 @@ impl<H: Ledger, C: Ledger, S: Setup> Caller<H, C, S> {
     }
 }
 
+// A call with a handle.
+fn with_handle<H: Ledger, C: Ledger, S: Setup, O: Outlet, A: Admit, R: Wait>(
+    rt: &R,
+    registry: &Registry<H, C, S, O, A>,
+    worker: &mut Worker<H, C>,
+    handle: &mut Handle<H, C, S>,
+    lent: Lent<'_>,
+) -> Result<Answer, Fault>
+    ensures { worker.new.spare ≡ worker.old.spare }
+{
+    match lent {
+        Lent::Enter => yes_or_no(registry.enter(rt, worker, handle)),
+        Lent::Record(fields) => done(registry.record(rt, worker, handle, fields)),
+    }
+}
+
 fn find<H: Ledger, C: Ledger, S: Setup, O: Outlet, A: Admit, R: Wait>(
     rt: &R,
     alloc: Global,
     registry: &Registry<H, C, S, O, A>,
     id: Id,
 ) -> Result<Answer, Fault> {
-    match registry.find(rt, alloc, id)? {
-        Some(found) => Ok(Answer::Found(found)),
-        None => Ok(Answer::Nothing),
+    match registry.find(rt, alloc, id) {
+        Ok(Some(found)) => Ok(Answer::Found(found)),
+        Ok(None) => Ok(Answer::Nothing),
+        Err(fault) => Err(fault),
     }
 }
 

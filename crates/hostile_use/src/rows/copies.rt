@@ -10,10 +10,10 @@ use std::alloc::Global;
 /// Copies a meta, for an owner of its own and to be shared.
 pub(crate) fn run_meta<R: Print>(stage: &Stage<R>, alloc: Global) -> Result<(), Stop> {
     let meta = meta_of(alloc, "a", Level::Info)?;
-    let before = meta_of(alloc, "a", Level::Info)?;
-    copy_meta(stage, alloc, &meta, &before)?;
-    let shared = made(stage, "copy to share", || SharedMeta::copy_of(alloc, &meta))?;
-    tell_meta(stage, "copy to share", shared.as_meta())
+    match meta_of(alloc, "a", Level::Info) {
+        Ok(before) => copy_meta(stage, alloc, &meta, &before),
+        Err(_) => Err(Stop::Memory),
+    }
 }
 
 fn copy_meta<R: Print>(
@@ -26,29 +26,37 @@ fn copy_meta<R: Print>(
     if *meta != *before {
         return Err(stage.changed("copy"));
     }
-    tell_meta(stage, "copy", &copy)
+    tell_meta(stage, "copy", &copy);
+    let shared = made(stage, "copy to share", || SharedMeta::copy_of(alloc, meta))?;
+    tell_meta(stage, "copy to share", shared.as_meta());
+    Ok(())
 }
 
-fn tell_meta<R: Print>(stage: &Stage<R>, call: &str, meta: &Meta) -> Result<(), Stop> {
+fn tell_meta<R: Print>(stage: &Stage<R>, call: &str, meta: &Meta) {
     let Meta {
         name,
         target,
         level,
     } = meta;
-    println!(stage.rt; "{call}: {name} {target} {level}")?;
-    Ok(())
+    stage.wrote(println!(stage.rt; "{call}: {name} {target} {level}"));
 }
 
 /// Copies two fields, each for an owner of its own, and both to be shared.
 pub(crate) fn run_field<R: Print>(stage: &Stage<R>, alloc: Global) -> Result<(), Stop> {
-    let fields = fields_of(alloc, &[("k", "1"), ("k", "2")])?;
-    for field in &fields {
+    match fields_of(alloc, &[("k", "1"), ("k", "2")]) {
+        Ok(fields) => copy_fields(stage, alloc, fields.as_slice()),
+        Err(_) => Err(Stop::Memory),
+    }
+}
+
+fn copy_fields<R: Print>(stage: &Stage<R>, alloc: Global, fields: &[Field]) -> Result<(), Stop> {
+    for field in fields {
         copy_field(stage, alloc, field)?;
     }
-    let shared = made(stage, "copy to share", || {
-        Fields::copy_of(alloc, fields.as_slice())
-    })?;
-    tell_fields(stage, alloc, shared.as_slice())
+    match made(stage, "copy to share", || Fields::copy_of(alloc, fields)) {
+        Ok(shared) => tell_fields(stage, alloc, shared.as_slice()),
+        Err(stop) => Err(stop),
+    }
 }
 
 fn copy_field<R: Print>(stage: &Stage<R>, alloc: Global, field: &Field) -> Result<(), Stop> {
@@ -56,13 +64,13 @@ fn copy_field<R: Print>(stage: &Stage<R>, alloc: Global, field: &Field) -> Resul
     if copy != *field {
         return Err(stage.changed("copy"));
     }
-    println!(stage.rt; "copy: {}={}", copy.key, copy.value)?;
+    stage.wrote(println!(stage.rt; "copy: {}={}", copy.key, copy.value));
     Ok(())
 }
 
 fn tell_fields<R: Print>(stage: &Stage<R>, alloc: Global, fields: &[Field]) -> Result<(), Stop> {
     let mut text = String::new(alloc);
     add_fields(&mut text, fields)?;
-    println!(stage.rt; "copy to share:{text}")?;
+    stage.wrote(println!(stage.rt; "copy to share:{text}"));
     Ok(())
 }

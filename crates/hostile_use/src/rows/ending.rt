@@ -1,22 +1,28 @@
 //! The end of a registry: the share of its caller, and its report.
-ghost use Rattle.std.specs.Prelude.{◌≡◌, ◌+◌, ◌-◌, ◌^◌, ◌≤◌, IfOk};
+ghost use Rattle.std.specs.Prelude.{◌≡◌, ◌+◌, ◌-◌, ◌^◌, ◌≤◌};
 ghost use Rattle.hostile_use.specs.Units.{units_in};
 
 use crate::rows::caller::Caller;
 use crate::rows::held::{Hands, Held};
 use crate::stage::{Memory, Stage};
-use crate::stop::Stop;
 use crate::texts::shown;
-use span_registry::{Report, Setup, Share};
+use span_registry::{Line, Report, Setup, Share};
 use std::sync::ledger::Ledger;
 
-/// The whole share: that of the worker and those of the handles that are left.
+/// What a share counts.
+#[derive(Clone, Copy)]
+pub(crate) struct Counts {
+    units: u64,
+    accepted: u64,
+}
+
+/// The whole share, that of the worker and those of the handles that are left, and what it counts.
 pub(crate) fn whole<H: Ledger, C: Ledger, S: Setup, R: Print>(
     stage: &Stage<R>,
     caller: Caller<H, C, S>,
-) -> Result<Share<H, C>, Stop>
-    ensures handles { IfOk result (λ share. share.handle_parts ≡ 2 ^ 64 - 1) }
-    ensures calls { IfOk result (λ share. share.call_parts ≡ 1) }
+) -> (Share<H, C>, Counts)
+    ensures handles { result.0.handle_parts ≡ 2 ^ 64 - 1 }
+    ensures calls { result.0.call_parts ≡ 1 }
 {
     let Caller { worker, hands } = caller;
     let Hands { first, second } = hands;
@@ -26,8 +32,7 @@ pub(crate) fn whole<H: Ledger, C: Ledger, S: Setup, R: Print>(
     let share = with(share, second);
     let units = share.units();
     stage.over();
-    println!(stage.rt; "share: units {units} accepted {accepted}")?;
-    Ok(share)
+    (share, Counts { units, accepted })
 }
 
 // A share with that of a handle.
@@ -50,7 +55,9 @@ fn with<H: Ledger, C: Ledger, S: Setup>(
 }
 
 /// Tells how a registry ended. A line may be missed where memory was refused; then it is counted.
-pub(crate) fn tell_end<R: Print>(stage: &Stage<R>, report: &Report) -> Result<(), Stop> {
+pub(crate) fn tell_end<R: Print>(stage: &Stage<R>, share: Counts, report: &Report) {
+    let Counts { units, accepted } = share;
+    stage.wrote(println!(stage.rt; "share: units {units} accepted {accepted}"));
     let Report {
         left,
         handles,
@@ -61,14 +68,17 @@ pub(crate) fn tell_end<R: Print>(stage: &Stage<R>, report: &Report) -> Result<()
         lines,
         refused,
     } = report;
-    println!(stage.rt;
+    stage.wrote(println!(stage.rt;
         "left {left} handles {handles} entries {entries} calls {calls} made {made} closed {closed}"
-    )?;
+    ));
     let told = lines.len() as u64;
-    println!(stage.rt; "lines and missed: {}", refused.saturating_add(told))?;
+    stage.wrote(println!(stage.rt; "lines and missed: {}", refused.saturating_add(told)));
+    tell_lines(stage, lines.as_slice());
+}
+
+fn tell_lines<R: Print>(stage: &Stage<R>, lines: &[Line]) {
     for line in lines {
         let text = shown(line.text.as_slice());
-        println!(stage.rt; "+ {} {} {} {text}", line.batch, line.place, line.layer)?;
+        stage.wrote(println!(stage.rt; "+ {} {} {} {text}", line.batch, line.place, line.layer));
     }
-    Ok(())
 }

@@ -1,29 +1,57 @@
 //! A span and its child, with what holds them.
 
-use crate::answer::Answer;
+use crate::answer::{Answer, done, held};
+use crate::named::Named::{self, One, Two};
+use crate::rows::acts::Called;
 use crate::stage::Memory::{Taken, Untouched};
 use crate::stage::Stage;
 use crate::stop::Stop;
 use crate::texts::{add_span, fields_of, shared_fields_of, shared_meta_of};
 use crate::trial::{Planned, Subject, made, perform};
-use span_forest::{Forest, Holder};
+use span_forest::Forest;
+use span_forest::Holder::{self, Entry, Handle};
 use span_id::{Bits, Fault, Field, Fields, Id, Limits, SharedMeta};
 use std::alloc::{AllocError, Global};
 
 #[derive(Clone, Copy)]
-enum Act<'a> {
-    Add(&'a SharedMeta, &'a Fields, Option<Id>),
-    Keep(Id, Holder),
-    Closing(Id, Holder),
-    Release(Id, Holder),
-    WriteFields(Id, &'a [Field]),
-    Path(u32, Id),
-    PathText(u32, Id),
-    Find(Id),
+enum Act {
+    Add(Called, Option<Named>),
+    Keep(Named, Holder),
+    Closing(Named, Holder),
+    Release(Named, Holder),
+    WriteFields(Named),
+    Path(u32, Named),
+    PathText(u32, Named),
+    Find(Named),
     Len,
     Total,
     NextId,
 }
+
+// Both spans are made, kept, written and released.
+const PLAN: [Planned<'static, Act>; 21] = [
+    ("add a", Untouched, Act::Add(Called::A, None)),
+    ("add b under 1", Untouched, Act::Add(Called::B, Some(One))),
+    ("path of 2 for layer 0", Taken, Act::Path(0, Two)),
+    ("path of 2 for layer 1", Taken, Act::Path(1, Two)),
+    ("path text of 2 for layer 0", Taken, Act::PathText(0, Two)),
+    ("path text of 2 for layer 1", Taken, Act::PathText(1, Two)),
+    ("write fields of 1", Taken, Act::WriteFields(One)),
+    ("write fields of 2", Taken, Act::WriteFields(Two)),
+    ("keep 1 by an entry", Untouched, Act::Keep(One, Entry)),
+    ("release 1 by its entry", Taken, Act::Release(One, Entry)),
+    ("closing 1", Taken, Act::Closing(One, Handle)),
+    ("release 1", Taken, Act::Release(One, Handle)),
+    ("closing 2", Taken, Act::Closing(Two, Handle)),
+    ("find 2", Untouched, Act::Find(Two)),
+    ("keep 1", Untouched, Act::Keep(One, Handle)),
+    ("release 2", Taken, Act::Release(Two, Handle)),
+    ("len", Untouched, Act::Len),
+    ("total", Untouched, Act::Total),
+    ("next id", Untouched, Act::NextId),
+    ("release 2", Taken, Act::Release(Two, Handle)),
+    ("path of 2 for layer 0", Taken, Act::Path(0, Two)),
+];
 
 /// What the spans are called, and their fields.
 #[derive(Drop)]
@@ -47,91 +75,68 @@ impl Texts {
             fields: fields_of(alloc, &pairs)?,
         })
     }
+
+    // What a span is made with: `a` has no fields.
+    fn parts(&self, called: Called) -> (&SharedMeta, &Fields) {
+        match called {
+            Called::A => (&self.a, &self.none),
+            Called::B => (&self.b, &self.shared),
+        }
+    }
+}
+
+/// A forest, and what is put into it.
+#[derive(Drop)]
+struct OnForest<'t> {
+    forest: Forest,
+    texts: &'t Texts,
 }
 
 /// Makes the calls, and tells what they answer.
 pub(crate) fn run<R: Print>(stage: &Stage<R>, alloc: Global) -> Result<(), Stop> {
-    let mut forest = forest_of(stage, alloc)?;
-    make_calls(stage, alloc, &mut forest)
+    match Texts::new(alloc) {
+        Ok(texts) => on_forest(stage, alloc, &texts),
+        Err(_) => Err(Stop::Memory),
+    }
 }
 
-fn forest_of<R: Print>(stage: &Stage<R>, alloc: Global) -> Result<Forest, Stop> {
+fn on_forest<R: Print>(stage: &Stage<R>, alloc: Global, texts: &Texts) -> Result<(), Stop> {
     let Ok(checked) = Limits::default().check() else {
         return Err(Stop::Memory);
     };
-    made(stage, "new", || Forest::new(alloc, &checked))
+    match made(stage, "new", || Forest::new(alloc, &checked)) {
+        Ok(forest) => perform(stage, alloc, &mut OnForest { forest, texts }, &PLAN),
+        Err(stop) => Err(stop),
+    }
 }
 
-fn make_calls<R: Print>(stage: &Stage<R>, alloc: Global, forest: &mut Forest) -> Result<(), Stop> {
-    let texts = Texts::new(alloc)?;
-    perform(stage, alloc, forest, &plan(&texts))
-}
-
-// Both spans are made, kept, written and released.
-fn plan<'a>(texts: &'a Texts) -> [Planned<'a, Act<'a>>; 21] {
-    let (one, two) = (Id::pack(0, 0), Id::pack(1, 0));
-    let (handle, entry) = (Holder::Handle, Holder::Entry);
-    let fields = texts.fields.as_slice();
-    [
-        ("add a", Untouched, Act::Add(&texts.a, &texts.none, None)),
-        (
-            "add b under 1",
-            Untouched,
-            Act::Add(&texts.b, &texts.shared, Some(one)),
-        ),
-        ("path of 2 for layer 0", Taken, Act::Path(0, two)),
-        ("path of 2 for layer 1", Taken, Act::Path(1, two)),
-        ("path text of 2 for layer 0", Taken, Act::PathText(0, two)),
-        ("path text of 2 for layer 1", Taken, Act::PathText(1, two)),
-        ("write fields of 1", Taken, Act::WriteFields(one, fields)),
-        ("write fields of 2", Taken, Act::WriteFields(two, fields)),
-        ("keep 1 by an entry", Untouched, Act::Keep(one, entry)),
-        ("release 1 by its entry", Taken, Act::Release(one, entry)),
-        ("closing 1", Taken, Act::Closing(one, handle)),
-        ("release 1", Taken, Act::Release(one, handle)),
-        ("closing 2", Taken, Act::Closing(two, handle)),
-        ("find 2", Untouched, Act::Find(two)),
-        ("keep 1", Untouched, Act::Keep(one, handle)),
-        ("release 2", Taken, Act::Release(two, handle)),
-        ("len", Untouched, Act::Len),
-        ("total", Untouched, Act::Total),
-        ("next id", Untouched, Act::NextId),
-        ("release 2", Taken, Act::Release(two, handle)),
-        ("path of 2 for layer 0", Taken, Act::Path(0, two)),
-    ]
-}
-
-impl<'a> Subject<Act<'a>> for Forest {
-    fn call(&mut self, act: &Act<'a>) -> Result<Answer, Fault> {
-        Ok(match act {
-            Act::Add(meta, fields, parent) => return add(self, meta, fields, *parent),
-            Act::Keep(id, holder) => {
-                self.keep(*id, *holder)?;
-                Answer::Done
+impl<'t> Subject<Act> for OnForest<'t> {
+    fn call(&mut self, act: &Act) -> Result<Answer, Fault> {
+        let forest = &mut self.forest;
+        match act {
+            Act::Add(called, parent) => add(forest, self.texts.parts(*called), *parent),
+            Act::Keep(named, holder) => done(forest.keep(named.id(), *holder)),
+            Act::Closing(named, holder) => spans(forest.closing(named.id(), *holder)),
+            Act::Release(named, holder) => spans(forest.release(named.id(), *holder)),
+            Act::WriteFields(named) => {
+                done(forest.write_fields(named.id(), self.texts.fields.as_slice()))
             }
-            Act::Closing(id, holder) => Answer::Spans(self.closing(*id, *holder)?),
-            Act::Release(id, holder) => Answer::Spans(self.release(*id, *holder)?),
-            Act::WriteFields(id, fields) => {
-                self.write_fields(*id, fields)?;
-                Answer::Done
-            }
-            Act::Path(layer, id) => Answer::Names(self.path(*layer, *id)?),
-            Act::PathText(layer, id) => Answer::Text(self.path_text(*layer, *id)?.text),
-            Act::Find(id) => self.find(*id).map_or(Answer::Nothing, |span| {
-                Answer::Held(span.handles, span.entries, span.count)
-            }),
-            Act::Len => Answer::Number(u64::from(self.len())),
-            Act::Total => Answer::Number(self.total()),
-            Act::NextId => Answer::from(self.next_id()),
-        })
+            Act::Path(layer, named) => path(forest, *layer, named.id()),
+            Act::PathText(layer, named) => path_text(forest, *layer, named.id()),
+            Act::Find(named) => Ok(held(forest.find(named.id()))),
+            Act::Len => Ok(Answer::Number(u64::from(forest.len()))),
+            Act::Total => Ok(Answer::Number(forest.total())),
+            Act::NextId => Ok(Answer::from(forest.next_id())),
+        }
     }
 
     fn look(&self, text: &mut String) -> Result<(), AllocError> {
-        let (len, total, handles) = (self.len(), self.total(), self.handles());
-        let next = self.next_id();
+        let forest = &self.forest;
+        let (len, total, handles) = (forest.len(), forest.total(), forest.handles());
+        let next = forest.next_id();
         write!(text, "{len} {total} {handles} {next:?}\n")?;
         for slot in 0..3 {
-            if let Some(span) = self.find(Id::pack(slot, 0)) {
+            if let Some(span) = forest.find(Id::pack(slot, 0)) {
                 add_span(text, span)?;
             }
         }
@@ -141,10 +146,33 @@ impl<'a> Subject<Act<'a>> for Forest {
 
 fn add(
     forest: &mut Forest,
-    meta: &SharedMeta,
-    fields: &Fields,
-    parent: Option<Id>,
+    (meta, fields): (&SharedMeta, &Fields),
+    parent: Option<Named>,
 ) -> Result<Answer, Fault> {
-    let id = forest.add(meta.share()?, fields.share()?, parent, Bits(1))?;
-    Ok(Answer::Span(id))
+    let parent = parent.map(Named::id);
+    match forest.add(meta.share()?, fields.share()?, parent, Bits(1)) {
+        Ok(id) => Ok(Answer::Span(id)),
+        Err(fault) => Err(fault),
+    }
+}
+
+fn spans(ids: Result<Vec<Id>, Fault>) -> Result<Answer, Fault> {
+    match ids {
+        Ok(ids) => Ok(Answer::Spans(ids)),
+        Err(fault) => Err(fault),
+    }
+}
+
+fn path(forest: &Forest, layer: u32, id: Id) -> Result<Answer, Fault> {
+    match forest.path(layer, id) {
+        Ok(names) => Ok(Answer::Names(names)),
+        Err(fault) => Err(fault),
+    }
+}
+
+fn path_text(forest: &Forest, layer: u32, id: Id) -> Result<Answer, Fault> {
+    match forest.path_text(layer, id) {
+        Ok(path) => Ok(Answer::Text(path.text)),
+        Err(fault) => Err(fault),
+    }
 }

@@ -51,18 +51,10 @@ impl<H: Ledger, C: Ledger, S: Setup> Hands<H, C, S> {
         ensures room { OnSome result (units_in self.new.first + units_in self.new.second < 2) }
         ensures none { IfNone result (self.new ≡ self.old) }
     {
-        if self
-            .first
-            .as_ref()
-            .is_some_and(|held| held.handle.id() == id)
-        {
+        if id_of(&self.first) == id.get() {
             return self.first.take();
         }
-        if self
-            .second
-            .as_ref()
-            .is_some_and(|held| held.handle.id() == id)
-        {
+        if id_of(&self.second) == id.get() {
             return self.second.take();
         }
         None
@@ -91,5 +83,8 @@ impl<H: Ledger, C: Ledger, S: Setup> Hands<H, C, S> {
 
 // The id of a handle, 0 where there is none.
 fn id_of<H: Ledger, C: Ledger, S: Setup>(held: &Option<Held<H, C, S>>) -> u64 {
-    held.as_ref().map_or(0, |held| held.handle.id().get())
+    match held {
+        Some(held) => held.handle.id().get(),
+        None => 0,
+    }
 }

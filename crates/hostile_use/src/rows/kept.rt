@@ -1,8 +1,9 @@
 //! A registry whose outlet keeps the lines, with one worker.
 ghost use Rattle.std.specs.Prelude.{◌≡◌, [], None, vec_len, sum_by, IfOk};
 
+use crate::named::Named::One;
 use crate::rows::Row;
-use crate::rows::acts::{Act, Names};
+use crate::rows::acts::{Act, Called, Names};
 use crate::rows::caller::caller_of;
 use crate::rows::ending::{tell_end, whole};
 use crate::rows::on_registry::OnRegistry;
@@ -10,7 +11,7 @@ use crate::stage::Memory::Taken;
 use crate::stage::Stage;
 use crate::stop::Stop;
 use crate::trial::{Planned, perform};
-use span_id::{Checked, Id, Limits};
+use span_id::{Checked, Limits};
 use span_layers::{Admit, Filters, Say, Tellers};
 use span_outlet::{Kept, ParentOf};
 use span_registry::{HANDLE_PARTS, Registry, SeatTable, Setup, Worker};
@@ -19,16 +20,38 @@ use std::marker::Brand;
 use std::sync::Wait;
 use std::sync::ledger::{Blank, Ledger};
 
+// Each call once or twice.
+const EVERY_CALL: [Planned<'static, Act>; 10] = [
+    ("new a", Taken, Act::New(Called::A, ParentOf::Root)),
+    ("clone 1", Taken, Act::Clone(One)),
+    ("enter 1", Taken, Act::Enter(One)),
+    ("record 1", Taken, Act::Record(One)),
+    ("event m", Taken, Act::Event("m")),
+    ("find 1", Taken, Act::Find(One)),
+    ("close 1", Taken, Act::Close(One)),
+    ("exit 1", Taken, Act::Exit(One)),
+    ("close 1", Taken, Act::Close(One)),
+    ("find 1", Taken, Act::Find(One)),
+];
+
+// A handle that is given up.
+const GIVEN_UP: [Planned<'static, Act>; 1] = [(
+    "new a",
+    Taken,
+    Act::New(Called::A, ParentOf::Root),
+)];
+
 /// Makes the row's calls, and tells what they answer and how the registry ended. `Memory` where the registry could not
 /// be made.
 pub(crate) fn run<R: Print + Wait>(
     stage: &Stage<R>,
     alloc: Global,
     row: Row,
+    names: &Names,
     filters: Filters,
     tellers: Tellers,
 ) -> Result<(), Stop> {
-    on_outlet(stage, alloc, row, filters, Kept::new(alloc, tellers))
+    on_outlet(stage, alloc, row, names, filters, Kept::new(alloc, tellers))
 }
 
 // Generic in what makes the texts.
@@ -36,10 +59,33 @@ fn on_outlet<V: Say, R: Print + Wait>(
     stage: &Stage<R>,
     alloc: Global,
     row: Row,
+    names: &Names,
     filters: Filters,
     outlet: Kept<V>,
 ) -> Result<(), Stop>
     requires { outlet.sent ≡ [] }
+{
+    match place(stage, alloc) {
+        Ok((checked, table)) => named::<Brand, Brand, Brand, V, R>(
+            stage,
+            alloc,
+            row,
+            names,
+            &checked,
+            filters,
+            outlet,
+            Blank::new(HANDLE_PARTS),
+            Blank::new(1),
+            table,
+        ),
+        Err(stop) => Err(stop),
+    }
+}
+
+// The limits of a registry with one worker, and its table of handles.
+fn place<R: Print>(stage: &Stage<R>, alloc: Global) -> Result<(Checked, SeatTable), Stop>
+    ensures workers { IfOk result (λ place. place.0.workers ≡ 1) }
+    ensures table { IfOk result (λ place. place.1.words ≡ place.0.slots) }
 {
     let limits = Limits {
         workers: 1,
@@ -48,29 +94,11 @@ fn on_outlet<V: Say, R: Print + Wait>(
     let Ok(checked) = limits.check() else {
         return Err(Stop::Memory);
     };
-    let table = table_of(stage, alloc, &checked)?;
-    named::<Brand, Brand, Brand, V, R>(
-        stage,
-        alloc,
-        row,
-        &checked,
-        filters,
-        outlet,
-        Blank::new(HANDLE_PARTS),
-        Blank::new(1),
-        table,
-    )
-}
-
-// The table of handles.
-fn table_of<R: Print>(stage: &Stage<R>, alloc: Global, checked: &Checked) -> Result<SeatTable, Stop>
-    ensures { IfOk result (λ table. table.words ≡ checked.now.slots) }
-{
     stage.begin(Taken);
     let table = SeatTable::new(alloc, checked.limits().slots);
     stage.over();
     match table {
-        Ok(table) => Ok(table),
+        Ok(table) => Ok((checked, table)),
         Err(_) => Err(Stop::Memory),
     }
 }
@@ -80,6 +108,7 @@ fn named<H: Ledger, C: Ledger, S: Setup, V: Say, R: Print + Wait>(
     stage: &Stage<R>,
     alloc: Global,
     row: Row,
+    names: &Names,
     checked: &Checked,
     filters: Filters,
     outlet: Kept<V>,
@@ -99,17 +128,18 @@ fn named<H: Ledger, C: Ledger, S: Setup, V: Say, R: Print + Wait>(
         alloc, checked, filters, outlet, handles, calls, table,
     );
     stage.over();
-    let Ok((registry, workers)) = made else {
-        return Err(Stop::Memory);
-    };
-    called(stage, alloc, row, registry, workers)
+    match made {
+        Ok((registry, workers)) => called(stage, alloc, row, names, registry, workers),
+        Err(_) => Err(Stop::Memory),
+    }
 }
 
-// Generic in what applies the rules.
+// Generic in what applies the rules. The registry ends whole however its calls went.
 fn called<H: Ledger, C: Ledger, S: Setup, V: Say, A: Admit, R: Print + Wait>(
     stage: &Stage<R>,
     alloc: Global,
     row: Row,
+    names: &Names,
     registry: Registry<H, C, S, Kept<V>, A>,
     workers: Vec<Worker<H, C>>,
 ) -> Result<(), Stop>
@@ -117,54 +147,30 @@ fn called<H: Ledger, C: Ledger, S: Setup, V: Say, A: Admit, R: Print + Wait>(
     requires one { vec_len workers ≡ 1 }
     requires whole { sum_by (λ worker. worker.spare) workers.items ≡ H.parts }
 {
+    let plan = if row == Row::GivenUp {
+        GIVEN_UP.as_slice()
+    } else {
+        EVERY_CALL.as_slice()
+    };
     let mut subject = OnRegistry {
         rt: stage.rt,
         alloc,
+        names,
         registry,
         caller: caller_of(workers),
     };
-    make_calls(stage, alloc, row, &mut subject)?;
+    let ended = perform(stage, alloc, &mut subject, plan);
     let OnRegistry {
-        rt: _,
-        alloc: _,
         registry,
         caller,
+        ..
     } = subject;
-    let share = whole(stage, caller)?;
+    let (share, counts) = whole(stage, caller);
     stage.begin(Taken);
     let report = registry.finish_kept(share);
     stage.over();
-    tell_end(stage, &report)
-}
-
-fn make_calls<H: Ledger, C: Ledger, S: Setup, V: Say, A: Admit, R: Print + Wait>(
-    stage: &Stage<R>,
-    alloc: Global,
-    row: Row,
-    subject: &mut OnRegistry<'_, H, C, S, Kept<V>, A, R>,
-) -> Result<(), Stop> {
-    let names = Names::new(alloc)?;
-    if row == Row::GivenUp {
-        let new = ("new a", Taken, Act::New(&names.a, ParentOf::Root));
-        perform(stage, alloc, subject, &[new])
-    } else {
-        perform(stage, alloc, subject, &every_call(&names))
+    if ended.is_ok() {
+        tell_end(stage, counts, &report);
     }
-}
-
-// Each call once or twice.
-fn every_call<'a>(names: &'a Names) -> [Planned<'a, Act<'a>>; 10] {
-    let one = Id::pack(0, 0);
-    [
-        ("new a", Taken, Act::New(&names.a, ParentOf::Root)),
-        ("clone 1", Taken, Act::Clone(one)),
-        ("enter 1", Taken, Act::Enter(one)),
-        ("record 1", Taken, Act::Record(one, names.fields.as_slice())),
-        ("event m", Taken, Act::Event(&names.event, "m")),
-        ("find 1", Taken, Act::Find(one)),
-        ("close 1", Taken, Act::Close(one)),
-        ("exit 1", Taken, Act::Exit(one)),
-        ("close 1", Taken, Act::Close(one)),
-        ("find 1", Taken, Act::Find(one)),
-    ]
+    ended
 }

@@ -6,34 +6,73 @@ use crate::stop::Stop;
 use crate::texts::{everything, meta_of, note_of, shown};
 use crate::trial::made;
 use span_id::{Fault, Level, Meta};
-use span_layers::{Filters, Form, Kind, Layer, Layers, Note, Rule, Tellers, admits, text};
+use span_layers::{Filters, Form, Kind, Layer, Layers, Note, Rule, Style, Tellers, admits, text};
 use std::alloc::Global;
 
-/// Adds a layer. One that was refused memory comes back as it was, and is added again.
+// Of which kinds notes are written, and with which fields.
+const NOTES: [(Kind, &[(&str, &str)]); 4] = [
+    (Kind::OnNew, &[("k", "1")]),
+    (Kind::OnRecord, &[("k", "2")]),
+    (Kind::OnEvent, &[]),
+    (Kind::OnClose, &[("k", "1"), ("k", "2")]),
+];
+
+/// Adds a layer, and tells its number where that is asked for. One that was refused memory comes back as it was, and is
+/// added again.
 pub(crate) fn add<R: Print>(
     stage: &Stage<R>,
     layers: &mut Layers,
     layer: Layer,
-) -> Result<Answer, Stop> {
-    let (style, pairs) = (layer.style, layer.rule.pairs.len());
+    is_told: bool,
+) -> Result<(), Stop> {
+    let before = sizes(&layer);
     let mut layer = layer;
     for _ in 0..TRIES {
         stage.begin(Memory::Taken);
         let added = layers.add(layer);
         stage.over();
-        let (back, fault) = match added {
-            Ok(number) => return Ok(Answer::Number(number as u64)),
-            Err(refused) => refused,
-        };
-        if back.style != style || back.rule.pairs.len() != pairs {
-            return Err(stage.changed("add"));
+        match added {
+            Ok(number) => {
+                tell_added(stage, is_told, Answer::Number(number as u64));
+                return Ok(());
+            }
+            Err((back, fault)) => {
+                if let Some(ended) = judge(stage, is_told, fault, sizes(&back) == before) {
+                    return ended;
+                }
+                layer = back;
+            }
         }
-        if fault != Fault::Memory {
-            return Ok(Answer::Refused(fault));
-        }
-        layer = back;
     }
     Err(stage.refused_too_often("add"))
+}
+
+// What of a layer can be told from another.
+fn sizes(layer: &Layer) -> (Style, usize) {
+    (layer.style, layer.rule.pairs.len())
+}
+
+// What a refusal means: nothing where the layer is added again.
+fn judge<R: Print>(
+    stage: &Stage<R>,
+    is_told: bool,
+    fault: Fault,
+    is_same: bool,
+) -> Option<Result<(), Stop>> {
+    if !is_same {
+        return Some(Err(stage.changed("add")));
+    }
+    if fault == Fault::Memory {
+        return None;
+    }
+    tell_added(stage, is_told, Answer::Refused(fault));
+    Some(Ok(()))
+}
+
+fn tell_added<R: Print>(stage: &Stage<R>, is_told: bool, added: Answer) {
+    if is_told {
+        stage.wrote(println!(stage.rt; "add: {added}"));
+    }
 }
 
 /// Splits the layers, and tells what both parts answer.
@@ -51,21 +90,10 @@ fn tell_parts<R: Print>(
     tellers: &Tellers,
 ) -> Result<(), Stop> {
     ask(stage, alloc, filters)?;
-    println!(stage.rt; "tellers: {}", tellers.len())?;
-    let none: &[(&str, &str)] = &[];
-    let one: &[(&str, &str)] = &[("k", "1")];
-    let two: &[(&str, &str)] = &[("k", "2")];
-    let both: &[(&str, &str)] = &[("k", "1"), ("k", "2")];
-    let notes = [
-        (Kind::OnNew, one),
-        (Kind::OnRecord, two),
-        (Kind::OnEvent, none),
-        (Kind::OnClose, both),
-    ];
+    stage.wrote(println!(stage.rt; "tellers: {}", tellers.len()));
     for layer in 0..2 {
-        for (kind, fields) in notes {
-            let note = note_of(alloc, layer, kind, fields)?;
-            write(stage, alloc, tellers, &note)?;
+        for (kind, fields) in NOTES {
+            write(stage, alloc, tellers, layer, kind, fields)?;
         }
     }
     Ok(())
@@ -74,24 +102,23 @@ fn tell_parts<R: Print>(
 // Asks the filters, which takes no memory.
 fn ask<R: Print>(stage: &Stage<R>, alloc: Global, filters: &Filters) -> Result<(), Stop> {
     let meta = meta_of(alloc, "a", Level::Info)?;
-    let rule = everything(alloc)?;
-    ask_of(stage, filters, &meta, &rule)
+    match everything(alloc) {
+        Ok(rule) => {
+            ask_of(stage, filters, &meta, &rule);
+            Ok(())
+        }
+        Err(_) => Err(Stop::Memory),
+    }
 }
 
-fn ask_of<R: Print>(
-    stage: &Stage<R>,
-    filters: &Filters,
-    meta: &Meta,
-    rule: &Rule,
-) -> Result<(), Stop> {
+fn ask_of<R: Print>(stage: &Stage<R>, filters: &Filters, meta: &Meta, rule: &Rule) {
     stage.begin(Memory::Untouched);
     let len = filters.len();
     let bits = filters.bits(meta);
     let wants = 0 < len && filters.want(0, Kind::OnNew);
     let is_admitted = admits(rule, meta);
     stage.over();
-    println!(stage.rt; "filters: {len}, bits {}, {wants}, {is_admitted}", bits.0)?;
-    Ok(())
+    stage.wrote(println!(stage.rt; "filters: {len}, bits {}, {wants}, {is_admitted}", bits.0));
 }
 
 // Writes a note in both forms, and as its layer does.
@@ -99,14 +126,38 @@ fn write<R: Print>(
     stage: &Stage<R>,
     alloc: Global,
     tellers: &Tellers,
+    layer: u32,
+    kind: Kind,
+    fields: &[(&str, &str)],
+) -> Result<(), Stop> {
+    match note_of(alloc, layer, kind, fields) {
+        Ok(note) => write_note(stage, alloc, tellers, &note),
+        Err(_) => Err(Stop::Memory),
+    }
+}
+
+fn write_note<R: Print>(
+    stage: &Stage<R>,
+    alloc: Global,
+    tellers: &Tellers,
     note: &Note,
 ) -> Result<(), Stop> {
     for form in [Form::Json, Form::Compact] {
-        let written = made(stage, "text", || Ok(text(alloc, form, note)?))?;
-        println!(stage.rt; "text: {}", shown(written.as_slice()))?;
+        write_text(stage, alloc, form, note)?;
     }
     let said = made(stage, "say", || say(tellers, note))?;
-    println!(stage.rt; "say: {}", shown(said.as_slice()))?;
+    stage.wrote(println!(stage.rt; "say: {}", shown(said.as_slice())));
+    Ok(())
+}
+
+fn write_text<R: Print>(
+    stage: &Stage<R>,
+    alloc: Global,
+    form: Form,
+    note: &Note,
+) -> Result<(), Stop> {
+    let written = made(stage, "text", || Ok(text(alloc, form, note)?))?;
+    stage.wrote(println!(stage.rt; "text: {}", shown(written.as_slice())));
     Ok(())
 }
 

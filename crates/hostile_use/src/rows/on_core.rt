@@ -1,22 +1,23 @@
 //! Spans on a core, which has no lock.
 ghost use Rattle.std.specs.Prelude.{◌≡◌, ◌<◌, []};
 
-use crate::answer::Answer;
-use crate::rows::acts::{Act, Names};
+use crate::answer::{Answer, done, held, yes_or_no};
+use crate::named::Named::{self, One, OneAnew, Two};
+use crate::rows::acts::{Act, Called, Names};
 use crate::stage::Memory::{Taken, Untouched};
 use crate::stage::Stage;
 use crate::stop::Stop;
 use crate::texts::{add_span, add_stack};
 use crate::trial::{Planned, Subject, perform};
 use span_core::Core;
-use span_id::{Checked, Fault, Id, Limits, Meta};
+use span_id::{Fault, Limits, Meta};
 use span_layers::{Filters, Say, Tellers};
 use span_outlet::{Kept, ParentOf};
 use std::alloc::{AllocError, Global};
 
 #[derive(Clone, Copy)]
-enum Ask<'a> {
-    Call(Act<'a>),
+enum Ask {
+    Call(Act),
     Len,
     Total,
     Calls,
@@ -28,9 +29,55 @@ enum Ask<'a> {
     Notes,
 }
 
+// A span inside another, and one that is entered nine times. The third span gets the slot of the first.
+const PLAN: [Planned<'static, Ask>; 29] = [
+    (
+        "new a",
+        Taken,
+        Ask::Call(Act::New(Called::A, ParentOf::Root)),
+    ),
+    ("clone 1", Taken, Ask::Call(Act::Clone(One))),
+    ("enter 1", Taken, Ask::Call(Act::Enter(One))),
+    (
+        "new b inside",
+        Taken,
+        Ask::Call(Act::New(Called::B, ParentOf::Current)),
+    ),
+    ("record 2", Taken, Ask::Call(Act::Record(Two))),
+    ("event m", Taken, Ask::Call(Act::Event("m"))),
+    ("find 1", Untouched, Ask::Call(Act::Find(One))),
+    ("find 2", Untouched, Ask::Call(Act::Find(Two))),
+    ("close 1", Taken, Ask::Call(Act::Close(One))),
+    ("close 1", Taken, Ask::Call(Act::Close(One))),
+    ("top", Untouched, Ask::Top),
+    ("total", Untouched, Ask::Total),
+    ("exit 1", Taken, Ask::Call(Act::Exit(One))),
+    ("len", Untouched, Ask::Len),
+    ("close 2", Taken, Ask::Call(Act::Close(Two))),
+    ("len", Untouched, Ask::Len),
+    (
+        "new a",
+        Taken,
+        Ask::Call(Act::New(Called::A, ParentOf::Root)),
+    ),
+    ("enter it", Taken, Ask::Call(Act::Enter(OneAnew))),
+    ("enter it, 2", Taken, Ask::Call(Act::Enter(OneAnew))),
+    ("enter it, 3", Taken, Ask::Call(Act::Enter(OneAnew))),
+    ("enter it, 4", Taken, Ask::Call(Act::Enter(OneAnew))),
+    ("enter it, 5", Taken, Ask::Call(Act::Enter(OneAnew))),
+    ("enter it, 6", Taken, Ask::Call(Act::Enter(OneAnew))),
+    ("enter it, 7", Taken, Ask::Call(Act::Enter(OneAnew))),
+    ("enter it, 8", Taken, Ask::Call(Act::Enter(OneAnew))),
+    ("enter it, 9", Taken, Ask::Call(Act::Enter(OneAnew))),
+    ("calls", Untouched, Ask::Calls),
+    ("batches", Untouched, Ask::Batches),
+    ("notes", Untouched, Ask::Notes),
+];
+
 /// A core on which the worker 0 calls.
 #[derive(Drop)]
-struct OnCore<V: Say> {
+struct OnCore<'n, V: Say> {
+    names: &'n Names,
     core: Core<Kept<V>>,
     ghost has_worker: { 0 < core.limits.workers },
 }
@@ -39,93 +86,52 @@ struct OnCore<V: Say> {
 pub(crate) fn run<R: Print>(
     stage: &Stage<R>,
     alloc: Global,
+    names: &Names,
     filters: Filters,
     tellers: Tellers,
 ) -> Result<(), Stop> {
-    let Ok(checked) = Limits::default().check() else {
-        return Err(Stop::Memory);
-    };
-    on_outlet(stage, alloc, &checked, filters, Kept::new(alloc, tellers))
+    on_outlet(stage, alloc, names, filters, Kept::new(alloc, tellers))
 }
 
 fn on_outlet<V: Say, R: Print>(
     stage: &Stage<R>,
     alloc: Global,
-    checked: &Checked,
+    names: &Names,
     filters: Filters,
     outlet: Kept<V>,
 ) -> Result<(), Stop>
     requires { outlet.sent ≡ [] }
 {
-    stage.begin(Taken);
-    let made = Core::new(alloc, checked, filters, outlet);
-    stage.over();
-    let Ok(core) = made else {
+    let Ok(checked) = Limits::default().check() else {
         return Err(Stop::Memory);
     };
+    stage.begin(Taken);
+    let made = Core::new(alloc, &checked, filters, outlet);
+    stage.over();
+    match made {
+        Ok(core) => on_core(stage, alloc, names, core),
+        Err(_) => Err(Stop::Memory),
+    }
+}
+
+// Generic in what applies the rules.
+fn on_core<V: Say, R: Print>(
+    stage: &Stage<R>,
+    alloc: Global,
+    names: &Names,
+    core: Core<Kept<V>>,
+) -> Result<(), Stop> {
     if core.limits().workers == 0 {
         return Err(Stop::Memory);
     }
-    make_calls(stage, alloc, &mut OnCore { core })
+    perform(stage, alloc, &mut OnCore { names, core }, &PLAN)
 }
 
-fn make_calls<V: Say, R: Print>(
-    stage: &Stage<R>,
-    alloc: Global,
-    subject: &mut OnCore<V>,
-) -> Result<(), Stop> {
-    let names = Names::new(alloc)?;
-    perform(stage, alloc, subject, &plan(&names))
-}
-
-// A span inside another, and one that is entered nine times.
-fn plan<'a>(names: &'a Names) -> [Planned<'a, Ask<'a>>; 29] {
-    let (one, two) = (Id::pack(0, 0), Id::pack(1, 0));
-    let fields = names.fields.as_slice();
-    // The third span gets the slot of the first.
-    let third = Id::pack(0, 1);
-    [
-        ("new a", Taken, new_span(&names.a, ParentOf::Root)),
-        ("clone 1", Taken, Ask::Call(Act::Clone(one))),
-        ("enter 1", Taken, Ask::Call(Act::Enter(one))),
-        ("new b inside", Taken, new_span(&names.b, ParentOf::Current)),
-        ("record 2", Taken, Ask::Call(Act::Record(two, fields))),
-        ("event m", Taken, Ask::Call(Act::Event(&names.event, "m"))),
-        ("find 1", Untouched, Ask::Call(Act::Find(one))),
-        ("find 2", Untouched, Ask::Call(Act::Find(two))),
-        ("close 1", Taken, Ask::Call(Act::Close(one))),
-        ("close 1", Taken, Ask::Call(Act::Close(one))),
-        ("top", Untouched, Ask::Top),
-        ("total", Untouched, Ask::Total),
-        ("exit 1", Taken, Ask::Call(Act::Exit(one))),
-        ("len", Untouched, Ask::Len),
-        ("close 2", Taken, Ask::Call(Act::Close(two))),
-        ("len", Untouched, Ask::Len),
-        ("new a", Taken, new_span(&names.a, ParentOf::Root)),
-        ("enter it", Taken, Ask::Call(Act::Enter(third))),
-        ("enter it, 2", Taken, Ask::Call(Act::Enter(third))),
-        ("enter it, 3", Taken, Ask::Call(Act::Enter(third))),
-        ("enter it, 4", Taken, Ask::Call(Act::Enter(third))),
-        ("enter it, 5", Taken, Ask::Call(Act::Enter(third))),
-        ("enter it, 6", Taken, Ask::Call(Act::Enter(third))),
-        ("enter it, 7", Taken, Ask::Call(Act::Enter(third))),
-        ("enter it, 8", Taken, Ask::Call(Act::Enter(third))),
-        ("enter it, 9", Taken, Ask::Call(Act::Enter(third))),
-        ("calls", Untouched, Ask::Calls),
-        ("batches", Untouched, Ask::Batches),
-        ("notes", Untouched, Ask::Notes),
-    ]
-}
-
-fn new_span<'a>(meta: &'a Meta, parent: ParentOf) -> Ask<'a> {
-    Ask::Call(Act::New(meta, parent))
-}
-
-impl<'a, V: Say> Subject<Ask<'a>> for OnCore<V> {
-    fn call(&mut self, ask: &Ask<'a>) -> Result<Answer, Fault> {
+impl<'n, V: Say> Subject<Ask> for OnCore<'n, V> {
+    fn call(&mut self, ask: &Ask) -> Result<Answer, Fault> {
         let core = &self.core;
         Ok(match ask {
-            Ask::Call(act) => return make(&mut self.core, act),
+            Ask::Call(act) => return make(&mut self.core, self.names, *act),
             Ask::Len => Answer::Number(u64::from(core.len())),
             Ask::Total => Answer::Number(core.total()),
             Ask::Calls => Answer::Number(core.calls()),
@@ -150,8 +156,8 @@ impl<'a, V: Say> Subject<Ask<'a>> for OnCore<V> {
         )?;
         add_stack(text, core.stack(0))?;
         text.push_str("\n")?;
-        for id in [Id::pack(0, 0), Id::pack(1, 0), Id::pack(0, 1)] {
-            if let Some(span) = core.find(id) {
+        for named in Named::ALL {
+            if let Some(span) = core.find(named.id()) {
                 add_span(text, span)?;
             }
         }
@@ -160,35 +166,32 @@ impl<'a, V: Say> Subject<Ask<'a>> for OnCore<V> {
 }
 
 // A call that may change the core, or a look at a span.
-fn make<V: Say>(core: &mut Core<Kept<V>>, act: &Act) -> Result<Answer, Fault>
+fn make<V: Say>(core: &mut Core<Kept<V>>, names: &Names, act: Act) -> Result<Answer, Fault>
     requires { 0 < core.old.limits.workers }
     ensures { core.new.limits ≡ core.old.limits }
 {
-    Ok(match act {
-        Act::New(meta, parent) => Answer::from(core.new_span(0, meta, &[], *parent)?),
-        Act::Clone(id) => {
-            core.clone_span(0, *id)?;
-            Answer::Done
-        }
-        Act::Enter(id) => Answer::Yes(core.enter(0, *id)?),
-        Act::Exit(id) => Answer::Yes(core.exit(0, *id)?),
-        Act::Close(id) => Answer::Yes(core.try_close(0, *id)?),
-        Act::Record(id, fields) => {
-            core.record(0, *id, fields)?;
-            Answer::Done
-        }
-        Act::Event(meta, message) => {
-            core.event(0, meta, message, &[])?;
-            Answer::Done
-        }
-        Act::Find(id) => found(core, *id),
-    })
+    match act {
+        Act::New(called, parent) => new_span(core, names.meta(called), parent),
+        Act::Clone(named) => done(core.clone_span(0, named.id())),
+        Act::Enter(named) => yes_or_no(core.enter(0, named.id())),
+        Act::Exit(named) => yes_or_no(core.exit(0, named.id())),
+        Act::Close(named) => yes_or_no(core.try_close(0, named.id())),
+        Act::Record(named) => done(core.record(0, named.id(), names.fields.as_slice())),
+        Act::Event(message) => done(core.event(0, &names.event, message, &[])),
+        Act::Find(named) => Ok(held(core.find(named.id()))),
+    }
 }
 
-// What holds an open span.
-fn found<V: Say>(core: &Core<Kept<V>>, id: Id) -> Answer {
-    match core.find(id) {
-        Some(span) => Answer::Held(span.handles, span.entries, span.count),
-        None => Answer::Nothing,
+fn new_span<V: Say>(
+    core: &mut Core<Kept<V>>,
+    meta: &Meta,
+    parent: ParentOf,
+) -> Result<Answer, Fault>
+    requires { 0 < core.old.limits.workers }
+    ensures { core.new.limits ≡ core.old.limits }
+{
+    match core.new_span(0, meta, &[], parent) {
+        Ok(id) => Ok(Answer::from(id)),
+        Err(fault) => Err(fault),
     }
 }

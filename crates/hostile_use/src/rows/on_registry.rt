@@ -1,7 +1,8 @@
 //! A registry as what calls are made on.
 
 use crate::answer::Answer;
-use crate::rows::acts::Act;
+use crate::named::Named;
+use crate::rows::acts::{Act, Names};
 use crate::rows::caller::Caller;
 use crate::trial::Subject;
 use span_id::{Fault, Id};
@@ -17,14 +18,16 @@ use std::sync::ledger::Ledger;
 pub(crate) struct OnRegistry<'r, H: Ledger, C: Ledger, S: Setup, O: Outlet, A: Admit, R: Wait> {
     pub(crate) rt: &'r R,
     pub(crate) alloc: Global,
+    pub(crate) names: &'r Names,
     pub(crate) registry: Registry<H, C, S, O, A>,
     pub(crate) caller: Caller<H, C, S>,
 }
 
-impl<'r, 'b, H: Ledger, C: Ledger, S: Setup, O: Outlet, A: Admit, R: Wait> Subject<Act<'b>>
+impl<'r, H: Ledger, C: Ledger, S: Setup, O: Outlet, A: Admit, R: Wait> Subject<Act>
     for OnRegistry<'r, H, C, S, O, A, R> {
-    fn call(&mut self, act: &Act<'b>) -> Result<Answer, Fault> {
-        self.caller.call(self.rt, self.alloc, &self.registry, act)
+    fn call(&mut self, act: &Act) -> Result<Answer, Fault> {
+        self.caller
+            .call(self.rt, self.alloc, &self.registry, self.names, *act)
     }
 
     fn look(&self, text: &mut String) -> Result<(), AllocError> {
@@ -32,8 +35,8 @@ impl<'r, 'b, H: Ledger, C: Ledger, S: Setup, O: Outlet, A: Admit, R: Wait> Subje
         let (number, accepted) = (worker.number(), worker.accepted());
         let (first, second) = self.caller.hands.ids();
         write!(text, "{number} {accepted} {first} {second}\n")?;
-        for id in [Id::pack(0, 0), Id::pack(1, 0), Id::pack(0, 1)] {
-            add_found(self.rt, self.alloc, &self.registry, id, text)?;
+        for named in Named::ALL {
+            add_found(self.rt, self.alloc, &self.registry, named.id(), text)?;
         }
         Ok(())
     }

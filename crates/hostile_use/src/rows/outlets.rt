@@ -1,11 +1,11 @@
 //! The two outlets by themselves: each takes a batch with no memory at all, once it had room for it.
-ghost use Rattle.std.specs.Prelude.{◌≡◌, []};
+ghost use Rattle.std.specs.Prelude.{◌≡◌, [], true, OnOk};
 
 use crate::stage::{Memory, Stage, TRIES};
 use crate::stop::Stop;
 use crate::texts::note_of;
 use span_id::{Id, Limits};
-use span_layers::{Kind, Tellers};
+use span_layers::{Kind, Say, Tellers};
 use span_outlet::{Batch, Call, Kept, Outlet, Reply, Ring};
 use std::alloc::{AllocError, Global};
 
@@ -15,13 +15,7 @@ pub(crate) fn run<R: Print>(stage: &Stage<R>, alloc: Global, tellers: Tellers) -
     stage.begin(Memory::Untouched);
     let mut kept = Kept::new(alloc, tellers);
     stage.over();
-    put(stage, alloc, Memory::Taken, &mut kept)?;
-    stage.begin(Memory::Untouched);
-    let (batches, told) = (kept.batches().len(), kept.all().len() as u64);
-    let notes = kept.refused().saturating_add(told);
-    stage.over();
-    println!(stage.rt; "kept: batches {batches} lines and missed {notes}")?;
-    Ok(())
+    put_in_kept(stage, alloc, &mut kept)
 }
 
 fn put_in_ring<R: Print>(stage: &Stage<R>, alloc: Global) -> Result<(), Stop> {
@@ -31,11 +25,33 @@ fn put_in_ring<R: Print>(stage: &Stage<R>, alloc: Global) -> Result<(), Stop> {
     stage.begin(Memory::Taken);
     let ends = Ring::pair(alloc, &checked);
     stage.over();
-    let Ok((mut ring, _tap)) = ends else {
-        return Err(Stop::Memory);
-    };
-    put(stage, alloc, Memory::Untouched, &mut ring)?;
-    println!(stage.rt; "ring: times full {}", ring.times_full())?;
+    match ends {
+        Ok((mut ring, _tap)) => put_in(stage, alloc, &mut ring),
+        Err(_) => Err(Stop::Memory),
+    }
+}
+
+fn put_in<R: Print>(stage: &Stage<R>, alloc: Global, ring: &mut Ring) -> Result<(), Stop>
+    requires { ring.old.sent ≡ [] }
+{
+    put(stage, alloc, Memory::Untouched, ring)?;
+    stage.wrote(println!(stage.rt; "ring: times full {}", ring.times_full()));
+    Ok(())
+}
+
+fn put_in_kept<V: Say, R: Print>(
+    stage: &Stage<R>,
+    alloc: Global,
+    kept: &mut Kept<V>,
+) -> Result<(), Stop>
+    requires { kept.old.sent ≡ [] }
+{
+    put(stage, alloc, Memory::Taken, kept)?;
+    stage.begin(Memory::Untouched);
+    let (batches, told) = (kept.batches().len(), kept.all().len() as u64);
+    let notes = kept.refused().saturating_add(told);
+    stage.over();
+    stage.wrote(println!(stage.rt; "kept: batches {batches} lines and missed {notes}"));
     Ok(())
 }
 
@@ -62,18 +78,30 @@ fn put<O: Outlet, R: Print>(
 ) -> Result<(), Stop>
     requires { O.sent outlet.old ≡ [] }
 {
-    let batch = batch(alloc)?;
+    room(stage, memory, outlet)?;
+    match batch(alloc) {
+        Ok(batch) => {
+            stage.begin(Memory::Untouched);
+            outlet.put(batch);
+            stage.over();
+            Ok(())
+        }
+        Err(_) => Err(Stop::Memory),
+    }
+}
+
+// Asks for room until there is some.
+fn room<O: Outlet, R: Print>(stage: &Stage<R>, memory: Memory, outlet: &mut O) -> Result<(), Stop>
+    requires { O.sent outlet.old ≡ [] }
+    ensures sent { O.sent outlet.new ≡ [] }
+    ensures ready { OnOk result (O.ready outlet.new ≡ true) }
+{
     for _ in 0..TRIES {
         stage.begin(memory);
         let room = outlet.room();
         stage.over();
         match room {
-            Ok(true) => {
-                stage.begin(Memory::Untouched);
-                outlet.put(batch);
-                stage.over();
-                return Ok(());
-            }
+            Ok(true) => return Ok(()),
             Ok(false) => return Err(stage.refused("room")),
             Err(_) => {}
         }

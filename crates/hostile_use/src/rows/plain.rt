@@ -11,64 +11,68 @@ use std::io;
 
 /// Makes the calls, and tells what they answer.
 pub(crate) fn run<R: Print>(stage: &Stage<R>, alloc: Global) -> Result<(), Stop> {
-    ids(stage)?;
+    ids(stage);
     names(stage, alloc)?;
-    limits(stage)?;
-    devices(stage)
-}
-
-// The limits that are there without a word, and some that are none.
-fn limits<R: Print>(stage: &Stage<R>) -> Result<(), Stop> {
-    stage.begin(Memory::Untouched);
-    let most = Limits::default()
-        .check()
-        .map(|checked| checked.limits().slots);
-    let none = Limits {
-        slots: 0,
-        ..Limits::default()
-    };
-    let refused = none.check().map(|checked| checked.limits().slots);
-    stage.over();
-    println!(stage.rt; "check: {most:?} {refused:?}")?;
+    limits(stage);
+    devices(stage);
     Ok(())
 }
 
+// The limits that are there without a word, and some that are none.
+fn limits<R: Print>(stage: &Stage<R>) {
+    stage.begin(Memory::Untouched);
+    let most = slots_of(Limits::default());
+    let refused = slots_of(Limits {
+        slots: 0,
+        ..Limits::default()
+    });
+    stage.over();
+    stage.wrote(println!(stage.rt; "check: {most:?} {refused:?}"));
+}
+
+fn slots_of(limits: Limits) -> Result<u32, Fault> {
+    match limits.check() {
+        Ok(checked) => Ok(checked.limits().slots),
+        Err(fault) => Err(fault),
+    }
+}
+
 // Counted devices, and what decides in a storm.
-fn devices<R: Print>(stage: &Stage<R>) -> Result<(), Stop> {
+fn devices<R: Print>(stage: &Stage<R>) {
     stage.begin(Memory::Untouched);
     let counted = Counted::new(io::sink());
     let (calls, failed) = (counted.calls(), counted.failed());
     let goes_on = Open.before(0, 1);
     let status = RunFault::Memory.status();
     stage.over();
-    println!(stage.rt; "counted: {calls} {failed}, open: {goes_on}, status: {status}")?;
-    Ok(())
+    stage.wrote(println!(stage.rt; "counted: {calls} {failed}, open: {goes_on}, status: {status}"));
 }
 
 // Ids and sets of layers.
-fn ids<R: Print>(stage: &Stage<R>) -> Result<(), Stop> {
+fn ids<R: Print>(stage: &Stage<R>) {
     stage.begin(Memory::Untouched);
     let id = Id::pack(5, 3);
     let parts = (id.get(), id.slot(), id.generation());
     let (none, first, old) = (Id::from_u64(0), Id::from_u64(1), Id::from_v1(65537));
     let bits = (Bits(2).has(0), Bits(2).has(1), Bits(2).has(64));
     stage.over();
-    println!(stage.rt; "pack: {parts:?}, from: {none:?} {first:?} {old:?}, has: {bits:?}")?;
-    Ok(())
+    stage.wrote(println!(stage.rt;
+        "pack: {parts:?}, from: {none:?} {first:?} {old:?}, has: {bits:?}"
+    ));
 }
 
 // Whether names fit, and the words for what they are made of.
 fn names<R: Print>(stage: &Stage<R>, alloc: Global) -> Result<(), Stop> {
     let meta = meta_of(alloc, "a b", Level::Warn)?;
     let field = field_of(alloc, "k", "v")?;
-    words(stage, &meta, &field)
+    words(stage, &meta, &field);
+    Ok(())
 }
 
-fn words<R: Print>(stage: &Stage<R>, meta: &Meta, field: &Field) -> Result<(), Stop> {
+fn words<R: Print>(stage: &Stage<R>, meta: &Meta, field: &Field) {
     stage.begin(Memory::Untouched);
     let fit = (meta.fit(), field.fit());
     let words = (meta.level.name(), Fault::BadName.text());
     stage.over();
-    println!(stage.rt; "fit: {fit:?}, words: {words:?}")?;
-    Ok(())
+    stage.wrote(println!(stage.rt; "fit: {fit:?}, words: {words:?}"));
 }

@@ -2,8 +2,9 @@
 ghost use Rattle.std.specs.Prelude.{◌≡◌, [], Some, vec_len, sum_by, IfOk};
 
 use crate::answer::Answer;
+use crate::named::Named::{One, Two};
 use crate::rows::Row;
-use crate::rows::acts::{Act, Names};
+use crate::rows::acts::{Act, Called, Names};
 use crate::rows::caller::caller_of;
 use crate::rows::ending::{tell_end, whole};
 use crate::rows::on_registry::OnRegistry;
@@ -11,9 +12,9 @@ use crate::stage::Memory::{Taken, Untouched};
 use crate::stage::Stage;
 use crate::stop::Stop;
 use crate::trial::{Planned, Subject, perform};
-use span_id::{Checked, Fault, Id, Limits};
+use span_id::{Checked, Fault, Limits};
 use span_layers::{Admit, Filters, Say, Tellers};
-use span_outlet::{Drain, ParentOf, Ring, Tap};
+use span_outlet::{Drain, ParentOf, Ring, Step, Tap};
 use span_registry::{HANDLE_PARTS, Registry, SeatTable, Setup, Worker};
 use std::alloc::{AllocError, Global};
 use std::marker::Brand;
@@ -21,8 +22,8 @@ use std::sync::Wait;
 use std::sync::ledger::{Blank, Ledger};
 
 #[derive(Clone, Copy)]
-enum Ask<'a> {
-    Call(Act<'a>),
+enum Ask {
+    Call(Act),
     /// A step of the drain: how many notes the batch had.
     Step,
     /// How many batches the drain took.
@@ -39,14 +40,12 @@ struct OnRing<'r, H: Ledger, C: Ledger, S: Setup, V: Say, A: Admit, R: Wait> {
     ghost pair: { Some drain.name ≡ S.ring },
 }
 
-impl<'r, 'b, H: Ledger, C: Ledger, S: Setup, V: Say, A: Admit, R: Wait> Subject<Ask<'b>>
+impl<'r, H: Ledger, C: Ledger, S: Setup, V: Say, A: Admit, R: Wait> Subject<Ask>
     for OnRing<'r, H, C, S, V, A, R> {
-    fn call(&mut self, ask: &Ask<'b>) -> Result<Answer, Fault> {
+    fn call(&mut self, ask: &Ask) -> Result<Answer, Fault> {
         Ok(match ask {
             Ask::Call(act) => return self.registry.call(act),
-            Ask::Step => self.drain.step().map_or(Answer::Nothing, |step| {
-                Answer::Number((step.told as u64).saturating_add(step.refused as u64))
-            }),
+            Ask::Step => taken(self.drain.step()),
             Ask::Taken => Answer::Number(self.drain.taken()),
             Ask::Lines => {
                 let told = self.drain.lines(0).count() as u64;
@@ -63,12 +62,65 @@ impl<'r, 'b, H: Ledger, C: Ledger, S: Setup, V: Say, A: Admit, R: Wait> Subject<
     }
 }
 
+// How many notes the batch of a step had.
+fn taken(step: Option<Step>) -> Answer {
+    match step {
+        Some(step) => Answer::Number((step.told as u64).saturating_add(step.refused as u64)),
+        None => Answer::Nothing,
+    }
+}
+
+// A ring of one place: a call that finds it full changes nothing, and is made again after a step.
+const FULL_RING: [Planned<'static, Ask>; 7] = [
+    (
+        "new a",
+        Taken,
+        Ask::Call(Act::New(Called::A, ParentOf::Root)),
+    ),
+    ("clone 1", Taken, Ask::Call(Act::Clone(One))),
+    ("close 1", Taken, Ask::Call(Act::Close(One))),
+    ("step", Taken, Ask::Step),
+    ("step", Untouched, Ask::Step),
+    ("close 1", Taken, Ask::Call(Act::Close(One))),
+    ("taken", Untouched, Ask::Taken),
+];
+
+// A span inside another, and steps of the drain between the calls, with memory and without.
+const EVERY_CALL: [Planned<'static, Ask>; 17] = [
+    (
+        "new a",
+        Taken,
+        Ask::Call(Act::New(Called::A, ParentOf::Root)),
+    ),
+    ("enter 1", Taken, Ask::Call(Act::Enter(One))),
+    ("step", Taken, Ask::Step),
+    ("step", Untouched, Ask::Step),
+    (
+        "new b inside",
+        Taken,
+        Ask::Call(Act::New(Called::B, ParentOf::Current)),
+    ),
+    ("record 2", Taken, Ask::Call(Act::Record(Two))),
+    ("event m", Taken, Ask::Call(Act::Event("m"))),
+    ("step", Untouched, Ask::Step),
+    ("close 1", Taken, Ask::Call(Act::Close(One))),
+    ("clone 2", Taken, Ask::Call(Act::Clone(Two))),
+    ("close 2", Taken, Ask::Call(Act::Close(Two))),
+    ("exit 1", Taken, Ask::Call(Act::Exit(One))),
+    ("find 2", Taken, Ask::Call(Act::Find(Two))),
+    ("close 2", Taken, Ask::Call(Act::Close(Two))),
+    ("step", Taken, Ask::Step),
+    ("taken", Untouched, Ask::Taken),
+    ("lines and missed", Untouched, Ask::Lines),
+];
+
 /// Makes the row's calls, and tells what they answer and how the registry ended. `Memory` where the registry could not
 /// be made.
 pub(crate) fn run<R: Print + Wait>(
     stage: &Stage<R>,
     alloc: Global,
     row: Row,
+    names: &Names,
     filters: Filters,
     tellers: Tellers,
 ) -> Result<(), Stop> {
@@ -80,22 +132,27 @@ pub(crate) fn run<R: Print + Wait>(
     let Ok(checked) = limits.check() else {
         return Err(Stop::Memory);
     };
-    let (ring, tap, table) = parts(stage, alloc, &checked)?;
-    stage.begin(Untouched);
-    let drain = Drain::new(alloc, tap, tellers);
-    stage.over();
-    named::<Brand, Brand, Brand, _, R>(
-        stage,
-        alloc,
-        row,
-        &checked,
-        filters,
-        ring,
-        drain,
-        Blank::new(HANDLE_PARTS),
-        Blank::new(1),
-        table,
-    )
+    match parts(stage, alloc, &checked) {
+        Ok((ring, tap, table)) => {
+            stage.begin(Untouched);
+            let drain = Drain::new(alloc, tap, tellers);
+            stage.over();
+            named::<Brand, Brand, Brand, _, R>(
+                stage,
+                alloc,
+                row,
+                names,
+                &checked,
+                filters,
+                ring,
+                drain,
+                Blank::new(HANDLE_PARTS),
+                Blank::new(1),
+                table,
+            )
+        }
+        Err(stop) => Err(stop),
+    }
 }
 
 // Both ends of the ring, and the table of handles.
@@ -111,13 +168,10 @@ fn parts<R: Print>(
     let ends = Ring::pair(alloc, checked);
     let table = SeatTable::new(alloc, checked.limits().slots);
     stage.over();
-    let Ok((ring, tap)) = ends else {
-        return Err(Stop::Memory);
-    };
-    let Ok(table) = table else {
-        return Err(Stop::Memory);
-    };
-    Ok((ring, tap, table))
+    match (ends, table) {
+        (Ok((ring, tap)), Ok(table)) => Ok((ring, tap, table)),
+        _ => Err(Stop::Memory),
+    }
 }
 
 // Generic in the registry's names, which the caller picks.
@@ -125,6 +179,7 @@ fn named<H: Ledger, C: Ledger, S: Setup, V: Say, R: Print + Wait>(
     stage: &Stage<R>,
     alloc: Global,
     row: Row,
+    names: &Names,
     checked: &Checked,
     filters: Filters,
     ring: Ring,
@@ -144,17 +199,18 @@ fn named<H: Ledger, C: Ledger, S: Setup, V: Say, R: Print + Wait>(
     stage.begin(Taken);
     let made = Registry::<H, C, S, Ring>::new(alloc, checked, filters, ring, handles, calls, table);
     stage.over();
-    let Ok((registry, workers)) = made else {
-        return Err(Stop::Memory);
-    };
-    called(stage, alloc, row, registry, workers, drain)
+    match made {
+        Ok((registry, workers)) => called(stage, alloc, row, names, registry, workers, drain),
+        Err(_) => Err(Stop::Memory),
+    }
 }
 
-// Generic in what applies the rules.
+// Generic in what applies the rules. The registry ends whole however its calls went.
 fn called<H: Ledger, C: Ledger, S: Setup, V: Say, A: Admit, R: Print + Wait>(
     stage: &Stage<R>,
     alloc: Global,
     row: Row,
+    names: &Names,
     registry: Registry<H, C, S, Ring, A>,
     workers: Vec<Worker<H, C>>,
     drain: Drain<V>,
@@ -164,93 +220,34 @@ fn called<H: Ledger, C: Ledger, S: Setup, V: Say, A: Admit, R: Print + Wait>(
     requires one { vec_len workers ≡ 1 }
     requires whole { sum_by (λ worker. worker.spare) workers.items ≡ H.parts }
 {
+    let plan = if row == Row::FullRing {
+        FULL_RING.as_slice()
+    } else {
+        EVERY_CALL.as_slice()
+    };
     let mut subject = OnRing {
         registry: OnRegistry {
             rt: stage.rt,
             alloc,
+            names,
             registry,
             caller: caller_of(workers),
         },
         drain,
     };
-    make_calls(stage, alloc, row, &mut subject)?;
-    let OnRing {
-        registry: OnRegistry {
-            rt: _,
-            alloc: _,
-            registry,
-            caller,
-        },
-        drain,
-    } = subject;
-    let share = whole(stage, caller)?;
+    let ended = perform(stage, alloc, &mut subject, plan);
+    let OnRing { registry, drain } = subject;
+    let OnRegistry {
+        registry,
+        caller,
+        ..
+    } = registry;
+    let (share, counts) = whole(stage, caller);
     stage.begin(Taken);
     let report = registry.finish(share, drain);
     stage.over();
-    tell_end(stage, &report)
-}
-
-fn make_calls<H: Ledger, C: Ledger, S: Setup, V: Say, A: Admit, R: Print + Wait>(
-    stage: &Stage<R>,
-    alloc: Global,
-    row: Row,
-    subject: &mut OnRing<'_, H, C, S, V, A, R>,
-) -> Result<(), Stop> {
-    let names = Names::new(alloc)?;
-    if row == Row::FullRing {
-        perform(stage, alloc, subject, &full_ring(&names))
-    } else {
-        perform(stage, alloc, subject, &every_call(&names))
+    if ended.is_ok() {
+        tell_end(stage, counts, &report);
     }
-}
-
-// A ring of one place: a call that finds it full changes nothing, and is made again after a step.
-fn full_ring<'a>(names: &'a Names) -> [Planned<'a, Ask<'a>>; 7] {
-    let one = Id::pack(0, 0);
-    [
-        (
-            "new a",
-            Taken,
-            Ask::Call(Act::New(&names.a, ParentOf::Root)),
-        ),
-        ("clone 1", Taken, Ask::Call(Act::Clone(one))),
-        ("close 1", Taken, Ask::Call(Act::Close(one))),
-        ("step", Taken, Ask::Step),
-        ("step", Untouched, Ask::Step),
-        ("close 1", Taken, Ask::Call(Act::Close(one))),
-        ("taken", Untouched, Ask::Taken),
-    ]
-}
-
-// A span inside another, and steps of the drain between the calls, with memory and without.
-fn every_call<'a>(names: &'a Names) -> [Planned<'a, Ask<'a>>; 17] {
-    let (one, two) = (Id::pack(0, 0), Id::pack(1, 0));
-    let fields = names.fields.as_slice();
-    [
-        (
-            "new a",
-            Taken,
-            Ask::Call(Act::New(&names.a, ParentOf::Root)),
-        ),
-        ("enter 1", Taken, Ask::Call(Act::Enter(one))),
-        ("step", Taken, Ask::Step),
-        ("step", Untouched, Ask::Step),
-        (
-            "new b inside",
-            Taken,
-            Ask::Call(Act::New(&names.b, ParentOf::Current)),
-        ),
-        ("record 2", Taken, Ask::Call(Act::Record(two, fields))),
-        ("event m", Taken, Ask::Call(Act::Event(&names.event, "m"))),
-        ("step", Untouched, Ask::Step),
-        ("close 1", Taken, Ask::Call(Act::Close(one))),
-        ("clone 2", Taken, Ask::Call(Act::Clone(two))),
-        ("close 2", Taken, Ask::Call(Act::Close(two))),
-        ("exit 1", Taken, Ask::Call(Act::Exit(one))),
-        ("find 2", Taken, Ask::Call(Act::Find(two))),
-        ("close 2", Taken, Ask::Call(Act::Close(two))),
-        ("step", Taken, Ask::Step),
-        ("taken", Untouched, Ask::Taken),
-        ("lines and missed", Untouched, Ask::Lines),
-    ]
+    ended
 }

@@ -1,6 +1,7 @@
 //! A table of two slots, each of which gives one id.
 
 use crate::answer::Answer;
+use crate::named::Named::{self, One, Two};
 use crate::stage::Memory::{Taken, Untouched};
 use crate::stage::Stage;
 use crate::stop::Stop;
@@ -13,14 +14,34 @@ use std::alloc::{AllocError, Global};
 enum Act {
     Insert(u32),
     Ids,
-    Get(Id),
+    Get(Named),
     /// Writes through `get_mut`.
-    Set(Id, u32),
-    Remove(Id),
+    Set(Named, u32),
+    Remove(Named),
     Len,
     Free,
     NextId,
 }
+
+// Both slots are taken, written and given back.
+const PLAN: [Planned<'static, Act>; 16] = [
+    ("next id", Untouched, Act::NextId),
+    ("insert 7", Untouched, Act::Insert(7)),
+    ("insert 8", Untouched, Act::Insert(8)),
+    ("insert 9", Untouched, Act::Insert(9)),
+    ("ids", Taken, Act::Ids),
+    ("get 1", Untouched, Act::Get(One)),
+    ("write 6 under 1", Untouched, Act::Set(One, 6)),
+    ("remove 1", Untouched, Act::Remove(One)),
+    ("get 1", Untouched, Act::Get(One)),
+    ("remove 1", Untouched, Act::Remove(One)),
+    ("insert 9", Untouched, Act::Insert(9)),
+    ("get 2", Untouched, Act::Get(Two)),
+    ("len", Untouched, Act::Len),
+    ("free", Untouched, Act::Free),
+    ("next id", Untouched, Act::NextId),
+    ("ids", Taken, Act::Ids),
+];
 
 /// Makes the calls, and tells what they answer.
 pub(crate) fn run<R: Print>(stage: &Stage<R>, alloc: Global) -> Result<(), Stop> {
@@ -32,31 +53,10 @@ pub(crate) fn run<R: Print>(stage: &Stage<R>, alloc: Global) -> Result<(), Stop>
     let Ok(checked) = limits.check() else {
         return Err(Stop::Memory);
     };
-    let mut slots = made(stage, "new", || Slots::<u32>::new(alloc, &checked))?;
-    perform(stage, alloc, &mut slots, &plan())
-}
-
-// Both slots are taken, written and given back.
-fn plan() -> [Planned<'static, Act>; 16] {
-    let (first, second) = (Id::pack(0, 0), Id::pack(1, 0));
-    [
-        ("next id", Untouched, Act::NextId),
-        ("insert 7", Untouched, Act::Insert(7)),
-        ("insert 8", Untouched, Act::Insert(8)),
-        ("insert 9", Untouched, Act::Insert(9)),
-        ("ids", Taken, Act::Ids),
-        ("get 1", Untouched, Act::Get(first)),
-        ("write 6 under 1", Untouched, Act::Set(first, 6)),
-        ("remove 1", Untouched, Act::Remove(first)),
-        ("get 1", Untouched, Act::Get(first)),
-        ("remove 1", Untouched, Act::Remove(first)),
-        ("insert 9", Untouched, Act::Insert(9)),
-        ("get 2", Untouched, Act::Get(second)),
-        ("len", Untouched, Act::Len),
-        ("free", Untouched, Act::Free),
-        ("next id", Untouched, Act::NextId),
-        ("ids", Taken, Act::Ids),
-    ]
+    match made(stage, "new", || Slots::<u32>::new(alloc, &checked)) {
+        Ok(mut slots) => perform(stage, alloc, &mut slots, &PLAN),
+        Err(stop) => Err(stop),
+    }
 }
 
 impl Subject<Act> for Slots<u32> {
@@ -67,9 +67,9 @@ impl Subject<Act> for Slots<u32> {
                 Err((_, fault)) => return Err(fault),
             },
             Act::Ids => Answer::Spans(self.ids()?),
-            Act::Get(id) => value(self.get(*id).copied()),
-            Act::Set(id, value) => set(self, *id, *value),
-            Act::Remove(id) => value(self.remove(*id)),
+            Act::Get(named) => value(self.get(named.id()).copied()),
+            Act::Set(named, value) => set(self, named.id(), *value),
+            Act::Remove(named) => value(self.remove(named.id())),
             Act::Len => Answer::Number(u64::from(self.len())),
             Act::Free => Answer::Number(u64::from(self.free())),
             Act::NextId => Answer::from(self.next_id()),
@@ -89,7 +89,10 @@ impl Subject<Act> for Slots<u32> {
 }
 
 fn value(value: Option<u32>) -> Answer {
-    value.map_or(Answer::Nothing, |value| Answer::Number(u64::from(value)))
+    match value {
+        Some(value) => Answer::Number(u64::from(value)),
+        None => Answer::Nothing,
+    }
 }
 
 fn set(slots: &mut Slots<u32>, id: Id, value: u32) -> Answer {

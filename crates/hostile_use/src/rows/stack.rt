@@ -2,6 +2,7 @@
 ghost use Rattle.std.specs.Prelude.{◌≤◌};
 
 use crate::answer::Answer;
+use crate::named::Named::{self, One, Two};
 use crate::stage::Memory::{Taken, Untouched};
 use crate::stage::Stage;
 use crate::stop::Stop;
@@ -14,11 +15,11 @@ use std::alloc::{AllocError, Global};
 #[derive(Clone, Copy)]
 enum Act {
     Reserve(usize),
-    Push(Id),
-    Pop(Id),
+    Push(Named),
+    Pop(Named),
     Current,
     Top,
-    Has(Id),
+    Has(Named),
     Len,
     /// The id at this place of a walk.
     Walk(usize),
@@ -32,38 +33,35 @@ struct Reserved {
     ghost known: { room ≤ stack.room },
 }
 
+// The first span is entered again while it is open, and both are left.
+const PLAN: [Planned<'static, Act>; 18] = [
+    ("reserve 9", Taken, Act::Reserve(9)),
+    ("push 1", Untouched, Act::Push(One)),
+    ("push 2", Untouched, Act::Push(Two)),
+    ("push 1", Untouched, Act::Push(One)),
+    ("current", Untouched, Act::Current),
+    ("top", Untouched, Act::Top),
+    ("walk, first", Untouched, Act::Walk(0)),
+    ("walk, second", Untouched, Act::Walk(1)),
+    ("walk, third", Untouched, Act::Walk(2)),
+    ("pop 2", Untouched, Act::Pop(Two)),
+    ("current", Untouched, Act::Current),
+    ("has 2", Untouched, Act::Has(Two)),
+    ("pop 2", Untouched, Act::Pop(Two)),
+    ("pop 1", Untouched, Act::Pop(One)),
+    ("pop 1", Untouched, Act::Pop(One)),
+    ("pop 1", Untouched, Act::Pop(One)),
+    ("current", Untouched, Act::Current),
+    ("len", Untouched, Act::Len),
+];
+
 /// Makes the calls, and tells what they answer.
 pub(crate) fn run<R: Print>(stage: &Stage<R>, alloc: Global) -> Result<(), Stop> {
     let mut stack = Reserved {
         stack: SpanStack::new(alloc),
         room: 0,
     };
-    perform(stage, alloc, &mut stack, &plan())
-}
-
-// The first span is entered again while it is open, and both are left.
-fn plan() -> [Planned<'static, Act>; 18] {
-    let (one, two) = (Id::pack(0, 0), Id::pack(1, 0));
-    [
-        ("reserve 9", Taken, Act::Reserve(9)),
-        ("push 1", Untouched, Act::Push(one)),
-        ("push 2", Untouched, Act::Push(two)),
-        ("push 1", Untouched, Act::Push(one)),
-        ("current", Untouched, Act::Current),
-        ("top", Untouched, Act::Top),
-        ("walk, first", Untouched, Act::Walk(0)),
-        ("walk, second", Untouched, Act::Walk(1)),
-        ("walk, third", Untouched, Act::Walk(2)),
-        ("pop 2", Untouched, Act::Pop(two)),
-        ("current", Untouched, Act::Current),
-        ("has 2", Untouched, Act::Has(two)),
-        ("pop 2", Untouched, Act::Pop(two)),
-        ("pop 1", Untouched, Act::Pop(one)),
-        ("pop 1", Untouched, Act::Pop(one)),
-        ("pop 1", Untouched, Act::Pop(one)),
-        ("current", Untouched, Act::Current),
-        ("len", Untouched, Act::Len),
-    ]
+    perform(stage, alloc, &mut stack, &PLAN)
 }
 
 impl Subject<Act> for Reserved {
@@ -74,11 +72,14 @@ impl Subject<Act> for Reserved {
                 self.room = *n;
                 Answer::Done
             }
-            Act::Push(id) => Answer::Yes(self.push(*id)?),
-            Act::Pop(id) => self.stack.pop(*id).map_or(Answer::Nothing, Answer::Yes),
+            Act::Push(named) => Answer::Yes(self.push(named.id())?),
+            Act::Pop(named) => self
+                .stack
+                .pop(named.id())
+                .map_or(Answer::Nothing, Answer::Yes),
             Act::Current => Answer::from(self.stack.current()),
             Act::Top => Answer::from(self.stack.top()),
-            Act::Has(id) => Answer::Yes(self.stack.has(*id)),
+            Act::Has(named) => Answer::Yes(self.stack.has(named.id())),
             Act::Len => Answer::Number(self.stack.len() as u64),
             Act::Walk(place) => Answer::from(self.stack.walk().nth(*place)),
         })

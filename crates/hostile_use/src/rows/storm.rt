@@ -24,8 +24,11 @@ pub(crate) fn run<R: Print + Threads + Wait + Sync>(
     alloc: Global,
 ) -> Result<(), Stop> {
     for _ in 0..TRIES {
-        match once(stage, alloc)? {
-            Ok(report) => return tell(stage, &report),
+        match once(stage, alloc) {
+            Ok(report) => {
+                tell(stage, &report);
+                return Ok(());
+            }
             Err(RunFault::Memory | RunFault::Refused(Fault::Memory)) => {}
             Err(_) => return Err(stage.refused("storm")),
         }
@@ -37,39 +40,47 @@ pub(crate) fn run<R: Print + Threads + Wait + Sync>(
 fn once<R: Print + Threads + Wait + Sync>(
     stage: &Stage<R>,
     alloc: Global,
-) -> Result<Result<Report, RunFault>, Stop> {
-    let admit = Box::new(
+) -> Result<Report, RunFault> {
+    let Ok(admit) = Box::new(
         alloc,
         |rule: &Rule, meta: &Meta| -> bool
             ensures { result
                 ≡ is_admitted (pairs_of rule.now) (string_bytes meta.now.target) meta.now.level }
         { admits(rule, meta) },
-    )?;
-    let say = Box::new(
+    ) else {
+        return Err(RunFault::Memory);
+    };
+    let Ok(say) = Box::new(
         alloc,
         |alloc: Global, form: Form, note: &Note| -> Result<Vec<u8>, AllocError>
             ensures { ForOk result (λ text. text.items ≡ text_of form (plain_note note.now)) }
         { text(alloc, form, note) },
-    )?;
-    let Ok(rule) = everything(alloc) else {
-        return Err(Stop::Memory);
+    ) else {
+        return Err(RunFault::Memory);
     };
-    let layer = Layer {
-        style: Style {
-            form: Form::Compact,
-            spans: FmtSpan::FULL,
-        },
-        rule,
-        hooks: Hooks::new(admit, say),
+    with_hooks(stage, alloc, Hooks::new(admit, say))
+}
+
+fn with_hooks<R: Print + Threads + Wait + Sync>(
+    stage: &Stage<R>,
+    alloc: Global,
+    hooks: Hooks,
+) -> Result<Report, RunFault> {
+    let Ok(rule) = everything(alloc) else {
+        return Err(RunFault::Memory);
+    };
+    let style = Style {
+        form: Form::Compact,
+        spans: FmtSpan::FULL,
     };
     let mut layers = Layers::new(alloc);
-    let Ok(_) = layers.add(layer) else {
-        return Err(Stop::Memory);
+    let Ok(_) = layers.add(Layer { style, rule, hooks }) else {
+        return Err(RunFault::Memory);
     };
     stage.begin(Memory::Taken);
     let ended = storm(stage.rt, alloc, 2, 1, layers, &Open);
     stage.over();
-    Ok(ended)
+    ended
 }
 
 // The rule that admits everything.
@@ -82,7 +93,7 @@ fn everything(alloc: Global) -> Result<Rule, AllocError>
 }
 
 // Tells the numbers of a storm. Showing them takes no memory.
-fn tell<R: Print>(stage: &Stage<R>, report: &Report) -> Result<(), Stop> {
+fn tell<R: Print>(stage: &Stage<R>, report: &Report) {
     let mut output = Counted::new(io::sink());
     stage.begin(Memory::Untouched);
     let shown = show(2, 1, report, &mut output).is_ok();
@@ -90,10 +101,9 @@ fn tell<R: Print>(stage: &Stage<R>, report: &Report) -> Result<(), Stop> {
     stage.over();
     let told = report.lines.len() as u64;
     let notes = report.refused.saturating_add(told);
-    println!(stage.rt;
+    stage.wrote(println!(stage.rt;
         "storm: calls {} made {} closed {} left {} lines and missed {notes}",
         report.calls, report.made, report.closed, report.left
-    )?;
-    println!(stage.rt; "show: {shown} failed {failed}")?;
-    Ok(())
+    ));
+    stage.wrote(println!(stage.rt; "show: {shown} failed {failed}"));
 }

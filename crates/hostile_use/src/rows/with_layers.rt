@@ -5,6 +5,7 @@ ghost use Rattle.span_layers.specs.Note.{plain_note};
 ghost use Rattle.span_layers.specs.Rule.{pairs_of, is_admitted};
 ghost use Rattle.span_layers.specs.Text.{text_of};
 
+use crate::rows::acts::Names;
 use crate::rows::{Row, kept, layers, on_core, outlets, ring};
 use crate::stage::Stage;
 use crate::stop::Stop;
@@ -22,33 +23,55 @@ pub(crate) fn run<R: Print + Wait>(
     alloc: Global,
     row: Row,
     count: usize,
+    names: &Names,
 ) -> Result<(), Stop> {
     let mut layers = Layers::new(alloc);
     for number in 0..count {
-        let admit = Box::new(
+        let Ok(admit) = Box::new(
             alloc,
             |rule: &Rule, meta: &Meta| -> bool
                 ensures { result
                     ≡ is_admitted (pairs_of rule.now) (string_bytes meta.now.target) meta.now.level }
             { admits(rule, meta) },
-        )?;
-        let say = Box::new(
+        ) else {
+            return Err(Stop::Memory);
+        };
+        let Ok(say) = Box::new(
             alloc,
             |alloc: Global, form: Form, note: &Note| -> Result<Vec<u8>, AllocError>
                 ensures { ForOk result (λ text. text.items ≡ text_of form (plain_note note.now)) }
             { text(alloc, form, note) },
-        )?;
-        let layer = Layer {
-            style: style(row, number),
-            rule: everything(alloc)?,
-            hooks: Hooks::new(admit, say),
+        ) else {
+            return Err(Stop::Memory);
         };
-        let added = layers::add(stage, &mut layers, layer)?;
-        if row == Row::Layers {
-            println!(stage.rt; "add: {added}")?;
+        let hooks = Hooks::new(admit, say);
+        if let Err(stop) = add(stage, alloc, row, number, &mut layers, hooks) {
+            return Err(stop);
         }
     }
-    go_on(stage, alloc, row, layers)
+    go_on(stage, alloc, row, names, layers)
+}
+
+// Adds the layer of this number, and tells what is answered where layers are what the row is about.
+fn add<R: Print>(
+    stage: &Stage<R>,
+    alloc: Global,
+    row: Row,
+    number: usize,
+    layers: &mut Layers,
+    hooks: Hooks,
+) -> Result<(), Stop> {
+    match everything(alloc) {
+        Ok(rule) => {
+            let layer = Layer {
+                style: style(row, number),
+                rule,
+                hooks,
+            };
+            layers::add(stage, layers, layer, row == Row::Layers)
+        }
+        Err(_) => Err(Stop::Memory),
+    }
 }
 
 // A layer wants everything and writes plain text; of many layers every second writes JSON, from the first on.
@@ -69,6 +92,7 @@ fn go_on<R: Print + Wait>(
     stage: &Stage<R>,
     alloc: Global,
     row: Row,
+    names: &Names,
     layers: Layers,
 ) -> Result<(), Stop> {
     if row == Row::Layers {
@@ -77,8 +101,8 @@ fn go_on<R: Print + Wait>(
     let (filters, tellers) = layers.split();
     match row {
         Row::Outlets => outlets::run(stage, alloc, tellers),
-        Row::Core => on_core::run(stage, alloc, filters, tellers),
-        Row::FullRing | Row::Ring => ring::run(stage, alloc, row, filters, tellers),
-        _ => kept::run(stage, alloc, row, filters, tellers),
+        Row::Core => on_core::run(stage, alloc, names, filters, tellers),
+        Row::FullRing | Row::Ring => ring::run(stage, alloc, row, names, filters, tellers),
+        _ => kept::run(stage, alloc, row, names, filters, tellers),
     }
 }

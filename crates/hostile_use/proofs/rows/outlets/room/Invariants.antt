@@ -1,5 +1,5 @@
 use Rattle.std.proofs.Common.{◌≡◌, []}
-use Rattle.hostile_use.proofs.rows.outlets.put.Given as goal
+use Rattle.hostile_use.proofs.rows.outlets.room.Given as goal
 
 -- nothing was put yet
 abbrev pub invariant-loop : goal.invariant-loop
