@@ -16,10 +16,13 @@ pub(crate) enum Act {
     Close(Named),
     /// With the fields of `Names`.
     Record(Named),
-    /// With this message.
-    Event(&'static str),
+    /// With `MESSAGE`.
+    Event,
     Find(Named),
 }
+
+/// The message of each event.
+pub(crate) const MESSAGE: &str = "m";
 
 /// What a span is called.
 #[derive(Clone, Copy)]

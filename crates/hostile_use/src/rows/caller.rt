@@ -3,7 +3,7 @@ ghost use Rattle.std.specs.Prelude.{◌≡◌, ◌+◌, ◌-◌, ◌^◌, vec_le
 ghost use Rattle.hostile_use.specs.Units.{units_in};
 
 use crate::answer::{Answer, done, yes_or_no};
-use crate::rows::acts::{Act, Names};
+use crate::rows::acts::{Act, MESSAGE, Names};
 use crate::rows::held::{Hands, Held};
 use span_id::{Fault, Field, Id, Meta};
 use span_layers::Admit;
@@ -49,7 +49,7 @@ impl<H: Ledger, C: Ledger, S: Setup> Caller<H, C, S> {
             }
             Act::Exit(named) => self.exit(rt, registry, named.id()),
             Act::Close(named) => self.try_close(rt, registry, named.id()),
-            Act::Event(message) => self.event(rt, registry, &names.event, message),
+            Act::Event => self.event(rt, registry, &names.event, MESSAGE),
             Act::Find(named) => find(rt, alloc, registry, named.id()),
         }
     }

@@ -29,7 +29,7 @@ enum Act {
 }
 
 // Both spans are made, kept, written and released.
-const PLAN: [Planned<'static, Act>; 21] = [
+static PLAN: [Planned<'static, Act>; 21] = [
     ("add a", Untouched, Act::Add(Called::A, None)),
     ("add b under 1", Untouched, Act::Add(Called::B, Some(One))),
     ("path of 2 for layer 0", Taken, Act::Path(0, Two)),

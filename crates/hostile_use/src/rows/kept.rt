@@ -21,12 +21,12 @@ use std::sync::Wait;
 use std::sync::ledger::{Blank, Ledger};
 
 // Each call once or twice.
-const EVERY_CALL: [Planned<'static, Act>; 10] = [
+static EVERY_CALL: [Planned<'static, Act>; 10] = [
     ("new a", Taken, Act::New(Called::A, ParentOf::Root)),
     ("clone 1", Taken, Act::Clone(One)),
     ("enter 1", Taken, Act::Enter(One)),
     ("record 1", Taken, Act::Record(One)),
-    ("event m", Taken, Act::Event("m")),
+    ("event m", Taken, Act::Event),
     ("find 1", Taken, Act::Find(One)),
     ("close 1", Taken, Act::Close(One)),
     ("exit 1", Taken, Act::Exit(One)),
@@ -35,7 +35,7 @@ const EVERY_CALL: [Planned<'static, Act>; 10] = [
 ];
 
 // A handle that is given up.
-const GIVEN_UP: [Planned<'static, Act>; 1] = [(
+static GIVEN_UP: [Planned<'static, Act>; 1] = [(
     "new a",
     Taken,
     Act::New(Called::A, ParentOf::Root),

@@ -10,7 +10,7 @@ use span_layers::{Filters, Form, Kind, Layer, Layers, Note, Rule, Style, Tellers
 use std::alloc::Global;
 
 // Of which kinds notes are written, and with which fields.
-const NOTES: [(Kind, &[(&str, &str)]); 4] = [
+static NOTES: [(Kind, &[(&str, &str)]); 4] = [
     (Kind::OnNew, &[("k", "1")]),
     (Kind::OnRecord, &[("k", "2")]),
     (Kind::OnEvent, &[]),
@@ -92,8 +92,8 @@ fn tell_parts<R: Print>(
     ask(stage, alloc, filters)?;
     stage.wrote(println!(stage.rt; "tellers: {}", tellers.len()));
     for layer in 0..2 {
-        for (kind, fields) in NOTES {
-            write(stage, alloc, tellers, layer, kind, fields)?;
+        for (kind, fields) in &NOTES {
+            write(stage, alloc, tellers, layer, *kind, fields)?;
         }
     }
     Ok(())

@@ -3,7 +3,7 @@ ghost use Rattle.std.specs.Prelude.{◌≡◌, ◌<◌, []};
 
 use crate::answer::{Answer, done, held, yes_or_no};
 use crate::named::Named::{self, One, OneAnew, Two};
-use crate::rows::acts::{Act, Called, Names};
+use crate::rows::acts::{Act, Called, MESSAGE, Names};
 use crate::stage::Memory::{Taken, Untouched};
 use crate::stage::Stage;
 use crate::stop::Stop;
@@ -30,7 +30,7 @@ enum Ask {
 }
 
 // A span inside another, and one that is entered nine times. The third span gets the slot of the first.
-const PLAN: [Planned<'static, Ask>; 29] = [
+static PLAN: [Planned<'static, Ask>; 29] = [
     (
         "new a",
         Taken,
@@ -44,7 +44,7 @@ const PLAN: [Planned<'static, Ask>; 29] = [
         Ask::Call(Act::New(Called::B, ParentOf::Current)),
     ),
     ("record 2", Taken, Ask::Call(Act::Record(Two))),
-    ("event m", Taken, Ask::Call(Act::Event("m"))),
+    ("event m", Taken, Ask::Call(Act::Event)),
     ("find 1", Untouched, Ask::Call(Act::Find(One))),
     ("find 2", Untouched, Ask::Call(Act::Find(Two))),
     ("close 1", Taken, Ask::Call(Act::Close(One))),
@@ -146,23 +146,33 @@ impl<'n, V: Say> Subject<Ask> for OnCore<'n, V> {
 
     fn look(&self, text: &mut String) -> Result<(), AllocError> {
         let core = &self.core;
-        let (len, total, calls) = (core.len(), core.total(), core.calls());
-        let (made, closed) = (core.made(), core.closed());
-        let (kept, batches) = (core.outlet(), core.outlet().batches().len());
-        let (lines, refused) = (kept.all(), kept.refused());
-        write!(
-            text,
-            "{len} {total} {calls} {made} {closed} {batches} {lines:?} {refused} "
-        )?;
+        add_counts(text, core)?;
+        add_outlet(text, core.outlet())?;
         add_stack(text, core.stack(0))?;
         text.push_str("\n")?;
-        for named in Named::ALL {
-            if let Some(span) = core.find(named.id()) {
-                add_span(text, span)?;
-            }
-        }
-        Ok(())
+        add_spans(text, core)
     }
+}
+
+fn add_counts<V: Say>(text: &mut String, core: &Core<Kept<V>>) -> Result<(), AllocError> {
+    let (len, total, calls) = (core.len(), core.total(), core.calls());
+    let (made, closed) = (core.made(), core.closed());
+    write!(text, "{len} {total} {calls} {made} {closed} ")
+}
+
+fn add_outlet<V: Say>(text: &mut String, kept: &Kept<V>) -> Result<(), AllocError> {
+    let batches = kept.batches().len();
+    let (lines, refused) = (kept.all(), kept.refused());
+    write!(text, "{batches} {lines:?} {refused} ")
+}
+
+fn add_spans<V: Say>(text: &mut String, core: &Core<Kept<V>>) -> Result<(), AllocError> {
+    for named in Named::ALL {
+        if let Some(span) = core.find(named.id()) {
+            add_span(text, span)?;
+        }
+    }
+    Ok(())
 }
 
 // A call that may change the core, or a look at a span.
@@ -177,7 +187,7 @@ fn make<V: Say>(core: &mut Core<Kept<V>>, names: &Names, act: Act) -> Result<Ans
         Act::Exit(named) => yes_or_no(core.exit(0, named.id())),
         Act::Close(named) => yes_or_no(core.try_close(0, named.id())),
         Act::Record(named) => done(core.record(0, named.id(), names.fields.as_slice())),
-        Act::Event(message) => done(core.event(0, &names.event, message, &[])),
+        Act::Event => done(core.event(0, &names.event, MESSAGE, &[])),
         Act::Find(named) => Ok(held(core.find(named.id()))),
     }
 }

@@ -15,16 +15,16 @@ use std::sync::ledger::Ledger;
 
 /// A registry and who calls on it.
 #[derive(Drop)]
-pub(crate) struct OnRegistry<'r, H: Ledger, C: Ledger, S: Setup, O: Outlet, A: Admit, R: Wait> {
+pub(crate) struct OnRegistry<'r, 'n, H: Ledger, C: Ledger, S: Setup, O: Outlet, A: Admit, R: Wait> {
     pub(crate) rt: &'r R,
     pub(crate) alloc: Global,
-    pub(crate) names: &'r Names,
+    pub(crate) names: &'n Names,
     pub(crate) registry: Registry<H, C, S, O, A>,
     pub(crate) caller: Caller<H, C, S>,
 }
 
-impl<'r, H: Ledger, C: Ledger, S: Setup, O: Outlet, A: Admit, R: Wait> Subject<Act>
-    for OnRegistry<'r, H, C, S, O, A, R> {
+impl<'r, 'n, H: Ledger, C: Ledger, S: Setup, O: Outlet, A: Admit, R: Wait> Subject<Act>
+    for OnRegistry<'r, 'n, H, C, S, O, A, R> {
     fn call(&mut self, act: &Act) -> Result<Answer, Fault> {
         self.caller
             .call(self.rt, self.alloc, &self.registry, self.names, *act)

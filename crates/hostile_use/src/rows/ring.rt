@@ -34,14 +34,14 @@ enum Ask {
 
 /// A registry, who calls on it, and the drain of its ring.
 #[derive(Drop)]
-struct OnRing<'r, H: Ledger, C: Ledger, S: Setup, V: Say, A: Admit, R: Wait> {
-    registry: OnRegistry<'r, H, C, S, Ring, A, R>,
+struct OnRing<'r, 'n, H: Ledger, C: Ledger, S: Setup, V: Say, A: Admit, R: Wait> {
+    registry: OnRegistry<'r, 'n, H, C, S, Ring, A, R>,
     drain: Drain<V>,
     ghost pair: { Some drain.name ≡ S.ring },
 }
 
-impl<'r, H: Ledger, C: Ledger, S: Setup, V: Say, A: Admit, R: Wait> Subject<Ask>
-    for OnRing<'r, H, C, S, V, A, R> {
+impl<'r, 'n, H: Ledger, C: Ledger, S: Setup, V: Say, A: Admit, R: Wait> Subject<Ask>
+    for OnRing<'r, 'n, H, C, S, V, A, R> {
     fn call(&mut self, ask: &Ask) -> Result<Answer, Fault> {
         Ok(match ask {
             Ask::Call(act) => return self.registry.call(act),
@@ -71,7 +71,7 @@ fn taken(step: Option<Step>) -> Answer {
 }
 
 // A ring of one place: a call that finds it full changes nothing, and is made again after a step.
-const FULL_RING: [Planned<'static, Ask>; 7] = [
+static FULL_RING: [Planned<'static, Ask>; 7] = [
     (
         "new a",
         Taken,
@@ -86,7 +86,7 @@ const FULL_RING: [Planned<'static, Ask>; 7] = [
 ];
 
 // A span inside another, and steps of the drain between the calls, with memory and without.
-const EVERY_CALL: [Planned<'static, Ask>; 17] = [
+static EVERY_CALL: [Planned<'static, Ask>; 17] = [
     (
         "new a",
         Taken,
@@ -101,7 +101,7 @@ const EVERY_CALL: [Planned<'static, Ask>; 17] = [
         Ask::Call(Act::New(Called::B, ParentOf::Current)),
     ),
     ("record 2", Taken, Ask::Call(Act::Record(Two))),
-    ("event m", Taken, Ask::Call(Act::Event("m"))),
+    ("event m", Taken, Ask::Call(Act::Event)),
     ("step", Untouched, Ask::Step),
     ("close 1", Taken, Ask::Call(Act::Close(One))),
     ("clone 2", Taken, Ask::Call(Act::Clone(Two))),

@@ -24,7 +24,7 @@ enum Act {
 }
 
 // Both slots are taken, written and given back.
-const PLAN: [Planned<'static, Act>; 16] = [
+static PLAN: [Planned<'static, Act>; 16] = [
     ("next id", Untouched, Act::NextId),
     ("insert 7", Untouched, Act::Insert(7)),
     ("insert 8", Untouched, Act::Insert(8)),

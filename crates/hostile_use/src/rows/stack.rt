@@ -34,7 +34,7 @@ struct Reserved {
 }
 
 // The first span is entered again while it is open, and both are left.
-const PLAN: [Planned<'static, Act>; 18] = [
+static PLAN: [Planned<'static, Act>; 18] = [
     ("reserve 9", Taken, Act::Reserve(9)),
     ("push 1", Untouched, Act::Push(One)),
     ("push 2", Untouched, Act::Push(Two)),
