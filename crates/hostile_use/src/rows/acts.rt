@@ -3,13 +3,15 @@
 use crate::named::Named;
 use crate::texts::{fields_of, meta_of};
 use span_id::{Field, Level, Meta};
-use span_registry::ParentOf;
 use std::alloc::{AllocError, Global};
 
 /// A call; handles are named by the ids of their spans.
 #[derive(Clone, Copy)]
 pub(crate) enum Act {
-    New(Called, ParentOf),
+    /// With no parent.
+    New(Called),
+    /// Inside the current span.
+    NewInside(Called),
     Clone(Named),
     Enter(Named),
     Exit(Named),

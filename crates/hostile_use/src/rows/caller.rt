@@ -40,7 +40,10 @@ impl<H: Ledger, C: Ledger, S: Setup> Caller<H, C, S> {
         act: Act,
     ) -> Result<Answer, Fault> {
         match act {
-            Act::New(called, parent) => self.new_span(rt, registry, names.meta(called), parent),
+            Act::New(called) => { self.new_span(rt, registry, names.meta(called), ParentOf::Root) }
+            Act::NewInside(called) => {
+                self.new_span(rt, registry, names.meta(called), ParentOf::Current)
+            }
             Act::Clone(named) => self.clone_span(rt, registry, named.id()),
             Act::Enter(named) => self.lend(rt, registry, named.id(), Lent::Enter),
             Act::Record(named) => {

@@ -13,7 +13,7 @@ use crate::stop::Stop;
 use crate::trial::{Planned, perform};
 use span_id::{Checked, Limits};
 use span_layers::{Admit, Filters, Say, Tellers};
-use span_outlet::{Kept, ParentOf};
+use span_outlet::Kept;
 use span_registry::{HANDLE_PARTS, Registry, SeatTable, Setup, Worker};
 use std::alloc::Global;
 use std::marker::Brand;
@@ -22,7 +22,7 @@ use std::sync::ledger::{Blank, Ledger};
 
 // Each call once or twice.
 static EVERY_CALL: [Planned<'static, Act>; 10] = [
-    ("new a", Taken, Act::New(Called::A, ParentOf::Root)),
+    ("new a", Taken, Act::New(Called::A)),
     ("clone 1", Taken, Act::Clone(One)),
     ("enter 1", Taken, Act::Enter(One)),
     ("record 1", Taken, Act::Record(One)),
@@ -35,11 +35,7 @@ static EVERY_CALL: [Planned<'static, Act>; 10] = [
 ];
 
 // A handle that is given up.
-static GIVEN_UP: [Planned<'static, Act>; 1] = [(
-    "new a",
-    Taken,
-    Act::New(Called::A, ParentOf::Root),
-)];
+static GIVEN_UP: [Planned<'static, Act>; 1] = [("new a", Taken, Act::New(Called::A))];
 
 /// Makes the row's calls, and tells what they answer and how the registry ended. `Memory` where the registry could not
 /// be made.

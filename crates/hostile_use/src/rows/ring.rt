@@ -14,7 +14,7 @@ use crate::stop::Stop;
 use crate::trial::{Planned, Subject, perform};
 use span_id::{Checked, Fault, Limits};
 use span_layers::{Admit, Filters, Say, Tellers};
-use span_outlet::{Drain, ParentOf, Ring, Step, Tap};
+use span_outlet::{Drain, Ring, Step, Tap};
 use span_registry::{HANDLE_PARTS, Registry, SeatTable, Setup, Worker};
 use std::alloc::{AllocError, Global};
 use std::marker::Brand;
@@ -72,11 +72,7 @@ fn taken(step: Option<Step>) -> Answer {
 
 // A ring of one place: a call that finds it full changes nothing, and is made again after a step.
 static FULL_RING: [Planned<'static, Ask>; 7] = [
-    (
-        "new a",
-        Taken,
-        Ask::Call(Act::New(Called::A, ParentOf::Root)),
-    ),
+    ("new a", Taken, Ask::Call(Act::New(Called::A))),
     ("clone 1", Taken, Ask::Call(Act::Clone(One))),
     ("close 1", Taken, Ask::Call(Act::Close(One))),
     ("step", Taken, Ask::Step),
@@ -87,19 +83,11 @@ static FULL_RING: [Planned<'static, Ask>; 7] = [
 
 // A span inside another, and steps of the drain between the calls, with memory and without.
 static EVERY_CALL: [Planned<'static, Ask>; 17] = [
-    (
-        "new a",
-        Taken,
-        Ask::Call(Act::New(Called::A, ParentOf::Root)),
-    ),
+    ("new a", Taken, Ask::Call(Act::New(Called::A))),
     ("enter 1", Taken, Ask::Call(Act::Enter(One))),
     ("step", Taken, Ask::Step),
     ("step", Untouched, Ask::Step),
-    (
-        "new b inside",
-        Taken,
-        Ask::Call(Act::New(Called::B, ParentOf::Current)),
-    ),
+    ("new b inside", Taken, Ask::Call(Act::NewInside(Called::B))),
     ("record 2", Taken, Ask::Call(Act::Record(Two))),
     ("event m", Taken, Ask::Call(Act::Event)),
     ("step", Untouched, Ask::Step),
