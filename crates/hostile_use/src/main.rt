@@ -38,15 +38,15 @@ fn run<R: Print + Threads + Wait + Sync>(
     rows: &[Row],
 ) -> io::Result<ExitCode> {
     for row in rows {
-        if !is_whole(rt, alloc, marked, *row)? {
+        if !run_row(rt, alloc, marked, *row)? {
             return Ok(ExitCode::FAILURE);
         }
     }
     Ok(ExitCode::SUCCESS)
 }
 
-// Runs a row: whether it came to its end.
-fn is_whole<R: Print + Threads + Wait + Sync>(
+// Runs a row. Whether it came to its end.
+fn run_row<R: Print + Threads + Wait + Sync>(
     rt: &R,
     alloc: Global,
     marked: bool,

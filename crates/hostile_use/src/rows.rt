@@ -111,7 +111,7 @@ impl Row {
         }
     }
 
-    // Goes on with so many layers. Where the registry can't be made, they are dropped with it and made anew.
+    // Makes the names, and goes on with so many layers.
     fn with_layers<R: Print + Wait>(
         self,
         stage: &Stage<R>,
@@ -119,12 +119,13 @@ impl Row {
         count: usize,
     ) -> Result<(), Stop> {
         match Names::new(alloc) {
-            Ok(names) => self.again_and_again(stage, alloc, count, &names),
+            Ok(names) => self.until_made(stage, alloc, count, &names),
             Err(_) => Err(Stop::Memory),
         }
     }
 
-    fn again_and_again<R: Print + Wait>(
+    // Goes on with so many layers. Where the registry can't be made, they are dropped with it and made anew.
+    fn until_made<R: Print + Wait>(
         self,
         stage: &Stage<R>,
         alloc: Global,

@@ -44,7 +44,8 @@ impl<'a, R> Stage<'a, R> {
     /// Takes what came of writing an answer or a mark.
     pub(crate) fn wrote(&self, written: io::Result<()>) {
         if let Err(error) = written {
-            self.lost.set(Some(error));
+            let first = self.lost.replace(None);
+            self.lost.set(Some(first.unwrap_or(error)));
         }
     }
 

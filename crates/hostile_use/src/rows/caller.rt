@@ -109,12 +109,12 @@ impl<H: Ledger, C: Ledger, S: Setup> Caller<H, C, S> {
         rt: &R,
         registry: &Registry<H, C, S, O, A>,
         id: Id,
-        lent: Lent<'_>,
+        call: Lent<'_>,
     ) -> Result<Answer, Fault> {
         let Some(mut held) = self.hands.take(id) else {
             return Err(Fault::Unknown);
         };
-        let answer = with_handle(rt, registry, &mut self.worker, &mut held.handle, lent);
+        let answer = with_handle(rt, registry, &mut self.worker, &mut held.handle, call);
         self.hands.put(held);
         answer
     }
@@ -164,11 +164,11 @@ fn with_handle<H: Ledger, C: Ledger, S: Setup, O: Outlet, A: Admit, R: Wait>(
     registry: &Registry<H, C, S, O, A>,
     worker: &mut Worker<H, C>,
     handle: &mut Handle<H, C, S>,
-    lent: Lent<'_>,
+    call: Lent<'_>,
 ) -> Result<Answer, Fault>
     ensures { worker.new.spare ≡ worker.old.spare }
 {
-    match lent {
+    match call {
         Lent::Enter => yes_or_no(registry.enter(rt, worker, handle)),
         Lent::Record(fields) => done(registry.record(rt, worker, handle, fields)),
     }

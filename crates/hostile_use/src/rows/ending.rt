@@ -54,10 +54,14 @@ fn with<H: Ledger, C: Ledger, S: Setup>(
     }
 }
 
-/// Tells how a registry ended. A line may be missed where memory was refused; then it is counted.
-pub(crate) fn tell_end<R: Print>(stage: &Stage<R>, share: Counts, report: &Report) {
-    let Counts { units, accepted } = share;
+/// Tells what a share counts.
+pub(crate) fn tell_share<R: Print>(stage: &Stage<R>, counts: Counts) {
+    let Counts { units, accepted } = counts;
     stage.wrote(println!(stage.rt; "share: units {units} accepted {accepted}"));
+}
+
+/// Tells how a registry ended. A line may be missed where memory was refused; then it is counted.
+pub(crate) fn tell_end<R: Print>(stage: &Stage<R>, report: &Report) {
     let Report {
         left,
         handles,

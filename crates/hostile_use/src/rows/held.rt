@@ -81,7 +81,7 @@ impl<H: Ledger, C: Ledger, S: Setup> Hands<H, C, S> {
     }
 }
 
-// The id of a handle, 0 where there is none.
+// The id of a handle, 0 where there is none: no id is 0.
 fn id_of<H: Ledger, C: Ledger, S: Setup>(held: &Option<Held<H, C, S>>) -> u64 {
     match held {
         Some(held) => held.handle.id().get(),

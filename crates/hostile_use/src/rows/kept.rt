@@ -5,7 +5,7 @@ use crate::named::Named::One;
 use crate::rows::Row;
 use crate::rows::acts::{Act, Called, Names};
 use crate::rows::caller::caller_of;
-use crate::rows::ending::{tell_end, whole};
+use crate::rows::ending::{tell_end, tell_share, whole};
 use crate::rows::on_registry::OnRegistry;
 use crate::stage::Memory::Taken;
 use crate::stage::Stage;
@@ -61,7 +61,7 @@ fn on_outlet<V: Say, R: Print + Wait>(
 ) -> Result<(), Stop>
     requires { outlet.sent ≡ [] }
 {
-    match place(stage, alloc) {
+    match limits_and_table(stage, alloc) {
         Ok((checked, table)) => named::<Brand, Brand, Brand, V, R>(
             stage,
             alloc,
@@ -79,9 +79,9 @@ fn on_outlet<V: Say, R: Print + Wait>(
 }
 
 // The limits of a registry with one worker, and its table of handles.
-fn place<R: Print>(stage: &Stage<R>, alloc: Global) -> Result<(Checked, SeatTable), Stop>
-    ensures workers { IfOk result (λ place. place.0.workers ≡ 1) }
-    ensures table { IfOk result (λ place. place.1.words ≡ place.0.slots) }
+fn limits_and_table<R: Print>(stage: &Stage<R>, alloc: Global) -> Result<(Checked, SeatTable), Stop>
+    ensures workers { IfOk result (λ made. made.0.workers ≡ 1) }
+    ensures table { IfOk result (λ made. made.1.words ≡ made.0.slots) }
 {
     let limits = Limits {
         workers: 1,
@@ -130,7 +130,8 @@ fn named<H: Ledger, C: Ledger, S: Setup, V: Say, R: Print + Wait>(
     }
 }
 
-// Generic in what applies the rules. The registry ends whole however its calls went.
+// Generic in what applies the rules. The registry ends whole however its calls went. Where they ended early
+// nothing more is told.
 fn called<H: Ledger, C: Ledger, S: Setup, V: Say, A: Admit, R: Print + Wait>(
     stage: &Stage<R>,
     alloc: Global,
@@ -162,11 +163,14 @@ fn called<H: Ledger, C: Ledger, S: Setup, V: Say, A: Admit, R: Print + Wait>(
         ..
     } = subject;
     let (share, counts) = whole(stage, caller);
+    if ended.is_ok() {
+        tell_share(stage, counts);
+    }
     stage.begin(Taken);
     let report = registry.finish_kept(share);
     stage.over();
     if ended.is_ok() {
-        tell_end(stage, counts, &report);
+        tell_end(stage, &report);
     }
     ended
 }

@@ -102,7 +102,7 @@ fn on_outlet<V: Say, R: Print>(
     }
 }
 
-// Generic in what applies the rules.
+// Generic in what makes the texts.
 fn on_core<V: Say, R: Print>(
     stage: &Stage<R>,
     alloc: Global,

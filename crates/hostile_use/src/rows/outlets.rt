@@ -26,12 +26,12 @@ fn put_in_ring<R: Print>(stage: &Stage<R>, alloc: Global) -> Result<(), Stop> {
     let ends = Ring::pair(alloc, &checked);
     stage.over();
     match ends {
-        Ok((mut ring, _tap)) => put_in(stage, alloc, &mut ring),
+        Ok((mut ring, _tap)) => put_in_made_ring(stage, alloc, &mut ring),
         Err(_) => Err(Stop::Memory),
     }
 }
 
-fn put_in<R: Print>(stage: &Stage<R>, alloc: Global, ring: &mut Ring) -> Result<(), Stop>
+fn put_in_made_ring<R: Print>(stage: &Stage<R>, alloc: Global, ring: &mut Ring) -> Result<(), Stop>
     requires { ring.old.sent ≡ [] }
 {
     put(stage, alloc, Memory::Untouched, ring)?;

@@ -6,7 +6,7 @@ use crate::named::Named::{One, Two};
 use crate::rows::Row;
 use crate::rows::acts::{Act, Called, Names};
 use crate::rows::caller::caller_of;
-use crate::rows::ending::{tell_end, whole};
+use crate::rows::ending::{tell_end, tell_share, whole};
 use crate::rows::on_registry::OnRegistry;
 use crate::stage::Memory::{Taken, Untouched};
 use crate::stage::Stage;
@@ -45,7 +45,7 @@ impl<'r, 'n, H: Ledger, C: Ledger, S: Setup, V: Say, A: Admit, R: Wait> Subject<
     fn call(&mut self, ask: &Ask) -> Result<Answer, Fault> {
         Ok(match ask {
             Ask::Call(act) => return self.registry.call(act),
-            Ask::Step => taken(self.drain.step()),
+            Ask::Step => notes_of(self.drain.step()),
             Ask::Taken => Answer::Number(self.drain.taken()),
             Ask::Lines => {
                 let told = self.drain.lines(0).count() as u64;
@@ -63,7 +63,7 @@ impl<'r, 'n, H: Ledger, C: Ledger, S: Setup, V: Say, A: Admit, R: Wait> Subject<
 }
 
 // How many notes the batch of a step had.
-fn taken(step: Option<Step>) -> Answer {
+fn notes_of(step: Option<Step>) -> Answer {
     match step {
         Some(step) => Answer::Number((step.told as u64).saturating_add(step.refused as u64)),
         None => Answer::Nothing,
@@ -193,7 +193,8 @@ fn named<H: Ledger, C: Ledger, S: Setup, V: Say, R: Print + Wait>(
     }
 }
 
-// Generic in what applies the rules. The registry ends whole however its calls went.
+// Generic in what applies the rules. The registry ends whole however its calls went. Where they ended early
+// nothing more is told.
 fn called<H: Ledger, C: Ledger, S: Setup, V: Say, A: Admit, R: Print + Wait>(
     stage: &Stage<R>,
     alloc: Global,
@@ -231,11 +232,14 @@ fn called<H: Ledger, C: Ledger, S: Setup, V: Say, A: Admit, R: Print + Wait>(
         ..
     } = registry;
     let (share, counts) = whole(stage, caller);
+    if ended.is_ok() {
+        tell_share(stage, counts);
+    }
     stage.begin(Taken);
     let report = registry.finish(share, drain);
     stage.over();
     if ended.is_ok() {
-        tell_end(stage, counts, &report);
+        tell_end(stage, &report);
     }
     ended
 }

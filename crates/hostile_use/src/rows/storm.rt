@@ -29,18 +29,19 @@ pub(crate) fn run<R: Print + Threads + Wait + Sync>(
                 tell(stage, &report);
                 return Ok(());
             }
-            Err(RunFault::Memory | RunFault::Refused(Fault::Memory)) => {}
-            Err(_) => return Err(stage.refused("storm")),
+            Err(None) => return Err(Stop::Memory),
+            Err(Some(RunFault::Memory | RunFault::Refused(Fault::Memory))) => {}
+            Err(Some(_)) => return Err(stage.refused("storm")),
         }
     }
     Err(stage.refused_too_often("storm"))
 }
 
-// Runs it once, with one layer that is told of everything.
+// Runs it once, with one layer that is told of everything. `None` where that layer could not be made.
 fn once<R: Print + Threads + Wait + Sync>(
     stage: &Stage<R>,
     alloc: Global,
-) -> Result<Report, RunFault> {
+) -> Result<Report, Option<RunFault>> {
     let Ok(admit) = Box::new(
         alloc,
         |rule: &Rule, meta: &Meta| -> bool
@@ -48,7 +49,7 @@ fn once<R: Print + Threads + Wait + Sync>(
                 ≡ is_admitted (pairs_of rule.now) (string_bytes meta.now.target) meta.now.level }
         { admits(rule, meta) },
     ) else {
-        return Err(RunFault::Memory);
+        return Err(None);
     };
     let Ok(say) = Box::new(
         alloc,
@@ -56,7 +57,7 @@ fn once<R: Print + Threads + Wait + Sync>(
             ensures { ForOk result (λ text. text.items ≡ text_of form (plain_note note.now)) }
         { text(alloc, form, note) },
     ) else {
-        return Err(RunFault::Memory);
+        return Err(None);
     };
     with_hooks(stage, alloc, Hooks::new(admit, say))
 }
@@ -65,9 +66,9 @@ fn with_hooks<R: Print + Threads + Wait + Sync>(
     stage: &Stage<R>,
     alloc: Global,
     hooks: Hooks,
-) -> Result<Report, RunFault> {
+) -> Result<Report, Option<RunFault>> {
     let Ok(rule) = everything(alloc) else {
-        return Err(RunFault::Memory);
+        return Err(None);
     };
     let style = Style {
         form: Form::Compact,
@@ -75,12 +76,15 @@ fn with_hooks<R: Print + Threads + Wait + Sync>(
     };
     let mut layers = Layers::new(alloc);
     let Ok(_) = layers.add(Layer { style, rule, hooks }) else {
-        return Err(RunFault::Memory);
+        return Err(None);
     };
     stage.begin(Memory::Taken);
     let ended = storm(stage.rt, alloc, 2, 1, layers, &Open);
     stage.over();
-    ended
+    match ended {
+        Ok(report) => Ok(report),
+        Err(fault) => Err(Some(fault)),
+    }
 }
 
 // The rule that admits everything.

@@ -17,7 +17,7 @@ use std::sync::Wait;
 
 /// Adds so many layers, and goes on with the row. `Memory` where it has to begin anew.
 ///
-/// The closures are made here, and not handed out before they lie in a layer.
+/// The closures are made here, and not handed out before they lie in hooks.
 pub(crate) fn run<R: Print + Wait>(
     stage: &Stage<R>,
     alloc: Global,
