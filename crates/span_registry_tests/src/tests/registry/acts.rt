@@ -9,8 +9,9 @@ use std::process::Abort;
 /// Keys and values.
 pub(crate) type Fields<'a> = &'a [(&'a str, &'a str)];
 
-/// In the place of the number of an id: the handle that came last.
-pub(crate) const NEWEST: u64 = 0;
+/// In the place of the number of an id, in a call on a registry that is lent a handle, takes one back or leaves a span:
+/// the handle that came last. No id has this number.
+pub(crate) const NEWEST: u64 = u64::MAX;
 
 /// A call; spans stand under the numbers of their ids.
 #[derive(Clone, Copy)]
@@ -59,7 +60,13 @@ pub(crate) fn said_by(rt: &impl Abort, alloc: Global, act: &Act) -> Said {
             fields,
         } => said_of(rt, alloc, ("event", "app"), *level, fields),
         Act::Record(_, fields) => said_of(rt, alloc, ("", ""), Level::Info, fields),
-        _ => said_of(rt, alloc, ("", ""), Level::Info, &[]),
+        Act::Clone(_)
+        | Act::Enter(_)
+        | Act::Exit(_)
+        | Act::Close(_)
+        | Act::Find(_)
+        | Act::Count
+        | Act::Step => said_of(rt, alloc, ("", ""), Level::Info, &[]),
     }
 }
 
@@ -70,7 +77,17 @@ pub(crate) fn parent_of(act: &Act) -> ParentOf {
             Some(id) => ParentOf::Of(id),
             None => ParentOf::Root,
         },
-        _ => ParentOf::Current,
+        Act::New(_)
+        | Act::Make { .. }
+        | Act::Clone(_)
+        | Act::Enter(_)
+        | Act::Exit(_)
+        | Act::Close(_)
+        | Act::Record(..)
+        | Act::Event { .. }
+        | Act::Find(_)
+        | Act::Count
+        | Act::Step => ParentOf::Current,
     }
 }
 
@@ -111,7 +128,8 @@ fn word(answer: &Answer) -> &'static str {
         Answer::Recorded => "= recorded\n",
         Answer::Told => "= told\n",
         Answer::Stepped(None) => "= no batch\n",
-        _ => "! there is no such worker\n",
+        Answer::NoWorker => "! there is no such worker\n",
+        Answer::Made(_) | Answer::Counted(..) | Answer::Stepped(Some(_)) | Answer::Refused(_) => "",
     }
 }
 
@@ -124,7 +142,14 @@ fn answer_text(alloc: Global, answer: &Answer) -> Result<String, AllocError> {
         Answer::Stepped(Some(Step { told, refused })) => {
             format!(in alloc; "= told {told} refused {refused}\n")
         }
-        _ => String::from_str(alloc, word(answer)),
+        Answer::NotWanted
+        | Answer::Cloned
+        | Answer::Entered(_)
+        | Answer::Closed(_)
+        | Answer::Recorded
+        | Answer::Told
+        | Answer::Stepped(None)
+        | Answer::NoWorker => String::from_str(alloc, word(answer)),
     }
 }
 

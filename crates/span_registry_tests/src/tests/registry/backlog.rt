@@ -69,7 +69,7 @@ const EVERY_ANSWER: &str = "\
 = closed
 ";
 
-const EVERY_CALL_REFUSED: Ending = Ending {
+const EVERY_CALL: Ending = Ending {
     plans: &[EVERYTHING],
     acts: &[
         (0, Act::New("a")),
@@ -98,7 +98,7 @@ const EVERY_CALL_REFUSED: Ending = Ending {
 
 #[test]
 fn every_call_meets_a_full_ring(rt: HostRuntime) {
-    ends(&rt, rt.alloc(), &EVERY_CALL_REFUSED);
+    ends(&rt, rt.alloc(), &EVERY_CALL);
 }
 
 const NOT_WANTED: Ending = Ending {

@@ -16,7 +16,7 @@ pub(crate) enum Task {
     Make(u32),
     /// Enter the spans of all handles, and tell an event in each.
     Enter,
-    /// Close all handles, the newest first.
+    /// Close all handles.
     Close,
     /// Leave all spans.
     Leave,
@@ -34,21 +34,23 @@ pub(crate) struct Station<H: Ledger, C: Ledger, S: Setup> {
     pub(crate) closed_by_exit: u32,
 }
 
-// The first eight calls of a round: a job with a step inside it, of which one handle is left.
-const JOB: [Act; 8] = [
-    Act::Child("job", 0),
-    Act::Clone(NEWEST),
-    Act::Enter(NEWEST),
-    Act::Event {
-        level: Level::Info,
-        message: "tick",
-        fields: &[],
-    },
-    Act::New("step"),
-    Act::Close(NEWEST),
-    Act::Exit(NEWEST),
-    Act::Close(NEWEST),
-];
+// The calls on a new job of this id, with a step inside it. It is entered by its first handle while it has a second one,
+// which is then given back.
+fn visit(job: Id) -> [Act<'static>; 7] {
+    [
+        Act::Clone(job.get()),
+        Act::Enter(job.get()),
+        Act::Event {
+            level: Level::Info,
+            message: "tick",
+            fields: &[],
+        },
+        Act::New("step"),
+        Act::Close(NEWEST),
+        Act::Exit(job.get()),
+        Act::Close(NEWEST),
+    ]
+}
 
 const TOCK: Act = Act::Event {
     level: Level::Info,
@@ -59,10 +61,17 @@ const TOCK: Act = Act::Event {
 // How many spans a call closed, which has to be accepted, and a new span wanted.
 fn closed_by(answer: Answer) -> Result<u32, Fault> {
     match answer {
-        Answer::Refused(fault) => Err(fault),
-        Answer::NotWanted => Err(Fault::BadName),
         Answer::Closed(true) => Ok(1),
-        _ => Ok(0),
+        Answer::Made(_)
+        | Answer::Cloned
+        | Answer::Entered(_)
+        | Answer::Closed(false)
+        | Answer::Recorded
+        | Answer::Told => Ok(0),
+        Answer::Refused(fault) => Err(fault),
+        Answer::NotWanted | Answer::Counted(..) | Answer::Stepped(_) | Answer::NoWorker => {
+            Err(Fault::BadName)
+        }
     }
 }
 
@@ -84,6 +93,19 @@ fn make_calls<H: Ledger, C: Ledger, S: Setup, O: Outlet, R: Wait + Abort>(
     closed
 }
 
+// The first eight calls of a round: a job, of which one handle is left.
+fn make_job<H: Ledger, C: Ledger, S: Setup, O: Outlet, R: Wait + Abort>(
+    rt: &R,
+    alloc: Global,
+    registry: &Registry<H, C, S, O>,
+    worker: &mut Worker<H, C>,
+    held: &mut Vec<Held<H, C, S>>,
+) {
+    make_calls(rt, alloc, registry, worker, held, &[Act::Child("job", 0)]);
+    let job = held.last().expect(rt, "a job").handle.id();
+    make_calls(rt, alloc, registry, worker, held, &visit(job));
+}
+
 fn make_jobs<H: Ledger, C: Ledger, S: Setup, O: Outlet, R: Wait + Abort>(
     rt: &R,
     alloc: Global,
@@ -93,8 +115,21 @@ fn make_jobs<H: Ledger, C: Ledger, S: Setup, O: Outlet, R: Wait + Abort>(
 ) {
     let Station { worker, held, .. } = station;
     for _ in 0..rounds {
-        make_calls(rt, alloc, registry, worker, held, &JOB);
+        make_job(rt, alloc, registry, worker, held);
     }
+}
+
+// The ids of the handles, in their order.
+fn ids_of<H: Ledger, C: Ledger, S: Setup>(
+    rt: &impl Abort,
+    alloc: Global,
+    held: &[Held<H, C, S>],
+) -> Vec<Id> {
+    let mut ids = Vec::new(alloc);
+    for one in held {
+        ids.push(one.handle.id()).expect(rt, "memory");
+    }
+    ids
 }
 
 fn enter_jobs<H: Ledger, C: Ledger, S: Setup, O: Outlet, R: Wait + Abort>(
@@ -103,23 +138,17 @@ fn enter_jobs<H: Ledger, C: Ledger, S: Setup, O: Outlet, R: Wait + Abort>(
     registry: &Registry<H, C, S, O>,
     station: &mut Station<H, C, S>,
 ) {
-    note_ids(rt, station);
     let Station {
         worker,
         held,
         inside,
         ..
     } = station;
-    for id in inside.as_slice() {
+    let jobs = ids_of(rt, alloc, held.as_slice());
+    for id in jobs.as_slice() {
         let acts = [Act::Enter(id.get()), TOCK];
         make_calls(rt, alloc, registry, worker, held, &acts);
-    }
-}
-
-// The spans of all handles are those that the worker is inside.
-fn note_ids<H: Ledger, C: Ledger, S: Setup>(rt: &impl Abort, station: &mut Station<H, C, S>) {
-    for job in station.held.as_slice() {
-        station.inside.push(job.handle.id()).expect(rt, "memory");
+        inside.push(*id).expect(rt, "memory");
     }
 }
 
@@ -135,8 +164,10 @@ fn close_jobs<H: Ledger, C: Ledger, S: Setup, O: Outlet, R: Wait + Abort>(
         closed_by_close,
         ..
     } = station;
-    for _ in 0..held.len() {
-        let closed = make_calls(rt, alloc, registry, worker, held, &[Act::Close(NEWEST)]);
+    let jobs = ids_of(rt, alloc, held.as_slice());
+    for id in jobs.as_slice() {
+        let acts = [Act::Close(id.get())];
+        let closed = make_calls(rt, alloc, registry, worker, held, &acts);
         *closed_by_close = closed_by_close.saturating_add(closed);
     }
 }

@@ -84,7 +84,17 @@ fn pass<O: Outlet>(core: &mut Core<O>, worker: u32, act: &Act, said: &Said) -> A
     match act {
         Act::Event { message, .. } => tell(core, worker, message, said),
         Act::Record(number, _) => record(core, worker, *number, said),
-        _ => make(core, worker, parent_of(act), said),
+        Act::New(_) | Act::Child(..) | Act::Make { .. } => {
+            make(core, worker, parent_of(act), said)
+        }
+        // The other calls are told no more.
+        Act::Clone(_)
+        | Act::Enter(_)
+        | Act::Exit(_)
+        | Act::Close(_)
+        | Act::Find(_)
+        | Act::Count
+        | Act::Step => Answer::Refused(Fault::Unknown),
     }
 }
 
@@ -118,7 +128,9 @@ fn call<O: Outlet>(
         // A look that names no id.
         Act::Find(_) => Answer::Refused(Fault::Unknown),
         Act::Step | Act::Count => Answer::Stepped(None),
-        _ => give(rt, alloc, core, worker, act),
+        Act::New(_) | Act::Child(..) | Act::Make { .. } | Act::Record(..) | Act::Event { .. } => {
+            give(rt, alloc, core, worker, act)
+        }
     }
 }
 

@@ -206,7 +206,17 @@ fn pass<H: Ledger, C: Ledger, S: Setup, O: Outlet, R: Wait>(
     match act {
         Act::Event { message, .. } => tell(rt, registry, worker, message, said),
         Act::Record(number, _) => record(rt, registry, worker, held, *number, said),
-        _ => make(rt, registry, worker, held, parent_of(act), said),
+        Act::New(_) | Act::Child(..) | Act::Make { .. } => {
+            make(rt, registry, worker, held, parent_of(act), said)
+        }
+        // The other calls are told no more.
+        Act::Clone(_)
+        | Act::Enter(_)
+        | Act::Exit(_)
+        | Act::Close(_)
+        | Act::Find(_)
+        | Act::Count
+        | Act::Step => Answer::Refused(Fault::Unknown),
     }
 }
 
@@ -228,7 +238,7 @@ pub(crate) fn call<H: Ledger, C: Ledger, S: Setup, O: Outlet, R: Wait + Abort>(
         // A look that names no id.
         Act::Find(_) => Answer::Refused(Fault::Unknown),
         Act::Step => Answer::Stepped(None),
-        _ => {
+        Act::New(_) | Act::Child(..) | Act::Make { .. } | Act::Record(..) | Act::Event { .. } => {
             let said = said_by(rt, alloc, act);
             pass(rt, registry, worker, held, act, &said)
         }
@@ -237,12 +247,19 @@ pub(crate) fn call<H: Ledger, C: Ledger, S: Setup, O: Outlet, R: Wait + Abort>(
 
 // What was found of a span.
 fn sight_of(found: &Found) -> Sight<'_> {
+    let Found {
+        name,
+        parent,
+        handles,
+        entries,
+        count,
+    } = found;
     Sight {
-        name: found.name.as_str(),
-        parent: found.parent.map_or(0, Id::get),
-        handles: found.handles,
-        entries: found.entries,
-        count: found.count,
+        name: name.as_str(),
+        parent: parent.map_or(0, Id::get),
+        handles: *handles,
+        entries: *entries,
+        count: *count,
     }
 }
 

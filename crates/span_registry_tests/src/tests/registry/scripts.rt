@@ -11,7 +11,7 @@ use std::process::Abort;
 use std::sync::Wait;
 use std::thread::Threads;
 
-/// Calls, what is answered to them, and the lines.
+// Calls, what is answered to them, and the lines.
 #[derive(Clone, Copy)]
 struct Script<'a> {
     acts: &'a [(u32, Act<'a>)],

@@ -67,7 +67,7 @@ const PAST: &str = "\
 ";
 
 // Each call that takes an id and no handle, and then what can be counted of the span that is open and of the worker.
-fn acts_on<'a>(stranger: u64) -> [(u32, Act<'a>); 5] {
+fn acts_on(stranger: u64) -> [(u32, Act<'static>); 5] {
     [
         (0, Act::Find(stranger)),
         (0, Act::Child("a", stranger)),
@@ -90,7 +90,7 @@ const MET: &str = "\
 const END: [(u32, Act); 2] = [(0, Act::Exit(OPEN)), (0, Act::Close(OPEN))];
 
 // All calls: those before the strangers, those with them, and those that close the span that is open.
-fn all_acts<'a>(rt: &impl Abort, alloc: Global) -> Vec<(u32, Act<'a>)> {
+fn all_acts(rt: &impl Abort, alloc: Global) -> Vec<(u32, Act<'static>)> {
     let mut acts = Vec::new(alloc);
     acts.extend_from_slice(&LIVED).expect(rt, "memory");
     for stranger in &STRANGERS {

@@ -22,7 +22,7 @@ const TWO_BY_THREE: &str =
 // The text of a storm that ended: its numbers.
 fn numbers(rt: &impl Abort, alloc: Global, workers: u32, rounds: u32, report: &Report) -> Vec<u8> {
     let mut output = Counted::new(Vec::new(alloc));
-    show(workers, rounds, report, &mut output).expect(rt, "memory");
+    show(workers, rounds, report, &mut output).expect(rt, "eight lines");
     output.into_inner()
 }
 
@@ -191,7 +191,7 @@ fn the_calls_of_two_rounds(rt: HostRuntime) {
 
 // A storm ended with these lines.
 fn has_lines(rt: &impl Abort, alloc: Global, ended: &Result<Report, RunFault>, expected: &str) {
-    let report = ended.as_ref().ok().expect(rt, "a report");
+    let report = ended.as_ref().expect(rt, "a report");
     let text = numbered(rt, alloc, report.lines.as_slice());
     is_text(rt, text.as_slice(), expected);
 }
