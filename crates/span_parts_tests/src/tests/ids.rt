@@ -1,5 +1,6 @@
 //! Ids in both layouts, limits, names, and shared fields.
 use crate::tests::compare::{holds, same};
+use crate::tests::values::field;
 use span_id::{Bits, Field, Fields, Id, Level, Limits, Meta, SharedMeta};
 use std::alloc::Global;
 use std::fmt::Display;
@@ -265,13 +266,6 @@ fn meta(rt: &impl Abort, alloc: Global, name: &str) -> Meta {
         name: String::from_str(alloc, name).expect(rt, "memory"),
         target: String::from_str(alloc, "app::db").expect(rt, "memory"),
         level: Level::Info,
-    }
-}
-
-fn field(rt: &impl Abort, alloc: Global, key: &str, value: &str) -> Field {
-    Field {
-        key: String::from_str(alloc, key).expect(rt, "memory"),
-        value: String::from_str(alloc, value).expect(rt, "memory"),
     }
 }
 

@@ -1,5 +1,6 @@
 //! Generations, retired slots, and the order in which slots are given.
 use crate::tests::compare::{holds, same};
+use crate::tests::values::id;
 use span_id::{Fault, Id, Limits};
 use span_slots::Slots;
 use std::alloc::Global;
@@ -39,10 +40,6 @@ enum Act<'a> {
     Next(Option<u64>),
     // The ids of the table have these numbers, in this order.
     List(&'a [u64]),
-}
-
-fn id(rt: &impl Abort, number: u64) -> Id {
-    Id::from_u64(number).expect(rt, "an id")
 }
 
 fn gives(rt: &impl Abort, slots: &mut Slots<u32>, value: u32, number: u64) {

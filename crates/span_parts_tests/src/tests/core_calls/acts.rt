@@ -1,5 +1,5 @@
-//! Calls and looks as data. The calls are made here; what a whole run is asked is answered in `play`, and what its ring
-//! and its drain are asked in `on_a_ring`.
+//! Calls and looks as data. The calls are made here, but those that share in `shared`; what a whole run is asked is
+//! answered in `play`, and what its ring and its drain are asked in `on_a_ring`.
 ghost use Rattle.std.specs.Prelude.{◌<◌};
 
 use crate::tests::core_calls::answers::{Answer, accepted, closed, entered, found, made};

@@ -3,7 +3,7 @@ ghost use Rattle.std.specs.Prelude.{◌≡◌, []};
 
 use crate::tests::compare::{equal, same};
 use crate::tests::core_calls::acts::{Act, perform};
-use crate::tests::layers::fixtures::{EVERYTHING, Refused, add_refused, layers};
+use crate::tests::layers::fixtures::{EVERYTHING, Refused, add_plan, layers};
 use crate::tests::outlet::batches::shown;
 use span_core::Core;
 use span_id::Limits;
@@ -58,8 +58,8 @@ fn keeps(rt: &impl Abort, alloc: Global, kept: Kept, expected: &str, missed: u64
 fn first_refused(rt: &impl Abort, alloc: Global) -> Layers {
     let mut both = Layers::new(alloc);
     let at_enter = Refused::At(Kind::OnEnter);
-    add_refused(rt, alloc, &mut both, &EVERYTHING, at_enter);
-    add_refused(rt, alloc, &mut both, &EVERYTHING, Refused::None);
+    add_plan(rt, alloc, &mut both, &EVERYTHING, at_enter);
+    add_plan(rt, alloc, &mut both, &EVERYTHING, Refused::None);
     both
 }
 

@@ -3,7 +3,7 @@ use crate::tests::core_calls::acts::{Act, perform};
 use crate::tests::core_calls::answers::{Answer, push_answer};
 use crate::tests::core_calls::play::{Transcript, ends};
 use crate::tests::core_calls::strangers::unknown_strangers;
-use crate::tests::layers::fixtures::{EVERYTHING, Refused, add_refused};
+use crate::tests::layers::fixtures::{EVERYTHING, Refused, add_plan};
 use crate::tests::outlet::batches::{push, shown};
 use span_core::Core;
 use span_id::Limits;
@@ -114,7 +114,7 @@ fn a_full_ring_refuses(rt: HostRuntime) {
 fn new_refused(rt: &impl Abort, alloc: Global) -> Layers {
     let mut layers = Layers::new(alloc);
     let at_new = Refused::At(Kind::OnNew);
-    add_refused(rt, alloc, &mut layers, &EVERYTHING, at_new);
+    add_plan(rt, alloc, &mut layers, &EVERYTHING, at_new);
     layers
 }
 

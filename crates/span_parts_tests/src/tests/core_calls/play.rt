@@ -95,6 +95,7 @@ fn played_on<V: Say>(
     written(&core, text)
 }
 
+/// What a core wrote, and what it has in the end.
 pub(crate) fn written<V: Say>(core: &Core<Kept<V>>, text: Vec<u8>) -> Transcript {
     Transcript {
         text,

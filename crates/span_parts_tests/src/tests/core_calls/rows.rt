@@ -169,7 +169,7 @@ fn notes_name_the_worker_that_calls(rt: HostRuntime) {
 
 const NO_KIND: Plan<'static> = (Form::Compact, Wanted::None, "", Level::Trace);
 
-const LONG_NAMES: Play<'static> = Play {
+const NAMES: Play<'static> = Play {
     limits: ROOMY,
     plans: &[NO_KIND; 64],
     acts: &[
@@ -190,7 +190,7 @@ const LONG_NAMES: Play<'static> = Play {
 
 #[test]
 fn names_have_at_most_64_bytes(rt: HostRuntime) {
-    plays(&rt, rt.alloc(), &LONG_NAMES);
+    plays(&rt, rt.alloc(), &NAMES);
 }
 
 const BOTH_FORMS: Play<'static> = Play {

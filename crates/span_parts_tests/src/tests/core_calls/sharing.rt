@@ -1,11 +1,12 @@
 //! What the notes of a call share, by how many owners it has.
 use crate::tests::compare::equal;
 use crate::tests::core_calls::acts::Act;
-use crate::tests::core_calls::play::{Play, Transcript, played, plays};
+use crate::tests::core_calls::play::{Play, played, plays};
 use crate::tests::layers::fixtures::{EVERYTHING, Plan, Wanted};
 use span_id::{Level, Limits};
 use span_layers::{Form, Note};
 use span_outlet::{Batch, Call};
+use std::alloc::Global;
 use std::process::Abort;
 use std::sync::ArcStr;
 
@@ -85,6 +86,7 @@ const LIB: Plan<'static> = (Form::Compact, Wanted::All, "lib", Level::Trace);
 
 // Of four layers the third doesn't admit `b`, so it sees another path below. The others share one, the last of them
 // too. The event's message belongs to its call and to four notes.
+// (a constant, since another one names it)
 const OWNERS: [(usize, usize); 10] = [
     (4, 0),
     (4, 0),
@@ -114,7 +116,7 @@ const SHARED: Play<'static> = Play {
         (0, Act::Close(3)),
         (0, Act::Owners(&OWNERS)),
     ],
-    expected: LAST,
+    expected: "= yes\n",
 };
 
 // Of three layers the second doesn't admit `b`, and the first and the third share the path of `c` below it. The last
@@ -144,24 +146,23 @@ const SHARED_AT_AN_EXIT: Play<'static> = Play {
         (0, Act::Exit(3)),
         (0, Act::Owners(&CLOSING_OWNERS)),
     ],
-    expected: LAST,
+    expected: "= yes\n",
 };
 
 // The batches are looked at last, while the core has them; only this answer is compared.
-const LAST: &str = "= yes\n";
-
-fn are_right(rt: &impl Abort, played: &Transcript) {
-    equal(rt, played.text.ends_with(LAST.as_bytes()), true);
+fn ends_right(rt: &impl Abort, alloc: Global, of: &Play) {
+    let played = played(rt, alloc, of);
+    equal(rt, played.text.ends_with(of.expected.as_bytes()), true);
 }
 
 #[test]
 fn notes_share_with_the_call(rt: HostRuntime) {
-    are_right(&rt, &played(&rt, rt.alloc(), &SHARED));
+    ends_right(&rt, rt.alloc(), &SHARED);
 }
 
 #[test]
 fn an_exit_shares_with_its_closes(rt: HostRuntime) {
-    are_right(&rt, &played(&rt, rt.alloc(), &SHARED_AT_AN_EXIT));
+    ends_right(&rt, rt.alloc(), &SHARED_AT_AN_EXIT);
 }
 
 const DASH: Play<'static> = Play {

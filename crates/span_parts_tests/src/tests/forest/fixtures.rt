@@ -1,5 +1,6 @@
 //! Forests, and what is asked of each.
 use crate::tests::compare::{holds, same};
+use crate::tests::values::id;
 use span_forest::{Forest, Holder};
 use span_id::{Bits, Fault, Fields, Id, Level, Limits, Meta, SharedMeta};
 use std::alloc::{AllocError, Global};
@@ -55,11 +56,6 @@ pub(crate) fn add(
     let meta = named(rt, alloc, name);
     let added = forest.add(meta, Fields::none(), parent, Bits(bits));
     added.expect(rt, "a span")
-}
-
-/// The id of this number.
-pub(crate) fn id(rt: &impl Abort, number: u64) -> Id {
-    Id::from_u64(number).expect(rt, "an id")
 }
 
 // The ids as text, as `2,1`.

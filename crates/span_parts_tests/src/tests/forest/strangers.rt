@@ -1,6 +1,7 @@
 //! Strangers' ids: ids of every kind that no span has.
 use crate::tests::compare::same;
-use crate::tests::forest::fixtures::{add, forest, id, named};
+use crate::tests::forest::fixtures::{add, forest, named};
+use crate::tests::values::id;
 use span_forest::{Forest, Holder};
 use span_id::{Bits, Fault, Fields, Id};
 use std::alloc::Global;

@@ -87,7 +87,7 @@ fn asks_each(rt: &impl Abort, alloc: Global, calls: &Calls, filters: &Filters) {
     for (target, want) in &[("app", 3), ("web", 0)] {
         let bits = admission(rt, alloc, filters, target, Level::Info);
         same(rt, bits.0, *want, *target);
-        same(rt, calls_since(calls), 13, target);
+        same(rt, calls_since(calls), 13, *target);
     }
 }
 

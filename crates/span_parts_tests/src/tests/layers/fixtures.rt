@@ -1,4 +1,4 @@
-//! What the tests have in common: layers, metas and notes, and what is asked of the parts of layers.
+//! What the tests have in common: layers, fields and notes, and what is asked of the parts of layers.
 ghost use Rattle.std.specs.Prelude.{◌≡◌, string_bytes};
 ghost use Rattle.std.specs.Result.{ForOk};
 ghost use Rattle.span_layers.specs.Note.{plain_note};
@@ -128,8 +128,8 @@ pub(crate) fn add<A: Drop, F: Drop>(
     holds(rt, layers.add(layer).is_ok(), "there is room for a layer");
 }
 
-/// Adds a layer of this plan, of which these texts are refused memory.
-pub(crate) fn add_refused(
+/// Adds a layer of this plan; these texts of it are refused memory.
+pub(crate) fn add_plan(
     rt: &impl Abort,
     alloc: Global,
     layers: &mut Layers,
@@ -144,7 +144,7 @@ pub(crate) fn add_refused(
 pub(crate) fn layers(rt: &impl Abort, alloc: Global, plans: &[Plan]) -> Layers {
     let mut layers = Layers::new(alloc);
     for plan in plans {
-        add_refused(rt, alloc, &mut layers, plan, Refused::None);
+        add_plan(rt, alloc, &mut layers, plan, Refused::None);
     }
     layers
 }

@@ -1,7 +1,7 @@
 //! A layer whose closure is refused memory.
 
 use crate::tests::compare::same;
-use crate::tests::layers::fixtures::{EVERYTHING, Refused, add_refused, note};
+use crate::tests::layers::fixtures::{EVERYTHING, Refused, add_plan, note};
 use span_id::Fault;
 use span_layers::{Kind, Layers, Tellers};
 use std::alloc::Global;
@@ -12,7 +12,7 @@ fn refused_text_is_memory(rt: HostRuntime) {
     let alloc = rt.alloc();
     let mut layers = Layers::new(alloc);
     let at_new = Refused::At(Kind::OnNew);
-    add_refused(&rt, alloc, &mut layers, &EVERYTHING, at_new);
+    add_plan(&rt, alloc, &mut layers, &EVERYTHING, at_new);
     let (_, tellers) = layers.split();
     is_refused(&rt, alloc, &tellers);
 }

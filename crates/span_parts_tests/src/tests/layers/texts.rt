@@ -213,7 +213,10 @@ fn long_note(rt: &impl Abort, alloc: Global) -> Note {
         id: 0,
         path: arc(rt, alloc, "-"),
         fields: fields(rt, alloc, &pairs),
-        tail: Some((Level::Warn, arc(rt, alloc, message.as_str()))),
+        tail: Some((
+            Level::Warn,
+            ArcStr::from_string(message).expect(rt, "memory"),
+        )),
     }
 }
 

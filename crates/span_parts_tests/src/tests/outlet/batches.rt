@@ -2,7 +2,7 @@
 ghost use Rattle.std.specs.Prelude.{◌≡◌, ◌+◌, ◌-◌, ◌^◌, ◌<◌, ◌≤◌, [], length};
 
 use crate::tests::compare::same;
-use crate::tests::layers::fixtures::{Refused, Wanted, add_refused};
+use crate::tests::layers::fixtures::{Refused, Wanted, add_plan};
 use crate::tests::values::id;
 use span_id::{Fields, Level, Limits};
 use span_layers::{Form, Kind, Layers, Note, Tellers};
@@ -17,7 +17,7 @@ pub(crate) fn tellers(rt: &impl Abort, alloc: Global, forms: &[Form]) -> Tellers
     for form in forms {
         let plan = (*form, Wanted::All, "", Level::Trace);
         let at_new = Refused::At(Kind::OnNew);
-        add_refused(rt, alloc, &mut layers, &plan, at_new);
+        add_plan(rt, alloc, &mut layers, &plan, at_new);
     }
     layers.split().1
 }

@@ -15,7 +15,7 @@ const NO_OBJECT: &str = "{\"op\":\"new\",\"name\":\"a\"}\n[1]\n";
 const ONE_LAYER: &str = "{\"op\":\"layer\"}\n{\"op\":\"new\",\"name\":\"a\"}\n";
 
 /// A writer that takes so many bytes and then fails, counts its flushes, and may fail at each.
-#[derive(Clone, Copy)]
+#[derive(Drop)]
 struct FlushedWriter {
     room: usize,
     flushes: u64,

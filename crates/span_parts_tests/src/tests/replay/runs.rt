@@ -252,13 +252,28 @@ fn stops_writing(
     };
     let ran = run(rt, alloc, script.as_bytes(), writer, 1);
     let end = ran.end.as_str();
-    same(rt, end, "device: write failed", good_calls);
-    is_front(rt, taken.as_slice(), text.as_bytes(), good_calls);
+    same(
+        rt,
+        (end, takes_none),
+        ("device: write failed", takes_none),
+        good_calls,
+    );
+    is_front(
+        rt,
+        taken.as_slice(),
+        text.as_bytes(),
+        takes_none,
+        good_calls,
+    );
 }
 
-fn is_front(rt: &impl Abort, taken: &[u8], text: &[u8], good_calls: u64) {
-    let front = (text.starts_with(taken), taken.len() < text.len());
-    same(rt, front, (true, true), good_calls);
+fn is_front(rt: &impl Abort, taken: &[u8], text: &[u8], takes_none: bool, good_calls: u64) {
+    let front = (
+        takes_none,
+        text.starts_with(taken),
+        taken.len() < text.len(),
+    );
+    same(rt, front, (takes_none, true, true), good_calls);
 }
 
 /// A writer that doesn't fail for so many calls takes the whole text, and the run ends so.
@@ -277,7 +292,8 @@ fn writes_all(rt: &impl Abort, alloc: Global, written: &Written, can_flush: bool
 
 /// A writer may fail at each of the calls that the text takes.
 fn stops_at_each_write(rt: &impl Abort, alloc: Global, written: &Written) {
-    for good_calls in 0..written.2 {
+    let (_, _, calls) = *written;
+    for good_calls in 0..calls {
         stops_writing(rt, alloc, written, good_calls, false);
         stops_writing(rt, alloc, written, good_calls, true);
     }
@@ -301,6 +317,7 @@ fn a_writer_that_fails_ends_the_run(rt: HostRuntime) {
 fn a_flush_that_fails_ends_the_run(rt: HostRuntime) {
     let failed = "device: write failed";
     for (script, text, _) in &WRITTEN {
+        // As many calls as the longer text takes.
         writes_all(&rt, rt.alloc(), &(script, text, 22), false, failed);
     }
 }
