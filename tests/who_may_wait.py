@@ -13,7 +13,8 @@ span_registry no other functions do than the calls of the registry.
 Where an earlier rt ci on this machine proved the same, the log says that the crate is kept, and has no such line. So each
 count is kept beside the proof, under the proof's name: `watch` does that as soon as LOG says that a crate was proved, for
 the proofs that were kept since it began, and ends with the process GATE, which writes LOG. `begin`, before rt ci starts,
-drops each kept proof of these crates that has no count, so that rt ci proves it again.
+drops each kept proof of these crates that has no count, so that rt ci proves it again. Both do nothing with a make of rt
+that keeps no proofs.
 """
 
 import os
@@ -157,6 +158,8 @@ def main():
     words = sys.argv[1:]
     if words == ["begin"] or len(words) == 3 and words[0] == "watch":
         try:
+            if not hasattr(load(), "Kept"):
+                return
             if words == ["begin"]:
                 Counts().drop_uncounted()
             else:
