@@ -5,7 +5,7 @@
 mod visits;
 
 use crate::visits::visits;
-use span_id::{Fault, Level, Limits, copy_text};
+use span_id::{Fault, Level, Limits, Meta, copy_text};
 use span_layers::{ByForm, ByRule, FmtSpan, Form, Hooks, Layer, Layers, Rule, Style};
 use span_registry::{HANDLE_PARTS, Kept, Line, Report, SeatTable};
 use std::alloc::Global;
@@ -33,17 +33,22 @@ fn main(rt: HostRuntime) -> io::Result<ExitCode> {
 /// How a registry ended that had two layers: one that is told of all that happens to spans, as plain text, and one that
 /// is told of events, as JSON.
 fn with_two_layers<R: Threads + Wait + Sync>(rt: &R, alloc: Global) -> Result<Report, Fault> {
+    let request = meta(alloc, "request")?;
     let mut layers = Layers::new(alloc);
-    for (form, spans) in [(Form::Compact, FmtSpan::FULL), (Form::Json, FmtSpan::NONE)] {
-        add(alloc, &mut layers, Style { form, spans })?;
-    }
-    visited(rt, alloc, layers)
+    add(alloc, &mut layers, Form::Compact, FmtSpan::FULL)?;
+    add(alloc, &mut layers, Form::Json, FmtSpan::NONE)?;
+    visited(rt, alloc, &request, layers)
 }
 
 // Adds a layer that admits everything. It needs no closure, since it applies its rule and writes its notes as all do.
-fn add(alloc: Global, layers: &mut Layers<ByRule, ByForm>, style: Style) -> Result<(), Fault> {
+fn add(
+    alloc: Global,
+    layers: &mut Layers<ByRule, ByForm>,
+    form: Form,
+    spans: FmtSpan,
+) -> Result<(), Fault> {
     let layer = Layer {
-        style,
+        style: Style { form, spans },
         rule: everything(alloc)?,
         hooks: Hooks::by_rule_and_form(),
     };
@@ -64,6 +69,7 @@ fn everything(alloc: Global) -> Result<Rule, Fault> {
 fn visited<R: Threads + Wait + Sync>(
     rt: &R,
     alloc: Global,
+    request: &Meta,
     layers: Layers<ByRule, ByForm>,
 ) -> Result<Report, Fault> {
     let limits = Limits {
@@ -76,6 +82,7 @@ fn visited<R: Threads + Wait + Sync>(
     visits::<Brand, Brand, Brand, _>(
         rt,
         alloc,
+        request,
         &checked,
         filters,
         Kept::new(alloc, tellers),
@@ -83,6 +90,17 @@ fn visited<R: Threads + Wait + Sync>(
         Blank::new(3),
         table,
     )
+}
+
+// A span's name at the level of information.
+fn meta(alloc: Global, name: &str) -> Result<Meta, Fault> {
+    let name = copy_text(alloc, name)?;
+    let target = copy_text(alloc, "app")?;
+    Ok(Meta {
+        name,
+        target,
+        level: Level::Info,
+    })
 }
 
 /// Prints the lines, sorted, and then how the registry ended.

@@ -2,7 +2,7 @@
 ghost use Rattle.std.specs.Prelude.{◌≡◌, ◌+◌, ◌≤◌, ◌∷◌, [], None, IfOk, vec_len};
 ghost use Rattle.two_workers.specs.Visit.{IsBack};
 
-use span_id::{Checked, Fault, Level, Meta, copy_text};
+use span_id::{Checked, Fault, Meta};
 use span_layers::{Admitters, ByForm, ByRule, Filters, Formatters};
 use span_registry::{
     HANDLE_PARTS, Handle, Kept, Outlet, ParentOf, Registry, Report, SeatTable, Setup, Share, Worker,
@@ -39,6 +39,7 @@ pub fn visits<
 >(
     rt: &R,
     alloc: Global,
+    request: &Meta,
     checked: &Checked,
     filters: Filters<ByRule>,
     outlet: Kept<Formatters<ByForm>>,
@@ -53,12 +54,11 @@ pub fn visits<
     requires calls { (calls.name ≡ C.name) × (calls.parts ≡ C.parts) × (C.parts ≡ 3) }
     requires table { (table ≡ S.table) × (table.words ≡ checked.now.slots) }
 {
-    let request = meta(alloc, "request")?;
     let (registry, workers) = SpanRegistry::<H, C, S>::new(
         alloc, checked, filters, outlet, handles, calls, table,
     )?;
     let (own, first, second) = three(workers);
-    let whole = both(rt, &registry, &request, own, first, second)?;
+    let whole = both(rt, &registry, request, own, first, second)?;
     Ok(registry.finish_kept(whole))
 }
 
@@ -70,22 +70,16 @@ fn three<H: Ledger, C: Ledger>(
     ensures { workers.items ≡ result.0 ∷ result.1 ∷ result.2 ∷ [] }
 {
     let mut workers = workers;
-    let (Some(second), Some(first), Some(own)) = (workers.pop(), workers.pop(), workers.pop())
-    else {
+    let Some(second) = workers.pop() else {
+        unreachable!()
+    };
+    let Some(first) = workers.pop() else {
+        unreachable!()
+    };
+    let Some(own) = workers.pop() else {
         unreachable!()
     };
     (own, first, second)
-}
-
-// A span's name at the level of information.
-fn meta(alloc: Global, name: &str) -> Result<Meta, Fault> {
-    let name = copy_text(alloc, name)?;
-    let target = copy_text(alloc, "app")?;
-    Ok(Meta {
-        name,
-        target,
-        level: Level::Info,
-    })
 }
 
 // Makes the span, and has each thread visit it with a handle of its own. What comes back is the whole share.
