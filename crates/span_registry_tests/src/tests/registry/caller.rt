@@ -1,11 +1,15 @@
 //! The shortest caller, as the page on calling shows it.
-ghost use Rattle.std.specs.Prelude.{◌≡◌, [], None};
+ghost use Rattle.std.specs.Prelude.{◌≡◌, ◌<◌, ◌∷◌, [], ℕ, None, IfOk, vec_len, slice_index_or};
+ghost use Rattle.span_registry.specs.Share.{IsWhole};
+ghost use Rattle.span_registry.specs.Worker.{IsNew};
 
 use crate::tests::registry::layers::meta_of;
 use crate::tests::registry::same::same;
 use span_id::{Checked, Fault, Level, Limits, Meta};
 use span_layers::{Filters, Layers, Say, Tellers};
-use span_registry::{HANDLE_PARTS, Kept, ParentOf, Registry, Report, SeatTable, Setup};
+use span_registry::{
+    HANDLE_PARTS, Kept, ParentOf, Registry, Report, SeatTable, Setup, Share, Worker,
+};
 use std::alloc::Global;
 use std::marker::Brand;
 use std::sync::Wait;
@@ -59,18 +63,42 @@ fn run<H: Ledger, C: Ledger, S: Setup, V: Say, R: Wait>(
     let (registry, workers) = Registry::<H, C, S, Kept<V>>::new(
         alloc, checked, filters, outlet, handles, calls, table,
     )?;
-    let mut workers = workers.into_iter();
-    let (Some(mut worker), None) = (workers.next(), workers.next()) else {
+    let share = work(rt, &registry, only(workers), meta)?;
+    Ok(registry.finish_kept(share))
+}
+
+// The worker of a registry that has one.
+fn only<H: Ledger, C: Ledger>(workers: Vec<Worker<H, C>>) -> Worker<H, C>
+    requires one { vec_len workers ≡ 1 }
+    requires new { (i : ℕ) (d : _) → i < 1 → IsNew i (slice_index_or workers.items i d) }
+    ensures new { result.accepted ≡ 0 }
+    ensures items { workers.items ≡ result ∷ [] }
+{
+    let mut workers = workers;
+    let Some(worker) = workers.pop() else {
         unreachable!()
     };
-    let share = match registry.new_span(rt, &mut worker, meta, &[], ParentOf::Root)? {
-        None => worker.leave(), // no layer wants it
+    worker
+}
+
+// The worker makes a span, closes it and leaves.
+fn work<H: Ledger, C: Ledger, S: Setup, V: Say, R: Wait>(
+    rt: &R,
+    registry: &Registry<H, C, S, Kept<V>>,
+    worker: Worker<H, C>,
+    meta: &Meta,
+) -> Result<Share<H, C>, Fault>
+    requires { worker.accepted ≡ 0 }
+    ensures { IfOk result (λ share. IsWhole worker.spare 1 share) }
+{
+    let mut worker = worker;
+    match registry.new_span(rt, &mut worker, meta, &[], ParentOf::Root)? {
+        None => Ok(worker.leave()), // no layer wants it
         Some(span) => match registry.try_close(rt, &mut worker, span) {
-            Ok(_closed) => worker.leave(),
-            Err((span, _fault)) => worker.leave().join(span.into_share()),
+            Ok(_closed) => Ok(worker.leave()),
+            Err((span, _fault)) => Ok(worker.leave().join(span.into_share())),
         },
-    };
-    Ok(registry.finish_kept(share))
+    }
 }
 
 #[test]

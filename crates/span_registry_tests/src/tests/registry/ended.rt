@@ -8,7 +8,7 @@ use crate::tests::registry::on_registry::calls;
 use crate::tests::registry::same::same;
 use crate::tests::registry::steps::{NoDrain, Steps};
 use crate::tests::registry::threads::{Turn, take_turns};
-use span_id::{Checked, Fault, Limits};
+use span_id::{Checked, Limits};
 use span_layers::{Filters, Say};
 use span_registry::{HANDLE_PARTS, Kept, Outlet, Registry, Report, SeatTable, Setup, Worker};
 use std::alloc::{AllocError, Global};
@@ -127,12 +127,12 @@ fn begun<V: Say + Send, R: Threads + Wait + Abort + Sync>(
     outlet: Kept<V>,
     deed: Deed,
     transcript: &mut Transcript,
-) -> Result<Report, Fault>
+) -> Report
     requires { outlet.sent ≡ [] }
 {
-    let checked = limits.check()?;
-    let table = SeatTable::new(alloc, limits.slots)?;
-    Ok(named::<Brand, Brand, Brand, V, R>(
+    let checked = limits.check().expect(rt, "limits");
+    let table = SeatTable::new(alloc, limits.slots).expect(rt, "memory");
+    named::<Brand, Brand, Brand, V, R>(
         rt,
         alloc,
         &checked,
@@ -143,7 +143,7 @@ fn begun<V: Say + Send, R: Threads + Wait + Abort + Sync>(
         table,
         deed,
         transcript,
-    ))
+    )
 }
 
 /// Makes a registry with these layers, does this with it, and ends it.
@@ -158,10 +158,7 @@ pub(crate) fn run_to_end<R: Threads + Wait + Abort + Sync>(
     let mut transcript = Transcript::new(alloc);
     let outlet = Kept::new(alloc, tellers);
     let report = begun(rt, alloc, limits, filters, outlet, deed, &mut transcript);
-    Ended {
-        transcript,
-        report: report.expect(rt, "limits and memory"),
-    }
+    Ended { transcript, report }
 }
 
 /// The limits that go without saying, with so many workers.

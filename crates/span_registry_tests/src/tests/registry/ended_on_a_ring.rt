@@ -5,7 +5,7 @@ use crate::tests::registry::acts::{Act, Transcript};
 use crate::tests::registry::ended::{Ended, all_calls};
 use crate::tests::registry::held::drained;
 use crate::tests::registry::layers::{Plan, layers};
-use span_id::{Checked, Fault, Limits};
+use span_id::{Checked, Limits};
 use span_layers::Filters;
 use span_registry::{Drain, HANDLE_PARTS, Registry, Report, Ring, SeatTable, Setup};
 use std::alloc::Global;
@@ -49,13 +49,13 @@ fn begun<R: Wait + Abort>(
     plans: &[Plan],
     acts: &[(u32, Act)],
     transcript: &mut Transcript,
-) -> Result<Report, Fault> {
-    let checked = limits.check()?;
-    let table = SeatTable::new(alloc, limits.slots)?;
-    let (ring, tap) = Ring::pair(alloc, &checked)?;
+) -> Report {
+    let checked = limits.check().expect(rt, "limits");
+    let table = SeatTable::new(alloc, limits.slots).expect(rt, "memory");
+    let (ring, tap) = Ring::pair(alloc, &checked).expect(rt, "memory");
     let (filters, tellers) = layers(rt, alloc, plans);
     let drain = Drain::new(alloc, tap, tellers);
-    Ok(named::<Brand, Brand, Brand, R>(
+    named::<Brand, Brand, Brand, R>(
         rt,
         alloc,
         &checked,
@@ -67,7 +67,7 @@ fn begun<R: Wait + Abort>(
         table,
         acts,
         transcript,
-    ))
+    )
 }
 
 /// Makes a registry over a ring with these layers, makes the calls and the steps of the drain, and ends it.
@@ -80,8 +80,5 @@ pub(crate) fn run_to_end_on_a_ring<R: Wait + Abort>(
 ) -> Ended {
     let mut transcript = Transcript::new(alloc);
     let report = begun(rt, alloc, limits, plans, acts, &mut transcript);
-    Ended {
-        transcript,
-        report: report.expect(rt, "limits and memory"),
-    }
+    Ended { transcript, report }
 }

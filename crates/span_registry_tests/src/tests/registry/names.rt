@@ -10,7 +10,6 @@ use span_registry::laws::open_spans_are_a_live_forest;
 use span_registry::{Core, Kept, Line, Outlet, ParentOf};
 use std::alloc::Global;
 use std::process::Abort;
-use std::test::Fail;
 
 // A call whose contract is said with this crate's words.
 fn clone_once<O: Outlet, A>(core: &mut Core<O, A>, worker: u32, id: Id) -> Result<(), Fault>
@@ -23,22 +22,19 @@ fn clone_once<O: Outlet, A>(core: &mut Core<O, A>, worker: u32, id: Id) -> Resul
 }
 
 // One span is made, cloned and closed twice.
-fn clone_and_close<V: Say>(
-    rt: &impl Abort,
-    core: &mut Core<Kept<V>>,
-    meta: &Meta,
-) -> Result<(), Fail>
+fn clone_and_close<V: Say>(rt: &impl Abort, core: &mut Core<Kept<V>>, meta: &Meta)
     requires { 0 < core.old.limits.workers }
 {
-    let made = core.new_span(0, meta, &[], ParentOf::Root)?;
-    let id = made.ok_or("the span was not wanted")?;
-    clone_once(core, 0, id)?;
+    let made = core.new_span(0, meta, &[], ParentOf::Root);
+    let id = made
+        .expect(rt, "an accepted call")
+        .expect(rt, "a wanted span");
+    same(rt, clone_once(core, 0, id), Ok(()));
     same(rt, core.try_close(0, id), Ok(false));
     same(rt, core.try_close(0, id), Ok(true));
     same(rt, core.len(), 0);
     let none: &[Line] = &[];
     same(rt, core.outlet().all(), none);
-    Ok(())
 }
 
 fn run<V: Say>(
@@ -48,24 +44,22 @@ fn run<V: Say>(
     filters: Filters,
     outlet: Kept<V>,
     meta: &Meta,
-) -> Result<(), Fail>
+)
     requires sent { outlet.sent ≡ [] }
     requires workers { 0 < checked.now.workers }
 {
-    let mut core = Core::new(alloc, checked, filters, outlet)?;
-    clone_and_close(rt, &mut core, meta)
+    let mut core = Core::new(alloc, checked, filters, outlet).expect(rt, "memory");
+    clone_and_close(rt, &mut core, meta);
 }
 
 #[test]
-fn one_crate_is_named(rt: HostRuntime) -> Result<(), Fail> {
+fn one_crate_is_named(rt: HostRuntime) {
     let alloc = rt.alloc();
-    let checked = Limits::default().check()?;
-    if checked.limits().workers == 0 {
-        return Err(Fail::new("there is no worker"));
-    }
+    let checked = Limits::default().check().expect(&rt, "limits");
+    assert!(&rt; 0 < checked.limits().workers);
     let meta = meta_of(&rt, alloc, "a", "app", Level::Info);
     let layers: Layers = Layers::new(alloc);
     let (filters, tellers) = layers.split();
     let outlet = Kept::new(alloc, tellers);
-    run(&rt, alloc, &checked, filters, outlet, &meta)
+    run(&rt, alloc, &checked, filters, outlet, &meta);
 }

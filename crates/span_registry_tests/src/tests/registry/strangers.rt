@@ -18,7 +18,7 @@ const LIMITS: Limits = Limits {
 // The closed ids of the retired slot, and one generation more of it; the closed id of the open span's slot, and one
 // generation more than the open one's; the closed id of the free slot, and the id that it will give; the slot never
 // used, one beyond the table, the last one of the layout, and the greatest id.
-const STRANGERS: [u64; 11] = [
+const STRANGERS: &[u64] = &[
     1,
     16777217,
     33554433,
@@ -36,7 +36,7 @@ const STRANGERS: [u64; 11] = [
 const OPEN: u64 = 16777218;
 
 // Slot 0 is retired, slot 1 has its second span, which is open, slot 2 is free again, slot 3 was never used.
-const LIVED: [(u32, Act); 12] = [
+const LIVED: &[(u32, Act)] = &[
     (0, Act::Child("a", 0)),
     (0, Act::Close(1)),
     (0, Act::Child("a", 0)),
@@ -67,14 +67,15 @@ const PAST: &str = "\
 ";
 
 // Each call that takes an id and no handle, and then what can be counted of the span that is open and of the worker.
-fn acts_on(stranger: u64) -> [(u32, Act<'static>); 5] {
-    [
+fn push_acts_on(rt: &impl Abort, acts: &mut Vec<(u32, Act<'static>)>, stranger: u64) {
+    let more = [
         (0, Act::Find(stranger)),
         (0, Act::Child("a", stranger)),
         (0, Act::Exit(stranger)),
         (0, Act::Find(OPEN)),
         (0, Act::Count),
-    ]
+    ];
+    acts.extend_from_slice(&more).expect(rt, "memory");
 }
 
 // A stranger is unknown, and nothing that can be counted has changed.
@@ -87,17 +88,16 @@ const MET: &str = "\
 ";
 
 // The calls that close the span that is open.
-const END: [(u32, Act); 2] = [(0, Act::Exit(OPEN)), (0, Act::Close(OPEN))];
+const END: &[(u32, Act)] = &[(0, Act::Exit(OPEN)), (0, Act::Close(OPEN))];
 
 // All calls: those before the strangers, those with them, and those that close the span that is open.
 fn all_acts(rt: &impl Abort, alloc: Global) -> Vec<(u32, Act<'static>)> {
     let mut acts = Vec::new(alloc);
-    acts.extend_from_slice(&LIVED).expect(rt, "memory");
-    for stranger in &STRANGERS {
-        acts.extend_from_slice(&acts_on(*stranger))
-            .expect(rt, "memory");
+    acts.extend_from_slice(LIVED).expect(rt, "memory");
+    for stranger in STRANGERS {
+        push_acts_on(rt, &mut acts, *stranger);
     }
-    acts.extend_from_slice(&END).expect(rt, "memory");
+    acts.extend_from_slice(END).expect(rt, "memory");
     acts
 }
 
@@ -105,7 +105,7 @@ fn all_acts(rt: &impl Abort, alloc: Global) -> Vec<(u32, Act<'static>)> {
 fn all_answers(rt: &impl Abort, alloc: Global) -> String {
     let mut text = String::new(alloc);
     text.push_str(PAST).expect(rt, "memory");
-    for _ in &STRANGERS {
+    for _ in STRANGERS {
         text.push_str(MET).expect(rt, "memory");
     }
     text.push_str("= open\n= closed\n").expect(rt, "memory");
