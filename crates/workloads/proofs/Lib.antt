@@ -1,1 +1,1 @@
-pub mod One
+pub mod Planned

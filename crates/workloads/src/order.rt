@@ -1,5 +1,6 @@
 //! Which runs there are.
 
+use crate::draining::Pace;
 use crate::layers::Writing;
 use span_layers::FmtSpan;
 
@@ -20,6 +21,33 @@ pub struct Crew {
     pub places: u32,
     pub rounds: u64,
     pub seed: u64,
+}
+
+/// What each worker of a registry does in its thread, beside a drain.
+#[derive(Clone, Copy)]
+pub enum Plan {
+    /// So many random calls, and then it gives all back; the seed decides which calls.
+    Random { rounds: u64, seed: u64 },
+    /// So many rounds of three calls.
+    Rounds(u32),
+}
+
+impl Plan {
+    /// How many fields each span and event has.
+    pub fn fields(self) -> u32 {
+        match self {
+            Plan::Random { .. } => 1,
+            Plan::Rounds(_) => 0,
+        }
+    }
+
+    /// How the drain goes beside it.
+    pub fn pace(self) -> Pace {
+        match self {
+            Plan::Random { .. } => Pace::WithSleeps,
+            Plan::Rounds(_) => Pace::Steady,
+        }
+    }
 }
 
 /// One run.

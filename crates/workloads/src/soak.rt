@@ -6,7 +6,7 @@
 mod act;
 mod caller;
 mod dice;
-mod returned;
+pub mod returned;
 pub mod soaked;
 mod threads;
 mod words;

@@ -1,8 +1,9 @@
 //! A whole run, from the making of its registry to its report.
 ghost use Rattle.std.specs.Prelude.{◌≡◌, ◌+◌, ◌↔◌, [], Some, IfOk};
+ghost use Rattle.workloads.specs.Back.{IsMadeByNew};
 
 use crate::ended::Ended;
-use crate::order::Crew;
+use crate::order::{Crew, Plan};
 use crate::parts::{CoreParts, Parts};
 use crate::soak::threads::in_threads;
 use crate::texts::Texts;
@@ -33,7 +34,27 @@ pub fn soak<R: Threads + Wait + Clock + Sync>(
         slots: 65536,
         ..Limits::default()
     };
-    let Parts { core, table } = Parts::new(alloc, limits, 1)?;
+    let plan = Plan::Random {
+        rounds: crew.rounds,
+        seed: crew.seed,
+    };
+    beside_a_drain(rt, alloc, limits, plan, layers)
+}
+
+/// Has as many workers as the limits say follow the plan on one registry with these layers, and ends it.
+pub fn beside_a_drain<R: Threads + Wait + Clock + Sync>(
+    rt: &R,
+    alloc: Global,
+    limits: Limits,
+    plan: Plan,
+    layers: Layers,
+) -> Result<Ended, Fault>
+    ensures calls { IfOk result (λ ended. IsMadeByNew plan limits.workers ended.report.calls) }
+    ensures handles { IfOk result (λ ended. ended.report.handles ≡ 0) }
+    ensures empty { IfOk result (λ ended. (ended.report.left ≡ 0) ↔ (ended.report.entries ≡ 0)) }
+    ensures balance { IfOk result (λ ended. ended.report.made ≡ ended.report.closed + ended.report.left) }
+{
+    let Parts { core, table } = Parts::new(alloc, limits, plan.fields())?;
     let CoreParts {
         checked,
         texts,
@@ -44,7 +65,7 @@ pub fn soak<R: Threads + Wait + Clock + Sync>(
     run::<Brand, Brand, Brand, _, _>(
         rt,
         alloc,
-        crew,
+        plan,
         &texts,
         &checked,
         filters,
@@ -66,7 +87,7 @@ fn run<
 >(
     rt: &R,
     alloc: Global,
-    crew: &Crew,
+    plan: Plan,
     texts: &Texts,
     checked: &Checked,
     filters: Filters,
@@ -81,6 +102,7 @@ fn run<
     requires handles { (handles.name ≡ H.name) × (handles.parts ≡ H.parts) × (H.parts ≡ HANDLE_PARTS) }
     requires calls { (calls.name ≡ C.name) × (calls.parts ≡ C.parts) × (C.parts ≡ checked.now.workers) }
     requires table { (table ≡ S.table) × (table.words ≡ checked.now.slots) }
+    ensures calls { IfOk result (λ ended. IsMadeByNew plan checked.now.workers ended.report.calls) }
     ensures handles { IfOk result (λ ended. ended.report.handles ≡ 0) }
     ensures empty { IfOk result (λ ended. (ended.report.left ≡ 0) ↔ (ended.report.entries ≡ 0)) }
     ensures balance { IfOk result (λ ended. ended.report.made ≡ ended.report.closed + ended.report.left) }
@@ -88,7 +110,7 @@ fn run<
     let (registry, workers) = Registry::<H, C, S, Ring>::new(
         alloc, checked, filters, ring, handles, calls, table,
     )?;
-    let (whole, drain) = in_threads(rt, &registry, texts, crew.rounds, crew.seed, workers, drain)?;
+    let (whole, drain) = in_threads(rt, &registry, texts, plan, workers, drain)?;
     Ok(Ended {
         report: registry.finish(whole.share, drain),
         tally: whole.tally,

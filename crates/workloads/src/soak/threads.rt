@@ -1,8 +1,10 @@
 //! All threads of a run, and what comes back of them.
 ghost use Rattle.std.specs.Prelude.{◌≡◌, ◌<◌, IfOk, vec_len};
-ghost use Rattle.workloads.specs.Back.{HasAll, HasParts};
+ghost use Rattle.workloads.specs.Back.{ComesBack, HasAll};
 
-use crate::draining::{Pace, start_drain};
+use crate::call_costs::slow_drain::make_rounds;
+use crate::draining::start_drain;
+use crate::order::Plan;
 use crate::soak::caller::work;
 use crate::soak::returned::Returned;
 use crate::texts::Texts;
@@ -17,17 +19,18 @@ use std::thread;
 use std::thread::{Promise, PromisedHandle, Scope, Threads};
 use std::time::Clock;
 
-/// The share that comes back of a worker has all its parts.
+/// The share that comes back of a worker has all its parts, and what it says of its calls is what the plan says.
 #[derive(Drop)]
 struct Back<H: Ledger, C: Ledger> {
+    plan: Plan,
     worker: Snapshot<Worker<H, C>>,
 }
 
 impl<H: Ledger, C: Ledger> Promise<Result<Returned<H, C>, Fault>> for Back<H, C> {
     ghost use Rattle.std.specs.Prelude.{IfOk};
-    ghost use Rattle.workloads.specs.Back.{HasParts};
+    ghost use Rattle.workloads.specs.Back.{ComesBack};
 
-    ghost kept_by = { λ back result. IfOk result (λ returned. HasParts back.worker.value.spare returned.share) };
+    ghost kept_by = { λ back result. IfOk result (λ returned. ComesBack back.plan back.worker.value returned.share) };
 }
 
 /// Runs each worker in a thread of its own, and the drain in one beside them.
@@ -41,13 +44,12 @@ pub fn in_threads<
     rt: &R,
     registry: &Registry<H, C, S, Ring>,
     texts: &Texts,
-    rounds: u64,
-    seed: u64,
+    plan: Plan,
     workers: Vec<Worker<H, C>>,
     drain: Drain<V>,
 ) -> Result<(Returned<H, C>, Drain<V>), Fault>
     requires some { 0 < vec_len workers }
-    ensures whole { IfOk result (λ back. HasAll workers.items back.0.share) }
+    ensures whole { IfOk result (λ back. HasAll plan workers.items back.0.share) }
     ensures drain { IfOk result (λ back. back.1.name ≡ drain.name) }
 {
     let all_back = AtomicBool::new(false);
@@ -57,11 +59,11 @@ pub fn in_threads<
         rt,
         move |scope| -> Result<(Returned<H, C>, Drain<V>), Fault>
             requires some { 0 < vec_len workers }
-            ensures whole { IfOk result (λ back. HasAll workers.items back.0.share) }
+            ensures whole { IfOk result (λ back. HasAll plan workers.items back.0.share) }
             ensures drain { IfOk result (λ back. back.1.name ≡ drain.name) }
         {
-            let draining = start_drain(rt, scope, drain, Pace::WithSleeps, flag)?;
-            let whole = run_workers(rt, scope, registry, texts, rounds, seed, workers);
+            let draining = start_drain(rt, scope, drain, plan.pace(), flag)?;
+            let whole = run_workers(rt, scope, registry, texts, plan, workers);
             flag.store(true, Ordering::SeqCst);
             let drain = draining.join(rt);
             Ok((whole?, drain))
@@ -82,22 +84,21 @@ fn run_workers<
     scope: &Scope<'s, E>,
     registry: &'s Registry<H, C, S, Ring>,
     texts: &'s Texts,
-    rounds: u64,
-    seed: u64,
+    plan: Plan,
     workers: Vec<Worker<H, C>>,
 ) -> Result<Returned<H, C>, Fault>
     requires some { 0 < vec_len workers }
-    ensures { IfOk result (λ whole. HasAll workers.items whole.share) }
+    ensures { IfOk result (λ whole. HasAll plan workers.items whole.share) }
 {
     let mut others = workers;
     let Some(last) = others.pop() else {
         unreachable!()
     };
-    let running = start(rt, scope, registry, texts, rounds, seed, last)?;
+    let running = start(rt, scope, registry, texts, plan, last)?;
     if others.is_empty() {
         return running.join(rt);
     }
-    let whole = run_workers(rt, scope, registry, texts, rounds, seed, others);
+    let whole = run_workers(rt, scope, registry, texts, plan, others);
     let returned = running.join(rt);
     whole?.join(returned?)
 }
@@ -115,22 +116,39 @@ fn start<
     scope: &Scope<'s, E>,
     registry: &'s Registry<H, C, S, Ring>,
     texts: &'s Texts,
-    rounds: u64,
-    seed: u64,
+    plan: Plan,
     worker: Worker<H, C>,
 ) -> Result<PromisedHandle<Result<Returned<H, C>, Fault>, Back<H, C>>, Fault>
-    ensures { IfOk result (λ running. running.promise.worker.value ≡ worker) }
+    ensures plan { IfOk result (λ running. running.promise.plan ≡ plan) }
+    ensures worker { IfOk result (λ running. running.promise.worker.value ≡ worker) }
 {
     let promise = Back {
+        plan,
         worker: Snapshot::of(&worker),
     };
     match scope.spawn_with(
         promise,
         move || -> Result<Returned<H, C>, Fault>
-            ensures { IfOk result (λ returned. HasParts worker.spare returned.share) }
-        { work(rt, registry, texts, worker, rounds, seed) },
+            ensures { IfOk result (λ returned. ComesBack plan worker returned.share) }
+        { follow(rt, registry, texts, plan, worker) },
     ) {
         Ok(running) => Ok(running),
         Err(_) => Err(Fault::Memory),
+    }
+}
+
+// What a worker does.
+fn follow<H: Ledger, C: Ledger, S: Setup, R: Wait>(
+    rt: &R,
+    registry: &Registry<H, C, S, Ring>,
+    texts: &Texts,
+    plan: Plan,
+    worker: Worker<H, C>,
+) -> Result<Returned<H, C>, Fault>
+    ensures { IfOk result (λ returned. ComesBack plan worker returned.share) }
+{
+    match plan {
+        Plan::Random { rounds, seed } => work(rt, registry, texts, worker, rounds, seed),
+        Plan::Rounds(rounds) => make_rounds(rt, registry, texts, worker, rounds),
     }
 }

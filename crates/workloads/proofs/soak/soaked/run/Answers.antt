@@ -1,0 +1,9 @@
+use Rattle.std.proofs.Common.{arith}
+use Rattle.workloads.proofs.Planned.{by_new}
+use Rattle.workloads.proofs.soak.soaked.run.Goals as goal
+
+pub returns-clause-calls : goal.returns-clause-calls
+returns-clause-calls g c =
+    let workers = c.in_ok-registry.workers in
+    let made = c.in_ok-registry.ensures in
+    by_new _ workers.items _ _ _ c.finish.ensures.accepted (omega (arith, workers.ok.0, made.count.0)) made.each c.in_ok-whole.ensures.whole
