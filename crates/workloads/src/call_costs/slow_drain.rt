@@ -77,14 +77,10 @@ fn round<H: Ledger, C: Ledger, S: Setup, R: Wait>(
     close(rt, registry, worker, held, backlogs)
 }
 
-// Waits a little, where the call was refused for want of a place; else its refusal is the answer.
-fn again(fault: Fault, backlogs: &mut u64) -> Result<(), Fault> {
-    if fault != Fault::Backlog {
-        return Err(fault);
-    }
+// Waits a little, after a call was refused for want of a place.
+fn wait(backlogs: &mut u64) {
     *backlogs = backlogs.saturating_add(1);
     thread::yield_now();
-    Ok(())
 }
 
 // Makes a root.
@@ -102,7 +98,8 @@ fn open<H: Ledger, C: Ledger, S: Setup, R: Wait>(
         match registry.new_span(rt, worker, &texts.meta, &[], ParentOf::Root) {
             Ok(Some(handle)) => return Ok(Held { handle }),
             Ok(None) => return Err(Fault::Unknown),
-            Err(fault) => again(fault, backlogs)?,
+            Err(Fault::Backlog) => wait(backlogs),
+            Err(fault) => return Err(fault),
         }
     }
     unreachable!()
@@ -120,8 +117,8 @@ fn tell<H: Ledger, C: Ledger, S: Setup, R: Wait>(
 {
     for _ in rt.forever() {
         match registry.event(rt, worker, &texts.meta, "a message", &[]) {
-            Ok(()) => return Ok(()),
-            Err(fault) => again(fault, backlogs)?,
+            Err(Fault::Backlog) => wait(backlogs),
+            told => return told,
         }
     }
     unreachable!()
@@ -143,7 +140,10 @@ fn close<H: Ledger, C: Ledger, S: Setup, R: Wait>(
             Ok(_closed) => return Ok(()),
             Err((handle, fault)) => {
                 held = Held { handle };
-                again(fault, backlogs)?;
+                let Fault::Backlog = fault else {
+                    return Err(fault);
+                };
+                wait(backlogs);
             }
         }
     }

@@ -106,13 +106,14 @@ impl<H: Ledger, C: Ledger, S: Setup> Caller<H, C, S> {
         ensures hands { OnOk result (vec_len self.new.hands ≡ 0) }
     {
         for _ in rt.forever() {
-            if !self.inside.is_empty() {
-                self.make(rt, registry, texts, Act::Exit(0))?;
+            let act = if !self.inside.is_empty() {
+                Act::Exit(0)
             } else if !self.hands.is_empty() {
-                self.make(rt, registry, texts, Act::Close(0))?;
+                Act::Close(0)
             } else {
                 break;
-            }
+            };
+            self.make(rt, registry, texts, act)?;
         }
         Ok(())
     }
