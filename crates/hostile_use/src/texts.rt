@@ -1,8 +1,12 @@
 //! Metas, fields, notes and rules, and how they are looked at.
+ghost use Rattle.std.specs.Prelude.{◌≡◌, [], ◌∷◌, IfOk};
+ghost use Rattle.span_id.specs.declared.level.Level.TheVariants.{Trace};
+ghost use Rattle.span_layers.specs.Rule.{pairs_of};
 
 use span_forest::Span;
-use span_id::{Field, Fields, Level, Meta, SharedMeta};
+use span_id::{Field, Fields, Id, Level, Meta, SharedMeta};
 use span_layers::{Kind, Note, Rule};
+use span_outlet::Line;
 use span_stack::SpanStack;
 use std::alloc::{AllocError, Global};
 use std::sync::ArcStr;
@@ -49,9 +53,11 @@ pub(crate) fn shared_fields_of(
 }
 
 /// The rule that admits everything.
-pub(crate) fn everything(alloc: Global) -> Result<Rule, AllocError> {
-    let mut pairs = Vec::new(alloc);
-    pairs.push((String::new(alloc), Level::Trace))?;
+pub(crate) fn everything(alloc: Global) -> Result<Rule, AllocError>
+    ensures { IfOk result (λ rule. pairs_of rule ≡ ([], Trace) ∷ []) }
+{
+    let mut pairs = Vec::with_capacity(alloc, 1)?;
+    pairs.push_reserved((String::from_str(alloc, "")?, Level::Trace));
     Ok(Rule { pairs })
 }
 
@@ -113,15 +119,32 @@ pub(crate) fn add_fields(text: &mut String, fields: &[Field]) -> Result<(), Allo
     Ok(())
 }
 
-/// Adds the entries of a stack to a text, from the lowest, and what it answers of itself.
-pub(crate) fn add_stack(text: &mut String, stack: &SpanStack) -> Result<(), AllocError> {
-    let (current, top) = (stack.current(), stack.top());
-    write!(text, "current {current:?} top {top:?}:")?;
-    for place in 0..stack.len() {
-        let entry = stack.get(place);
-        write!(text, " {entry:?}")?;
+/// Adds numbers to a text.
+pub(crate) fn add_numbers(text: &mut String, numbers: &[u64]) -> Result<(), AllocError> {
+    for number in numbers {
+        write!(text, " {number}")?;
     }
     Ok(())
+}
+
+/// Adds an id to a text, or that there is none.
+pub(crate) fn add_id(text: &mut String, id: Option<Id>) -> Result<(), AllocError> {
+    write!(text, " {id:?}")
+}
+
+/// Adds the lines that an outlet or a drain has to a text.
+pub(crate) fn add_lines(text: &mut String, lines: &[Line]) -> Result<(), AllocError> {
+    write!(text, " {lines:?}\n")
+}
+
+/// Adds what a stack answers of itself to a text, and its entries, from the lowest.
+pub(crate) fn add_stack(text: &mut String, stack: &SpanStack) -> Result<(), AllocError> {
+    add_id(text, stack.current())?;
+    add_id(text, stack.top())?;
+    for place in 0..stack.len() {
+        add_id(text, stack.get(place))?;
+    }
+    text.push_str("\n")
 }
 
 /// Adds all that an open span shows to a text.
@@ -137,7 +160,10 @@ pub(crate) fn add_span(text: &mut String, span: &Span) -> Result<(), AllocError>
     } = span;
     add_meta(text, meta.as_meta())?;
     add_fields(text, fields.as_slice())?;
-    write!(text, " {parent:?} {bits:?} {handles} {entries} {count}\n")
+    add_id(text, *parent)?;
+    let (handles, entries) = (u64::from(*handles), u64::from(*entries));
+    add_numbers(text, &[bits.0, handles, entries, u64::from(*count)])?;
+    text.push_str("\n")
 }
 
 /// The bytes of a text.

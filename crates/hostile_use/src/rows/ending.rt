@@ -9,20 +9,15 @@ use crate::texts::shown;
 use span_registry::{Line, Report, Setup, Share};
 use std::sync::ledger::Ledger;
 
-/// What a share counts.
-#[derive(Clone, Copy)]
-pub(crate) struct Counts {
-    units: u64,
-    accepted: u64,
-}
-
-/// The whole share, that of the worker and those of the handles that are left, and what it counts.
+/// The whole share, that of the worker and those of the handles that are left. What it counts is told where that is
+/// asked for.
 pub(crate) fn whole<H: Ledger, C: Ledger, S: Setup, R: Print>(
     stage: &Stage<R>,
     caller: Caller<H, C, S>,
-) -> (Share<H, C>, Counts)
-    ensures handles { result.0.handle_parts ≡ 2 ^ 64 - 1 }
-    ensures calls { result.0.call_parts ≡ 1 }
+    is_told: bool,
+) -> Share<H, C>
+    ensures handles { result.handle_parts ≡ 2 ^ 64 - 1 }
+    ensures calls { result.call_parts ≡ 1 }
 {
     let Caller { worker, hands } = caller;
     let Hands { first, second } = hands;
@@ -32,7 +27,10 @@ pub(crate) fn whole<H: Ledger, C: Ledger, S: Setup, R: Print>(
     let share = with(share, second);
     let units = share.units();
     stage.over();
-    (share, Counts { units, accepted })
+    if is_told {
+        tell_share(stage, units, accepted);
+    }
+    share
 }
 
 // A share with that of a handle.
@@ -54,14 +52,16 @@ fn with<H: Ledger, C: Ledger, S: Setup>(
     }
 }
 
-/// Tells what a share counts.
-pub(crate) fn tell_share<R: Print>(stage: &Stage<R>, counts: Counts) {
-    let Counts { units, accepted } = counts;
+fn tell_share<R: Print>(stage: &Stage<R>, units: u64, accepted: u64) {
     stage.wrote(println!(stage.rt; "share: units {units} accepted {accepted}"));
 }
 
-/// Tells how a registry ended. A line may be missed where memory was refused; then it is counted.
-pub(crate) fn tell_end<R: Print>(stage: &Stage<R>, report: &Report) {
+/// Tells how a registry ended, where that is asked for. A line may be missed where memory was refused; then it is
+/// counted.
+pub(crate) fn tell_end<R: Print>(stage: &Stage<R>, report: &Report, is_told: bool) {
+    if !is_told {
+        return;
+    }
     let Report {
         left,
         handles,

@@ -6,11 +6,11 @@ use crate::rows::acts::Called;
 use crate::stage::Memory::{Taken, Untouched};
 use crate::stage::Stage;
 use crate::stop::Stop;
-use crate::texts::{add_span, fields_of, shared_fields_of, shared_meta_of};
+use crate::texts::{add_id, add_numbers, add_span, shared_fields_of, shared_meta_of};
 use crate::trial::{Planned, Subject, made, perform};
 use span_forest::Forest;
 use span_forest::Holder::{self, Entry, Handle};
-use span_id::{Bits, Fault, Field, Fields, Id, Limits, SharedMeta};
+use span_id::{Bits, Fault, Fields, Id, Limits, SharedMeta};
 use std::alloc::{AllocError, Global};
 
 #[derive(Clone, Copy)]
@@ -58,21 +58,18 @@ static PLAN: [Planned<'static, Act>; 21] = [
 struct Texts {
     a: SharedMeta,
     b: SharedMeta,
+    fields: Fields,
     none: Fields,
-    shared: Fields,
-    fields: Vec<Field>,
 }
 
 impl Texts {
-    // The spans `a` and `b`, no fields, and two fields in both forms.
+    // The spans `a` and `b`, two fields, and no fields.
     fn new(alloc: Global) -> Result<Texts, AllocError> {
-        let pairs = [("k", "v"), ("l", "w")];
         Ok(Texts {
-            none: Fields::none(),
             a: shared_meta_of(alloc, "a")?,
             b: shared_meta_of(alloc, "b")?,
-            shared: shared_fields_of(alloc, &pairs)?,
-            fields: fields_of(alloc, &pairs)?,
+            fields: shared_fields_of(alloc, &[("k", "v"), ("l", "w")])?,
+            none: Fields::none(),
         })
     }
 
@@ -80,7 +77,7 @@ impl Texts {
     fn parts(&self, called: Called) -> (&SharedMeta, &Fields) {
         match called {
             Called::A => (&self.a, &self.none),
-            Called::B => (&self.b, &self.shared),
+            Called::B => (&self.b, &self.fields),
         }
     }
 }
@@ -132,9 +129,10 @@ impl<'t> Subject<Act> for OnForest<'t> {
 
     fn look(&self, text: &mut String) -> Result<(), AllocError> {
         let forest = &self.forest;
-        let (len, total, handles) = (forest.len(), forest.total(), forest.handles());
-        let next = forest.next_id();
-        write!(text, "{len} {total} {handles} {next:?}\n")?;
+        let len = u64::from(forest.len());
+        add_numbers(text, &[len, forest.total(), forest.handles()])?;
+        add_id(text, forest.next_id())?;
+        text.push_str("\n")?;
         for slot in 0..3 {
             if let Some(span) = forest.find(Id::pack(slot, 0)) {
                 add_span(text, span)?;

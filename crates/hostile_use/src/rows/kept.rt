@@ -5,7 +5,7 @@ use crate::named::Named::One;
 use crate::rows::Row;
 use crate::rows::acts::{Act, Called, Names};
 use crate::rows::caller::caller_of;
-use crate::rows::ending::{tell_end, tell_share, whole};
+use crate::rows::ending::{tell_end, whole};
 use crate::rows::on_registry::OnRegistry;
 use crate::stage::Memory::Taken;
 use crate::stage::Stage;
@@ -162,15 +162,11 @@ fn called<H: Ledger, C: Ledger, S: Setup, V: Say, A: Admit, R: Print + Wait>(
         caller,
         ..
     } = subject;
-    let (share, counts) = whole(stage, caller);
-    if ended.is_ok() {
-        tell_share(stage, counts);
-    }
+    let is_told = ended.is_ok();
+    let share = whole(stage, caller, is_told);
     stage.begin(Taken);
     let report = registry.finish_kept(share);
     stage.over();
-    if ended.is_ok() {
-        tell_end(stage, &report);
-    }
+    tell_end(stage, &report, is_told);
     ended
 }

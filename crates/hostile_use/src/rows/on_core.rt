@@ -1,5 +1,5 @@
 //! Spans on a core, which has no lock.
-ghost use Rattle.std.specs.Prelude.{◌≡◌, ◌<◌, []};
+ghost use Rattle.std.specs.Prelude.{◌≡◌, ◌<◌, [], IfOk};
 
 use crate::answer::{Answer, done, held, yes_or_no};
 use crate::named::Named::{self, One, OneAnew, Two};
@@ -7,10 +7,10 @@ use crate::rows::acts::{Act, Called, MESSAGE, Names};
 use crate::stage::Memory::{Taken, Untouched};
 use crate::stage::Stage;
 use crate::stop::Stop;
-use crate::texts::{add_span, add_stack};
+use crate::texts::{add_lines, add_numbers, add_span, add_stack};
 use crate::trial::{Planned, Subject, perform};
 use span_core::Core;
-use span_id::{Fault, Limits, Meta};
+use span_id::{Checked, Fault, Limits, Meta};
 use span_layers::{Filters, Say, Tellers};
 use span_outlet::{Kept, ParentOf};
 use std::alloc::{AllocError, Global};
@@ -90,29 +90,33 @@ fn on_outlet<V: Say, R: Print>(
 ) -> Result<(), Stop>
     requires { outlet.sent ≡ [] }
 {
-    let Ok(checked) = Limits::default().check() else {
+    let Ok(checked) = limits() else {
         return Err(Stop::Memory);
     };
     stage.begin(Taken);
     let made = Core::new(alloc, &checked, filters, outlet);
     stage.over();
     match made {
-        Ok(core) => on_core(stage, alloc, names, core),
+        Ok(core) => on_core(stage, alloc, OnCore { names, core }),
         Err(_) => Err(Stop::Memory),
     }
+}
+
+// The limits of a core that has a worker.
+fn limits() -> Result<Checked, Fault>
+    ensures { IfOk result (λ checked. 0 < checked.workers) }
+{
+    Limits::default().check()
 }
 
 // Generic in what makes the texts.
 fn on_core<V: Say, R: Print>(
     stage: &Stage<R>,
     alloc: Global,
-    names: &Names,
-    core: Core<Kept<V>>,
+    subject: OnCore<'_, V>,
 ) -> Result<(), Stop> {
-    if core.limits().workers == 0 {
-        return Err(Stop::Memory);
-    }
-    perform(stage, alloc, &mut OnCore { names, core }, &PLAN)
+    let mut subject = subject;
+    perform(stage, alloc, &mut subject, &PLAN)
 }
 
 impl<'n, V: Say> Subject<Ask> for OnCore<'n, V> {
@@ -135,23 +139,28 @@ impl<'n, V: Say> Subject<Ask> for OnCore<'n, V> {
     fn look(&self, text: &mut String) -> Result<(), AllocError> {
         let core = &self.core;
         add_counts(text, core)?;
-        add_outlet(text, core.outlet())?;
+        add_lines(text, core.outlet().all())?;
         add_stack(text, core.stack(0))?;
-        text.push_str("\n")?;
         add_spans(text, core)
     }
 }
 
 fn add_counts<V: Say>(text: &mut String, core: &Core<Kept<V>>) -> Result<(), AllocError> {
-    let (len, total, calls) = (core.len(), core.total(), core.calls());
+    let outlet = core.outlet();
+    let (len, batches) = (u64::from(core.len()), outlet.batches().len() as u64);
     let (made, closed) = (core.made(), core.closed());
-    write!(text, "{len} {total} {calls} {made} {closed} ")
-}
-
-fn add_outlet<V: Say>(text: &mut String, kept: &Kept<V>) -> Result<(), AllocError> {
-    let batches = kept.batches().len();
-    let (lines, refused) = (kept.all(), kept.refused());
-    write!(text, "{batches} {lines:?} {refused} ")
+    add_numbers(
+        text,
+        &[
+            len,
+            core.total(),
+            core.calls(),
+            made,
+            closed,
+            batches,
+            outlet.refused(),
+        ],
+    )
 }
 
 fn add_spans<V: Say>(text: &mut String, core: &Core<Kept<V>>) -> Result<(), AllocError> {

@@ -4,6 +4,7 @@ use crate::answer::Answer;
 use crate::named::Named;
 use crate::rows::acts::{Act, Names};
 use crate::rows::caller::Caller;
+use crate::texts::add_numbers;
 use crate::trial::Subject;
 use span_id::{Fault, Id};
 use span_layers::Admit;
@@ -32,9 +33,9 @@ impl<'r, 'n, H: Ledger, C: Ledger, S: Setup, O: Outlet, A: Admit, R: Wait> Subje
 
     fn look(&self, text: &mut String) -> Result<(), AllocError> {
         let worker = &self.caller.worker;
-        let (number, accepted) = (worker.number(), worker.accepted());
+        let number = u64::from(worker.number());
         let (first, second) = self.caller.hands.ids();
-        write!(text, "{number} {accepted} {first} {second}\n")?;
+        add_numbers(text, &[number, worker.accepted(), first, second])?;
         for named in Named::ALL {
             add_found(self.rt, self.alloc, &self.registry, named.id(), text)?;
         }

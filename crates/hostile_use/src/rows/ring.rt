@@ -6,11 +6,12 @@ use crate::named::Named::{One, Two};
 use crate::rows::Row;
 use crate::rows::acts::{Act, Called, Names};
 use crate::rows::caller::caller_of;
-use crate::rows::ending::{tell_end, tell_share, whole};
+use crate::rows::ending::{tell_end, whole};
 use crate::rows::on_registry::OnRegistry;
 use crate::stage::Memory::{Taken, Untouched};
 use crate::stage::Stage;
 use crate::stop::Stop;
+use crate::texts::{add_lines, add_numbers};
 use crate::trial::{Planned, Subject, perform};
 use span_id::{Checked, Fault, Limits};
 use span_layers::{Admit, Filters, Say, Tellers};
@@ -24,9 +25,15 @@ use std::sync::ledger::{Blank, Ledger};
 #[derive(Clone, Copy)]
 enum Ask {
     Call(Act),
-    /// A step of the drain: how many notes the batch had.
+    Drain(Asked),
+}
+
+/// What the drain is asked.
+#[derive(Clone, Copy)]
+enum Asked {
+    /// A step: how many notes the batch had.
     Step,
-    /// How many batches the drain took.
+    /// How many batches it took.
     Taken,
     /// How many lines it has of layer 0, and how many notes were missed.
     Lines,
@@ -43,22 +50,30 @@ struct OnRing<'r, 'n, H: Ledger, C: Ledger, S: Setup, V: Say, A: Admit, R: Wait>
 impl<'r, 'n, H: Ledger, C: Ledger, S: Setup, V: Say, A: Admit, R: Wait> Subject<Ask>
     for OnRing<'r, 'n, H, C, S, V, A, R> {
     fn call(&mut self, ask: &Ask) -> Result<Answer, Fault> {
-        Ok(match ask {
-            Ask::Call(act) => return self.registry.call(act),
-            Ask::Step => notes_of(self.drain.step()),
-            Ask::Taken => Answer::Number(self.drain.taken()),
-            Ask::Lines => {
-                let told = self.drain.lines(0).count() as u64;
-                Answer::Number(self.drain.refused().saturating_add(told))
-            }
-        })
+        match ask {
+            Ask::Call(act) => self.registry.call(act),
+            Ask::Drain(asked) => Ok(drained(&mut self.drain, *asked)),
+        }
     }
 
     fn look(&self, text: &mut String) -> Result<(), AllocError> {
         self.registry.look(text)?;
-        let (taken, refused) = (self.drain.taken(), self.drain.refused());
-        let lines = self.drain.all();
-        write!(text, "{taken} {refused} {lines:?}\n")
+        add_numbers(text, &[self.drain.taken(), self.drain.refused()])?;
+        add_lines(text, self.drain.all())
+    }
+}
+
+// What the drain answers.
+fn drained<V: Say>(drain: &mut Drain<V>, asked: Asked) -> Answer
+    ensures { drain.new.name ≡ drain.old.name }
+{
+    match asked {
+        Asked::Step => notes_of(drain.step()),
+        Asked::Taken => Answer::Number(drain.taken()),
+        Asked::Lines => {
+            let told = drain.lines(0).count() as u64;
+            Answer::Number(drain.refused().saturating_add(told))
+        }
     }
 }
 
@@ -75,31 +90,31 @@ static FULL_RING: [Planned<'static, Ask>; 7] = [
     ("new a", Taken, Ask::Call(Act::New(Called::A))),
     ("clone 1", Taken, Ask::Call(Act::Clone(One))),
     ("close 1", Taken, Ask::Call(Act::Close(One))),
-    ("step", Taken, Ask::Step),
-    ("step", Untouched, Ask::Step),
+    ("step", Taken, Ask::Drain(Asked::Step)),
+    ("step", Untouched, Ask::Drain(Asked::Step)),
     ("close 1", Taken, Ask::Call(Act::Close(One))),
-    ("taken", Untouched, Ask::Taken),
+    ("taken", Untouched, Ask::Drain(Asked::Taken)),
 ];
 
 // A span inside another, and steps of the drain between the calls, with memory and without.
 static EVERY_CALL: [Planned<'static, Ask>; 17] = [
     ("new a", Taken, Ask::Call(Act::New(Called::A))),
     ("enter 1", Taken, Ask::Call(Act::Enter(One))),
-    ("step", Taken, Ask::Step),
-    ("step", Untouched, Ask::Step),
+    ("step", Taken, Ask::Drain(Asked::Step)),
+    ("step", Untouched, Ask::Drain(Asked::Step)),
     ("new b inside", Taken, Ask::Call(Act::NewInside(Called::B))),
     ("record 2", Taken, Ask::Call(Act::Record(Two))),
     ("event m", Taken, Ask::Call(Act::Event)),
-    ("step", Untouched, Ask::Step),
+    ("step", Untouched, Ask::Drain(Asked::Step)),
     ("close 1", Taken, Ask::Call(Act::Close(One))),
     ("clone 2", Taken, Ask::Call(Act::Clone(Two))),
     ("close 2", Taken, Ask::Call(Act::Close(Two))),
     ("exit 1", Taken, Ask::Call(Act::Exit(One))),
     ("find 2", Taken, Ask::Call(Act::Find(Two))),
     ("close 2", Taken, Ask::Call(Act::Close(Two))),
-    ("step", Taken, Ask::Step),
-    ("taken", Untouched, Ask::Taken),
-    ("lines and missed", Untouched, Ask::Lines),
+    ("step", Taken, Ask::Drain(Asked::Step)),
+    ("taken", Untouched, Ask::Drain(Asked::Taken)),
+    ("lines and missed", Untouched, Ask::Drain(Asked::Lines)),
 ];
 
 /// Makes the row's calls, and tells what they answer and how the registry ended. `Memory` where the registry could not
@@ -112,16 +127,8 @@ pub(crate) fn run<R: Print + Wait>(
     filters: Filters,
     tellers: Tellers,
 ) -> Result<(), Stop> {
-    let limits = Limits {
-        workers: 1,
-        ring: if row == Row::FullRing { 1 } else { 1024 },
-        ..Limits::default()
-    };
-    let Ok(checked) = limits.check() else {
-        return Err(Stop::Memory);
-    };
-    match parts(stage, alloc, &checked) {
-        Ok((ring, tap, table)) => {
+    match parts(stage, alloc, row) {
+        Ok((checked, ring, tap, table)) => {
             stage.begin(Untouched);
             let drain = Drain::new(alloc, tap, tellers);
             stage.over();
@@ -143,21 +150,30 @@ pub(crate) fn run<R: Print + Wait>(
     }
 }
 
-// Both ends of the ring, and the table of handles.
+// The limits of a registry with one worker, both ends of the ring, and the table of handles.
 fn parts<R: Print>(
     stage: &Stage<R>,
     alloc: Global,
-    checked: &Checked,
-) -> Result<(Ring, Tap, SeatTable), Stop>
-    ensures pair { IfOk result (λ parts. (parts.0.name ≡ parts.1) × (parts.0.sent ≡ [])) }
-    ensures table { IfOk result (λ parts. parts.2.words ≡ checked.now.slots) }
+    row: Row,
+) -> Result<(Checked, Ring, Tap, SeatTable), Stop>
+    ensures workers { IfOk result (λ parts. parts.0.workers ≡ 1) }
+    ensures pair { IfOk result (λ parts. (parts.1.name ≡ parts.2) × (parts.1.sent ≡ [])) }
+    ensures table { IfOk result (λ parts. parts.3.words ≡ parts.0.slots) }
 {
+    let limits = Limits {
+        workers: 1,
+        ring: if row == Row::FullRing { 1 } else { 1024 },
+        ..Limits::default()
+    };
+    let Ok(checked) = limits.check() else {
+        return Err(Stop::Memory);
+    };
     stage.begin(Taken);
-    let ends = Ring::pair(alloc, checked);
+    let ends = Ring::pair(alloc, &checked);
     let table = SeatTable::new(alloc, checked.limits().slots);
     stage.over();
     match (ends, table) {
-        (Ok((ring, tap)), Ok(table)) => Ok((ring, tap, table)),
+        (Ok((ring, tap)), Ok(table)) => Ok((checked, ring, tap, table)),
         _ => Err(Stop::Memory),
     }
 }
@@ -231,15 +247,11 @@ fn called<H: Ledger, C: Ledger, S: Setup, V: Say, A: Admit, R: Print + Wait>(
         caller,
         ..
     } = registry;
-    let (share, counts) = whole(stage, caller);
-    if ended.is_ok() {
-        tell_share(stage, counts);
-    }
+    let is_told = ended.is_ok();
+    let share = whole(stage, caller, is_told);
     stage.begin(Taken);
     let report = registry.finish(share, drain);
     stage.over();
-    if ended.is_ok() {
-        tell_end(stage, &report);
-    }
+    tell_end(stage, &report, is_told);
     ended
 }

@@ -5,6 +5,7 @@ use crate::named::Named::{self, One, Two};
 use crate::stage::Memory::{Taken, Untouched};
 use crate::stage::Stage;
 use crate::stop::Stop;
+use crate::texts::{add_id, add_numbers};
 use crate::trial::{Planned, Subject, made, perform};
 use span_id::{Fault, Id, Limits};
 use span_slots::Slots;
@@ -77,9 +78,8 @@ impl Subject<Act> for Slots<u32> {
     }
 
     fn look(&self, text: &mut String) -> Result<(), AllocError> {
-        let (len, free) = (self.len(), self.free());
-        let next = self.next_id().map_or(0, Id::get);
-        write!(text, "{len} {free} {next}:")?;
+        add_numbers(text, &[u64::from(self.len()), u64::from(self.free())])?;
+        add_id(text, self.next_id())?;
         for slot in 0..3 {
             let found = self.get(Id::pack(slot, 0)).copied();
             write!(text, " {found:?}")?;

@@ -1,14 +1,14 @@
 //! A storm of two workers.
-ghost use Rattle.std.specs.Prelude.{◌≡◌, [], ◌∷◌, IfOk, string_bytes};
+ghost use Rattle.std.specs.Prelude.{◌≡◌, string_bytes};
 ghost use Rattle.std.specs.Result.{ForOk};
-ghost use Rattle.span_id.specs.declared.level.Level.TheVariants.{Trace};
 ghost use Rattle.span_layers.specs.Note.{plain_note};
 ghost use Rattle.span_layers.specs.Rule.{pairs_of, is_admitted};
 ghost use Rattle.span_layers.specs.Text.{text_of};
 
 use crate::stage::{Memory, Stage, TRIES};
 use crate::stop::Stop;
-use span_id::{Fault, Level, Meta, copy_text};
+use crate::texts::everything;
+use span_id::{Fault, Meta};
 use span_layers::{FmtSpan, Form, Hooks, Layer, Layers, Note, Rule, Style, admits, text};
 use span_registry::Report;
 use span_run::{Counted, RunFault};
@@ -85,15 +85,6 @@ fn with_hooks<R: Print + Threads + Wait + Sync>(
         Ok(report) => Ok(report),
         Err(fault) => Err(Some(fault)),
     }
-}
-
-// The rule that admits everything.
-fn everything(alloc: Global) -> Result<Rule, AllocError>
-    ensures { IfOk result (λ rule. pairs_of rule ≡ ([], Trace) ∷ []) }
-{
-    let mut pairs = Vec::with_capacity(alloc, 1)?;
-    pairs.push_reserved((String::from_str(alloc, "")?, Level::Trace));
-    Ok(Rule { pairs })
 }
 
 // Tells the numbers of a storm. Showing them takes no memory.
