@@ -15,7 +15,7 @@ pub(crate) enum Named {
 
 impl Named {
     /// All that are named.
-    pub(crate) const ALL: [Named; 3] = [Named::One, Named::Two, Named::OneAnew];
+    pub(crate) const ALL: &'static [Named] = &[Named::One, Named::Two, Named::OneAnew];
 
     /// The id.
     pub(crate) fn id(self) -> Id {

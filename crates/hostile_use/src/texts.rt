@@ -100,14 +100,14 @@ fn tail_of(alloc: Global, kind: Kind) -> Result<Option<(Level, ArcStr)>, AllocEr
     }
 }
 
-/// Adds the meta to a text.
-pub(crate) fn add_meta(text: &mut String, meta: &Meta) -> Result<(), AllocError> {
+// Adds the meta to a text, on a line of its own.
+fn add_meta(text: &mut String, meta: &Meta) -> Result<(), AllocError> {
     let Meta {
         name,
         target,
         level,
     } = meta;
-    write!(text, "{name} {target} {level}")
+    write!(text, "\n{name} {target} {level}")
 }
 
 /// Adds the fields to a text.
@@ -134,7 +134,7 @@ pub(crate) fn add_id(text: &mut String, id: Option<Id>) -> Result<(), AllocError
 
 /// Adds the lines that an outlet or a drain has to a text.
 pub(crate) fn add_lines(text: &mut String, lines: &[Line]) -> Result<(), AllocError> {
-    write!(text, " {lines:?}\n")
+    write!(text, " {lines:?}")
 }
 
 /// Adds what a stack answers of itself to a text, and its entries, from the lowest.
@@ -144,7 +144,7 @@ pub(crate) fn add_stack(text: &mut String, stack: &SpanStack) -> Result<(), Allo
     for place in 0..stack.len() {
         add_id(text, stack.get(place))?;
     }
-    text.push_str("\n")
+    Ok(())
 }
 
 /// Adds all that an open span shows to a text.
@@ -162,8 +162,7 @@ pub(crate) fn add_span(text: &mut String, span: &Span) -> Result<(), AllocError>
     add_fields(text, fields.as_slice())?;
     add_id(text, *parent)?;
     let (handles, entries) = (u64::from(*handles), u64::from(*entries));
-    add_numbers(text, &[bits.0, handles, entries, u64::from(*count)])?;
-    text.push_str("\n")
+    add_numbers(text, &[bits.0, handles, entries, u64::from(*count)])
 }
 
 /// The bytes of a text.

@@ -3,15 +3,13 @@
 use crate::named::Named;
 use crate::texts::{fields_of, meta_of};
 use span_id::{Field, Level, Meta};
+use span_outlet::ParentOf;
 use std::alloc::{AllocError, Global};
 
 /// A call; handles are named by the ids of their spans.
 #[derive(Clone, Copy)]
 pub(crate) enum Act {
-    /// With no parent.
-    New(Called),
-    /// Inside the current span.
-    NewInside(Called),
+    New(Called, Place),
     Clone(Named),
     Enter(Named),
     Exit(Named),
@@ -31,6 +29,25 @@ pub(crate) const MESSAGE: &str = "m";
 pub(crate) enum Called {
     A,
     B,
+}
+
+/// Where a span is made.
+#[derive(Clone, Copy)]
+pub(crate) enum Place {
+    /// With no parent.
+    Apart,
+    /// Inside the current span.
+    Inside,
+}
+
+impl Place {
+    /// Which parent it gets.
+    pub(crate) fn parent(self) -> ParentOf {
+        match self {
+            Place::Apart => ParentOf::Root,
+            Place::Inside => ParentOf::Current,
+        }
+    }
 }
 
 /// What spans and events are called, and their fields.

@@ -40,9 +40,8 @@ impl<H: Ledger, C: Ledger, S: Setup> Caller<H, C, S> {
         act: Act,
     ) -> Result<Answer, Fault> {
         match act {
-            Act::New(called) => { self.new_span(rt, registry, names.meta(called), ParentOf::Root) }
-            Act::NewInside(called) => {
-                self.new_span(rt, registry, names.meta(called), ParentOf::Current)
+            Act::New(called, place) => {
+                self.new_span(rt, registry, names.meta(called), place.parent())
             }
             Act::Clone(named) => self.clone_span(rt, registry, named.id()),
             Act::Enter(named) => self.lend(rt, registry, named.id(), Lent::Enter),

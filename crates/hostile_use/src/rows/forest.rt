@@ -132,7 +132,6 @@ impl<'t> Subject<Act> for OnForest<'t> {
         let len = u64::from(forest.len());
         add_numbers(text, &[len, forest.total(), forest.handles()])?;
         add_id(text, forest.next_id())?;
-        text.push_str("\n")?;
         for slot in 0..3 {
             if let Some(span) = forest.find(Id::pack(slot, 0)) {
                 add_span(text, span)?;

@@ -3,15 +3,16 @@ ghost use Rattle.std.specs.Prelude.{◌≡◌, [], None, vec_len, sum_by, IfOk};
 
 use crate::named::Named::One;
 use crate::rows::Row;
+use crate::rows::acts::Place::Apart;
 use crate::rows::acts::{Act, Called, Names};
 use crate::rows::caller::caller_of;
 use crate::rows::ending::{tell_end, whole};
-use crate::rows::on_registry::OnRegistry;
+use crate::rows::on_registry::{OnRegistry, one_worker};
 use crate::stage::Memory::Taken;
 use crate::stage::Stage;
 use crate::stop::Stop;
 use crate::trial::{Planned, perform};
-use span_id::{Checked, Limits};
+use span_id::Checked;
 use span_layers::{Admit, Filters, Say, Tellers};
 use span_outlet::Kept;
 use span_registry::{HANDLE_PARTS, Registry, SeatTable, Setup, Worker};
@@ -22,7 +23,7 @@ use std::sync::ledger::{Blank, Ledger};
 
 // Each call once or twice.
 static EVERY_CALL: [Planned<'static, Act>; 10] = [
-    ("new a", Taken, Act::New(Called::A)),
+    ("new a", Taken, Act::New(Called::A, Apart)),
     ("clone 1", Taken, Act::Clone(One)),
     ("enter 1", Taken, Act::Enter(One)),
     ("record 1", Taken, Act::Record(One)),
@@ -35,7 +36,7 @@ static EVERY_CALL: [Planned<'static, Act>; 10] = [
 ];
 
 // A handle that is given up.
-static GIVEN_UP: [Planned<'static, Act>; 1] = [("new a", Taken, Act::New(Called::A))];
+static GIVEN_UP: [Planned<'static, Act>; 1] = [("new a", Taken, Act::New(Called::A, Apart))];
 
 /// Makes the row's calls, and tells what they answer and how the registry ended. `Memory` where the registry could not
 /// be made.
@@ -47,14 +48,26 @@ pub(crate) fn run<R: Print + Wait>(
     filters: Filters,
     tellers: Tellers,
 ) -> Result<(), Stop> {
-    on_outlet(stage, alloc, row, names, filters, Kept::new(alloc, tellers))
+    let plan = if row == Row::GivenUp {
+        GIVEN_UP.as_slice()
+    } else {
+        EVERY_CALL.as_slice()
+    };
+    on_outlet(
+        stage,
+        alloc,
+        plan,
+        names,
+        filters,
+        Kept::new(alloc, tellers),
+    )
 }
 
 // Generic in what makes the texts.
 fn on_outlet<V: Say, R: Print + Wait>(
     stage: &Stage<R>,
     alloc: Global,
-    row: Row,
+    plan: &[Planned<'_, Act>],
     names: &Names,
     filters: Filters,
     outlet: Kept<V>,
@@ -65,7 +78,7 @@ fn on_outlet<V: Say, R: Print + Wait>(
         Ok((checked, table)) => named::<Brand, Brand, Brand, V, R>(
             stage,
             alloc,
-            row,
+            plan,
             names,
             &checked,
             filters,
@@ -83,11 +96,7 @@ fn limits_and_table<R: Print>(stage: &Stage<R>, alloc: Global) -> Result<(Checke
     ensures workers { IfOk result (λ made. made.0.workers ≡ 1) }
     ensures table { IfOk result (λ made. made.1.words ≡ made.0.slots) }
 {
-    let limits = Limits {
-        workers: 1,
-        ..Limits::default()
-    };
-    let Ok(checked) = limits.check() else {
+    let Ok(checked) = one_worker(1024) else {
         return Err(Stop::Memory);
     };
     stage.begin(Taken);
@@ -103,7 +112,7 @@ fn limits_and_table<R: Print>(stage: &Stage<R>, alloc: Global) -> Result<(Checke
 fn named<H: Ledger, C: Ledger, S: Setup, V: Say, R: Print + Wait>(
     stage: &Stage<R>,
     alloc: Global,
-    row: Row,
+    plan: &[Planned<'_, Act>],
     names: &Names,
     checked: &Checked,
     filters: Filters,
@@ -125,7 +134,7 @@ fn named<H: Ledger, C: Ledger, S: Setup, V: Say, R: Print + Wait>(
     );
     stage.over();
     match made {
-        Ok((registry, workers)) => called(stage, alloc, row, names, registry, workers),
+        Ok((registry, workers)) => called(stage, alloc, plan, names, registry, workers),
         Err(_) => Err(Stop::Memory),
     }
 }
@@ -135,7 +144,7 @@ fn named<H: Ledger, C: Ledger, S: Setup, V: Say, R: Print + Wait>(
 fn called<H: Ledger, C: Ledger, S: Setup, V: Say, A: Admit, R: Print + Wait>(
     stage: &Stage<R>,
     alloc: Global,
-    row: Row,
+    plan: &[Planned<'_, Act>],
     names: &Names,
     registry: Registry<H, C, S, Kept<V>, A>,
     workers: Vec<Worker<H, C>>,
@@ -144,11 +153,6 @@ fn called<H: Ledger, C: Ledger, S: Setup, V: Say, A: Admit, R: Print + Wait>(
     requires one { vec_len workers ≡ 1 }
     requires whole { sum_by (λ worker. worker.spare) workers.items ≡ H.parts }
 {
-    let plan = if row == Row::GivenUp {
-        GIVEN_UP.as_slice()
-    } else {
-        EVERY_CALL.as_slice()
-    };
     let mut subject = OnRegistry {
         rt: stage.rt,
         alloc,

@@ -17,6 +17,9 @@ static NOTES: [(Kind, &[(&str, &str)]); 4] = [
     (Kind::OnClose, &[("k", "1"), ("k", "2")]),
 ];
 
+// In which forms a note is written.
+static FORMS: [Form; 2] = [Form::Json, Form::Compact];
+
 /// Adds a layer, and tells its number where that is asked for. One that was refused memory comes back as it was, and is
 /// added again.
 pub(crate) fn add<R: Print>(
@@ -142,12 +145,10 @@ fn write_note<R: Print>(
     tellers: &Tellers,
     note: &Note,
 ) -> Result<(), Stop> {
-    for form in [Form::Json, Form::Compact] {
-        write_text(stage, alloc, form, note)?;
+    for form in &FORMS {
+        write_text(stage, alloc, *form, note)?;
     }
-    let said = made(stage, "say", || say(tellers, note))?;
-    stage.wrote(println!(stage.rt; "say: {}", shown(said.as_slice())));
-    Ok(())
+    tell_text(stage, "say", made(stage, "say", || say(tellers, note)))
 }
 
 fn write_text<R: Print>(
@@ -156,9 +157,22 @@ fn write_text<R: Print>(
     form: Form,
     note: &Note,
 ) -> Result<(), Stop> {
-    let written = made(stage, "text", || Ok(text(alloc, form, note)?))?;
-    stage.wrote(println!(stage.rt; "text: {}", shown(written.as_slice())));
-    Ok(())
+    let written = made(stage, "text", || Ok(text(alloc, form, note)?));
+    tell_text(stage, "text", written)
+}
+
+fn tell_text<R: Print>(
+    stage: &Stage<R>,
+    name: &str,
+    text: Result<Vec<u8>, Stop>,
+) -> Result<(), Stop> {
+    match text {
+        Ok(text) => {
+            stage.wrote(println!(stage.rt; "{name}: {}", shown(text.as_slice())));
+            Ok(())
+        }
+        Err(stop) => Err(stop),
+    }
 }
 
 // The text of a note whose layer is there.

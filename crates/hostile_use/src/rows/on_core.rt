@@ -3,6 +3,7 @@ ghost use Rattle.std.specs.Prelude.{◌≡◌, ◌<◌, [], IfOk};
 
 use crate::answer::{Answer, done, held, yes_or_no};
 use crate::named::Named::{self, One, OneAnew, Two};
+use crate::rows::acts::Place::{Apart, Inside};
 use crate::rows::acts::{Act, Called, MESSAGE, Names};
 use crate::stage::Memory::{Taken, Untouched};
 use crate::stage::Stage;
@@ -31,10 +32,14 @@ enum Ask {
 
 // A span inside another, and one that is entered nine times. The third span gets the slot of the first.
 static PLAN: [Planned<'static, Ask>; 29] = [
-    ("new a", Taken, Ask::Call(Act::New(Called::A))),
+    ("new a", Taken, Ask::Call(Act::New(Called::A, Apart))),
     ("clone 1", Taken, Ask::Call(Act::Clone(One))),
     ("enter 1", Taken, Ask::Call(Act::Enter(One))),
-    ("new b inside", Taken, Ask::Call(Act::NewInside(Called::B))),
+    (
+        "new b inside",
+        Taken,
+        Ask::Call(Act::New(Called::B, Inside)),
+    ),
     ("record 2", Taken, Ask::Call(Act::Record(Two))),
     ("event m", Taken, Ask::Call(Act::Event)),
     ("find 1", Untouched, Ask::Call(Act::Find(One))),
@@ -47,7 +52,7 @@ static PLAN: [Planned<'static, Ask>; 29] = [
     ("len", Untouched, Ask::Len),
     ("close 2", Taken, Ask::Call(Act::Close(Two))),
     ("len", Untouched, Ask::Len),
-    ("new a", Taken, Ask::Call(Act::New(Called::A))),
+    ("new a", Taken, Ask::Call(Act::New(Called::A, Apart))),
     ("enter it", Taken, Ask::Call(Act::Enter(OneAnew))),
     ("enter it, 2", Taken, Ask::Call(Act::Enter(OneAnew))),
     ("enter it, 3", Taken, Ask::Call(Act::Enter(OneAnew))),
@@ -178,8 +183,7 @@ fn make<V: Say>(core: &mut Core<Kept<V>>, names: &Names, act: Act) -> Result<Ans
     ensures { core.new.limits ≡ core.old.limits }
 {
     match act {
-        Act::New(called) => new_span(core, names.meta(called), ParentOf::Root),
-        Act::NewInside(called) => new_span(core, names.meta(called), ParentOf::Current),
+        Act::New(called, place) => new_span(core, names.meta(called), place.parent()),
         Act::Clone(named) => done(core.clone_span(0, named.id())),
         Act::Enter(named) => yes_or_no(core.enter(0, named.id())),
         Act::Exit(named) => yes_or_no(core.exit(0, named.id())),

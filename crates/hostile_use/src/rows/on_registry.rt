@@ -1,4 +1,5 @@
 //! A registry as what calls are made on.
+ghost use Rattle.std.specs.Prelude.{◌≡◌, IfOk};
 
 use crate::answer::Answer;
 use crate::named::Named;
@@ -6,13 +7,25 @@ use crate::rows::acts::{Act, Names};
 use crate::rows::caller::Caller;
 use crate::texts::add_numbers;
 use crate::trial::Subject;
-use span_id::{Fault, Id};
+use span_id::{Checked, Fault, Id, Limits};
 use span_layers::Admit;
 use span_outlet::Outlet;
 use span_registry::{Registry, Setup};
 use std::alloc::{AllocError, Global};
 use std::sync::Wait;
 use std::sync::ledger::Ledger;
+
+/// The limits of a registry with one worker, whose ring has so many places.
+pub(crate) fn one_worker(ring: u32) -> Result<Checked, Fault>
+    ensures { IfOk result (λ checked. checked.workers ≡ 1) }
+{
+    let limits = Limits {
+        workers: 1,
+        ring,
+        ..Limits::default()
+    };
+    limits.check()
+}
 
 /// A registry and who calls on it.
 #[derive(Drop)]

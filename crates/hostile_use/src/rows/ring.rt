@@ -4,16 +4,17 @@ ghost use Rattle.std.specs.Prelude.{◌≡◌, [], Some, vec_len, sum_by, IfOk};
 use crate::answer::Answer;
 use crate::named::Named::{One, Two};
 use crate::rows::Row;
+use crate::rows::acts::Place::{Apart, Inside};
 use crate::rows::acts::{Act, Called, Names};
 use crate::rows::caller::caller_of;
 use crate::rows::ending::{tell_end, whole};
-use crate::rows::on_registry::OnRegistry;
+use crate::rows::on_registry::{OnRegistry, one_worker};
 use crate::stage::Memory::{Taken, Untouched};
 use crate::stage::Stage;
 use crate::stop::Stop;
 use crate::texts::{add_lines, add_numbers};
 use crate::trial::{Planned, Subject, perform};
-use span_id::{Checked, Fault, Limits};
+use span_id::{Checked, Fault};
 use span_layers::{Admit, Filters, Say, Tellers};
 use span_outlet::{Drain, Ring, Step, Tap};
 use span_registry::{HANDLE_PARTS, Registry, SeatTable, Setup, Worker};
@@ -87,7 +88,7 @@ fn notes_of(step: Option<Step>) -> Answer {
 
 // A ring of one place: a call that finds it full changes nothing, and is made again after a step.
 static FULL_RING: [Planned<'static, Ask>; 7] = [
-    ("new a", Taken, Ask::Call(Act::New(Called::A))),
+    ("new a", Taken, Ask::Call(Act::New(Called::A, Apart))),
     ("clone 1", Taken, Ask::Call(Act::Clone(One))),
     ("close 1", Taken, Ask::Call(Act::Close(One))),
     ("step", Taken, Ask::Drain(Asked::Step)),
@@ -98,11 +99,15 @@ static FULL_RING: [Planned<'static, Ask>; 7] = [
 
 // A span inside another, and steps of the drain between the calls, with memory and without.
 static EVERY_CALL: [Planned<'static, Ask>; 17] = [
-    ("new a", Taken, Ask::Call(Act::New(Called::A))),
+    ("new a", Taken, Ask::Call(Act::New(Called::A, Apart))),
     ("enter 1", Taken, Ask::Call(Act::Enter(One))),
     ("step", Taken, Ask::Drain(Asked::Step)),
     ("step", Untouched, Ask::Drain(Asked::Step)),
-    ("new b inside", Taken, Ask::Call(Act::NewInside(Called::B))),
+    (
+        "new b inside",
+        Taken,
+        Ask::Call(Act::New(Called::B, Inside)),
+    ),
     ("record 2", Taken, Ask::Call(Act::Record(Two))),
     ("event m", Taken, Ask::Call(Act::Event)),
     ("step", Untouched, Ask::Drain(Asked::Step)),
@@ -135,7 +140,7 @@ pub(crate) fn run<R: Print + Wait>(
             named::<Brand, Brand, Brand, _, R>(
                 stage,
                 alloc,
-                row,
+                plan_of(row),
                 names,
                 &checked,
                 filters,
@@ -150,6 +155,15 @@ pub(crate) fn run<R: Print + Wait>(
     }
 }
 
+// The row's calls.
+fn plan_of(row: Row) -> &'static [Planned<'static, Ask>] {
+    if row == Row::FullRing {
+        FULL_RING.as_slice()
+    } else {
+        EVERY_CALL.as_slice()
+    }
+}
+
 // The limits of a registry with one worker, both ends of the ring, and the table of handles.
 fn parts<R: Print>(
     stage: &Stage<R>,
@@ -160,12 +174,7 @@ fn parts<R: Print>(
     ensures pair { IfOk result (λ parts. (parts.1.name ≡ parts.2) × (parts.1.sent ≡ [])) }
     ensures table { IfOk result (λ parts. parts.3.words ≡ parts.0.slots) }
 {
-    let limits = Limits {
-        workers: 1,
-        ring: if row == Row::FullRing { 1 } else { 1024 },
-        ..Limits::default()
-    };
-    let Ok(checked) = limits.check() else {
+    let Ok(checked) = one_worker(if row == Row::FullRing { 1 } else { 1024 }) else {
         return Err(Stop::Memory);
     };
     stage.begin(Taken);
@@ -182,7 +191,7 @@ fn parts<R: Print>(
 fn named<H: Ledger, C: Ledger, S: Setup, V: Say, R: Print + Wait>(
     stage: &Stage<R>,
     alloc: Global,
-    row: Row,
+    plan: &[Planned<'_, Ask>],
     names: &Names,
     checked: &Checked,
     filters: Filters,
@@ -204,7 +213,7 @@ fn named<H: Ledger, C: Ledger, S: Setup, V: Say, R: Print + Wait>(
     let made = Registry::<H, C, S, Ring>::new(alloc, checked, filters, ring, handles, calls, table);
     stage.over();
     match made {
-        Ok((registry, workers)) => called(stage, alloc, row, names, registry, workers, drain),
+        Ok((registry, workers)) => called(stage, alloc, plan, names, registry, workers, drain),
         Err(_) => Err(Stop::Memory),
     }
 }
@@ -214,7 +223,7 @@ fn named<H: Ledger, C: Ledger, S: Setup, V: Say, R: Print + Wait>(
 fn called<H: Ledger, C: Ledger, S: Setup, V: Say, A: Admit, R: Print + Wait>(
     stage: &Stage<R>,
     alloc: Global,
-    row: Row,
+    plan: &[Planned<'_, Ask>],
     names: &Names,
     registry: Registry<H, C, S, Ring, A>,
     workers: Vec<Worker<H, C>>,
@@ -225,11 +234,6 @@ fn called<H: Ledger, C: Ledger, S: Setup, V: Say, A: Admit, R: Print + Wait>(
     requires one { vec_len workers ≡ 1 }
     requires whole { sum_by (λ worker. worker.spare) workers.items ≡ H.parts }
 {
-    let plan = if row == Row::FullRing {
-        FULL_RING.as_slice()
-    } else {
-        EVERY_CALL.as_slice()
-    };
     let mut subject = OnRing {
         registry: OnRegistry {
             rt: stage.rt,
