@@ -8,6 +8,14 @@ run that nothing was refused; its lines that begin with `+` may be missing some,
 counted in their place. A call that takes no memory is made with each growth refused. The last line is
 'N passed, M failed'.
 
+`tracerun storm`, of two workers and one round, has three ends. Two have the status 3 and nothing on standard output:
+with `out of memory` on standard error, and with `refused: out of memory`, where a worker's call was refused it. The
+third has the status 0 and the numbers of a storm with memory, but that notes which lacked some are counted by
+`refused` in place of `lines`: at most one where one growth was refused, and none where the storm can do without it.
+The threads make their growths in another order in each run, so each run has to have one of the three ends, and each of
+them, the third with a note that was missed, has to be met before a run that nothing was refused. Where all growths
+after the first were refused too, the third end shows that the numbers themselves are written without memory.
+
 usage: refused_memory.py [--program FILE] [--hostile-use FILE]
 """
 import argparse
@@ -65,6 +73,11 @@ SCRIPTS = {
 {"op":"close","span":"a"}
 """,
 }
+
+# A storm, how many notes its layer has, and the standard errors with which it may end early.
+STORM = ["storm", "--workers", "2", "--rounds", "1"]
+NOTES = 14
+STOPPED = {b"out of memory\n", b"refused: out of memory\n"}
 
 # Rows whose calls all take no memory. In each other run some growth has to be met.
 WITHOUT_GROWTH = {"row plain"}
@@ -131,6 +144,33 @@ def replayed(program, shim, script, mode):
     return judge
 
 
+def numbers(missed):
+    """What the storm writes where so many of its notes were missed."""
+    return (f"workers 2\nrounds 1\nmade 4\nclosed 4\ncalls 18\n"
+            f"lines {NOTES - missed}\nrefused {missed}\nleft 0\n").encode()
+
+
+def stormed(program, shim, mode):
+    """Judges `tracerun storm`."""
+    most = 1 if mode == "alone" else NOTES
+    with_missed = {numbers(missed) for missed in range(1, most + 1)}
+    met = set()
+
+    def judge(number):
+        status, text, errors, was_refused = run([program, *STORM], shim, number, mode)
+        stopped = was_refused and (status, text) == (3, b"") and errors in STOPPED
+        missed = was_refused and (status, errors) == (0, b"") and text in with_missed
+        if stopped or missed:
+            met.add(errors)
+        elif (status, text, errors) != (0, numbers(0), b""):
+            return f"status {status}, standard error {errors!r}, standard output {text!r}", was_refused
+        if not was_refused and met != {b"", *STOPPED}:
+            return f"of the ends only those with the standard errors {sorted(met)} were met", was_refused
+        return "", was_refused
+
+    return judge
+
+
 def is_part(some, all_of_them):
     """Whether the items of `some` stand in `all_of_them`, in the same order."""
     rest = iter(all_of_them)
@@ -177,6 +217,7 @@ def main():
         subprocess.run([compiler(), "-O1", "-shared", "-fPIC", "-nostdlib", "-o", shim, source], check=True)
         judges = [(name, mode, replayed(words.program, shim, script, mode))
                   for name, script in SCRIPTS.items() for mode in MODES]
+        judges += [("storm", mode, stormed(words.program, shim, mode)) for mode in MODES]
         judges += [(f"row {row}", mode, used(words.hostile_use, shim, row, mode))
                    for row in rows_of(words.hostile_use) for mode in MODES]
         for name, mode, judge in judges:
