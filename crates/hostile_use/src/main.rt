@@ -16,7 +16,6 @@ use std::alloc::Global;
 use std::io;
 use std::process::ExitCode;
 use std::sync::Wait;
-use std::thread::Threads;
 
 fn main(rt: HostRuntime) -> io::Result<ExitCode> {
     let words: Vec<String> = std::env::args(&rt)?.collect(rt.alloc())?;
@@ -31,12 +30,7 @@ fn main(rt: HostRuntime) -> io::Result<ExitCode> {
 }
 
 // Runs rows, one after the other, until one ends early.
-fn run<R: Print + Threads + Wait + Sync>(
-    rt: &R,
-    alloc: Global,
-    marked: bool,
-    rows: &[Row],
-) -> io::Result<ExitCode> {
+fn run<R: Print + Wait>(rt: &R, alloc: Global, marked: bool, rows: &[Row]) -> io::Result<ExitCode> {
     for row in rows {
         if !run_row(rt, alloc, marked, *row)? {
             return Ok(ExitCode::FAILURE);
@@ -46,12 +40,7 @@ fn run<R: Print + Threads + Wait + Sync>(
 }
 
 // Runs a row. Whether it came to its end.
-fn run_row<R: Print + Threads + Wait + Sync>(
-    rt: &R,
-    alloc: Global,
-    marked: bool,
-    row: Row,
-) -> io::Result<bool> {
+fn run_row<R: Print + Wait>(rt: &R, alloc: Global, marked: bool, row: Row) -> io::Result<bool> {
     let stage = Stage::new(rt, row, marked);
     let ended = row.run(&stage, alloc);
     if let Err(Stop::Memory) = ended {

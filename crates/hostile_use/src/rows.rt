@@ -15,7 +15,6 @@ mod plain;
 mod ring;
 mod slots;
 mod stack;
-mod storm;
 mod with_layers;
 
 use crate::rows::acts::Names;
@@ -23,7 +22,6 @@ use crate::stage::{Stage, TRIES};
 use crate::stop::Stop;
 use std::alloc::Global;
 use std::sync::Wait;
-use std::thread::Threads;
 
 /// What is called.
 #[derive(Clone, Copy, PartialEq, Eq)]
@@ -41,12 +39,11 @@ pub(crate) enum Row {
     GivenUp,
     FullRing,
     Ring,
-    Storm,
 }
 
 impl Row {
     /// All rows.
-    pub(crate) const ALL: [Row; 14] = [
+    pub(crate) const ALL: [Row; 13] = [
         Row::Meta,
         Row::Field,
         Row::Plain,
@@ -60,7 +57,6 @@ impl Row {
         Row::GivenUp,
         Row::FullRing,
         Row::Ring,
-        Row::Storm,
     ];
 
     /// The word for it.
@@ -79,7 +75,6 @@ impl Row {
             Row::GivenUp => "given_up",
             Row::FullRing => "full_ring",
             Row::Ring => "ring",
-            Row::Storm => "storm",
         }
     }
 
@@ -89,11 +84,7 @@ impl Row {
     }
 
     /// Makes its calls, and tells what they answer.
-    pub(crate) fn run<R: Print + Threads + Wait + Sync>(
-        self,
-        stage: &Stage<R>,
-        alloc: Global,
-    ) -> Result<(), Stop> {
+    pub(crate) fn run<R: Print + Wait>(self, stage: &Stage<R>, alloc: Global) -> Result<(), Stop> {
         stage.wrote(println!(stage.rt; "== {}", self.name()));
         match self {
             Row::Meta => copies::run_meta(stage, alloc),
@@ -107,7 +98,6 @@ impl Row {
             Row::Outlets | Row::Core | Row::Kept | Row::GivenUp | Row::Ring => {
                 self.with_layers(stage, alloc, 1)
             }
-            Row::Storm => storm::run(stage, alloc),
         }
     }
 

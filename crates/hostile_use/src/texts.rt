@@ -1,7 +1,4 @@
 //! Metas, fields, notes and rules, and how they are looked at.
-ghost use Rattle.std.specs.Prelude.{◌≡◌, [], ◌∷◌, IfOk};
-ghost use Rattle.span_id.specs.declared.level.Level.TheVariants.{Trace};
-ghost use Rattle.span_layers.specs.Rule.{pairs_of};
 
 use span_forest::Span;
 use span_id::{Field, Fields, Id, Level, Meta, SharedMeta};
@@ -53,9 +50,7 @@ pub(crate) fn shared_fields_of(
 }
 
 /// The rule that admits everything.
-pub(crate) fn everything(alloc: Global) -> Result<Rule, AllocError>
-    ensures { IfOk result (λ rule. pairs_of rule ≡ ([], Trace) ∷ []) }
-{
+pub(crate) fn everything(alloc: Global) -> Result<Rule, AllocError> {
     let mut pairs = Vec::with_capacity(alloc, 1)?;
     pairs.push_reserved((String::from_str(alloc, "")?, Level::Trace));
     Ok(Rule { pairs })

@@ -4,8 +4,7 @@ use crate::stage::{Memory, Stage};
 use crate::stop::Stop;
 use crate::texts::{field_of, meta_of};
 use span_id::{Bits, Fault, Field, Id, Level, Limits, Meta};
-use span_run::{Counted, RunFault};
-use span_storm::{Gate, Open};
+use span_run::{Counted, RunFault, flush, write_text};
 use std::alloc::Global;
 use std::io;
 
@@ -37,15 +36,18 @@ fn slots_of(limits: Limits) -> Result<u32, Fault> {
     }
 }
 
-// Counted devices, and what decides in a storm.
+// A counted device, to which a text is written, and the status of a fault.
 fn devices<R: Print>(stage: &Stage<R>) {
     stage.begin(Memory::Untouched);
-    let counted = Counted::new(io::sink());
+    let mut counted = Counted::new(io::sink());
+    let written = write_text(&mut counted, b"text").is_ok();
+    let flushed = flush(&mut counted).is_ok();
     let (calls, failed) = (counted.calls(), counted.failed());
-    let goes_on = Open.before(0, 1);
     let status = RunFault::Memory.status();
     stage.over();
-    stage.wrote(println!(stage.rt; "counted: {calls} {failed}, open: {goes_on}, status: {status}"));
+    stage.wrote(println!(stage.rt;
+        "written: {written}, flushed: {flushed}, counted: {calls} {failed}, status: {status}"
+    ));
 }
 
 // Ids and sets of layers.
