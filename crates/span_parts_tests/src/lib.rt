@@ -1,4 +1,4 @@
-//! Tests of the crates without a lock, by their public words: what no clause says.
+//! Tests of the crates below the lock, by their public words: what no clause says.
 #![tactic(auto)]
 
 #[cfg(test)]

@@ -1,13 +1,10 @@
 //! What no clause says: worked values from outside the crates, and each call once.
 mod compare;
 mod core_calls;
-mod faults;
 mod forest;
 mod ids;
 mod layers;
 mod outlet;
-mod replay;
-mod script;
 mod seats;
 mod slots;
 mod stack;

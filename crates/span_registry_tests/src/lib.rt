@@ -1,4 +1,4 @@
-//! Tests of the crates that take a lock, by their public words: what no clause says.
+//! Tests of `span_registry`, by its public words: what no clause says.
 #![tactic(auto)]
 
 #[cfg(test)]

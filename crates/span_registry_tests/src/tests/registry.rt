@@ -1,5 +1,5 @@
 //! The calls of a registry run, with their answers and their reports.
-pub(crate) mod acts;
+mod acts;
 mod backlog;
 mod caller;
 mod ended;
@@ -12,7 +12,7 @@ mod layers;
 mod names;
 mod on_core;
 mod on_registry;
-pub(crate) mod same;
+mod same;
 mod scripts;
 mod steps;
 mod strangers;

@@ -22,20 +22,18 @@ pub(crate) enum Refused {
     None,
     /// Those of notes of this kind.
     At(Kind),
-    All,
 }
 
 fn is_refused(refused: Refused, kind: Kind) -> bool {
     match refused {
         Refused::None => false,
         Refused::At(other) => kind == other,
-        Refused::All => true,
     }
 }
 
-/// Hooks that answer as `admits` and `text` do, but these texts are refused memory. They are handed out, so the closures
-/// state what they answer.
-pub(crate) fn hooks(rt: &impl Abort, alloc: Global, refused: Refused) -> Hooks {
+// Hooks that answer as `admits` and `text` do, but these texts are refused memory. They are handed out, so the closures
+// state what they answer.
+fn hooks(rt: &impl Abort, alloc: Global, refused: Refused) -> Hooks {
     let admit = Box::new(
         alloc,
         |rule: &Rule, meta: &Meta| -> bool

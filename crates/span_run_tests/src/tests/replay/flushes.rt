@@ -1,8 +1,7 @@
 //! When a run flushes its writer.
 use crate::tests::compare::same;
-use crate::tests::layers::fixtures::Refused;
 use crate::tests::replay::fixtures::{Ran, run, run_with};
-use crate::tests::replay::hooks::hooks_of;
+use crate::tests::replay::hooks::{HAS_NONE, hooks_of};
 use std::alloc::Global;
 use std::io;
 use std::io::{ErrorKind, Read, Write};
@@ -109,7 +108,7 @@ fn does_not_flush_after_a_device_that_failed(rt: HostRuntime) {
 
 #[test]
 fn does_not_flush_after_want_of_memory(rt: HostRuntime) {
-    let hooks = hooks_of(&rt, rt.alloc(), &[Refused::All]);
+    let hooks = hooks_of(&rt, rt.alloc(), &[HAS_NONE]);
     let mut writer = writer(64, true);
     let ran = run_with(&rt, rt.alloc(), ONE_LAYER.as_bytes(), &mut writer, hooks);
     ended_so(&rt, &ran, &writer, ("out of memory", 0), "a layer");

@@ -1,5 +1,5 @@
 //! What `show` writes.
-use crate::tests::registry::same::{is_text, same};
+use crate::tests::compare::{equal, is_text};
 use span_registry::Report;
 use span_run::{Counted, RunFault};
 use span_storm::show;
@@ -52,8 +52,8 @@ fn shows_eight_lines(rt: HostRuntime) {
     let alloc = rt.alloc();
     let mut output = Counted::new(Vec::new(alloc));
     let shown = show(16, 400, &report(alloc), &mut output).is_ok();
-    same(&rt, shown, true);
-    same(&rt, (output.flushes(), output.failed()), (0, 0));
+    equal(&rt, shown, true);
+    equal(&rt, (output.flushes(), output.failed()), (0, 0));
     is_text(&rt, output.into_inner().as_slice(), SHOWN);
 }
 
@@ -63,7 +63,7 @@ fn has_failed(rt: &impl Abort, alloc: Global, shown: &Result<(), RunFault>, room
         Ok(()) => assert!(rt; false, "with room for {room}"),
         Err(fault) => {
             let text = fault.to_string(alloc).expect(rt, "memory");
-            same(rt, (room, text.as_str()), (room, "device: write failed"));
+            equal(rt, (room, text.as_str()), (room, "device: write failed"));
         }
     }
 }
@@ -77,8 +77,8 @@ fn fails_after(rt: &impl Abort, alloc: Global, room: usize, expected: &[u8]) {
     });
     let shown = show(16, 400, &report(alloc), &mut output);
     has_failed(rt, alloc, &shown, room);
-    same(rt, (room, output.failed()), (room, 1));
-    same(rt, (room, taken.as_slice()), (room, expected));
+    equal(rt, (room, output.failed()), (room, 1));
+    equal(rt, (room, taken.as_slice()), (room, expected));
 }
 
 #[test]

@@ -1,10 +1,42 @@
-//! Runs of scripts over devices, and how they end.
-use span_layers::Hooks;
+//! Hooks of layers, runs of scripts over devices, and how they end.
+ghost use Rattle.std.specs.Prelude.{◌≡◌, string_bytes};
+ghost use Rattle.std.specs.Result.{ForOk};
+ghost use Rattle.span_layers.specs.Note.{plain_note};
+ghost use Rattle.span_layers.specs.Rule.{pairs_of, is_admitted};
+ghost use Rattle.span_layers.specs.Text.{text_of};
+
+use span_id::Meta;
+use span_layers::{Form, Hooks, Note, Rule, admits, text};
 use span_replay::{Remains, replay, replay_with_layers};
 use span_run::{Counted, RunFault};
-use std::alloc::Global;
+use std::alloc::{AllocError, Global};
 use std::io::{Read, Write};
 use std::process::Abort;
+
+/// Hooks that answer as `admits` and `text` do, or whose texts are all refused memory. They are handed out, so the
+/// closures state what they answer.
+pub(crate) fn hooks(rt: &impl Abort, alloc: Global, has_memory: bool) -> Hooks {
+    let admit = Box::new(
+        alloc,
+        |rule: &Rule, meta: &Meta| -> bool
+            ensures { result
+                ≡ is_admitted (pairs_of rule.now) (string_bytes meta.now.target) meta.now.level }
+        { admits(rule, meta) },
+    );
+    let say = Box::new(
+        alloc,
+        move |alloc: Global, form: Form, note: &Note| -> Result<Vec<u8>, AllocError>
+            ensures { ForOk result (λ text. text.items ≡ text_of form (plain_note note.now)) }
+        {
+            if has_memory {
+                text(alloc, form, note)
+            } else {
+                Err(AllocError)
+            }
+        },
+    );
+    Hooks::new(admit.expect(rt, "memory"), say.expect(rt, "memory"))
+}
 
 /// How a run ended, and what its devices counted.
 #[derive(Drop)]

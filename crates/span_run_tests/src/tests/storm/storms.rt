@@ -1,12 +1,11 @@
 //! Whole storms.
 ghost use Rattle.std.specs.Prelude.{◌<◌, ◌≤◌};
 
-use crate::tests::registry::acts::numbered;
-use crate::tests::registry::same::{is_text, same};
+use crate::tests::compare::{equal, is_text};
 use crate::tests::storm::layer::{REFUSED_FROM, storm_of_all};
 use crate::tests::storm::meeting::{HoldsAt, HoldsWorkers, InOrder, Meeting};
 use span_layers::Layers;
-use span_registry::Report;
+use span_registry::{Line, Report};
 use span_run::{Counted, RunFault};
 use span_storm::{Gate, Open, show, storm};
 use std::alloc::Global;
@@ -42,7 +41,7 @@ fn ends(
         }
         Err(fault) => {
             let text = fault.to_string(alloc).expect(rt, "memory");
-            same(rt, text.as_str(), expected);
+            equal(rt, text.as_str(), expected);
         }
     }
 }
@@ -144,7 +143,7 @@ fn the_lowest_party_that_is_held_is_told(rt: HostRuntime) {
 fn each_call_is_asked_for_once(rt: HostRuntime) {
     let gate = InOrder::new();
     ends_with_gate(&rt, rt.alloc(), 3, &gate, TWO_BY_THREE);
-    same(&rt, gate.last(), (27, 27, 1));
+    equal(&rt, gate.last(), (27, 27, 1));
 }
 
 #[test]
@@ -160,7 +159,7 @@ fn workers_that_are_held_at_once_make_no_call(rt: HostRuntime) {
     let seen = said.clone().expect(&rt, "memory");
     let ended = storm_of_all(&rt, alloc, 2, 1, said, &HoldsWorkers { workers: 2 });
     ends(&rt, alloc, 2, 1, &ended, "worker 0 was held");
-    same(&rt, seen.load(Ordering::SeqCst), 0);
+    equal(&rt, seen.load(Ordering::SeqCst), 0);
 }
 
 // The lines of two rounds of one worker: the number of the batch, the place, the layer and the text.
@@ -180,6 +179,34 @@ const TWO_ROUNDS: &str = "\
 15 0 0 exit 16777217 w0 job
 17 0 0 close 16777217 w0 job
 ";
+
+// The number of the batch, the place, the layer and the text of each line.
+fn numbered(rt: &impl Abort, alloc: Global, lines: &[Line]) -> Vec<u8> {
+    let mut text = Vec::new(alloc);
+    for line in lines {
+        let Line {
+            batch,
+            place,
+            layer,
+            text: _,
+        } = line;
+        let numbers = format!(in alloc; "{batch} {place} {layer} ").expect(rt, "memory");
+        push_line(rt, &mut text, numbers.as_str(), line);
+    }
+    text
+}
+
+// The text of a line after these numbers, as the next line.
+fn push_line(rt: &impl Abort, text: &mut Vec<u8>, numbers: &str, line: &Line) {
+    push(rt, text, numbers.as_bytes());
+    push(rt, text, line.text.as_slice());
+    push(rt, text, b"\n");
+}
+
+// More of a text.
+fn push(rt: &impl Abort, text: &mut Vec<u8>, more: &[u8]) {
+    text.extend_from_slice(more).expect(rt, "memory");
+}
 
 #[test]
 fn the_calls_of_two_rounds(rt: HostRuntime) {

@@ -1,7 +1,6 @@
 //! Which hooks the layers of a run call.
 use crate::tests::compare::same;
-use crate::tests::layers::fixtures::{Refused, hooks};
-use crate::tests::replay::fixtures::run_with;
+use crate::tests::replay::fixtures::{hooks, run_with};
 use span_layers::Hooks;
 use std::alloc::Global;
 use std::process::Abort;
@@ -12,26 +11,28 @@ const ONE_LAYER: &str =
 const TWO_LAYERS: &str =
     "{\"op\":\"layer\"}\n{\"op\":\"layer\"}\n{\"op\":\"new\",\"name\":\"a\"}\n{\"op\":\"close\",\"span\":\"a\"}\n";
 
-const HAS_MEMORY: Refused = Refused::None;
+/// A layer's formatter has memory.
+const HAS_MEMORY: bool = true;
 
-const HAS_NONE: Refused = Refused::All;
+/// It never has any.
+pub(crate) const HAS_NONE: bool = false;
 
 /// Hooks for each layer in turn, whose formatter has memory or never any.
-pub(crate) fn hooks_of(rt: &impl Abort, alloc: Global, refused: &[Refused]) -> Vec<Hooks> {
+pub(crate) fn hooks_of(rt: &impl Abort, alloc: Global, formatters: &[bool]) -> Vec<Hooks> {
     let mut all = Vec::new(alloc);
-    for refused in refused {
-        let hooks = hooks(rt, alloc, *refused);
+    for has_memory in formatters {
+        let hooks = hooks(rt, alloc, *has_memory);
         all.push(hooks).expect(rt, "memory");
     }
     all
 }
 
 /// A script, the hooks of its layers, what a run with them writes, and how it ends.
-type Row = (&'static str, &'static [Refused], &'static str, &'static str);
+type Row = (&'static str, &'static [bool], &'static str, &'static str);
 
 fn runs(rt: &impl Abort, alloc: Global, row: &Row) {
-    let (script, refused, text, end) = *row;
-    let hooks = hooks_of(rt, alloc, refused);
+    let (script, formatters, text, end) = *row;
+    let hooks = hooks_of(rt, alloc, formatters);
     let mut taken = Vec::new(alloc);
     let ran = run_with(rt, alloc, script.as_bytes(), &mut taken, hooks);
     let ended = (taken.as_slice(), ran.end.as_str());

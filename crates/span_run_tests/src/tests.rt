@@ -1,0 +1,6 @@
+//! What no clause says: lines of scripts, and whole runs and storms.
+mod compare;
+mod faults;
+mod replay;
+mod script;
+mod storm;
