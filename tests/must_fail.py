@@ -24,6 +24,7 @@ import shutil
 import subprocess
 import sys
 import tempfile
+import threading
 import time
 from concurrent.futures import ThreadPoolExecutor
 from pathlib import Path
@@ -32,9 +33,10 @@ from toolchain import load
 
 TOP = Path(__file__).resolve().parent.parent
 SECONDS = 2  # between two looks at the log
-SIDE_BY_SIDE = 2
-# Beside the gate's proofs an edit's check only takes what they leave.
+# Beside the gate's proofs, checks of edits only take what these leave of processors and memory (in bytes).
+BESIDE_THE_GATE = 2
 NICE = 19
+FREE = 4_000_000_000
 # What stands outside of a function's body.
 ITEM = re.compile(
     r"\s*(pub(\(\w+\))?\s+)?(const|static|ghost|type|struct|enum|union|trait|impl|mod|use|fn|requires|ensures|invariant)\b|\s*#"
@@ -100,7 +102,7 @@ def apply(rt, edit, room):
     return why
 
 
-def open_goals(said, crate, function):
+def open_goals(said, crate, function, room):
     """The goals of a function that the checker left open, or None where it didn't refuse the function."""
     refused, goals = False, set()
     for line in said.splitlines():
@@ -108,17 +110,31 @@ def open_goals(said, crate, function):
             refused = True
             found = re.search(r"`search` did not prove (`[^`]+`(?:, `[^`]+`)*)", line)
             goals.update(re.findall(r"`([^`]+)`", found[1]) if found else [])
-        at = re.match(r"(?:\./)?proofs/(.+)/Answers\.antt:\d+:\d+: error: `([^`]+)`: (.*)", line)
-        if at and at[1].replace("/", "::") == function and not NAMES.search(at[3]):
-            goals.add(at[2])
+        answer = re.match(r"(?:\./)?proofs/(.+)/Answers\.antt:\d+:\d+: error: `([^`]+)`: (.*)", line)
+        if answer and answer[1].replace("/", "::") == function and not NAMES.search(answer[3]):
+            goals.add(answer[2])
+        note = re.match(r"note: (src/\S+):(\d+):\d+: it is not proved .*?\(`([^`]+)`\)", line)
+        if note and function_at(Path(room, note[1]), int(note[2])) == function.split("::")[-1]:
+            goals.add(note[3])
     return goals if refused else None
+
+
+def function_at(file, number):
+    """The name of the function that has the line of this number: its attributes begin it."""
+    lines = file.read_text().split("\n")
+    while lines[number - 1].lstrip().startswith("#["):
+        number += 1
+    names = re.findall(r"^\s*(?:[\w()\"]+\s+)*fn (\w+)", "\n".join(lines[:number]), re.M)
+    return names[-1] if names else None
 
 
 class Tries:
     """The edits of the repository, tried over the libraries of TREE."""
 
-    def __init__(self, tree, crates):
-        self.rt = load()
+    def __init__(self, tree, crates, log):
+        self.rt, self.log = load(), log
+        self.lanes = self.rt.processors()
+        self.may_check = threading.Semaphore(BESIDE_THE_GATE if log else self.lanes)
         # (its first call sets a signal's handler, which only the main thread may)
         self.rt.rtlib.guarded()
         os.chdir(tree)
@@ -126,7 +142,7 @@ class Tries:
         self.rt.Crate.cuts_libraries = True
         self.rt.Crate.allowed = self.rt.handles_of(tree)
         named = [it for it in self.rt.rtlib.crates_below(tree) if not crates or it.name in crates]
-        self.crates = sorted(named, key=lambda crate: len(crate.below()))
+        self.crates = sorted(filter(self.edits_of, named), key=lambda crate: len(crate.below()))
         self.kept = self.rt.Kept([]) if hasattr(self.rt, "Kept") else None
 
     def edits_of(self, crate):
@@ -159,18 +175,21 @@ class Tries:
                 if why:
                     return {edit: (False, f"{edit}: it can't be made: {why}")}
             ran = self.check(crate, room, sorted({edit.function for edit in edits}))
-        return {edit: self.judged(crate, edit, ran) for edit in edits}
+            return {edit: self.judged(crate, edit, ran, room) for edit in edits}
 
     def check(self, crate, room, functions):
         only = [word for function in functions for word in ("--only", function)]
         words = [self.rt.rtlib.RATTLE, "check", *crate.words(["--jobs", "1"], keeps=False), *only]
-        return subprocess.run(
-            ["nice", "-n", str(NICE), *self.rt.rtlib.guarded(), *words], cwd=room, errors="replace",
-            stdin=subprocess.DEVNULL, stdout=subprocess.PIPE, stderr=subprocess.STDOUT,
-        )
+        with self.may_check:
+            while self.log and not self.log.is_over() and self.rt.free() < FREE:
+                time.sleep(SECONDS)
+            return subprocess.run(
+                ["nice", "-n", str(NICE), *self.rt.rtlib.guarded(), *words], cwd=room, errors="replace",
+                stdin=subprocess.DEVNULL, stdout=subprocess.PIPE, stderr=subprocess.STDOUT,
+            )
 
-    def judged(self, crate, edit, ran):
-        goals = open_goals(ran.stdout, crate.name, edit.function)
+    def judged(self, crate, edit, ran, room):
+        goals = open_goals(ran.stdout, crate.name, edit.function, room)
         counts = re.search(r"^only=(\d+) proved=(\d+)$", ran.stdout, re.M)
         if ran.returncode == 1 and counts and goals and edit.goal in goals:
             return True, f"{edit}: refused at {edit.function} {edit.goal}"
@@ -207,18 +226,37 @@ class Log:
     def __init__(self, path, over):
         self.path, self.over = path, over
 
+    def is_over(self):
+        return self.over.exists()
+
     def wait_for(self, crates):
         """Waits until these crates stand, or until it is over, and says whether they do."""
         while True:
-            is_over = self.over.exists()
+            is_over = self.is_over()
             stand = set(re.findall(r"^rt: (\w+) (?:proved$|is kept:)", self.path.read_text(errors="replace"), re.M))
             if stand.issuperset(crates) or is_over:
                 return stand.issuperset(crates)
             time.sleep(SECONDS)
 
 
-def try_one(tries, crate, log):
-    if log and not log.wait_for([it.name for it in crate.below()]):
+def try_all(tries):
+    """What to say of each edit, lowest crates first, as it comes."""
+    with ThreadPoolExecutor(max(tries.lanes, BESIDE_THE_GATE)) as pool:
+        if tries.log:
+            threading.Thread(target=take_all_processors, args=[tries], daemon=True).start()
+        for told in pool.map(lambda crate: try_one(tries, crate), tries.crates):
+            yield from told
+
+
+def take_all_processors(tries):
+    while not tries.log.is_over():
+        time.sleep(SECONDS)
+    for _ in range(BESIDE_THE_GATE, tries.lanes):
+        tries.may_check.release()
+
+
+def try_one(tries, crate):
+    if tries.log and not tries.log.wait_for([it.name for it in crate.below()]):
         return [(False, f"{edit}: not tried, as the libraries below weren't proved") for edit in tries.edits_of(crate)]
     return tries.one_crate(crate)
 
@@ -230,14 +268,11 @@ def main():
     parser.add_argument("--gate-is-over", type=Path)
     parser.add_argument("crates", nargs="*")
     words = parser.parse_args()
-    tries = Tries(os.path.realpath(words.tree), words.crates)
     log = Log(words.log, words.gate_is_over) if words.log else None
     passed = failed = 0
-    with ThreadPoolExecutor(SIDE_BY_SIDE) as pool:
-        for told in pool.map(lambda crate: try_one(tries, crate, log), tries.crates):
-            for refused, line in told:
-                passed, failed = passed + refused, failed + (not refused)
-                print(line, flush=True)
+    for refused, line in try_all(Tries(os.path.realpath(words.tree), words.crates, log)):
+        passed, failed = passed + refused, failed + (not refused)
+        print(line, flush=True)
     print(f"{passed} passed, {failed} failed")
     sys.exit(1 if failed else 0)
 
