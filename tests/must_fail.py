@@ -51,7 +51,8 @@ class Edit:
     def __init__(self, path):
         self.path, self.text = path, path.read_text()
         said = re.search(r"^# refused at: (\S+) (\S+)$", self.text, re.M)
-        self.function, self.goal = said.groups() if said else (None, None)
+        self.function, self.goal = said.groups() if said else ("", "")
+        self.name = self.function.split("::")[-1]
 
     def __str__(self):
         return f"{self.path.parent.parent.name}/{self.path.stem}"
@@ -76,12 +77,12 @@ def groups_of(rt, crate, edits):
     while left:
         with tempfile.TemporaryDirectory() as room:
             copy_parts(rt, crate, room)
-            group, functions = [], set()
+            group, names = [], set()
             for edit in left:
                 alone = bool(group) and not (edit.is_of_a_body() and group[0].is_of_a_body())
-                if not alone and edit.function not in functions and not apply(rt, edit, room):
+                if not alone and edit.name not in names and not apply(rt, edit, room):
                     group.append(edit)
-                    functions.add(edit.function)
+                    names.add(edit.name)
         # (one that can't be made is tried, and found so, by itself)
         group = group or left[:1]
         yield group
@@ -102,19 +103,19 @@ def apply(rt, edit, room):
     return why
 
 
-def open_goals(said, crate, function, room):
+def open_goals(said, crate, edit, room):
     """The goals of a function that the checker left open, or None where it didn't refuse the function."""
     refused, goals = False, set()
     for line in said.splitlines():
-        if re.match(rf"fn {re.escape(f'{crate}::{function}')}: (not proved|no proof)", line):
+        if re.match(rf"fn {re.escape(f'{crate}::{edit.function}')}: (not proved|no proof)", line):
             refused = True
             found = re.search(r"`search` did not prove (`[^`]+`(?:, `[^`]+`)*)", line)
             goals.update(re.findall(r"`([^`]+)`", found[1]) if found else [])
         answer = re.match(r"(?:\./)?proofs/(.+)/Answers\.antt:\d+:\d+: error: `([^`]+)`: (.*)", line)
-        if answer and answer[1].replace("/", "::") == function and not NAMES.search(answer[3]):
+        if answer and answer[1].replace("/", "::") == edit.function and not NAMES.search(answer[3]):
             goals.add(answer[2])
         note = re.match(r"note: (src/\S+):(\d+):\d+: it is not proved .*?\(`([^`]+)`\)", line)
-        if note and function_at(Path(room, note[1]), int(note[2])) == function.split("::")[-1]:
+        if note and function_at(Path(room, note[1]), int(note[2])) == edit.name:
             goals.add(note[3])
     return goals if refused else None
 
@@ -189,7 +190,7 @@ class Tries:
             )
 
     def judged(self, crate, edit, ran, room):
-        goals = open_goals(ran.stdout, crate.name, edit.function, room)
+        goals = open_goals(ran.stdout, crate.name, edit, room)
         counts = re.search(r"^only=(\d+) proved=(\d+)$", ran.stdout, re.M)
         if ran.returncode == 1 and counts and goals and edit.goal in goals:
             return True, f"{edit}: refused at {edit.function} {edit.goal}"
@@ -273,6 +274,9 @@ def main():
     for refused, line in try_all(Tries(os.path.realpath(words.tree), words.crates, log)):
         passed, failed = passed + refused, failed + (not refused)
         print(line, flush=True)
+    if not words.crates and not passed + failed:
+        print("there are no edits")
+        failed = 1
     print(f"{passed} passed, {failed} failed")
     sys.exit(1 if failed else 0)
 
