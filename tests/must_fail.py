@@ -16,8 +16,8 @@ edits of a crate are tried once the libraries below it stand there; once there i
 was refused over the same libraries is kept beside what rt keeps, where it does. The last line is 'N passed, M failed'.
 """
 import argparse
+import contextlib
 import hashlib
-import json
 import os
 import re
 import shutil
@@ -147,7 +147,9 @@ class Tries:
         self.kept = self.rt.Kept([]) if hasattr(self.rt, "Kept") else None
 
     def edits_of(self, crate):
-        return [Edit(path) for path in sorted((TOP / "crates" / crate.name / "must-fail").glob("*.edit"))]
+        # (a file of another name is no edit for rt: it has no line that says where it is refused, and is told)
+        files = sorted((TOP / "crates" / crate.name / "must-fail").glob("*"))
+        return [Edit(path) for path in files if path.suffix != ".md"]
 
     def one_crate(self, crate):
         """What to say of each edit of a crate, with whether it was refused."""
@@ -201,7 +203,7 @@ class Tries:
 
     def name_of(self, crate, edit):
         """The name under which it is kept that the edit was refused: the sum of all that this rests on."""
-        if not self.kept:
+        if not (self.kept and self.kept.at):
             return None
         for below in crate.below():
             if below.name not in self.kept.rlibs:
@@ -216,9 +218,10 @@ class Tries:
         return bool(name) and self.place(name).exists()
 
     def keep(self, name):
-        if name and self.kept.at:
-            self.place(name).parent.mkdir(exist_ok=True)
-            self.place(name).touch()
+        if name:
+            with contextlib.suppress(OSError):
+                self.place(name).parent.mkdir(exist_ok=True)
+                self.place(name).touch()
 
 
 class Log:
