@@ -163,3 +163,9 @@ pub whole : (forms : List Form) (history : List PlainBatch) (lines : List PlainL
 whole forms history lines refused kept none_refused =
     let counted = kept.counted in
     all_told forms kept.each (omega (arith, counted, none_refused)) ∙ lines_in_batches forms (enumerate_from 0 history)
+
+-- the lines that a batch brought, where no note was missed
+pub batch_whole : (forms : List Form) (batch : ℕ × PlainBatch) (lines : List PlainLine) (refused more : ℕ) → GainsLines forms (numbered_in batch) [] refused lines more → more ≡ 0 → lines ≡ lines_of_batch forms batch
+batch_whole forms batch lines refused more gains none_refused =
+    let counted = gains.counted in
+    gains.lines_are ∙ all_told forms gains.each (omega (arith, counted, none_refused)) ∙ lines_in_batch forms batch.0 (enumerate_from 0 batch.1.notes)

@@ -3,6 +3,8 @@ pub mod Batch
 pub mod Outlet
 pub mod Lines
 pub mod Kept
+pub mod Past
+pub mod Latest
 pub mod Ring
 pub mod Drain
 pub mod LineReader

@@ -5,16 +5,19 @@
 mod batch;
 mod drain;
 mod kept;
+mod latest;
 mod layer_lines;
 mod line;
 mod line_reader;
 mod outlet;
+mod past;
 mod ring;
 mod told;
 
 pub use batch::{Batch, Call, ParentOf, Reply};
 pub use drain::{Drain, Step};
 pub use kept::Kept;
+pub use latest::Latest;
 pub use layer_lines::LayerLines;
 pub use line::Line;
 pub use line_reader::LineReader;

@@ -1,13 +1,14 @@
 -- What is written for a call: the lines that the history has more of, and the answer.
 use Rattle.std.proofs.Common.{◌≡◌, ℕ, ◌+◌, ◌<◌, ◌≤◌, Bool, true, false, not, if◌then◌else◌, List, [], ◌∷◌, ◌++◌, length, drop, get_or, flat_map, Option, Result, Ok, Err, refl, sym, ap, subst, ◌∙◌, arith, rules, append_assoc, append-nil, length-append, ◌&&◌, ◌-◌, map, take}
 use Rattle.std.specs.Prelude.{IfErr, OnOk, ⊤}
-use Rattle.std.proofs.lemmas.List.{drop_more, take_rest, drop_all, drop-map}
+use Rattle.std.proofs.lemmas.List.{drop_more, drop_all}
 use Rattle.std.specs.List.{enumerate_from}
 use Rattle.span_id.specs.declared.limits.Limits.{Limits}
 use Rattle.span_layers.specs.declared.form.Form.{Form}
 use Rattle.span_outlet.specs.Batch.{PlainBatch}
 use Rattle.span_core.specs.Core.{CoreView, is_named, is_wanted_call, is_known, may_count, may_send, has_slot, is_inside}
-use Rattle.span_outlet.specs.Lines.{PlainLine, plain_line, lines_of, lines_of_batch}
+use Rattle.span_outlet.specs.Lines.{PlainLine, plain_line, lines_of_batch}
+use Rattle.span_outlet.specs.Latest.{lines_from, last_lines}
 use Rattle.span_outlet.specs.declared.line.Line.{Line}
 use Rattle.span_outlet.specs.Request as call
 use Rattle.span_id.specs.declared.fault.Fault.TheVariants.{Unknown, CountFull, Full, NotEntered, BadName}
@@ -23,6 +24,7 @@ use Rattle.span_stack.specs.Stack.{current}
 use Rattle.span_core.specs.World.{stack_of}
 use Rattle.span_script.specs.declared.reason.Reason.TheVariants.{LabelTaken}
 use Rattle.span_replay.specs.inside.Running.{StopsAs, RunsAs, IsWrittenCall, IsWritten, core_in}
+use Rattle.span_replay.specs.inside.Sending.{IsAtMostOneMore}
 use Rattle.span_replay.specs.State.{State}
 use Rattle.span_replay.specs.Written.{answer_for, note_line, outcome_text, core_left, call_written}
 use Rattle.span_replay.specs.declared.run.answer.Answer.{Answer}
@@ -31,28 +33,34 @@ use Rattle.span_replay.specs.declared.run.script.Script.{Script}
 use Rattle.span_script.specs.declared.stop.Stop.{Stop}
 use Rattle.span_script.specs.declared.stop.Stop.TheVariants.{Memory}
 
--- ---- the lines of a history and of one batch more
-
-enumerated_more : (n : ℕ) (sent : List PlainBatch) (batch : PlainBatch) → enumerate_from n (sent ++ batch ∷ []) ≡ enumerate_from n sent ++ (n + length sent, batch) ∷ []
-enumerated_more n [] batch = ap (λ k. (k, batch) ∷ []) (omega arith)
-enumerated_more n (first ∷ sent) batch = ap (λ rest. (n, first) ∷ rest) (enumerated_more (n + 1) sent batch ∙ ap (λ k. enumerate_from (n + 1) sent ++ (k, batch) ∷ []) (omega arith))
-
-flat_more : {A B : Type 0} (f : A → List B) (xs : List A) (x : A) → flat_map f (xs ++ x ∷ []) ≡ flat_map f xs ++ f x
-flat_more f [] x = search rules
-flat_more f (y ∷ ys) x = ap (λ rest. f y ++ rest) (flat_more f ys x) ∙ sym (append_assoc (f y) (flat_map f ys) (f x))
-
-pub lines_more : (forms : List Form) (sent : List PlainBatch) (batch : PlainBatch) → lines_of forms (sent ++ batch ∷ []) ≡ lines_of forms sent ++ lines_of_batch forms (length sent, batch)
-lines_more forms sent batch =
-    ap (flat_map (lines_of_batch forms)) (enumerated_more 0 sent batch ∙ ap (λ k. enumerate_from 0 sent ++ (k, batch) ∷ []) (omega arith)) ∙ flat_more (lines_of_batch forms) (enumerate_from 0 sent) (length sent, batch)
+-- ---- the lines of one batch more
 
 dropped : {A : Type 0} (xs ys : List A) → drop (length xs) (xs ++ ys) ≡ ys
 dropped [] ys = refl
 dropped (x ∷ xs) ys = dropped xs ys
 
+all_dropped : {A : Type 0} (xs : List A) → drop (length xs) xs ≡ []
+all_dropped [] = refl
+all_dropped (x ∷ xs) = all_dropped xs
+
+no_lines : (forms : List Form) (sent : List PlainBatch) → lines_from forms (length sent) sent ≡ []
+no_lines forms sent = ap (λ batches. flat_map (lines_of_batch forms) (enumerate_from (length sent) batches)) (all_dropped sent)
+
+pub lines_more : (forms : List Form) (sent : List PlainBatch) (batch : PlainBatch) → lines_from forms (length sent) (sent ++ batch ∷ []) ≡ lines_of_batch forms (length sent, batch)
+lines_more forms sent batch =
+    ap (λ batches. flat_map (lines_of_batch forms) (enumerate_from (length sent) batches)) (dropped sent (batch ∷ [])) ∙ append-nil (lines_of_batch forms (length sent, batch))
+
+one_enough : (sent : List PlainBatch) (batch : PlainBatch) → length sent ≤ length (sent ++ batch ∷ [])
+one_enough sent batch = let longer = length-append sent (batch ∷ []) in omega (arith, longer)
+
+one_most : (sent : List PlainBatch) (batch : PlainBatch) → length (sent ++ batch ∷ []) ≤ length sent + 1
+one_most sent batch = let longer = length-append sent (batch ∷ []) in omega (arith, longer)
+
 -- ---- the lines after a call
 
-abbrev lines_in : CoreView → List PlainLine
-lines_in core = lines_of core.forms core.sent
+-- the lines that a core has more than another, to which so many batches were sent
+abbrev lines_after : ℕ → CoreView → List PlainLine
+lines_after written core = lines_from core.forms written core.sent
 
 -- the lines that the outcome of a call adds
 abbrev added_lines : CoreView → call.Request → Outcome → List PlainLine
@@ -60,32 +68,34 @@ added_lines core request (refused fault) = []
 added_lines core request not_wanted = []
 added_lines core request (accepted answer notes new) = lines_of_batch core.forms (length core.sent, record { request = request; answer = answer; notes = notes })
 
--- the core that is left has those lines more
-abbrev AddsLines : CoreView → call.Request → Outcome → Type 0
-AddsLines core request o = lines_in (core_left core o) ≡ lines_in core ++ added_lines core request o
+-- the core that is left has those lines more, of one batch at the most
+pub record Adds (core : CoreView) (request : call.Request) (o : Outcome) : Type 0 where
+  pub lines : lines_after (length core.sent) (core_left core o) ≡ added_lines core request o
+  pub enough : length core.sent ≤ length (core_left core o).sent
+  pub most : length (core_left core o).sent ≤ length core.sent + 1
 
 by_test : (P : Outcome → Type 0) (b : Bool) (x y : Outcome) → P x → P y → P (if not b then x else y)
 by_test P true x y px py = py
 by_test P false x y px py = px
 
-none_added : (core : CoreView) (request : call.Request) → lines_in core ≡ lines_in core ++ []
-none_added core request = sym (append-nil (lines_in core))
-
-outcome_lines : (core : CoreView) (request : call.Request) → AddsLines core request (outcome core request)
-outcome_lines core request =
+outcome_adds : (core : CoreView) (request : call.Request) → Adds core request (outcome core request)
+outcome_adds core request =
     by_test P (is_named request) (refused BadName) _ none
-    (by_test P (is_wanted_call core request) not_wanted _ none
+    (by_test P (is_wanted_call core request) not_wanted _ unwanted
     (by_test P (is_known core request) (refused Unknown) _ none
     (by_test P (may_count core request && may_send core) (refused CountFull) _ none
     (by_test P (has_slot core request) (refused Full) _ none
     (by_test P (is_inside core request) (refused NotEntered) _ none
-    (lines_more core.forms core.sent _))))))
+    (record { lines = lines_more core.forms core.sent _; enough = one_enough core.sent _; most = one_most core.sent _ }))))))
   where
     P : Outcome → Type 0
-    P o = AddsLines core request o
+    P o = Adds core request o
 
-    none : lines_in core ≡ lines_in core ++ []
-    none = none_added core request
+    none : {fault : _} → Adds core request (refused fault)
+    none = record { lines = no_lines core.forms core.sent; enough = omega arith; most = omega arith }
+
+    unwanted : Adds core request not_wanted
+    unwanted = record { lines = no_lines core.forms core.sent; enough = omega arith; most = omega arith }
 
 -- the text of a call is that of the lines that it adds, and then its answer
 call_text : (core : CoreView) (request : call.Request) (o : Outcome) → outcome_text core request o ≡ flat_map note_line (added_lines core request o) ++ answer_text (answer_for o)
@@ -93,27 +103,27 @@ call_text core request (refused fault) = refl
 call_text core request not_wanted = refl
 call_text core request (accepted answer notes new) = refl
 
--- what is written for a call that was made, where all lines before it were written
-pub made_text : (old : CoreView) (request : call.Request) (answer : Answer) (new : CoreView) (written : ℕ) → IsMade old request answer new → written ≡ length (lines_in old)
-    → flat_map note_line (drop written (lines_in new)) ++ answer_text answer ≡ (call_written old request).text
+-- what is written for a call that was made, where the lines of all batches before it were written
+pub made_text : (old : CoreView) (request : call.Request) (answer : Answer) (new : CoreView) (written : ℕ) → IsMade old request answer new → written ≡ length old.sent
+    → flat_map note_line (lines_after written new) ++ answer_text answer ≡ (call_written old request).text
 made_text old request answer new written made all =
     (λ i. flat_map note_line (new_lines i) ++ answer_text (made.answer_is i)) ∙ sym (call_text old request (outcome old request))
   where
-    new_lines : drop written (lines_in new) ≡ added_lines old request (outcome old request)
-    new_lines = (λ i. drop (all i) (lines_in (made.core_is i))) ∙ ap (drop (length (lines_in old))) (outcome_lines old request) ∙ dropped (lines_in old) (added_lines old request (outcome old request))
+    new_lines : lines_after written new ≡ added_lines old request (outcome old request)
+    new_lines = let adds = outcome_adds old request in (λ i. lines_after (all i) (made.core_is i)) ∙ adds.lines
 
-pub made_enough : (old : CoreView) (request : call.Request) (answer : Answer) (new : CoreView) (written : ℕ) → IsMade old request answer new → written ≡ length (lines_in old)
-    → written ≤ length (lines_in new)
+pub made_enough : (old : CoreView) (request : call.Request) (answer : Answer) (new : CoreView) (written : ℕ) → IsMade old request answer new → written ≡ length old.sent
+    → IsAtMostOneMore written new.sent
 made_enough old request answer new written made all =
-    let lengths : length (lines_in new) ≡ length (lines_in old) + length (added_lines old request (outcome old request))
-    = ap (λ (core : CoreView). length (lines_in core)) made.core_is ∙ ap length (outcome_lines old request) ∙ length-append (lines_in old) _ in
-    omega (arith, all, lengths)
+    let adds = outcome_adds old request in let enough = adds.enough in let most = adds.most in
+    let are : length new.sent ≡ length (core_left old (outcome old request)).sent = ap (λ (core : CoreView). length core.sent) made.core_is in
+    record { enough = omega (arith, all, enough, are); most = omega (arith, all, most, are) }
 
 -- ---- what is ensured of a call
 
 pub written_call : (result : Result ⊤ Stop) (old : CoreView) (request : call.Request) (answer : Answer) (mid new : CoreView) (written : ℕ) (text text' : List ℕ)
-    → IsMade old request answer mid → written ≡ length (lines_in old) → new ≡ mid
-    → OnOk result (text' ≡ text ++ (flat_map note_line (drop written (lines_in mid)) ++ answer_text answer))
+    → IsMade old request answer mid → written ≡ length old.sent → new ≡ mid
+    → OnOk result (text' ≡ text ++ (flat_map note_line (lines_after written mid) ++ answer_text answer))
     → OnOk result (IsWrittenCall old text request new text')
 written_call (Ok _) old request answer mid new written text text' made all same is =
     record { core = same ∙ made.core_is; text_is = is ∙ ap (λ added. text ++ added) (made_text old request answer mid written made all) }
@@ -125,9 +135,9 @@ stops meant old new text text' stop is = subst (StopsAs meant old text new text'
 
 pub turn_made : (result : Result ⊤ Stop) (meant : Result Turn Reason) (state new : State) (request : call.Request) (answer : Answer) (mid : CoreView) (written : ℕ) (text text' : List ℕ)
     → meant ≡ Ok (call_turn state request)
-    → IsMade state.core request answer mid → written ≡ length (lines_in state.core)
+    → IsMade state.core request answer mid → written ≡ length state.core.sent
     → new ≡ record state { core = mid }
-    → OnOk result (text' ≡ text ++ (flat_map note_line (drop written (lines_in mid)) ++ answer_text answer))
+    → OnOk result (text' ≡ text ++ (flat_map note_line (lines_after written mid) ++ answer_text answer))
     → IfErr result (λ stop. stop ≡ Memory)
     → RunsAs meant state text new text' result
 turn_made (Ok _) meant state new request answer mid written text text' is made all same text_is memory = record {
@@ -141,9 +151,9 @@ turn_made (Err stop) meant state new request answer mid written text text' is ma
 
 pub turn_new : (result : Result ⊤ Stop) (meant : Result Turn Reason) (state new : State) (label : List ℕ) (request : call.Request) (answer : Answer) (mid : CoreView) (written : ℕ) (text text' : List ℕ)
     → meant ≡ Ok (made_turn state label request)
-    → IsMade state.core request answer mid → written ≡ length (lines_in state.core)
+    → IsMade state.core request answer mid → written ≡ length state.core.sent
     → new ≡ record state { core = mid; labels = labels_after state.labels label answer }
-    → OnOk result (text' ≡ text ++ (flat_map note_line (drop written (lines_in mid)) ++ answer_text answer))
+    → OnOk result (text' ≡ text ++ (flat_map note_line (lines_after written mid) ++ answer_text answer))
     → IfErr result (λ stop. stop ≡ Memory)
     → RunsAs meant state text new text' result
 turn_new (Ok _) meant state new label request answer mid written text text' is made all same text_is memory = record {
@@ -169,18 +179,29 @@ note_more lines at line text text' whole low is wrote so_far =
     ∙ ap (λ rest. text ++ flat_map note_line (map plain_line rest)) (sym left)
     ∙ so_far
 
-pub all_written : (lines : List Line) (meant : List PlainLine) (refusals from at : ℕ) (text text' : List ℕ)
-    → refusals ≡ 0 → (refusals ≡ 0 → map plain_line lines ≡ meant)
-    → length (take (length lines - from) (drop from lines)) ≤ at
-    → text' ++ flat_map note_line (map plain_line (drop at (take (length lines - from) (drop from lines)))) ≡ text ++ flat_map note_line (map plain_line (take (length lines - from) (drop from lines)))
-    → text' ≡ text ++ flat_map note_line (drop from meant)
-all_written lines meant refusals from at text text' none whole ended written =
+-- all lines are written
+pub all_written : (lines : List Line) (sent : List PlainBatch) (forms : List Form) (refusals number written at : ℕ) (text text' : List ℕ)
+    → refusals ≡ 0 → (refusals ≡ 0 → map plain_line lines ≡ last_lines forms sent)
+    → number ≡ length sent → IsAtMostOneMore written sent → (number ≡ written → ⊥)
+    → length lines ≤ at
+    → text' ++ flat_map note_line (map plain_line (drop at lines)) ≡ text ++ flat_map note_line (map plain_line lines)
+    → text' ≡ text ++ flat_map note_line (lines_from forms written sent)
+all_written lines sent forms refusals number written at text text' none whole number_is more other ended wrote =
+    let enough = more.enough in let most = more.most in
+    let last : length sent - 1 ≡ written = last_is (length sent) written enough most (λ same. other (number_is ∙ same)) in
     sym (append-nil text')
-    ∙ ap (λ rest. text' ++ flat_map note_line (map plain_line rest)) (sym (drop_all at (take (length lines - from) (drop from lines)) ended))
-    ∙ written
-    ∙ ap (λ rest. text ++ flat_map note_line (map plain_line rest)) (take_rest lines from)
-    ∙ ap (λ rest. text ++ flat_map note_line rest) (sym (drop-map plain_line from lines))
-    ∙ ap (λ all. text ++ flat_map note_line (drop from all)) (whole none)
+    ∙ ap (λ rest. text' ++ flat_map note_line (map plain_line rest)) (sym (drop_all at lines ended))
+    ∙ wrote
+    ∙ ap (λ rest. text ++ flat_map note_line rest) (whole none ∙ ap (λ n. lines_from forms n sent) last)
+  where
+    last_is : (n written : ℕ) → written ≤ n → n ≤ written + 1 → (n ≡ written → ⊥) → n - 1 ≡ written
+    last_is n written enough most other = omega (arith, enough, most, other)
+
+-- there is no batch more
+pub none_written : (sent : List PlainBatch) (forms : List Form) (number written : ℕ) (text text' : List ℕ) → number ≡ length sent → number ≡ written → text' ≡ text
+    → text' ≡ text ++ flat_map note_line (lines_from forms written sent)
+none_written sent forms number written text text' number_is same kept =
+    kept ∙ sym (append-nil text) ∙ ap (λ rest. text ++ flat_map note_line rest) (sym (no_lines forms sent)) ∙ ap (λ n. text ++ flat_map note_line (lines_from forms n sent)) (sym number_is ∙ same)
 
 -- ---- between two calls
 
@@ -208,10 +229,10 @@ made_by calls worker meant old answer new same made = subst (λ w. IsMade old (c
 
 -- all lines are written after a call's answer
 pub still_written : {V X F g : _} (result : Result ⊤ Stop) (script : Script V X F g) (old : CoreView) (request : call.Request) (answer : Answer) (mid : CoreView) (workers : ℕ)
-    → IsMade old request answer mid → core_in script ≡ mid → workers ≡ old.limits.workers → 1 ≤ workers → OnOk result (script.written ≡ length (lines_in mid)) → script.workers ≡ workers
+    → IsMade old request answer mid → core_in script ≡ mid → workers ≡ old.limits.workers → 1 ≤ workers → OnOk result (script.written ≡ length mid.sent) → script.workers ≡ workers
     → OnOk result (IsWritten script)
 still_written (Ok _) script old request answer mid workers made same are some lines more = record {
-  lines = lines ∙ sym (ap (λ core. length (lines_in core)) same);
+  lines = lines ∙ sym (ap (λ (core : CoreView). length core.sent) same);
   workers = same_workers old request answer mid (core_in script) workers script.workers made same are more;
   some = omega (arith, some, more);
 }

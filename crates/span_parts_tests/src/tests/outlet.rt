@@ -2,4 +2,5 @@
 
 pub(crate) mod batches;
 mod drain;
+mod latest;
 mod line_reader;

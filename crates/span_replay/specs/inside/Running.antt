@@ -1,7 +1,6 @@
 -- A script between two of its calls: no public clause cites it.
 use Rattle.std.specs.Prelude.{◌≡◌, ◌≤◌, ℕ, List, ◌++◌, length, Result, Ok, Err, ⊤, MatchResult}
 use Rattle.span_core.specs.Core.{CoreView}
-use Rattle.span_outlet.specs.Lines.{lines_of}
 use Rattle.span_outlet.specs.Request as call
 use Rattle.span_replay.specs.Labels.{Bound}
 use Rattle.span_replay.specs.Meaning.{Turn}
@@ -24,9 +23,9 @@ labels_in script = script.labels
 abbrev pub state_at : {V X F g : _} → Script V X F g → Stage → State
 state_at script stage = record { core = core_in script; labels = labels_in script; stage = stage }
 
--- all lines of the notes were written, and there are as many workers as the limits say, and at least one
+-- the lines of all batches were written, and there are as many workers as the limits say, and at least one
 pub record IsWritten {V X F g : _} (script : Script V X F g) : Type 0 where
-  pub lines : script.written ≡ length (lines_of (core_in script).forms (core_in script).sent)
+  pub lines : script.written ≡ length (core_in script).sent
   pub workers : script.workers ≡ (core_in script).limits.workers
   pub some : 1 ≤ script.workers
 

@@ -20,7 +20,7 @@ use crate::run::tidying::{Remains, let_go, tidy};
 use serde_json::Value;
 use span_id::Checked;
 use span_layers::{Filters, Say};
-use span_outlet::Kept;
+use span_outlet::Latest;
 use span_run::{Counted, RunFault, write_text};
 use span_script::{Stop, cut_line, is_skipped, json_value, operation};
 use std::alloc::Global;
@@ -31,25 +31,25 @@ pub fn run_rest<V: Say, W: Write>(
     alloc: Global,
     checked: &Checked,
     filters: Filters,
-    kept: Kept<V>,
+    latest: Latest<V>,
     rest: &Rest<'_>,
     remains: Remains,
     text: &mut Vec<u8>,
     output: &mut Counted<W>,
 ) -> Result<u64, RunFault>
     requires failed { failed_of output.old < 2 ^ 63 }
-    requires fresh { kept.sent ≡ [] }
+    requires fresh { latest.sent ≡ [] }
     requires call { IfSome rest.now.value (λ value. is_setup (view value) ≡ false) }
     requires done { IfNone rest.now.value (rest.now.lines.now ≡ []) }
     requires place { rest.now.number + length rest.now.lines.now ≤ most_bytes + 1 }
     ensures runs { (hooks : ℕ) (stage : Stage) →
-        Runs (resumed_run hooks rest.now.number (opened_state checked.now filters.rules kept.forms stage)
+        Runs (resumed_run hooks rest.now.number (opened_state checked.now filters.rules latest.forms stage)
         (option_map view rest.now.value) rest.now.lines.now)
         (W.contents (inner_of output.old)) (W.contents (inner_of output.new)) result }
     ensures counts { EndsAsCounted 0 0 (failed_of output.old) (failed_of output.new) result }
     ensures flushes { flushes_of output.new ≡ flushes_of output.old }
 {
-    match Script::new(alloc, checked, filters, kept) {
+    match Script::new(alloc, checked, filters, latest) {
         Ok(script) => run_to_end(alloc, script, rest, remains, text, output),
         Err(_) => Err(RunFault::Memory),
     }

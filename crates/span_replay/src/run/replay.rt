@@ -19,7 +19,7 @@ use crate::run::opening::{Rest, open};
 use crate::run::setup::Setup;
 use crate::run::tidying::Remains;
 use span_layers::Hooks;
-use span_outlet::Kept;
+use span_outlet::Latest;
 use span_run::{Counted, RunFault, flush, read_script};
 use std::alloc::Global;
 use std::io::{Read, Write};
@@ -161,6 +161,6 @@ fn run_opened<W: Write>(
     ensures flushes { flushes_of output.new ≡ flushes_of output.old }
 {
     let (checked, filters, tellers) = setup.split();
-    let kept = Kept::new(alloc, tellers);
-    run_rest(alloc, &checked, filters, kept, rest, remains, text, output)
+    let latest = Latest::new(alloc, tellers);
+    run_rest(alloc, &checked, filters, latest, rest, remains, text, output)
 }

@@ -1,13 +1,14 @@
 //! A script as far as its calls have run: the registry, the labels, and how many lines of notes were written.
 ghost use Rattle.std.specs.Prelude.{◌≡◌, ◌<◌, ◌≤◌, ◌++◌, [], None, Ok, ℕ, IfOk, IfErr, OnOk};
-ghost use Rattle.std.specs.Prelude.{length, flat_map, drop, reverse};
+ghost use Rattle.std.specs.Prelude.{length, flat_map, reverse};
 ghost use Rattle.span_core.specs.Happening.{id_at};
-ghost use Rattle.span_outlet.specs.Lines.{lines_of};
+ghost use Rattle.span_outlet.specs.Latest.{lines_from};
 ghost use Rattle.span_replay.specs.Faults.{id_of_key};
 ghost use Rattle.span_replay.specs.Meaning.{labels_after, made_turn, new_turn};
 ghost use Rattle.span_script.specs.Reason.{Answers};
 ghost use Rattle.span_script.specs.Views.{key_seen};
 ghost use Rattle.span_replay.specs.Written.{note_line};
+ghost use Rattle.span_replay.specs.inside.Sending.{IsAtMostOneMore};
 
 use crate::run::answer::{Answer, Found, write_answer, write_found, write_note};
 use crate::run::calls;
@@ -16,7 +17,7 @@ use span_core::Core;
 use span_forest::Span;
 use span_id::{Checked, Fault, Fields, Id};
 use span_layers::{Filters, Say};
-use span_outlet::Kept;
+use span_outlet::Latest;
 use span_script::{NewEvent, NewSpan, Operation, Parent, Reason, SpanCall, SpanKey, Stop};
 use span_stack::SpanStack;
 use std::alloc::{AllocError, Global};
@@ -25,11 +26,11 @@ use std::alloc::{AllocError, Global};
 #[derive(Drop)]
 pub struct Script<V: Say> {
     /// The registry. Its outlet makes the lines of the notes.
-    core: Core<Kept<V>>,
+    core: Core<Latest<V>>,
     /// The labels that are bound.
     pub labels: Labels,
-    // How many of the outlet's lines were written.
-    written: usize,
+    // How many batches were sent whose lines were written.
+    written: u64,
     /// How many workers there are.
     pub workers: u32,
 }
@@ -55,23 +56,23 @@ impl<V: Say> Script<V> {
         alloc: Global,
         checked: &Checked,
         filters: Filters,
-        kept: Kept<V>,
+        latest: Latest<V>,
     ) -> Result<Script<V>, Fault>
-        requires { kept.sent ≡ [] }
+        requires { latest.sent ≡ [] }
         ensures core { IfOk result (λ script. core_in script ≡ record {
           limits = checked.now;
           rules = filters.rules;
           world = empty_world checked.now.workers;
           sent = [];
           times_full = 0;
-          forms = kept.forms;
+          forms = latest.forms;
           name = None;
         }) }
         ensures labels { IfOk result (λ script. labels_in script ≡ []) }
         ensures written { IfOk result (λ script. IsWritten script) }
         ensures memory { IfErr result (λ fault. fault ≡ Fault.Memory) }
     {
-        let core = Core::new(alloc, checked, filters, kept)?;
+        let core = Core::new(alloc, checked, filters, latest)?;
         Ok(Script {
             core,
             labels: Labels::new(alloc),
@@ -361,12 +362,11 @@ impl<V: Say> Script<V> {
 
     // Writes the notes that are new, and then the answer of the call that made them. The only error is `Memory`.
     fn answer(&mut self, answer: Answer, text: &mut Vec<u8>) -> Result<(), Stop>
-        requires { self.old.written ≤ length (lines_of (core_in self.old).forms (core_in self.old).sent) }
+        requires { IsAtMostOneMore self.old.written (core_in self.old).sent }
         ensures text { OnOk result (text.new.items ≡ text.old.items
-            ++ (flat_map note_line (drop self.old.written (lines_of (core_in self.old).forms (core_in self.old).sent))
+            ++ (flat_map note_line (lines_from (core_in self.old).forms self.old.written (core_in self.old).sent)
             ++ answer_text answer)) }
-        ensures written { OnOk result
-            (self.new.written ≡ length (lines_of (core_in self.old).forms (core_in self.old).sent)) }
+        ensures written { OnOk result (self.new.written ≡ length (core_in self.old).sent) }
         ensures core { core_in self.new ≡ core_in self.old }
         ensures labels { labels_in self.new ≡ labels_in self.old }
         ensures workers { self.new.workers ≡ self.old.workers }
@@ -390,25 +390,28 @@ fn worker_number(worker: usize, workers: u32) -> u32
     worker as u32
 }
 
-// Writes the lines of the outlet from this number on, and answers how many it has. The only error is `Memory`, also
-// where the outlet had none.
-fn write_notes<V: Say>(kept: &Kept<V>, from: usize, text: &mut Vec<u8>) -> Result<usize, Stop>
-    requires { from ≤ length (lines_of kept.now.forms kept.now.sent) }
-    ensures text { OnOk result
-        (text.new.items ≡ text.old.items ++ flat_map note_line (drop from (lines_of kept.now.forms kept.now.sent))) }
-    ensures written { IfOk result (λ written. written ≡ length (lines_of kept.now.forms kept.now.sent)) }
+// Writes the lines of the outlet, if it was sent a batch more than so many, and answers how many it was sent. The only
+// error is `Memory`, also where the outlet had none.
+fn write_notes<V: Say>(latest: &Latest<V>, written: u64, text: &mut Vec<u8>) -> Result<u64, Stop>
+    requires { IsAtMostOneMore written latest.now.sent }
+    ensures text { OnOk result (text.new.items
+        ≡ text.old.items ++ flat_map note_line (lines_from latest.now.forms written latest.now.sent)) }
+    ensures written { IfOk result (λ sent. sent ≡ length latest.now.sent) }
     ensures memory { IfErr result (λ stop. stop ≡ Stop.Memory) }
 {
-    if kept.refused() > 0 {
+    if latest.refused() > 0 {
         return Err(Stop::Memory);
     }
-    let lines = kept.all();
-    for line in &lines[from..] {
+    let sent = latest.sent();
+    if sent == written {
+        return Ok(sent);
+    }
+    for line in latest.lines() {
         let Ok(()) = write_note(text, line) else {
             return Err(Stop::Memory);
         };
     }
-    Ok(lines.len())
+    Ok(sent)
 }
 
 // What is told of a span that was looked up.

@@ -1,5 +1,5 @@
 use Rattle.std.proofs.Common.{ap, ◌∙◌}
-use Rattle.span_outlet.specs.Kept.{KeptView}
+use Rattle.span_outlet.specs.Latest.{LatestView}
 use Rattle.span_replay.specs.inside.Setup.{setup_state}
 use Rattle.span_replay.proofs.Openings.{opened_runs}
 use Rattle.span_replay.proofs.run.replay.run_opened.Goals as goal
@@ -7,4 +7,4 @@ use Rattle.span_replay.proofs.run.replay.run_opened.Goals as goal
 pub returns-clause-runs : goal.returns-clause-runs
 returns-clause-runs g c =
     let parts = c.split-checked.ensures in
-    λ hooks. opened_runs hooks _ _ _ _ _ _ _ _ _ _ _ _ _ parts.limits parts.rules (ap (λ (kept : KeptView). kept.forms) c.new-kept.ensures ∙ parts.forms) (c.run_rest.ensures.runs hooks (setup_state c.args.setup).stage)
+    λ hooks. opened_runs hooks _ _ _ _ _ _ _ _ _ _ _ _ _ parts.limits parts.rules (ap (λ (latest : LatestView). latest.forms) c.new-latest.ensures ∙ parts.forms) (c.run_rest.ensures.runs hooks (setup_state c.args.setup).stage)

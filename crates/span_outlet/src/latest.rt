@@ -1,0 +1,138 @@
+//! The outlet that writes the notes of a batch at once, and keeps its lines until the next one.
+ghost use Rattle.std.specs.Prelude.{◌≡◌, ◌-◌, ◌^◌, ◌<◌, ◌++◌, ◌∷◌, [], true, None, Ok, false, map, length};
+ghost use Rattle.span_outlet.specs.Batch.{plain_batch};
+ghost use Rattle.span_outlet.specs.Lines.{plain_line};
+ghost use Rattle.span_outlet.specs.Kept.{GainsLines, numbered_in};
+ghost use Rattle.span_outlet.specs.Latest.{last_lines};
+
+use crate::batch::Batch;
+use crate::line::Line;
+use crate::outlet::Outlet;
+use crate::past::Past;
+use crate::told::Told;
+use span_layers::{Formatters, Say, Tellers};
+use std::alloc::{AllocError, Global};
+use std::marker::Model;
+
+/// An outlet that keeps no batch, and of the last one the lines of its notes.
+///
+/// It always has room for one more batch. A note is missed as in a `Kept`, and `refused` counts those that were missed
+/// so far. `V` makes the texts.
+#[derive(Drop)]
+pub struct Latest<V = Formatters> {
+    past: Past,
+    // How many batches were sent.
+    count: u64,
+    told: Told,
+    ready: bool,
+    formatters: V,
+}
+
+impl<V> Model for Latest<V> {
+    ghost use Rattle.std.specs.Prelude.{◌≡◌, map, length};
+    ghost use Rattle.span_outlet.specs.Past.{batches_of};
+    ghost use Rattle.span_outlet.specs.Lines.{plain_line};
+    ghost use Rattle.span_outlet.specs.Latest.{LatestView, last_lines};
+
+    ghost Value = { LatestView };
+
+    ghost view = { λ k. record {
+      forms = k.told.forms;
+      sent = batches_of k.past;
+      lines = map plain_line k.told.lines.items;
+      refused = k.told.refused;
+      ready = k.ready;
+    } };
+
+    ghost invariant = { λ k. (k.count ≡ length (batches_of k.past))
+        × (k.told.refused ≡ 0 → map plain_line k.told.lines.items ≡ last_lines k.told.forms (batches_of k.past)) };
+}
+
+impl<F: Drop> Latest<Formatters<F>> {
+    /// An outlet to which nothing was sent, and which writes as the tellers do. It takes no memory.
+    pub fn new(alloc: Global, tellers: Tellers<F>) -> Latest<Formatters<F>>
+        ensures { result ≡ record { forms = tellers.forms; sent = []; lines = []; refused = 0; ready = false } }
+    {
+        let Tellers { forms, formatters } = tellers;
+        Latest {
+            past: Past::Nothing,
+            count: 0,
+            told: Told {
+                forms,
+                lines: Vec::new(alloc),
+                refused: 0,
+            },
+            ready: false,
+            formatters,
+        }
+    }
+}
+
+impl<V> Latest<V> {
+    /// The lines of the notes of the last batch, in order, but for the notes that were missed.
+    pub fn lines(&self) -> &[Line]
+        ensures lines { map plain_line result.now ≡ self.now.lines }
+        ensures whole { self.now.refused ≡ 0 → map plain_line result.now ≡ last_lines self.now.forms self.now.sent }
+    {
+        self.told.lines.as_slice()
+    }
+
+    /// How many batches were sent.
+    pub fn sent(&self) -> u64
+        ensures { result ≡ length self.now.sent }
+    {
+        self.count
+    }
+
+    /// How many notes were missed so far. It stays at its greatest value.
+    pub fn refused(&self) -> u64
+        ensures { result ≡ self.now.refused }
+    {
+        self.told.refused
+    }
+}
+
+impl<V: Say> Outlet for Latest<V> {
+    ghost sent = { λ k. k.sent };
+
+    ghost ready = { λ k. k.ready };
+
+    ghost times_full = { λ k. 0 };
+
+    ghost forms = { λ k. k.forms };
+
+    ghost name = { λ k. None };
+
+    /// There is always a place for one more batch, and it takes no memory.
+    fn room(&mut self) -> Result<bool, AllocError>
+        ensures same { self.new ≡ record self.old { ready = true } }
+        ensures ready { result ≡ Ok true }
+    {
+        self.ready = true;
+        Ok(true)
+    }
+
+    /// The lines are those of the notes of the batch, in order, but for the notes that are missed, which are counted.
+    fn put(&mut self, batch: Batch)
+        requires ready { self.old.ready ≡ true }
+        requires countable { length self.old.sent < 2 ^ 64 - 1 }
+        ensures sent { self.new.sent ≡ self.old.sent ++ plain_batch batch ∷ [] }
+        ensures forms { self.new.forms ≡ self.old.forms }
+        ensures ready { self.new.ready ≡ false }
+        ensures told { GainsLines self.old.forms (numbered_in (length self.old.sent, plain_batch batch))
+            [] self.old.refused self.new.lines self.new.refused }
+    {
+        let Latest {
+            past,
+            count,
+            told,
+            ready,
+            formatters,
+        } = self;
+        told.lines.clear();
+        told.tell_all(&*formatters, *count, &batch);
+        *ready = false;
+        *count += 1;
+        past.add(&batch);
+    }
+}
