@@ -1,6 +1,7 @@
 //! What no clause says: lines of scripts, and whole runs and storms.
 mod compare;
 mod faults;
+mod lines;
 mod replay;
 mod script;
 mod storm;

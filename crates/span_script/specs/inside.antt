@@ -1,3 +1,4 @@
 -- What only the proofs of this crate need: no public clause cites it.
 pub mod Parts
 pub mod Heads
+pub mod Lists

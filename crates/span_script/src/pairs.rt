@@ -2,19 +2,17 @@
 ghost use Rattle.std.specs.Prelude.{◌≡◌, option_and_then};
 ghost use Rattle.std.specs.Option.{option_map};
 ghost use Rattle.serde_json.specs.Find.{as_array};
-ghost use Rattle.serde_json.specs.View.{view, items_view};
 ghost use Rattle.span_script.specs.Operation.{two_in};
 
-use serde_json::Value;
+use crate::line_value::JsonValue;
 
 /// The values of a list of two.
-pub fn pair(value: &Value) -> Option<(&Value, &Value)>
-    ensures { option_map (λ pair. (view pair.0.now, view pair.1.now)) result
-        ≡ option_and_then two_in (as_array (view value.now)) }
+pub fn pair<'v, V: JsonValue<'v>>(value: V) -> Option<(V, V)>
+    ensures { option_map (λ pair. (V.json pair.0, V.json pair.1)) result
+        ≡ option_and_then two_in (as_array (V.json value)) }
 {
-    let pair = value.as_array()?;
-    if pair.len() != 2 {
+    if value.count()? != 2 {
         return None;
     }
-    Some((&pair[0], &pair[1]))
+    Some((value.item(0), value.item(1)))
 }

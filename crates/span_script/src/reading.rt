@@ -12,7 +12,10 @@ ghost use Rattle.span_script.specs.inside.Heads.{head_seen};
 
 use crate::fields::fields;
 use crate::key::Key;
-use crate::key_values::{form, kinds, level, limit, parent, required_text, span, text, worker};
+use crate::key_values::{
+    form, kinds, level, limit, parent, required_text, span, text, text_at, worker,
+};
+use crate::line_value::{JsonValue, Owned};
 use crate::meta::meta;
 use crate::operations::{NewEvent, NewLayer, NewSpan, Operation, SpanCall, SpanKey};
 use crate::reason::Reason;
@@ -65,18 +68,16 @@ pub fn json_value(alloc: Global, line: &[u8]) -> Result<Value, Stop>
 }
 
 /// Whether the line's op is `limits` or `layer`, which come before all others.
-#[tactic(auto, unfolding(crate::specs::Operation::is_setup, crate::specs::Operation::op_of))]
 pub fn is_setup(line: &Value) -> bool
     ensures { result ≡ is_setup (view line.now) }
 {
-    matches!(op_in(line), Ok(Op::Limits | Op::Layer))
+    sets_up(Owned(line))
 }
 
 /// What a line's value asks for, where there are so many workers.
 ///
 /// `limits` and `layer` may be late in the script. The operations but these two and `find` name workers
 /// below `workers`.
-#[tactic(auto, unfolding(crate::specs::Operation::operation_of))]
 pub fn operation<'v>(
     alloc: Global,
     line: &'v Value,
@@ -86,25 +87,54 @@ pub fn operation<'v>(
     ensures meant { AnswersOrStops operation_seen result (operation_of workers (stage_seen stage) (view line.now)) }
     ensures worker { 0 < workers → IfOk result (λ operation. NamesWorker operation workers) }
 {
+    asked(alloc, Owned(line), workers, stage)
+}
+
+/// The line's op.
+pub fn op_in(line: &Value) -> Result<Op, Reason>
+    ensures { Answers op_seen result (op_of (view line.now)) }
+{
+    op_given(Owned(line))
+}
+
+/// Whether the op of a line is `limits` or `layer`.
+#[tactic(auto, unfolding(crate::specs::Operation::is_setup, crate::specs::Operation::op_of))]
+pub(crate) fn sets_up<'v, V: JsonValue<'v>>(line: V) -> bool
+    ensures { result ≡ is_setup (V.json line) }
+{
+    matches!(op_given(line), Ok(Op::Limits | Op::Layer))
+}
+
+/// What a line asks for.
+#[tactic(auto, unfolding(crate::specs::Operation::operation_of))]
+pub(crate) fn asked<'v, V: JsonValue<'v>>(
+    alloc: Global,
+    line: V,
+    workers: usize,
+    stage: Stage,
+) -> Result<Operation<'v>, Stop>
+    ensures meant { AnswersOrStops operation_seen result (operation_of workers (stage_seen stage) (V.json line)) }
+    ensures worker { 0 < workers → IfOk result (λ operation. NamesWorker operation workers) }
+{
     if !line.is_object() {
         return Err(Stop::Refused(Reason::NotObject));
     }
-    match op_in(line) {
+    match op_given(line) {
         Ok(op) => with_op(alloc, line, workers, stage, op),
         Err(reason) => Err(Stop::Refused(reason)),
     }
 }
 
 /// What a line with this op asks for.
-fn with_op<'v>(
+fn with_op<'v, V: JsonValue<'v>>(
     alloc: Global,
-    line: &'v Value,
+    line: V,
     workers: usize,
     stage: Stage,
     op: Op,
 ) -> Result<Operation<'v>, Stop>
     ensures { AnswersOrStops operation_seen result
-        (keys_of workers (stage_seen stage) (view line.now) (op_seen op)) }
+        (keys_of workers (stage_seen stage) (V.json line) (op_seen op)) }
 {
     match op {
         Op::Limits => match stage {
@@ -123,12 +153,12 @@ fn with_op<'v>(
     }
 }
 
-/// The line's op.
+/// The op that a line gives.
 #[tactic(auto, unfolding(crate::specs::Operation::op_of))]
-pub fn op_in(line: &Value) -> Result<Op, Reason>
-    ensures { Answers op_seen result (op_of (view line.now)) }
+pub(crate) fn op_given<'v, V: JsonValue<'v>>(line: V) -> Result<Op, Reason>
+    ensures { Answers op_seen result (op_of (V.json line)) }
 {
-    match line.get("op").and_then(Value::as_str).and_then(op_named) {
+    match text_at(line, "op").and_then(op_named) {
         Some(op) => Ok(op),
         None => Err(Reason::NoSuchOp),
     }
@@ -155,8 +185,8 @@ fn op_named(name: &str) -> Option<Op>
 
 /// The limits that a line asks for, the default where it gives none. They may be out of their ranges.
 #[tactic(auto, unfolding(crate::specs::Operation::limits_of))]
-fn limits<'v>(line: &Value) -> Result<Operation<'v>, Stop>
-    ensures { AnswersOrStops operation_seen result (limits_of (view line.now)) }
+fn limits<'v, V: JsonValue<'v>>(line: V) -> Result<Operation<'v>, Stop>
+    ensures { AnswersOrStops operation_seen result (limits_of (V.json line)) }
 {
     let default = Limits::default();
     let slots = limit(line, Key::Slots, default.slots)?;
@@ -174,8 +204,8 @@ fn limits<'v>(line: &Value) -> Result<Operation<'v>, Stop>
 
 /// The layer that a line asks for.
 #[tactic(auto, unfolding(crate::specs::Operation::layer_of))]
-fn layer<'v>(alloc: Global, line: &Value) -> Result<Operation<'v>, Stop>
-    ensures { AnswersOrStops operation_seen result (layer_of (view line.now)) }
+fn layer<'v, V: JsonValue<'v>>(alloc: Global, line: V) -> Result<Operation<'v>, Stop>
+    ensures { AnswersOrStops operation_seen result (layer_of (V.json line)) }
 {
     let form = form(line)?;
     let spans = kinds(line)?;
@@ -196,8 +226,8 @@ struct Head<'v> {
 
 /// What the line of a new span or an event begins with. The text is the value of this key.
 #[tactic(auto, unfolding(crate::specs::inside::Parts::head_of))]
-fn read_head(line: &Value, key: Key) -> Result<Head<'_>, Reason>
-    ensures { Answers head_seen result (head_of key (view line.now)) }
+fn read_head<'v, V: JsonValue<'v>>(line: V, key: Key) -> Result<Head<'v>, Reason>
+    ensures { Answers head_seen result (head_of key (V.json line)) }
 {
     Ok(Head {
         text: required_text(line, key)?,
@@ -207,8 +237,12 @@ fn read_head(line: &Value, key: Key) -> Result<Head<'_>, Reason>
 }
 
 /// The new span that a line asks for.
-fn new_span<'v>(alloc: Global, line: &'v Value, workers: usize) -> Result<Operation<'v>, Stop>
-    ensures { AnswersOrStops operation_seen result (new_of workers (view line.now)) }
+fn new_span<'v, V: JsonValue<'v>>(
+    alloc: Global,
+    line: V,
+    workers: usize,
+) -> Result<Operation<'v>, Stop>
+    ensures { AnswersOrStops operation_seen result (new_of workers (V.json line)) }
 {
     let head = match read_head(line, Key::Name) {
         Ok(head) => head,
@@ -235,14 +269,14 @@ fn new_span<'v>(alloc: Global, line: &'v Value, workers: usize) -> Result<Operat
 }
 
 /// The meta of a new span, its label and its worker.
-fn meta_and_label<'v>(
+fn meta_and_label<'v, V: JsonValue<'v>>(
     alloc: Global,
-    line: &'v Value,
+    line: V,
     workers: usize,
     head: &Head<'v>,
 ) -> Result<(SharedMeta, &'v str, usize), Stop>
     ensures given { AnswersOrStops (λ given. (given.1.now, given.2)) result
-        (label_and_worker_of workers (view line.now) head.now.text.now) }
+        (label_and_worker_of workers (V.json line) head.now.text.now) }
     ensures meta { IfOk result (λ given. given.0
         ≡ record { name = head.now.text.now; target = head.now.target.now; level = head.now.level }) }
 {
@@ -257,12 +291,12 @@ fn meta_and_label<'v>(
 
 /// The label of a new span of this name, and its worker.
 #[tactic(auto, unfolding(crate::specs::inside::Parts::label_and_worker_of))]
-fn label_and_worker<'v>(
-    line: &'v Value,
+fn label_and_worker<'v, V: JsonValue<'v>>(
+    line: V,
     name: &'v str,
     workers: usize,
 ) -> Result<(&'v str, usize), Reason>
-    ensures { Answers (λ given. (given.0.now, given.1)) result (label_and_worker_of workers (view line.now) name.now) }
+    ensures { Answers (λ given. (given.0.now, given.1)) result (label_and_worker_of workers (V.json line) name.now) }
 {
     let label = text(line, Key::Label, name)?;
     let worker = worker(line, workers)?;
@@ -271,8 +305,12 @@ fn label_and_worker<'v>(
 
 /// The call on a span that a line asks for.
 #[tactic(auto, unfolding(crate::specs::Operation::on_span_of))]
-fn on_span(line: &Value, workers: usize, call: SpanCall) -> Result<Operation<'_>, Stop>
-    ensures { AnswersOrStops operation_seen result (on_span_of workers call (view line.now)) }
+fn on_span<'v, V: JsonValue<'v>>(
+    line: V,
+    workers: usize,
+    call: SpanCall,
+) -> Result<Operation<'v>, Stop>
+    ensures { AnswersOrStops operation_seen result (on_span_of workers call (V.json line)) }
 {
     match span(line) {
         Ok(span) => match worker(line, workers) {
@@ -285,8 +323,12 @@ fn on_span(line: &Value, workers: usize, call: SpanCall) -> Result<Operation<'_>
 
 /// The record that a line asks for.
 #[tactic(auto, unfolding(crate::specs::Operation::record_of))]
-fn record<'v>(alloc: Global, line: &'v Value, workers: usize) -> Result<Operation<'v>, Stop>
-    ensures { AnswersOrStops operation_seen result (record_of workers (view line.now)) }
+fn record<'v, V: JsonValue<'v>>(
+    alloc: Global,
+    line: V,
+    workers: usize,
+) -> Result<Operation<'v>, Stop>
+    ensures { AnswersOrStops operation_seen result (record_of workers (V.json line)) }
 {
     match span(line) {
         Ok(span) => match fields(alloc, line) {
@@ -305,8 +347,12 @@ fn record<'v>(alloc: Global, line: &'v Value, workers: usize) -> Result<Operatio
 }
 
 /// The event that a line asks for, whose name is `event`.
-fn event<'v>(alloc: Global, line: &Value, workers: usize) -> Result<Operation<'v>, Stop>
-    ensures { AnswersOrStops operation_seen result (event_of workers (view line.now)) }
+fn event<'v, V: JsonValue<'v>>(
+    alloc: Global,
+    line: V,
+    workers: usize,
+) -> Result<Operation<'v>, Stop>
+    ensures { AnswersOrStops operation_seen result (event_of workers (V.json line)) }
 {
     match read_head(line, Key::Message) {
         Ok(head) => match fields(alloc, line) {
@@ -318,15 +364,15 @@ fn event<'v>(alloc: Global, line: &Value, workers: usize) -> Result<Operation<'v
 }
 
 /// The event of a line that gives these fields.
-fn event_with<'v>(
+fn event_with<'v, V: JsonValue<'v>>(
     alloc: Global,
-    line: &Value,
+    line: V,
     workers: usize,
     head: &Head<'_>,
     fields: Fields,
 ) -> Result<Operation<'v>, Stop>
     ensures { AnswersOrStops operation_seen result
-        (event_rest workers (view line.now) (head_seen head.now) fields) }
+        (event_rest workers (V.json line) (head_seen head.now) fields) }
 {
     match worker(line, workers) {
         Ok(worker) => match event_texts(alloc, head) {
@@ -359,8 +405,8 @@ fn event_texts(alloc: Global, head: &Head<'_>) -> Result<(SharedMeta, ArcStr), S
 }
 
 /// The look-up that a line asks for.
-fn find(line: &Value) -> Result<Operation<'_>, Stop>
-    ensures { AnswersOrStops operation_seen result (find_of (view line.now)) }
+fn find<'v, V: JsonValue<'v>>(line: V) -> Result<Operation<'v>, Stop>
+    ensures { AnswersOrStops operation_seen result (find_of (V.json line)) }
 {
     match looked_up(line) {
         Ok(span) => Ok(Operation::Find(span)),
@@ -370,13 +416,13 @@ fn find(line: &Value) -> Result<Operation<'_>, Stop>
 
 /// The span that a line looks up: by `span`, or by `old`, an id of the older layout.
 #[tactic(auto, unfolding(crate::specs::Operation::find_of))]
-fn looked_up(line: &Value) -> Result<SpanKey<'_>, Reason>
-    ensures { Answers (λ span. look_up (key_seen span)) result (find_of (view line.now)) }
+fn looked_up<'v, V: JsonValue<'v>>(line: V) -> Result<SpanKey<'v>, Reason>
+    ensures { Answers (λ span. look_up (key_seen span)) result (find_of (V.json line)) }
 {
-    let Some(old) = line.get(Key::Old.text()) else {
+    let Some(old) = line.member(Key::Old.text()) else {
         return span(line);
     };
-    if line.get(Key::Span.text()).is_none() {
+    if line.member(Key::Span.text()).is_none() {
         return span_of_old(old);
     }
     match span(line) {
@@ -386,10 +432,10 @@ fn looked_up(line: &Value) -> Result<SpanKey<'_>, Reason>
 }
 
 /// The span that had this id in the older layout.
-fn span_of_old<'v>(value: &Value) -> Result<SpanKey<'v>, Reason>
-    ensures { Answers (λ span. look_up (key_seen span)) result (find_old_of (view value.now)) }
+fn span_of_old<'v, V: JsonValue<'v>>(value: V) -> Result<SpanKey<'v>, Reason>
+    ensures { Answers (λ span. look_up (key_seen span)) result (find_old_of (V.json value)) }
 {
-    match value.as_u64().and_then(Id::from_v1) {
+    match value.number().and_then(Id::from_v1) {
         Some(id) => Ok(SpanKey::Id(id)),
         None => Err(Reason::BadKey(Key::Old)),
     }

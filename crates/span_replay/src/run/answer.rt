@@ -1,9 +1,10 @@
 //! What a call answers, as a line of text.
-ghost use Rattle.std.specs.Prelude.{◌≡◌, ◌++◌, IfErr, OnOk};
+ghost use Rattle.std.specs.Prelude.{◌≡◌, ◌++◌, IfErr, OnOk, decimal};
 ghost use Rattle.span_outlet.specs.Lines.{plain_line};
 ghost use Rattle.span_replay.specs.Answer.{answer_text, found_text, left_text};
 ghost use Rattle.span_replay.specs.Written.{note_line};
 
+use itoa::Buffer;
 use span_id::{Fault, Id};
 use span_outlet::Line;
 use span_script::Stop;
@@ -60,7 +61,11 @@ fn answer_line(text: &mut Vec<u8>, answer: Answer) -> io::Result<()>
     match answer {
         Answer::Limits => text.write_all(b"= limits\n"),
         Answer::Layer(number) => writeln!(text, "= layer {number}"),
-        Answer::Made(id) => writeln!(text, "= {id}"),
+        Answer::Made(id) => {
+            text.write_all(b"= ")?;
+            write_number(text, id.get())?;
+            text.write_all(b"\n")
+        }
         Answer::NotWanted => text.write_all(b"= not wanted\n"),
         Answer::Cloned => text.write_all(b"= cloned\n"),
         Answer::Closed(true) => text.write_all(b"= closed\n"),
@@ -95,9 +100,19 @@ pub fn write_found(text: &mut Vec<u8>, found: &Found<'_>) -> io::Result<()>
 pub fn write_note(text: &mut Vec<u8>, line: &Line) -> io::Result<()>
     ensures { OnOk result (text.new.items ≡ text.old.items ++ note_line (plain_line line.now)) }
 {
-    write!(text, "L{} ", line.layer)?;
+    text.write_all(b"L")?;
+    write_number(text, u64::from(line.layer))?;
+    text.write_all(b" ")?;
     text.write_all(line.text.as_slice())?;
     text.write_all(b"\n")
+}
+
+/// Appends a number in decimal to a text. The only error is that memory was refused.
+fn write_number(text: &mut Vec<u8>, number: u64) -> io::Result<()>
+    ensures { OnOk result (text.new.items ≡ text.old.items ++ decimal number) }
+{
+    let mut buffer = Buffer::new();
+    text.write_all(buffer.format(number).as_bytes())
 }
 
 /// Appends the last line, which tells how many spans are open, to a text. The only error is that memory was refused.

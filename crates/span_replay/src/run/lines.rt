@@ -2,7 +2,7 @@
 ghost use Rattle.std.specs.Prelude.{◌≡◌, ◌+◌, ◌^◌, ◌<◌, ◌≤◌, ℕ, [], false, length, IfOk, IfErr, IfSome};
 ghost use Rattle.std.specs.Prelude.{IfNone, OnOk, Ok};
 ghost use Rattle.std.specs.Option.{option_map};
-ghost use Rattle.serde_json.specs.View.{view};
+ghost use Rattle.span_json.specs.Seen.{view};
 ghost use Rattle.span_run.specs.Counted.{inner_of, failed_of, flushes_of};
 ghost use Rattle.span_replay.specs.Meaning.{last_part, line_turn, run, value_turn};
 ghost use Rattle.span_script.specs.Operation.{Stage, is_setup, running};
@@ -17,12 +17,12 @@ use crate::run::fault::at_line;
 use crate::run::opening::Rest;
 use crate::run::script::Script;
 use crate::run::tidying::{Remains, let_go, tidy};
-use serde_json::Value;
 use span_id::Checked;
+use span_json::{Scratch, Value};
 use span_layers::{Filters, Say};
 use span_outlet::Latest;
 use span_run::{Counted, RunFault, write_text};
-use span_script::{Stop, cut_line, is_skipped, json_value, operation};
+use span_script::{Stop, cut_line, is_skipped, json_line, operation_in_line};
 use std::alloc::Global;
 use std::io::Write;
 
@@ -161,12 +161,13 @@ fn run_lines<V: Say, W: Write>(
     ensures counts { EndsAsCounted 0 0 (failed_of output.old) (failed_of output.new) result }
     ensures flushes { flushes_of output.new ≡ flushes_of output.old }
 {
+    let mut scratch = Scratch::new(alloc);
     let mut rest = lines;
     let mut number = first;
     while !rest.is_empty() {
         let (line, tail) = cut_line(rest);
         rest = tail;
-        if let Err(fault) = run_line(alloc, number, line, script, text, output) {
+        if let Err(fault) = run_line(alloc, number, line, &mut scratch, script, text, output) {
             return Err(fault);
         }
         number += 1;
@@ -179,6 +180,7 @@ fn run_line<V: Say, W: Write>(
     alloc: Global,
     number: u64,
     line: &[u8],
+    scratch: &mut Scratch,
     script: &mut Script<V>,
     text: &mut Vec<u8>,
     output: &mut Counted<W>,
@@ -198,7 +200,7 @@ fn run_line<V: Say, W: Write>(
     if is_skipped(line) {
         return Ok(());
     }
-    match json_value(alloc, line) {
+    match json_line(alloc, line, scratch) {
         Ok(value) => run_value(alloc, number, &value, script, text, output),
         Err(stop) => Err(at_line(number, stop)),
     }
@@ -208,7 +210,7 @@ fn run_line<V: Say, W: Write>(
 fn run_value<V: Say, W: Write>(
     alloc: Global,
     number: u64,
-    line: &Value,
+    line: &Value<'_>,
     script: &mut Script<V>,
     text: &mut Vec<u8>,
     output: &mut Counted<W>,
@@ -235,7 +237,7 @@ fn run_value<V: Say, W: Write>(
 /// Makes the call that a line asks for. The text is its notes and its answer.
 fn call<V: Say>(
     alloc: Global,
-    line: &Value,
+    line: &Value<'_>,
     script: &mut Script<V>,
     text: &mut Vec<u8>,
 ) -> Result<(), Stop>
@@ -247,7 +249,7 @@ fn call<V: Say>(
         (λ stop. (hooks : ℕ) → StopsFor (value_turn hooks (state_at script.old running) (view line.now)) stop) }
 {
     text.clear();
-    match operation(
+    match operation_in_line(
         alloc,
         line,
         script.workers as usize,

@@ -1,11 +1,11 @@
 //! The lines of a script before the first call.
-ghost use Rattle.std.specs.Prelude.{◌≡◌, ◌+◌, ◌^◌, ◌<◌, ◌≤◌, [], false, length, true, IfOk, IfErr, IfSome, IfNone, OnOk};
+ghost use Rattle.std.specs.Prelude.{◌≡◌, ◌+◌, ◌^◌, ◌<◌, ◌≤◌, [], false, length, true, IfOk, IfErr, IfSome, IfNone, Ok, OnOk};
 ghost use Rattle.std.specs.Option.{option_map};
 ghost use Rattle.std.specs.Io.KnownBytes.{Keeps};
-ghost use Rattle.serde_json.specs.View.{view};
+ghost use Rattle.span_json.specs.Seen.{view};
 ghost use Rattle.span_run.specs.Counted.{inner_of, failed_of, flushes_of};
 ghost use Rattle.span_replay.specs.Meaning.{line_turn, run, value_turn};
-ghost use Rattle.span_script.specs.Operation.{is_setup};
+ghost use Rattle.span_script.specs.Operation.{is_setup, json_of};
 ghost use Rattle.span_replay.specs.Replayed.{Fails};
 ghost use Rattle.span_run.specs.RunFault.{EndsAsCounted};
 ghost use Rattle.span_script.specs.Script.{lines_of, most_bytes};
@@ -14,9 +14,9 @@ ghost use Rattle.span_replay.specs.inside.Turns.{HasTurned, Sent, TurnFails, res
 
 use crate::run::fault::at_line;
 use crate::run::setup::Setup;
-use serde_json::Value;
+use span_json::{Scratch, Value};
 use span_run::{Counted, RunFault, write_text};
-use span_script::{cut_line, is_setup, is_skipped, json_value};
+use span_script::{cut_line, is_setup_line, is_skipped, json_line};
 use std::alloc::Global;
 use std::io::Write;
 
@@ -26,15 +26,17 @@ pub struct Rest<'s> {
     /// The number of the first line that is left.
     pub number: u64,
     /// The JSON value of this line, which was read already.
-    pub value: Option<Value>,
+    pub value: Option<Value<'s>>,
     /// The lines after it.
     pub lines: &'s [u8],
 }
 
-/// Runs the lines up to the first one whose op is neither `limits` nor `layer`. Its value is handed on.
+/// Runs the lines up to the first one whose op is neither `limits` nor `layer`. Its value is handed on; it is read
+/// again, with the scratch that outlives the call.
 pub fn open<'s, W: Write>(
     alloc: Global,
     script: &'s [u8],
+    scratch: &'s mut Scratch,
     setup: &mut Setup,
     text: &mut Vec<u8>,
     output: &mut Counted<W>,
@@ -53,19 +55,23 @@ pub fn open<'s, W: Write>(
     ensures counts { EndsAsCounted 0 0 (failed_of output.old) (failed_of output.new) result }
     ensures flushes { flushes_of output.new ≡ flushes_of output.old }
 {
+    let mut own = Scratch::new(alloc);
     let mut lines = script;
     let mut number = 1u64;
     while !lines.is_empty() {
         let (line, tail) = cut_line(lines);
-        match open_line(alloc, number, line, setup, text, output) {
+        match open_line(alloc, number, line, &mut own, setup, text, output) {
             Ok(None) => {}
-            Ok(Some(value)) => {
-                return Ok(Rest {
-                    number,
-                    value: Some(value),
-                    lines: tail,
-                });
-            }
+            Ok(Some(_)) => match json_line(alloc, line, scratch) {
+                Ok(value) => {
+                    return Ok(Rest {
+                        number,
+                        value: Some(value),
+                        lines: tail,
+                    });
+                }
+                Err(_) => return Err(RunFault::Memory),
+            },
             Err(fault) => return Err(fault),
         }
         lines = tail;
@@ -79,14 +85,15 @@ pub fn open<'s, W: Write>(
 }
 
 /// Runs a line, or answers its value where its op is neither `limits` nor `layer`.
-fn open_line<W: Write>(
+fn open_line<'s, W: Write>(
     alloc: Global,
     number: u64,
-    line: &[u8],
+    line: &'s [u8],
+    scratch: &'s mut Scratch,
     setup: &mut Setup,
     text: &mut Vec<u8>,
     output: &mut Counted<W>,
-) -> Result<Option<Value>, RunFault>
+) -> Result<Option<Value<'s>>, RunFault>
     requires { failed_of output.old < 2 ^ 63 }
     ensures turned { IfOk result
         (λ value. IfNone value (HasTurned (line_turn (hooks_in setup.old) (setup_state setup.old) line.now)
@@ -98,6 +105,7 @@ fn open_line<W: Write>(
     ensures value { IfOk result
         (λ value. IfSome value (λ value. line_turn (hooks_in setup.old) (setup_state setup.old) line.now
         ≡ value_turn (hooks_in setup.old) (setup_state setup.old) (view value))) }
+    ensures read { IfOk result (λ value. IfSome value (λ value. json_of line.now ≡ Ok (view value))) }
     ensures call { IfOk result (λ value. IfSome value (λ value. is_setup (view value) ≡ false)) }
     ensures hooks { OnOk result (hooks_in setup.new ≡ hooks_in setup.old) }
     ensures err { IfErr result (TurnFails (line_turn (hooks_in setup.old) (setup_state setup.old) line.now) number
@@ -108,38 +116,38 @@ fn open_line<W: Write>(
     if is_skipped(line) {
         return Ok(None);
     }
-    match json_value(alloc, line) {
+    match json_line(alloc, line, scratch) {
         Ok(value) => open_value(alloc, number, value, setup, text, output),
         Err(stop) => Err(at_line(number, stop)),
     }
 }
 
 /// Runs the line of a JSON value, or answers the value where its op is neither `limits` nor `layer`.
-fn open_value<W: Write>(
+fn open_value<'s, W: Write>(
     alloc: Global,
     number: u64,
-    value: Value,
+    value: Value<'s>,
     setup: &mut Setup,
     text: &mut Vec<u8>,
     output: &mut Counted<W>,
-) -> Result<Option<Value>, RunFault>
+) -> Result<Option<Value<'s>>, RunFault>
     requires { failed_of output.old < 2 ^ 63 }
     ensures turned { IfOk result
-        (λ left. IfNone left (HasTurned (value_turn (hooks_in setup.old) (setup_state setup.old) (view value))
+        (λ left. IfNone left (HasTurned (value_turn (hooks_in setup.old) (setup_state setup.old) (view value.entry))
         (setup_state setup.new)
         (W.contents (inner_of output.old)) (W.contents (inner_of output.new)))) }
     ensures same { IfOk result (λ left. IfSome left (λ left. setup_state setup.new ≡ setup_state setup.old)) }
     ensures kept { IfOk result
         (λ left. IfSome left (λ left. Keeps (W.contents (inner_of output.old)) (W.contents (inner_of output.new)))) }
-    ensures value { IfOk result (λ left. IfSome left (λ left. view left ≡ view value)) }
+    ensures value { IfOk result (λ left. IfSome left (λ left. view left ≡ view value.entry)) }
     ensures call { IfOk result (λ left. IfSome left (λ left. is_setup (view left) ≡ false)) }
     ensures hooks { OnOk result (hooks_in setup.new ≡ hooks_in setup.old) }
-    ensures err { IfErr result (TurnFails (value_turn (hooks_in setup.old) (setup_state setup.old) (view value)) number
+    ensures err { IfErr result (TurnFails (value_turn (hooks_in setup.old) (setup_state setup.old) (view value.entry)) number
         (W.contents (inner_of output.old)) (W.contents (inner_of output.new))) }
     ensures counts { EndsAsCounted 0 0 (failed_of output.old) (failed_of output.new) result }
     ensures flushes { flushes_of output.new ≡ flushes_of output.old }
 {
-    if !is_setup(&value) {
+    if !is_setup_line(&value) {
         return Ok(Some(value));
     }
     match set_up(alloc, number, &value, setup, text, output) {
@@ -152,7 +160,7 @@ fn open_value<W: Write>(
 fn set_up<W: Write>(
     alloc: Global,
     number: u64,
-    value: &Value,
+    value: &Value<'_>,
     setup: &mut Setup,
     text: &mut Vec<u8>,
     output: &mut Counted<W>,

@@ -3,7 +3,7 @@ ghost use Rattle.std.specs.Prelude.{◌≡◌, ◌+◌, ◌^◌, ◌<◌, ◌≤
 ghost use Rattle.std.specs.Prelude.{length, vec_len};
 ghost use Rattle.std.specs.Option.{option_map};
 ghost use Rattle.std.specs.Io.KnownBytes.{IsAtEnd};
-ghost use Rattle.serde_json.specs.View.{view};
+ghost use Rattle.span_json.specs.Seen.{view};
 ghost use Rattle.span_run.specs.Counted.{inner_of, calls_of, failed_of, flushes_of, flushed_of};
 ghost use Rattle.span_replay.specs.Meaning.{run};
 ghost use Rattle.span_replay.specs.Replayed.{FlushesOnce, IsReplayed, IsWhole, KeepsUnread, Runs};
@@ -18,6 +18,7 @@ use crate::run::lines::run_rest;
 use crate::run::opening::{Rest, open};
 use crate::run::setup::Setup;
 use crate::run::tidying::Remains;
+use span_json::Scratch;
 use span_layers::Hooks;
 use span_outlet::Latest;
 use span_run::{Counted, RunFault, flush, read_script};
@@ -135,7 +136,8 @@ fn run_all<W: Write>(
     ensures counts { EndsAsCounted 0 0 (failed_of output.old) (failed_of output.new) result }
     ensures flushes { flushes_of output.new ≡ flushes_of output.old }
 {
-    match open(alloc, script, &mut setup, text, output) {
+    let mut scratch = Scratch::new(alloc);
+    match open(alloc, script, &mut scratch, &mut setup, text, output) {
         Ok(rest) => run_opened(alloc, setup, &rest, remains, text, output),
         Err(fault) => Err(fault),
     }
@@ -162,5 +164,7 @@ fn run_opened<W: Write>(
 {
     let (checked, filters, tellers) = setup.split();
     let latest = Latest::new(alloc, tellers);
-    run_rest(alloc, &checked, filters, latest, rest, remains, text, output)
+    run_rest(
+        alloc, &checked, filters, latest, rest, remains, text, output,
+    )
 }

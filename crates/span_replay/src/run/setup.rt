@@ -1,6 +1,6 @@
 //! The lines before the first call: the limits and the layers.
 ghost use Rattle.std.specs.Prelude.{◌≡◌, ◌+◌, true, length, vec_len, IfOk, IfErr, OnOk, Ok};
-ghost use Rattle.serde_json.specs.View.{view};
+ghost use Rattle.span_json.specs.Seen.{view};
 ghost use Rattle.span_layers.specs.Layers.{filters_in};
 ghost use Rattle.span_replay.specs.Answer.{answer_text};
 ghost use Rattle.span_replay.specs.Meaning.{limits_turn, layer_turn, turn_of, value_turn};
@@ -11,10 +11,10 @@ ghost use Rattle.span_replay.specs.inside.Turns.{SetsUp};
 ghost use Rattle.span_script.specs.Views.{layer_seen, operation_seen};
 
 use crate::run::answer::{Answer, write_answer};
-use serde_json::Value;
 use span_id::{Checked, Fault, Limits};
+use span_json::Value;
 use span_layers::{Filters, Hooks, Layer, Layers, MAX_LAYERS, Tellers};
-use span_script::{NewLayer, Operation, Stage, Stop, operation};
+use span_script::{NewLayer, Operation, Stage, Stop, operation_in_line};
 use std::alloc::Global;
 
 /// The limits that stand, the layers that were added, and the hooks for further layers, the next ones last.
@@ -50,7 +50,7 @@ impl Setup {
     }
 
     /// Runs a line of `limits` or `layer`. The text is its answer.
-    pub fn run(&mut self, alloc: Global, line: &Value, text: &mut Vec<u8>) -> Result<(), Stop>
+    pub fn run(&mut self, alloc: Global, line: &Value<'_>, text: &mut Vec<u8>) -> Result<(), Stop>
         requires { is_setup (view line.now) ≡ true }
         ensures ok { OnOk result (value_turn (hooks_in self.old) (setup_state self.old) (view line.now)
             ≡ Ok (record { text = text.new.items; state = setup_state self.new })) }
@@ -58,7 +58,7 @@ impl Setup {
         ensures hooks { OnOk result (hooks_in self.new ≡ hooks_in self.old) }
     {
         let workers = self.checked.limits().workers as usize;
-        let operation = match operation(alloc, line, workers, self.stage) {
+        let operation = match operation_in_line(alloc, line, workers, self.stage) {
             Ok(operation) => operation,
             Err(stop) => return Err(stop),
         };

@@ -5,8 +5,8 @@ use std::alloc::{AllocError, Global};
 use std::process::Abort;
 
 /// What a line asks for where there are four workers, or the reason of its fault, as text.
-fn read(alloc: Global, line: &str, stage: Stage) -> Result<String, AllocError> {
-    let value = match json_value(alloc, line.as_bytes()) {
+pub(crate) fn read(alloc: Global, line: &[u8], stage: Stage) -> Result<String, AllocError> {
+    let value = match json_value(alloc, line) {
         Ok(value) => value,
         Err(stop) => return told(alloc, stop),
     };
@@ -17,7 +17,7 @@ fn read(alloc: Global, line: &str, stage: Stage) -> Result<String, AllocError> {
 }
 
 /// Why a line has no answer, as text.
-fn told(alloc: Global, stop: Stop) -> Result<String, AllocError> {
+pub(crate) fn told(alloc: Global, stop: Stop) -> Result<String, AllocError> {
     match stop {
         Stop::Memory => Err(AllocError),
         Stop::Refused(reason) => reason.to_string(alloc),
@@ -29,7 +29,7 @@ type Row = (&'static str, &'static str);
 
 /// Whether a line asks for this at a stage.
 fn asks(rt: &impl Abort, alloc: Global, stage: Stage, line: &str, wanted: &str) {
-    let asked = read(alloc, line, stage).expect(rt, "memory");
+    let asked = read(alloc, line.as_bytes(), stage).expect(rt, "memory");
     same(rt, asked.as_str(), wanted, line);
 }
 

@@ -1,14 +1,19 @@
 use Rattle.std.proofs.Common.{rules, refl}
-use Rattle.span_script.proofs.ValueLists.{one_bad, pushed, all_done}
+use Rattle.span_script.specs.Operation.{field_in}
+use Rattle.span_script.specs.inside.Lists.{items_in}
+use Rattle.span_script.proofs.ValueLists.{all_left, one_bad, pushed, all_done}
 use Rattle.span_script.proofs.fields.all_fields.Goals as goal
 
-pub returns-in_default : goal.returns-in_default
-returns-in_default c =
-    rw (one_bad _ _ _ _ c.value-item.result c.loop-value-test.true c.value-item.is (search rules) c.loop-value.invariant) refl
+pub loop-place-init : goal.loop-place-init
+loop-place-init g c = rw c.in_ok-fields.ensures.items (all_left field_in (g.V.JsonValue.json c.args.list) _ c.in-Some.ensures)
 
-pub loop-value-preserved : goal.loop-value-preserved
-loop-value-preserved c =
-    pushed _ _ _ _ _ _ c.value-item.result c.in_ok-field.field-0 c.loop-value-test.true c.value-item.is (search rules) (search rules) c.loop-value.invariant
+pub returns-in_default-pair_of_texts : goal.returns-in_default-pair_of_texts
+returns-in_default-pair_of_texts g c =
+    rw (one_bad _ (items_in (g.V.JsonValue.json c.args.list)) c.loop-place.place _ (g.V.JsonValue.json c.item.result) _ (search rules) c.item.ensures (search rules) c.loop-place.invariant) refl
+
+pub loop-place-preserved : goal.loop-place-preserved
+loop-place-preserved g c =
+    pushed _ _ (items_in (g.V.JsonValue.json c.args.list)) c.loop-place.place _ _ (g.V.JsonValue.json c.item.result) c.in_ok-field.field-0 _ (search rules) c.item.ensures (search rules) (search rules) c.loop-place.invariant
 
 pub returns : goal.returns
-returns c = rw (all_done _ _ _ _ c.loop-value-test.false c.loop-value.invariant) refl
+returns g c = rw (all_done _ (items_in (g.V.JsonValue.json c.args.list)) c.loop-place.place _ _ (search rules) c.loop-place.invariant) refl

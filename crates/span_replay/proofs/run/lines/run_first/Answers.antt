@@ -1,4 +1,4 @@
-use Rattle.serde_json.specs.View.{view}
+use Rattle.span_json.specs.Seen.{view}
 use Rattle.span_script.specs.Operation.{running}
 use Rattle.span_replay.specs.inside.Running.{state_at}
 use Rattle.span_replay.proofs.Openings.{when_none}

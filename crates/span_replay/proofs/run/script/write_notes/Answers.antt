@@ -1,5 +1,5 @@
 use Rattle.std.proofs.Common.{◌≡◌, arith}
-use Rattle.span_replay.proofs.WrittenCalls.{all_written, none_written, note_more}
+use Rattle.span_replay.proofs.WrittenCalls.{all_written, note_more}
 use Rattle.span_replay.proofs.run.script.write_notes.Goals as goal
 
 pub returns-clause-text : goal.returns-clause-text

@@ -1,0 +1,10 @@
+//! JSON values over borrowed text, seen as the data that `serde_json` reads.
+#![tactic(auto)]
+
+mod numbers;
+mod reading;
+mod values;
+
+pub use json::{Scratch, Value};
+pub use reading::{Unread, read_value};
+pub use values::{as_array, as_str, as_u64, is_null, is_object, member};

@@ -1,0 +1,12 @@
+use Rattle.std.proofs.Common.{rules, ◌<◌, length}
+use Rattle.serde_json.specs.View.{view}
+use Rattle.span_script.proofs.Items.{within, found}
+use Rattle.span_script.proofs.line_value.OwnedJsonValue.item.Goals as goal
+
+pub index-requires : goal.index-requires
+index-requires c =
+    let low : c.args.place < length c.in-Some.items.now.items = within view _ c.in-Some.items.now.items c.in-Some.ensures _ c.requires in
+    search rules
+
+pub returns-in-Some : goal.returns-in-Some
+returns-in-Some c = found view _ c.in-Some.items.now.items c.in-Some.ensures _ _ c.requires (search rules)
