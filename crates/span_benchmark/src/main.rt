@@ -1,7 +1,7 @@
 //! Workloads that builds of the libraries are compared by: scripts that are replayed, calls on a registry, and storms.
 //! Each prints one line, which is the same at each run with the same seed.
 //!
-//! `span_benchmark scripts|far|calls|storms SEED`. With no words each of them is run shortly, with the seed 1.
+//! `span_benchmark scripts|far|calls|storms|quiet SEED`. With no words each of them is run shortly, with the seed 1.
 #![tactic(auto)]
 
 mod calls;
@@ -27,7 +27,7 @@ use std::sync::Wait;
 use std::thread::Threads;
 
 const USAGE: &str =
-    "usage: span_benchmark [scripts|far|calls|storms SEED], the seed a number below 2^32";
+    "usage: span_benchmark [scripts|far|calls|storms|quiet SEED], the seed a number below 2^32";
 
 fn main(rt: HostRuntime) -> io::Result<ExitCode> {
     let words: Vec<String> = std::env::args(&rt)?.collect(rt.alloc())?;
@@ -95,6 +95,7 @@ fn made<R: Threads + Wait + Sync>(
         Workload::Far => far::run(alloc, seed, scale),
         Workload::Calls => Ok(calls::run(rt, alloc, seed, scale)?),
         Workload::Storms => storms::run(rt, alloc, seed, scale),
+        Workload::Quiet => Ok(calls::run_quietly(rt, alloc, seed, scale)?),
     }
 }
 

@@ -7,15 +7,17 @@ pub enum Workload {
     Far,
     Calls,
     Storms,
+    Quiet,
 }
 
 impl Workload {
     /// All of them.
-    pub const ALL: [Workload; 4] = [
+    pub const ALL: [Workload; 5] = [
         Workload::Scripts,
         Workload::Far,
         Workload::Calls,
         Workload::Storms,
+        Workload::Quiet,
     ];
 
     /// The word for it.
@@ -25,6 +27,7 @@ impl Workload {
             Workload::Far => "far",
             Workload::Calls => "calls",
             Workload::Storms => "storms",
+            Workload::Quiet => "quiet",
         }
     }
 
@@ -35,6 +38,7 @@ impl Workload {
             "far" => Some(Workload::Far),
             "calls" => Some(Workload::Calls),
             "storms" => Some(Workload::Storms),
+            "quiet" => Some(Workload::Quiet),
             _ => None,
         }
     }
