@@ -5,6 +5,7 @@ pub mod Accepting
 pub mod Telling
 pub mod Texts
 pub mod NewSpans
+pub mod Remembering
 pub mod ClosingPaths
 pub mod Counted
 pub mod Deciding

@@ -4,3 +4,4 @@ pub mod Lent
 pub mod Given
 pub mod ClosingPaths
 pub mod Telling
+pub mod Remembering

@@ -5,6 +5,7 @@ ghost use Rattle.span_id.specs.Meta.{plain_meta, plain_fields};
 ghost use Rattle.span_core.specs.inside.Given.{meta_given, fields_given, text_given};
 
 use span_id::{Fault, Field, Fields, Meta, SharedMeta};
+use span_recent::RecentMetas;
 use std::alloc::Global;
 use std::sync::ArcStr;
 
@@ -50,12 +51,12 @@ impl<'a> GivenMeta<'a> {
 
     // The meta, to be kept.
     #[inline(always)]
-    pub(crate) fn keep(&self, alloc: Global) -> Result<SharedMeta, Fault>
+    pub(crate) fn keep(&self, recent: &mut RecentMetas) -> Result<SharedMeta, Fault>
         ensures meta { IfOk result (λ kept. kept ≡ meta_given self.now) }
         ensures memory { IfErr result (λ fault. fault ≡ Fault.Memory) }
     {
         match self {
-            GivenMeta::Lent(meta) => SharedMeta::copy_of(alloc, meta),
+            GivenMeta::Lent(meta) => recent.share(meta),
             GivenMeta::Shared(meta) => meta.share(),
         }
     }

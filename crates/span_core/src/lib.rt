@@ -13,11 +13,14 @@ ghost use Rattle.span_core.specs.ClosedSpans.{closed_in};
 
 mod calls;
 mod given;
+mod known_paths;
 pub mod laws;
 mod notes;
+mod recent;
 mod stacks;
 
 use crate::laws::{entries_are_counted_once, made_spans_are_open_or_closed};
+use crate::recent::Recent;
 use crate::stacks::empty_stacks;
 use span_forest::laws::open_spans_are_counted;
 use span_forest::{Forest, Span};
@@ -35,7 +38,7 @@ use std::marker::Model;
 /// place. The number of the worker that calls needs to be below `workers` of the limits.
 #[derive(Drop)]
 pub struct Core<O: Outlet, A = Admitters> {
-    pub(crate) alloc: Global,
+    pub(crate) recent: Recent,
     pub(crate) limits: Checked,
     pub(crate) forest: Forest,
     pub(crate) stacks: Vec<SpanStack>,
@@ -57,6 +60,7 @@ impl<O: Outlet, A> Model for Core<O, A> {
     ghost use Rattle.std.specs.Prelude.{◌≡◌, length};
     ghost use Rattle.span_core.specs.History.{issued};
     ghost use Rattle.span_core.specs.inside.Sound.{IsSound};
+    ghost use Rattle.span_core.specs.inside.Remembering.{Remembers};
 
     ghost view = { λ s. record {
       limits = s.limits;
@@ -69,7 +73,8 @@ impl<O: Outlet, A> Model for Core<O, A> {
     } };
 
     ghost invariant = { λ s. IsSound s.limits s.forest (ids_of_each s.stacks.items) s.rules s.calls (O.sent s.outlet)
-        × (s.made ≡ length (issued (O.sent s.outlet))) };
+        × (s.made ≡ length (issued (O.sent s.outlet)))
+        × Remembers s.forest s.recent.paths };
 }
 
 impl<O: Outlet + Drop, F: Drop> Core<O, Admitters<F>> {
@@ -98,7 +103,7 @@ impl<O: Outlet + Drop, F: Drop> Core<O, Admitters<F>> {
         let stacks = empty_stacks(alloc, checked.limits().workers)?;
         let forest = Forest::new(alloc, checked)?;
         Ok(Core {
-            alloc,
+            recent: Recent::none(alloc),
             limits: *checked,
             forest,
             stacks,
@@ -212,7 +217,7 @@ impl<O: Outlet, A: Drop> Core<O, A> {
         ensures legal { IsLegal self.rules self.limits.workers self.sent self.world }
     {
         let Core {
-            alloc: _,
+            recent: _,
             limits: _,
             forest: _,
             stacks: _,

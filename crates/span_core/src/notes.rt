@@ -8,6 +8,7 @@ ghost use Rattle.span_outlet.specs.Request.{record_fields, request_of};
 ghost use Rattle.span_core.specs.Happening.{at_span, close_of, bits_in, notes_of, notes_of_all, path_at};
 ghost use Rattle.span_core.specs.inside.ClosingPaths.{IsChain};
 ghost use Rattle.span_core.specs.inside.Telling.{id_told, place_told, tail_told, text_told, told_to, notes_told, Knows};
+ghost use Rattle.span_core.specs.inside.Remembering.{Remembers};
 
 pub(crate) mod closing;
 pub(crate) mod events;
@@ -15,6 +16,7 @@ pub(crate) mod layers;
 pub(crate) mod new_spans;
 pub(crate) mod paths;
 
+use crate::recent::Recent;
 use closing::push_closes;
 use events::contextual_span;
 use layers::{is_told_to_none, told_count, told_layers};
@@ -24,7 +26,6 @@ use span_id::{Bits, Fault, Fields, Id, Level};
 use span_layers::{Kind, Note, Rules};
 use span_outlet::Call;
 use span_stack::SpanStack;
-use std::alloc::Global;
 use std::sync::ArcStr;
 
 /// What happened to a span: which worker caused it, its kind, the span, and the layers that admit the span.
@@ -96,7 +97,7 @@ fn id_of(subject: &Subject<'_>, place: &Option<Id>) -> u64
 
 // The path of a layer at a place, as it is told of a subject.
 fn path_of(
-    alloc: Global,
+    recent: &mut Recent,
     forest: &Forest,
     subject: &Subject<'_>,
     paths: &mut ToldPaths,
@@ -104,15 +105,17 @@ fn path_of(
     place: &Option<Id>,
 ) -> Result<ArcStr, Fault>
     requires known { Knows (text_told subject.now) forest.now.spans paths.old }
+    requires remembers { Remembers forest.now recent.old.paths }
     ensures text { IfOk result (λ text. arc_str_bytes text
         ≡ text_told subject.now (path_at layer forest.now.spans place.now)) }
     ensures known { OnOk result (Knows (text_told subject.now) forest.now.spans paths.new) }
+    ensures remembers { Remembers forest.now recent.new.paths }
     ensures memory { IfErr result (λ fault. fault ≡ Fault.Memory) }
 {
     match subject {
-        Subject::NewSpan { name, .. } => new_text(alloc, forest, paths, layer, place, name),
-        Subject::Span(_) => seen_text(alloc, forest, paths, layer, place),
-        Subject::Event { .. } => seen_text(alloc, forest, paths, layer, place),
+        Subject::NewSpan { name, .. } => new_text(recent, forest, paths, layer, place, name),
+        Subject::Span(_) => seen_text(recent, forest, paths, layer, place),
+        Subject::Event { .. } => seen_text(recent, forest, paths, layer, place),
     }
 }
 
@@ -132,19 +135,21 @@ fn tail(subject: &Subject<'_>) -> Result<Option<(Level, ArcStr)>, Fault>
 
 // The note that a layer is told. It shares a path that was told, where the layer sees the same.
 fn note(
-    alloc: Global,
+    recent: &mut Recent,
     forest: &Forest,
     what: &Telling<'_>,
     paths: &mut ToldPaths,
     layer: u32,
 ) -> Result<Note, Fault>
     requires known { Knows (text_told what.now.subject) forest.now.spans paths.old }
+    requires remembers { Remembers forest.now recent.old.paths }
     ensures note { IfOk result (λ note. plain_note note ≡ told_to forest.now.spans what.now layer) }
     ensures known { OnOk result (Knows (text_told what.now.subject) forest.now.spans paths.new) }
+    ensures remembers { Remembers forest.now recent.new.paths }
     ensures memory { IfErr result (λ fault. fault ≡ Fault.Memory) }
 {
     let place = place_of(forest, &what.subject, layer);
-    let path = path_of(alloc, forest, &what.subject, paths, layer, &place)?;
+    let path = path_of(recent, forest, &what.subject, paths, layer, &place)?;
     let fields = what.fields.share()?;
     let tail = tail(&what.subject)?;
     Ok(Note {
@@ -160,7 +165,7 @@ fn note(
 
 // Appends the notes of the layers: one for each that admits what happened and wants the kind.
 fn push_told(
-    alloc: Global,
+    recent: &mut Recent,
     notes: &mut Vec<Note>,
     paths: &mut ToldPaths,
     rules: &Rules,
@@ -168,9 +173,11 @@ fn push_told(
     what: &Telling<'_>,
 ) -> Result<(), Fault>
     requires known { Knows (text_told what.now.subject) forest.now.spans paths.old }
+    requires remembers { Remembers forest.now recent.old.paths }
     ensures notes { OnOk result (map plain_note notes.new.items ≡ map plain_note notes.old.items
         ++ notes_told rules.now forest.now.spans what.now) }
     ensures known { OnOk result (Knows (text_told what.now.subject) forest.now.spans paths.new) }
+    ensures remembers { Remembers forest.now recent.new.paths }
     ensures memory { IfErr result (λ fault. fault ≡ Fault.Memory) }
 {
     let count = told_count(rules, what.bits, what.kind);
@@ -179,7 +186,7 @@ fn push_told(
     }
     notes.reserve_exact(count)?;
     for layer in told_layers(rules, what.bits, what.kind) {
-        let note = note(alloc, forest, what, paths, layer)?;
+        let note = note(recent, forest, what, paths, layer)?;
         notes.push(note)?;
     }
     Ok(())
@@ -188,51 +195,57 @@ fn push_told(
 // The notes of the layers alone.
 #[inline(always)]
 fn told(
-    alloc: Global,
+    recent: &mut Recent,
     rules: &Rules,
     forest: &Forest,
     what: &Telling<'_>,
 ) -> Result<Vec<Note>, Fault>
+    requires remembers { Remembers forest.now recent.old.paths }
     ensures notes { IfOk result (λ notes. map plain_note notes.items
         ≡ notes_told rules.now forest.now.spans what.now) }
+    ensures remembers { Remembers forest.now recent.new.paths }
     ensures memory { IfErr result (λ fault. fault ≡ Fault.Memory) }
 {
     if is_told_to_none(rules, what.bits, what.kind) {
-        return Ok(Vec::new(alloc));
+        return Ok(Vec::new(recent.alloc));
     }
-    told_to_some(alloc, rules, forest, what)
+    told_to_some(recent, rules, forest, what)
 }
 
 // These notes, where some layer is told.
 #[inline(never)]
 fn told_to_some(
-    alloc: Global,
+    recent: &mut Recent,
     rules: &Rules,
     forest: &Forest,
     what: &Telling<'_>,
 ) -> Result<Vec<Note>, Fault>
+    requires remembers { Remembers forest.now recent.old.paths }
     ensures notes { IfOk result (λ notes. map plain_note notes.items
         ≡ notes_told rules.now forest.now.spans what.now) }
+    ensures remembers { Remembers forest.now recent.new.paths }
     ensures memory { IfErr result (λ fault. fault ≡ Fault.Memory) }
 {
-    let mut notes = Vec::new(alloc);
-    let mut paths = ToldPaths::none(alloc);
-    push_told(alloc, &mut notes, &mut paths, rules, forest, what)?;
+    let mut notes = Vec::new(recent.alloc);
+    let mut paths = ToldPaths::none(recent.alloc);
+    push_told(recent, &mut notes, &mut paths, rules, forest, what)?;
     Ok(notes)
 }
 
 // The notes of what happened to a span: one for each layer that admits the span and wants the kind.
 #[inline(always)]
 pub(crate) fn span_notes(
-    alloc: Global,
+    recent: &mut Recent,
     rules: &Rules,
     forest: &Forest,
     what: &Happening,
     fields: &Fields,
 ) -> Result<Vec<Note>, Fault>
     requires bits { what.now.bits.0 ≡ bits_in forest.now.spans what.now.id }
+    requires remembers { Remembers forest.now recent.old.paths }
     ensures notes { IfOk result (λ notes. map plain_note notes.items ≡ notes_of rules.now what.now.worker
         (at_span forest.now.spans what.now.kind what.now.id fields.now)) }
+    ensures remembers { Remembers forest.now recent.new.paths }
     ensures memory { IfErr result (λ fault. fault ≡ Fault.Memory) }
 {
     let what = Telling {
@@ -242,12 +255,12 @@ pub(crate) fn span_notes(
         fields,
         subject: Subject::Span(what.id),
     };
-    told(alloc, rules, forest, &what)
+    told(recent, rules, forest, &what)
 }
 
 // Appends these notes.
 fn push_notes(
-    alloc: Global,
+    recent: &mut Recent,
     notes: &mut Vec<Note>,
     paths: &mut ToldPaths,
     rules: &Rules,
@@ -257,10 +270,12 @@ fn push_notes(
 ) -> Result<(), Fault>
     requires bits { what.now.bits.0 ≡ bits_in forest.now.spans what.now.id }
     requires known { Knows path_text forest.now.spans paths.old }
+    requires remembers { Remembers forest.now recent.old.paths }
     ensures notes { OnOk result (map plain_note notes.new.items ≡ map plain_note notes.old.items
         ++ notes_of rules.now what.now.worker
         (at_span forest.now.spans what.now.kind what.now.id fields.now)) }
     ensures known { OnOk result (Knows path_text forest.now.spans paths.new) }
+    ensures remembers { Remembers forest.now recent.new.paths }
     ensures memory { IfErr result (λ fault. fault ≡ Fault.Memory) }
 {
     let what = Telling {
@@ -270,25 +285,27 @@ fn push_notes(
         fields,
         subject: Subject::Span(what.id),
     };
-    push_told(alloc, notes, paths, rules, forest, &what)
+    push_told(recent, notes, paths, rules, forest, &what)
 }
 
 // The call that appends fields to those of a span, and its notes: they share the fields.
 pub(crate) fn record_told(
-    alloc: Global,
+    recent: &mut Recent,
     rules: &Rules,
     forest: &Forest,
     what: &Happening,
     fields: &Fields,
 ) -> Result<Announced, Fault>
     requires bits { what.now.bits.0 ≡ bits_in forest.now.spans what.now.id }
+    requires remembers { Remembers forest.now recent.old.paths }
     ensures call { IfOk result (λ told. request_of told.call
         ≡ record_fields what.now.worker what.now.id fields.now) }
     ensures notes { IfOk result (λ told. map plain_note told.notes.items ≡ notes_of rules.now what.now.worker
         (at_span forest.now.spans what.now.kind what.now.id fields.now)) }
+    ensures remembers { Remembers forest.now recent.new.paths }
     ensures memory { IfErr result (λ fault. fault ≡ Fault.Memory) }
 {
-    let notes = span_notes(alloc, rules, forest, what, fields)?;
+    let notes = span_notes(recent, rules, forest, what, fields)?;
     let fields = fields.share()?;
     Ok(Announced {
         call: Call::RecordFields {
@@ -302,7 +319,7 @@ pub(crate) fn record_told(
 
 // The notes of an exit: those of the exit itself, then those of the spans that it closes. They share their paths.
 pub(crate) fn exit_notes(
-    alloc: Global,
+    recent: &mut Recent,
     rules: &Rules,
     forest: &Forest,
     exit: &Happening,
@@ -311,18 +328,20 @@ pub(crate) fn exit_notes(
     requires kind { exit.now.kind ≡ OnExit }
     requires chain { IsChain forest.now.spans closing.now }
     requires bits { exit.now.bits.0 ≡ bits_in forest.now.spans exit.now.id }
+    requires remembers { Remembers forest.now recent.old.paths }
     ensures notes { IfOk result (λ notes. map plain_note notes.items
         ≡ notes_of_all rules.now exit.now.worker
         (at_span forest.now.spans OnExit exit.now.id [] ∷ map (close_of forest.now.spans) closing.now)) }
+    ensures remembers { Remembers forest.now recent.new.paths }
     ensures memory { IfErr result (λ fault. fault ≡ Fault.Memory) }
 {
     if closing.is_empty() {
-        return span_notes(alloc, rules, forest, exit, &Fields::none());
+        return span_notes(recent, rules, forest, exit, &Fields::none());
     }
-    let mut notes = Vec::new(alloc);
-    let mut paths = ToldPaths::none(alloc);
+    let mut notes = Vec::new(recent.alloc);
+    let mut paths = ToldPaths::none(recent.alloc);
     push_notes(
-        alloc,
+        recent,
         &mut notes,
         &mut paths,
         rules,
@@ -331,7 +350,7 @@ pub(crate) fn exit_notes(
         &Fields::none(),
     )?;
     push_closes(
-        alloc,
+        recent,
         &mut notes,
         &mut paths,
         rules,

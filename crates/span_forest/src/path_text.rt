@@ -7,6 +7,7 @@ ghost use Rattle.span_forest.specs.Path.{name_for, names_for, path, path_text};
 ghost use Rattle.span_forest.specs.Forest.{IsForest};
 
 use crate::span::Span;
+use smallvec::SmallVec;
 use span_id::{Bits, Id};
 use span_slots::Slots;
 use std::alloc::{AllocError, Global};
@@ -20,10 +21,13 @@ pub struct PathText {
     pub same: Bits,
 }
 
+// How many names of a walk take no memory.
+const IN_PLACE: usize = 8;
+
 // What a layer sees on a walk.
 #[derive(Drop)]
 struct Seen<'a> {
-    names: Vec<&'a str>,
+    names: SmallVec<&'a str, IN_PLACE>,
     // The layers that admit the same spans.
     same: Bits,
 }
@@ -68,6 +72,47 @@ pub(crate) fn path_text_below_of<'a>(
     seen.told(alloc)
 }
 
+// Writes the text of the layer's path at a span into a buffer, and answers the layers that admit the same spans.
+pub(crate) fn write_path_of(
+    slots: &Slots<Span>,
+    alloc: Global,
+    layer: u32,
+    id: Id,
+    text: &mut String,
+) -> Result<Bits, AllocError>
+    requires forest { IsForest (nodes_of slots.now.entries) }
+    requires open { IsOpen (nodes_of slots.now.entries) id }
+    ensures text { OnOk result (string_bytes text.new ≡ path_text (path layer (nodes_of slots.now.entries) id)) }
+    ensures same { IfOk result (λ same. (other : ℕ) → IsTrue (has_bit same.0 other) →
+        path other (nodes_of slots.now.entries) id ≡ path layer (nodes_of slots.now.entries) id) }
+{
+    let seen = path_seen(slots, alloc, layer, id)?;
+    write_joined(seen.names.as_slice(), text)?;
+    Ok(seen.same)
+}
+
+// The same of the path with one more name at its end.
+pub(crate) fn write_path_below_of<'a>(
+    slots: &'a Slots<Span>,
+    alloc: Global,
+    layer: u32,
+    id: Id,
+    name: &'a str,
+    text: &mut String,
+) -> Result<Bits, AllocError>
+    requires forest { IsForest (nodes_of slots.now.entries) }
+    requires open { IsOpen (nodes_of slots.now.entries) id }
+    ensures text { OnOk result (string_bytes text.new
+        ≡ path_text (path layer (nodes_of slots.now.entries) id ++ name.now ∷ [])) }
+    ensures same { IfOk result (λ same. (other : ℕ) → IsTrue (has_bit same.0 other) →
+        path other (nodes_of slots.now.entries) id ≡ path layer (nodes_of slots.now.entries) id) }
+{
+    let mut seen = path_seen(slots, alloc, layer, id)?;
+    seen.names.push(name)?;
+    write_joined(seen.names.as_slice(), text)?;
+    Ok(seen.same)
+}
+
 // The layer's path at a span.
 fn path_seen<'a>(
     slots: &'a Slots<Span>,
@@ -84,7 +129,7 @@ fn path_seen<'a>(
     ensures own { IfOk result (λ seen. layer < 64 → IsTrue (has_bit seen.same.0 layer)) }
 {
     let mut seen = seen_on_walk(slots, alloc, layer, id)?;
-    seen.names.reverse();
+    seen.names.as_mut_slice().reverse();
     Ok(seen)
 }
 
@@ -105,7 +150,7 @@ fn seen_on_walk<'a>(
     ensures own { IfOk result (λ seen. layer < 64 → IsTrue (has_bit seen.same.0 layer)) }
 {
     let mut seen = Seen {
-        names: Vec::new(alloc),
+        names: SmallVec::new(alloc),
         same: Bits::all(),
     };
     let mut next = Some(id);
@@ -155,13 +200,23 @@ impl<'a> Seen<'a> {
 fn joined(alloc: Global, names: &[&str]) -> Result<String, AllocError>
     ensures { IfOk result (λ text. string_bytes text ≡ path_text (map (λ name. name.now) names.now)) }
 {
-    let Some((first, others)) = names.split_first() else {
-        return String::from_str(alloc, "-");
-    };
-    let mut text = String::with_capacity(alloc, joined_len(first, others))?;
-    text.push_str(first)?;
-    push_others(&mut text, others)?;
+    let mut text = String::new(alloc);
+    write_joined(names, &mut text)?;
     Ok(text)
+}
+
+// The same, written into a buffer in place of what stood there. An empty buffer gets no room for more.
+fn write_joined(names: &[&str], text: &mut String) -> Result<(), AllocError>
+    ensures { OnOk result (string_bytes text.new ≡ path_text (map (λ name. name.now) names.now)) }
+{
+    text.clear();
+    let Some((first, others)) = names.split_first() else {
+        return text.push_str("-");
+    };
+    text.try_reserve_exact(joined_len(first, others))?;
+    text.push_str(first)?;
+    push_others(text, others)?;
+    Ok(())
 }
 
 // Appends the names, each behind a `:`.

@@ -8,10 +8,14 @@ ghost use Rattle.span_forest.specs.Release.{closing_list, spans_left, freed_afte
 ghost use Rattle.span_stack.specs.Stack.{without_last, ids_of_each};
 ghost use Rattle.span_core.specs.Happening.{at_span, bits_in, close_of, notes_of_all};
 ghost use Rattle.span_core.specs.inside.ClosingPaths.{IsChain};
+ghost use Rattle.span_core.specs.declared.known_paths.KnownPaths.{KnownPaths};
+ghost use Rattle.span_core.specs.inside.Remembering.{Remembers};
 
 use crate::notes::closing::{close_notes, closing_lists_are_chains};
 use crate::notes::{Happening, exit_notes};
+use crate::recent::Recent;
 use crate::stacks::pop_at;
+use span_forest::laws::{open_spans_are_counted, walks_end};
 use span_forest::{Forest, Holder};
 use span_id::{Fault, Id};
 use span_layers::{Note, Rules};
@@ -27,7 +31,7 @@ pub(crate) struct Closes {
 
 // A worker leaves a span, which stays in its stack or not. Nothing changes where memory is refused.
 pub(crate) fn leave(
-    alloc: Global,
+    recent: &mut Recent,
     rules: &Rules,
     forest: &mut Forest,
     stacks: &mut Vec<SpanStack>,
@@ -38,6 +42,7 @@ pub(crate) fn leave(
     requires kind { exit.now.kind ≡ OnExit }
     requires bits { exit.now.bits.0 ≡ bits_in forest.old.spans exit.now.id }
     requires held { stays ≡ false → IsHeld forest.old.spans exit.now.id Entry }
+    requires remembers { Remembers forest.old recent.old.paths }
     ensures ids { IfOk result (λ closes. closes.ids.items
         ≡ if stays then [] else closing_list forest.old.spans exit.now.id Entry) }
     ensures notes { IfOk result (λ closes. map plain_note closes.notes.items
@@ -53,10 +58,11 @@ pub(crate) fn leave(
         (without_last (slice_index_or (ids_of_each stacks.old.items) exit.now.worker []) exit.now.id)) }
     ensures unchanged { OnErr result (forest.new ≡ forest.old) }
     ensures stacks_unchanged { OnErr result (ids_of_each stacks.new.items ≡ ids_of_each stacks.old.items) }
+    ensures remembers { Remembers forest.new recent.new.paths }
     ensures memory { IfErr result (λ fault. fault ≡ Fault.Memory) }
 {
-    let ids = closing_on_exit(alloc, forest, stays, exit.id)?;
-    let notes = exit_notes(alloc, rules, forest, exit, ids.as_slice())?;
+    let ids = closing_on_exit(recent.alloc, forest, stays, exit.id)?;
+    let notes = exit_notes(recent, rules, forest, exit, ids.as_slice())?;
     release_on_exit(forest, stays, exit.id, ids.as_slice());
     pop_at(stacks, exit.worker, exit.id);
     Ok(Closes { ids, notes })
@@ -64,13 +70,14 @@ pub(crate) fn leave(
 
 // A handle is given back. Nothing changes where memory is refused.
 pub(crate) fn give_back(
-    alloc: Global,
+    recent: &mut Recent,
     rules: &Rules,
     forest: &mut Forest,
     worker: u32,
     id: Id,
 ) -> Result<Closes, Fault>
-    requires { IsHeld forest.old.spans id Handle }
+    requires held { IsHeld forest.old.spans id Handle }
+    requires remembers { Remembers forest.old recent.old.paths }
     ensures ids { IfOk result (λ closes. closes.ids.items ≡ closing_list forest.old.spans id Handle) }
     ensures notes { IfOk result (λ closes. map plain_note closes.notes.items
         ≡ notes_of_all rules.now worker (map (close_of forest.old.spans) closes.ids.items)) }
@@ -80,11 +87,15 @@ pub(crate) fn give_back(
           (closing_list forest.old.spans id Handle);
     }) }
     ensures unchanged { OnErr result (forest.new ≡ forest.old) }
+    ensures remembers { Remembers forest.new recent.new.paths }
     ensures memory { IfErr result (λ fault. fault ≡ Fault.Memory) }
 {
     let ids = closing_of(forest, id, Holder::Handle)?;
-    let notes = close_notes(alloc, rules, forest, worker, ids.as_slice())?;
+    walks_end(forest);
+    let notes = close_notes(recent, rules, forest, worker, ids.as_slice())?;
     forest.release_closing(id, Holder::Handle, ids.as_slice());
+    walks_end(forest);
+    open_spans_are_counted(forest);
     Ok(Closes { ids, notes })
 }
 
@@ -101,18 +112,23 @@ fn closing_on_exit(alloc: Global, forest: &Forest, stays: bool, id: Id) -> Resul
     closing_of(forest, id, Holder::Entry)
 }
 
-// Gives the entry back, unless the span stays in the worker's stack; these are the spans that close.
+// Gives the entry back, unless the span stays in the worker's stack; these are the spans that close. A span that stays
+// open keeps its path, so what is remembered stays true.
 fn release_on_exit(forest: &mut Forest, stays: bool, id: Id, closing: &[Id])
     requires held { stays ≡ false → IsHeld forest.old.spans id Entry }
     requires list { closing.now ≡ if stays then [] else closing_list forest.old.spans id Entry }
-    ensures { forest.new ≡ record forest.old {
+    ensures forest { forest.new ≡ record forest.old {
       spans = if stays then forest.old.spans else spans_left forest.old.spans id Entry;
       freed = freed_after forest.old.last_generation forest.old.given forest.old.freed
           (if stays then [] else closing_list forest.old.spans id Entry);
     } }
+    ensures remembers { (known : KnownPaths) → Remembers forest.old known → Remembers forest.new known }
 {
     if !stays {
+        walks_end(forest);
         forest.release_closing(id, Holder::Entry, closing);
+        walks_end(forest);
+        open_spans_are_counted(forest);
     }
 }
 

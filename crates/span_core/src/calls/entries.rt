@@ -59,7 +59,7 @@ impl<O: Outlet, A> Core<O, A> {
             bits: entering.bits,
         };
         let notes = span_notes(
-            self.alloc,
+            &mut self.recent,
             &self.rules,
             &self.forest,
             &what,
@@ -126,7 +126,7 @@ impl<O: Outlet, A> Core<O, A> {
             bits: leaving.bits,
         };
         let Closes { ids, notes } = leave(
-            self.alloc,
+            &mut self.recent,
             &self.rules,
             &mut self.forest,
             &mut self.stacks,

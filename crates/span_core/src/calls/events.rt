@@ -82,7 +82,7 @@ impl<O: Outlet, A: Admit> Core<O, A> {
         };
         let stacks = self.stacks.as_slice();
         let Announced { call, notes } = event_told(
-            self.alloc,
+            &mut self.recent,
             &self.rules,
             &self.forest,
             stacks,

@@ -12,6 +12,7 @@ ghost use Rattle.span_core.specs.Happening.{at_span, bits_in, notes_of};
 ghost use Rattle.span_core.specs.inside.Given.{fields_given};
 ghost use Rattle.span_core.specs.Core.{IsDue, IsAccepted, IsRefused};
 ghost use Rattle.span_core.specs.Shown.{MayBeShown, IsShown};
+ghost use Rattle.span_core.specs.inside.Remembering.{Remembers};
 
 use crate::Core;
 use crate::calls::closes::{Closes, give_back};
@@ -21,11 +22,11 @@ use crate::calls::room::ask;
 use crate::given::GivenFields;
 use crate::laws::the_named_span_closes_first;
 use crate::notes::{Announced, Happening, record_told};
+use crate::recent::Recent;
 use span_forest::{Forest, Holder};
 use span_id::{Bits, Fault, Field, Fields, Id};
 use span_layers::{Kind, Rules};
 use span_outlet::{Batch, Call, Outlet, Reply};
-use std::alloc::Global;
 
 impl<O: Outlet, A> Core<O, A> {
     /// One more handle of a span that has a handle. The number of the worker that calls needs to be below `workers`.
@@ -46,7 +47,7 @@ impl<O: Outlet, A> Core<O, A> {
         self.outlet.put(Batch {
             call: Call::CloneSpan { worker, id },
             reply: Reply::Cloned,
-            notes: Vec::new(self.alloc),
+            notes: Vec::new(self.recent.alloc),
         });
         Ok(())
     }
@@ -94,7 +95,7 @@ impl<O: Outlet, A> Core<O, A> {
             bits,
         };
         let Announced { call, notes } = push_fields(
-            self.alloc,
+            &mut self.recent,
             &self.rules,
             &mut self.forest,
             &what,
@@ -154,7 +155,7 @@ impl<O: Outlet, A> Core<O, A> {
         self.releasing(worker, id)?;
         ask(&mut self.outlet)?;
         let Closes { ids, notes } = give_back(
-            self.alloc,
+            &mut self.recent,
             &self.rules,
             &mut self.forest,
             worker,
@@ -222,7 +223,7 @@ impl<O: Outlet, A> Core<O, A> {
 // The call that appends fields to those of a span, and its notes, once the fields are appended. They stay as they are
 // where memory is refused.
 fn push_fields(
-    alloc: Global,
+    recent: &mut Recent,
     rules: &Rules,
     forest: &mut Forest,
     what: &Happening,
@@ -230,6 +231,7 @@ fn push_fields(
 ) -> Result<Announced, Fault>
     requires held { IsHeld forest.old.spans what.now.id Handle }
     requires bits { what.now.bits.0 ≡ bits_in forest.old.spans what.now.id }
+    requires remembers { Remembers forest.old recent.old.paths }
     ensures forest { OnOk result (forest.new ≡ record forest.old {
       spans = with_change (with_fields (fields_given fields.now)) forest.old.spans what.now.id;
     }) }
@@ -238,10 +240,11 @@ fn push_fields(
     ensures notes { IfOk result (λ told. map plain_note told.notes.items ≡ notes_of rules.now what.now.worker
         (at_span forest.old.spans what.now.kind what.now.id (fields_given fields.now))) }
     ensures unchanged { OnErr result (forest.new ≡ forest.old) }
+    ensures remembers { Remembers forest.new recent.new.paths }
     ensures memory { IfErr result (λ fault. fault ≡ Fault.Memory) }
 {
-    let fields = fields.keep(alloc)?;
-    let told = record_told(alloc, rules, forest, what, &fields)?;
+    let fields = fields.keep(recent.alloc)?;
+    let told = record_told(recent, rules, forest, what, &fields)?;
     let Ok(()) = forest.share_fields(what.id, &fields) else {
         return Err(Fault::Memory);
     };

@@ -18,6 +18,7 @@ ghost use Rattle.span_core.specs.inside.Given.{meta_given, fields_given};
 ghost use Rattle.span_core.specs.inside.Lent.{first_note_of, span_request};
 ghost use Rattle.span_core.specs.inside.Sound.{hears};
 ghost use Rattle.span_core.specs.Core.{is_parent_below_max, IsDue, IsAccepted, IsRefused, IsNotWanted};
+ghost use Rattle.span_core.specs.inside.Remembering.{Remembers};
 
 use crate::Core;
 use crate::calls::names::are_keys;
@@ -25,12 +26,14 @@ use crate::calls::room::ask;
 use crate::given::{GivenFields, GivenMeta};
 use crate::notes::Announced;
 use crate::notes::new_spans::{NewSpan, new_told};
+use crate::recent::Recent;
 use span_forest::Forest;
-use span_forest::laws::{each_slot_has_one_open_id, next_id_is_new, open_spans_are_counted};
+use span_forest::laws::{
+    each_slot_has_one_open_id, next_id_is_new, open_spans_are_counted, walks_end,
+};
 use span_id::{Fault, Field, Fields, Id, Meta, SharedMeta};
 use span_layers::{Admit, Rules};
 use span_outlet::{Batch, Outlet, ParentOf, Reply};
-use std::alloc::Global;
 
 impl<O: Outlet, A: Admit> Core<O, A> {
     // The parent that a caller means.
@@ -176,7 +179,12 @@ impl<O: Outlet, A: Admit> Core<O, A> {
         next_id_is_new(&self.forest);
         each_slot_has_one_open_id(&self.forest);
         open_spans_are_counted(&self.forest);
-        let Announced { call, notes } = add_span(self.alloc, &self.rules, &mut self.forest, new)?;
+        let Announced { call, notes } = add_span(
+            &mut self.recent,
+            &self.rules,
+            &mut self.forest,
+            new,
+        )?;
         self.calls += 1;
         self.made += 1;
         self.outlet.put(Batch {
@@ -190,7 +198,7 @@ impl<O: Outlet, A: Admit> Core<O, A> {
 
 // Adds a span to the forest, once its call and its notes are made. The forest stays as it is where memory is refused.
 fn add_span(
-    alloc: Global,
+    recent: &mut Recent,
     rules: &Rules,
     forest: &mut Forest,
     new: &NewSpan<'_>,
@@ -198,6 +206,7 @@ fn add_span(
     requires open { is_open_parent forest.old.spans new.now.parent ≡ true }
     requires count { is_parent_below_max forest.old.max_count forest.old.spans new.now.parent ≡ true }
     requires next { next_span_id forest.old ≡ Some new.now.id }
+    requires remembers { Remembers forest.old recent.old.paths }
     ensures forest { OnOk result (forest.new ≡ with_span forest.old new.now.id
         (new_node (meta_given new.now.meta) (fields_given new.now.fields) new.now.parent new.now.bits.0)) }
     ensures call { IfOk result (λ told. request_of told.call ≡ span_request new.now) }
@@ -207,14 +216,19 @@ fn add_span(
     ensures issued { OnOk result ((other : ℕ) → IsId other →
         (IsIssued (table_of forest.new) other ↔ (IsIssued (table_of forest.old) other ⊎ (new.now.id ≡ other)))) }
     ensures unchanged { OnErr result (forest.new ≡ forest.old) }
+    ensures remembers { Remembers forest.new recent.new.paths }
     ensures memory { IfErr result (λ fault. fault ≡ Fault.Memory) }
 {
-    let meta = new.meta.keep(alloc)?;
-    let fields = new.fields.keep(alloc)?;
-    let told = new_told(alloc, rules, forest, new, &meta, &fields)?;
+    let meta = new.meta.keep(&mut recent.metas)?;
+    let fields = new.fields.keep(recent.alloc)?;
+    let told = new_told(recent, rules, forest, new, &meta, &fields)?;
+    next_id_is_new(forest);
+    open_spans_are_counted(forest);
+    walks_end(forest);
     let Ok(_) = forest.add(meta, fields, new.parent, new.bits) else {
         unreachable!();
     };
+    walks_end(forest);
     Ok(told)
 }
 

@@ -11,9 +11,11 @@ ghost use Rattle.span_forest.specs.Release.{closing_list};
 ghost use Rattle.span_core.specs.Happening.{close_of, note_of, notes_of};
 ghost use Rattle.span_core.specs.inside.ClosingPaths.{IsChain, TellsBelow, IsBelow, place_in, AreBelow};
 ghost use Rattle.span_core.specs.inside.Telling.{Knows};
+ghost use Rattle.span_core.specs.inside.Remembering.{Remembers};
 
 use crate::notes::layers::{is_wanted, told_count, told_layers};
 use crate::notes::paths::{ToldPaths, same_text, seen_text};
+use crate::recent::Recent;
 use span_forest::laws::{
     closing_list_begins_the_walk, held_ids_are_open, open_spans_are_counted, walks_end,
 };
@@ -58,27 +60,31 @@ pub(crate) fn closing_lists_are_chains(forest: &Forest)
 
 // The notes of a chain of spans that close.
 pub(crate) fn close_notes(
-    alloc: Global,
+    recent: &mut Recent,
     rules: &Rules,
     forest: &Forest,
     worker: u32,
     closed: &[Id],
 ) -> Result<Vec<Note>, Fault>
     requires chain { IsChain forest.now.spans closed.now }
+    requires remembers { Remembers forest.now recent.old.paths }
     ensures notes { IfOk result (λ notes. map plain_note notes.items
         ≡ flat_map (notes_of rules.now worker) (map (close_of forest.now.spans) closed.now)) }
+    ensures remembers { Remembers forest.now recent.new.paths }
     ensures memory { IfErr result (λ fault. fault ≡ Fault.Memory) }
 {
-    let mut notes = Vec::new(alloc);
-    let mut paths = ToldPaths::none(alloc);
-    push_closes(alloc, &mut notes, &mut paths, rules, forest, worker, closed)?;
+    let mut notes = Vec::new(recent.alloc);
+    let mut paths = ToldPaths::none(recent.alloc);
+    push_closes(
+        recent, &mut notes, &mut paths, rules, forest, worker, closed,
+    )?;
     Ok(notes)
 }
 
 // Appends the notes of a chain of spans that close, one span after the other. A layer's path is had by a walk once,
 // at the first span that the layer is told of, and at each further one from the note before.
 pub(crate) fn push_closes(
-    alloc: Global,
+    recent: &mut Recent,
     notes: &mut Vec<Note>,
     paths: &mut ToldPaths,
     rules: &Rules,
@@ -88,8 +94,10 @@ pub(crate) fn push_closes(
 ) -> Result<(), Fault>
     requires chain { IsChain forest.now.spans closed.now }
     requires known { Knows path_text forest.now.spans paths.old }
+    requires remembers { Remembers forest.now recent.old.paths }
     ensures notes { OnOk result (map plain_note notes.new.items ≡ map plain_note notes.old.items
         ++ flat_map (notes_of rules.now worker) (map (close_of forest.now.spans) closed.now)) }
+    ensures remembers { Remembers forest.now recent.new.paths }
     ensures memory { IfErr result (λ fault. fault ≡ Fault.Memory) }
 {
     if closed.is_empty() {
@@ -99,7 +107,7 @@ pub(crate) fn push_closes(
         return Ok(());
     }
     notes.reserve_exact(closes_count(rules, forest, closed))?;
-    let mut places = no_places(alloc, rules.len())?;
+    let mut places = no_places(recent.alloc, rules.len())?;
     for id in closed {
         let Some(span) = forest.find(*id) else {
             unreachable!()
@@ -109,7 +117,7 @@ pub(crate) fn push_closes(
             id: *id,
             span,
         };
-        push_close(alloc, notes, &mut places, paths, rules, forest, &what)?;
+        push_close(recent, notes, &mut places, paths, rules, forest, &what)?;
     }
     Ok(())
 }
@@ -140,7 +148,7 @@ fn no_places(alloc: Global, layers: usize) -> Result<Vec<Option<Place>>, Fault>
 // Appends the notes of a span that closes, with all its fields, and writes down where they stand. The next span has
 // other paths, so those of this one are forgotten.
 fn push_close(
-    alloc: Global,
+    recent: &mut Recent,
     notes: &mut Vec<Note>,
     places: &mut Vec<Option<Place>>,
     paths: &mut ToldPaths,
@@ -153,17 +161,19 @@ fn push_close(
     requires below { AreBelow rules.now forest.now.spans (map plain_note notes.old.items)
         (λ layer. Some what.now.id) places.old.items }
     requires known { Knows path_text forest.now.spans paths.old }
+    requires remembers { Remembers forest.now recent.old.paths }
     ensures length { OnOk result (length places.new.items ≡ length rules.now) }
     ensures notes { OnOk result (map plain_note notes.new.items ≡ map plain_note notes.old.items
         ++ notes_of rules.now what.now.worker (close_of forest.now.spans what.now.id)) }
     ensures below { OnOk result (AreBelow rules.now forest.now.spans (map plain_note notes.new.items)
         (λ layer. parent_of forest.now.spans what.now.id) places.new.items) }
     ensures known { OnOk result (Knows path_text forest.now.spans paths.new) }
+    ensures remembers { Remembers forest.now recent.new.paths }
     ensures memory { IfErr result (λ fault. fault ≡ Fault.Memory) }
 {
     walks_end(forest);
     for layer in told_layers(rules, what.span.bits, Kind::OnClose) {
-        push_close_note(alloc, notes, places, paths, forest, what, layer)?;
+        push_close_note(recent, notes, places, paths, forest, what, layer)?;
     }
     paths.clear();
     Ok(())
@@ -171,7 +181,7 @@ fn push_close(
 
 // Appends the note of one layer, and writes down where it stands.
 fn push_close_note(
-    alloc: Global,
+    recent: &mut Recent,
     notes: &mut Vec<Note>,
     places: &mut Vec<Option<Place>>,
     paths: &mut ToldPaths,
@@ -184,6 +194,7 @@ fn push_close_note(
     requires below { IsBelow forest.now.spans (map plain_note notes.old.items) layer
         (Some what.now.id) (place_in places.old.items layer) }
     requires known { Knows path_text forest.now.spans paths.old }
+    requires remembers { Remembers forest.now recent.old.paths }
     ensures notes { OnOk result (map plain_note notes.new.items ≡ map plain_note notes.old.items
         ++ note_of what.now.worker (close_of forest.now.spans what.now.id) layer ∷ []) }
     ensures places { OnOk result (places.new.items
@@ -192,6 +203,7 @@ fn push_close_note(
           name = length what.now.span.now.meta.name;
         }))) }
     ensures known { OnOk result (Knows path_text forest.now.spans paths.new) }
+    ensures remembers { Remembers forest.now recent.new.paths }
     ensures memory { IfErr result (λ fault. fault ≡ Fault.Memory) }
 {
     let place = Place {
@@ -199,7 +211,7 @@ fn push_close_note(
         name: what.span.meta.as_meta().name.len(),
     };
     let before = note_at(notes.as_slice(), places[layer as usize]);
-    let note = close_note(alloc, forest, before, what, paths, layer)?;
+    let note = close_note(recent, forest, before, what, paths, layer)?;
     notes.push(note)?;
     places[layer as usize] = Some(place);
     Ok(())
@@ -221,7 +233,7 @@ fn note_at(notes: &[Note], place: Option<Place>) -> Option<Below<'_>>
 
 // The note that a layer is told of a span that closes, where the note before tells one name more than the path.
 fn close_note(
-    alloc: Global,
+    recent: &mut Recent,
     forest: &Forest,
     before: Option<Below<'_>>,
     what: &Closing<'_>,
@@ -232,12 +244,14 @@ fn close_note(
     requires below { IfSome before (λ below.
         TellsBelow (path layer forest.now.spans what.now.id) below.name (plain_note below.note.now)) }
     requires known { Knows path_text forest.now.spans paths.old }
+    requires remembers { Remembers forest.now recent.old.paths }
     ensures note { IfOk result (λ note. plain_note note
         ≡ note_of what.now.worker (close_of forest.now.spans what.now.id) layer) }
     ensures known { OnOk result (Knows path_text forest.now.spans paths.new) }
+    ensures remembers { Remembers forest.now recent.new.paths }
     ensures memory { IfErr result (λ fault. fault ≡ Fault.Memory) }
 {
-    let path = close_path(alloc, forest, before, paths, layer, what.id)?;
+    let path = close_path(recent, forest, before, paths, layer, what.id)?;
     let fields = what.span.fields.share()?;
     Ok(Note {
         layer,
@@ -252,7 +266,7 @@ fn close_note(
 
 // A layer's path at a span: from the note before, if there is one, else by a walk.
 fn close_path(
-    alloc: Global,
+    recent: &mut Recent,
     forest: &Forest,
     before: Option<Below<'_>>,
     paths: &mut ToldPaths,
@@ -262,16 +276,18 @@ fn close_path(
     requires below { IfSome before (λ below.
         TellsBelow (path layer forest.now.spans id) below.name (plain_note below.note.now)) }
     requires known { Knows path_text forest.now.spans paths.old }
+    requires remembers { Remembers forest.now recent.old.paths }
     ensures path { IfOk result (λ text. arc_str_bytes text ≡ path_text (path layer forest.now.spans id)) }
     ensures known { OnOk result (Knows path_text forest.now.spans paths.new) }
+    ensures remembers { Remembers forest.now recent.new.paths }
     ensures memory { IfErr result (λ fault. fault ≡ Fault.Memory) }
 {
     if let Some(below) = before {
         if let Some(text) = path_above(below.note, below.name) {
-            return same_text(alloc, paths, text);
+            return same_text(recent.alloc, paths, text);
         }
     }
-    seen_text(alloc, forest, paths, layer, &Some(id))
+    seen_text(recent, forest, paths, layer, &Some(id))
 }
 
 // The path of a note without its last name, which has so many bytes.

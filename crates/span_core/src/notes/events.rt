@@ -9,15 +9,16 @@ ghost use Rattle.span_stack.specs.Stack.{walk, ids_of_each};
 ghost use Rattle.span_core.specs.Happening.{bits_in, notes_of};
 ghost use Rattle.span_core.specs.inside.Given.{fields_given, text_given};
 ghost use Rattle.span_core.specs.inside.Lent.{event_request, event_seen};
+ghost use Rattle.span_core.specs.inside.Remembering.{Remembers};
 
 use crate::given::GivenEvent;
 use crate::notes::{Announced, Subject, Telling, told};
+use crate::recent::Recent;
 use span_forest::Forest;
 use span_id::{Bits, Fault, Fields, Id};
 use span_layers::{Kind, Note, Rules};
 use span_outlet::Call;
 use span_stack::SpanStack;
-use std::alloc::Global;
 use std::sync::ArcStr;
 
 /// An event: which worker tells it, the layers that admit it, and what the caller gave.
@@ -30,23 +31,25 @@ pub(crate) struct Event<'a> {
 
 // The call that tells an event, and its notes, which share its message and its fields.
 pub(crate) fn event_told(
-    alloc: Global,
+    recent: &mut Recent,
     rules: &Rules,
     forest: &Forest,
     stacks: &[SpanStack],
     event: &Event<'_>,
 ) -> Result<Announced, Fault>
-    requires { event.now.worker < length stacks.now }
+    requires worker { event.now.worker < length stacks.now }
+    requires remembers { Remembers forest.now recent.old.paths }
     ensures call { IfOk result (λ told. request_of told.call ≡ event_request event.now) }
     ensures notes { IfOk result (λ told. map plain_note told.notes.items
         ≡ notes_of rules.now event.now.worker
         (event_seen forest.now.spans (slice_index_or (ids_of_each stacks.now) event.now.worker []) event.now)) }
+    ensures remembers { Remembers forest.now recent.new.paths }
     ensures memory { IfErr result (λ fault. fault ≡ Fault.Memory) }
 {
-    let meta = event.given.meta.keep(alloc)?;
-    let message = event.given.message.keep(alloc)?;
-    let fields = event.given.fields.keep(alloc)?;
-    let notes = event_notes(alloc, rules, forest, stacks, event, &message, &fields)?;
+    let meta = event.given.meta.keep(&mut recent.metas)?;
+    let message = event.given.message.keep(recent.alloc)?;
+    let fields = event.given.fields.keep(recent.alloc)?;
+    let notes = event_notes(recent, rules, forest, stacks, event, &message, &fields)?;
     Ok(Announced {
         call: Call::Event {
             worker: event.worker,
@@ -60,7 +63,7 @@ pub(crate) fn event_told(
 
 // The notes of an event: one for each layer that admits it.
 fn event_notes(
-    alloc: Global,
+    recent: &mut Recent,
     rules: &Rules,
     forest: &Forest,
     stacks: &[SpanStack],
@@ -71,9 +74,11 @@ fn event_notes(
     requires worker { event.now.worker < length stacks.now }
     requires message { arc_str_bytes message.now ≡ text_given event.now.given.now.message }
     requires fields { fields.now ≡ fields_given event.now.given.now.fields }
+    requires remembers { Remembers forest.now recent.old.paths }
     ensures notes { IfOk result (λ notes. map plain_note notes.items
         ≡ notes_of rules.now event.now.worker
         (event_seen forest.now.spans (slice_index_or (ids_of_each stacks.now) event.now.worker []) event.now)) }
+    ensures remembers { Remembers forest.now recent.new.paths }
     ensures memory { IfErr result (λ fault. fault ≡ Fault.Memory) }
 {
     let what = Telling {
@@ -87,7 +92,7 @@ fn event_notes(
             message,
         },
     };
-    told(alloc, rules, forest, &what)
+    told(recent, rules, forest, &what)
 }
 
 // Where a layer sees an event: the topmost entry, duplicates skipped, that the layer admits.

@@ -7,14 +7,15 @@ ghost use Rattle.span_outlet.specs.Request.{request_of};
 ghost use Rattle.span_core.specs.inside.Given.{meta_given, fields_given};
 ghost use Rattle.span_core.specs.inside.Sound.{hears};
 ghost use Rattle.span_core.specs.inside.Lent.{first_note_of, span_request};
+ghost use Rattle.span_core.specs.inside.Remembering.{Remembers};
 
 use crate::given::{GivenFields, GivenMeta};
 use crate::notes::{Announced, Subject, Telling, told};
+use crate::recent::Recent;
 use span_forest::Forest;
 use span_id::{Bits, Fault, Fields, Id, SharedMeta};
 use span_layers::{Kind, Note, Rules};
 use span_outlet::Call;
-use std::alloc::Global;
 
 /// A new span: which worker makes it, the id that it gets, the layers that admit it, its parent, and what the caller
 /// gave.
@@ -30,7 +31,7 @@ pub(crate) struct NewSpan<'a> {
 
 // The call that makes a span, and its notes: the call shares the meta and the fields, the notes the fields.
 pub(crate) fn new_told(
-    alloc: Global,
+    recent: &mut Recent,
     rules: &Rules,
     forest: &Forest,
     new: &NewSpan<'_>,
@@ -39,13 +40,15 @@ pub(crate) fn new_told(
 ) -> Result<Announced, Fault>
     requires meta { meta.now ≡ meta_given new.now.meta }
     requires fields { fields.now ≡ fields_given new.now.fields }
+    requires remembers { Remembers forest.now recent.old.paths }
     ensures call { IfOk result (λ told. request_of told.call ≡ span_request new.now) }
     ensures notes { IfOk result (λ told. map plain_note told.notes.items
         ≡ map (first_note_of forest.now.spans new.now)
         (filter (hears rules.now new.now.bits.0 OnNew) (range_with_len 0 (length rules.now)))) }
+    ensures remembers { Remembers forest.now recent.new.paths }
     ensures memory { IfErr result (λ fault. fault ≡ Fault.Memory) }
 {
-    let notes = new_notes(alloc, rules, forest, new, fields)?;
+    let notes = new_notes(recent, rules, forest, new, fields)?;
     let meta = meta.share()?;
     let fields = fields.share()?;
     Ok(Announced {
@@ -61,16 +64,18 @@ pub(crate) fn new_told(
 
 // The notes of a new span: one for each layer that admits it and wants new spans.
 fn new_notes(
-    alloc: Global,
+    recent: &mut Recent,
     rules: &Rules,
     forest: &Forest,
     new: &NewSpan<'_>,
     fields: &Fields,
 ) -> Result<Vec<Note>, Fault>
     requires fields { fields.now ≡ fields_given new.now.fields }
+    requires remembers { Remembers forest.now recent.old.paths }
     ensures notes { IfOk result (λ notes. map plain_note notes.items
         ≡ map (first_note_of forest.now.spans new.now)
         (filter (hears rules.now new.now.bits.0 OnNew) (range_with_len 0 (length rules.now)))) }
+    ensures remembers { Remembers forest.now recent.new.paths }
     ensures memory { IfErr result (λ fault. fault ≡ Fault.Memory) }
 {
     let what = Telling {
@@ -84,5 +89,5 @@ fn new_notes(
             name: new.meta.read().name.as_str(),
         },
     };
-    told(alloc, rules, forest, &what)
+    told(recent, rules, forest, &what)
 }

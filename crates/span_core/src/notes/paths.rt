@@ -6,9 +6,13 @@ ghost use Rattle.span_forest.specs.Spans.{Spans};
 ghost use Rattle.span_forest.specs.Path.{path_text};
 ghost use Rattle.span_core.specs.Happening.{path_at};
 ghost use Rattle.span_core.specs.inside.Telling.{Knows, KnowsPath};
+ghost use Rattle.span_core.specs.inside.Remembering.{Remembers};
 
-use span_forest::{Forest, PathText};
-use span_id::{Bits, Fault, Id, copy_text};
+use crate::known_paths::KnownPaths;
+use crate::recent::Recent;
+use span_forest::Forest;
+use span_forest::laws::each_slot_has_one_open_id;
+use span_id::{Bits, Fault, Id};
 use std::alloc::Global;
 use std::sync::ArcStr;
 
@@ -131,17 +135,22 @@ impl ToldPaths {
         Ok(told)
     }
 
-    // Tells what was read at a place: by the text that was told, where it is the same, else by a new one.
-    fn tell(&mut self, place: &Option<Id>, seen: PathText) -> Result<ArcStr, Fault>
-        ensures text { IfOk result (λ told. arc_str_bytes told ≡ string_bytes seen.text) }
+    // Tells what was read at a place: the text, which these layers see there.
+    fn tell(
+        &mut self,
+        alloc: Global,
+        place: &Option<Id>,
+        text: &str,
+        same: Bits,
+    ) -> Result<ArcStr, Fault>
+        ensures text { IfOk result (λ told. arc_str_bytes told ≡ text.now) }
         ensures known { OnOk result ((told : List (List ℕ) → List ℕ) (spans : Spans) →
-            ((layer : ℕ) → IsTrue (has_bit seen.same.0 layer) →
-            string_bytes seen.text ≡ told (path_at layer spans place.now)) →
+            ((layer : ℕ) → IsTrue (has_bit same.0 layer) →
+            text.now ≡ told (path_at layer spans place.now)) →
             Knows told spans self.old → Knows told spans self.new) }
         ensures memory { IfErr result (λ fault. fault ≡ Fault.Memory) }
     {
-        let PathText { text, same } = seen;
-        let text = self.shared(text)?;
+        let text = self.shared(alloc, text)?;
         self.keep(ToldPath {
             place: *place,
             same,
@@ -150,40 +159,102 @@ impl ToldPaths {
     }
 
     // A text to be shared: the one that was told, where it is the same.
-    fn shared(&self, text: String) -> Result<ArcStr, Fault>
-        ensures text { IfOk result (λ shared. arc_str_bytes shared ≡ string_bytes text) }
+    fn shared(&self, alloc: Global, text: &str) -> Result<ArcStr, Fault>
+        ensures text { IfOk result (λ shared. arc_str_bytes shared ≡ text.now) }
         ensures memory { IfErr result (λ fault. fault ≡ Fault.Memory) }
     {
-        if let Some(same) = self.same(text.as_str()) {
+        if let Some(same) = self.same(text) {
             return Ok(same.clone()?);
         }
-        Ok(ArcStr::from_string(text)?)
+        Ok(ArcStr::from_str(alloc, text)?)
     }
 }
 
-// The path of a layer at a place: the text that was told, where the layer sees the same, else a new one.
+// The path of a layer at a place: the text that this call told, where the layer sees the same, else one that was told
+// there by an earlier call, else one by a walk.
 pub(crate) fn seen_text(
-    alloc: Global,
+    recent: &mut Recent,
     forest: &Forest,
     paths: &mut ToldPaths,
     layer: u32,
     place: &Option<Id>,
 ) -> Result<ArcStr, Fault>
     requires known { Knows path_text forest.now.spans paths.old }
+    requires remembers { Remembers forest.now recent.old.paths }
     ensures text { IfOk result (λ text. arc_str_bytes text ≡ path_text (path_at layer forest.now.spans place.now)) }
     ensures known { OnOk result (Knows path_text forest.now.spans paths.new) }
+    ensures remembers { Remembers forest.now recent.new.paths }
     ensures memory { IfErr result (λ fault. fault ≡ Fault.Memory) }
 {
     if let Some(text) = paths.seen(layer, place) {
         return Ok(text.clone()?);
     }
-    let seen = text_at(alloc, forest, layer, place)?;
-    paths.tell(place, seen)
+    if let Some(text) = known_text(&recent.paths, forest, layer, place) {
+        return same_text(recent.alloc, paths, text);
+    }
+    walked_text(recent, forest, paths, layer, place)
+}
+
+// The text that an earlier call told of a layer's path at a span that is open.
+fn known_text<'a>(
+    known: &'a KnownPaths,
+    forest: &Forest,
+    layer: u32,
+    place: &Option<Id>,
+) -> Option<&'a str>
+    requires remembers { Remembers forest.now known.now }
+    ensures text { IfSome result (λ text. text.now ≡ path_text (path_at layer forest.now.spans place.now)) }
+{
+    let id = (*place)?;
+    forest.find(id)?;
+    known.get(layer, id)
+}
+
+// The path of a layer at a place by a walk, which later calls will know.
+fn walked_text(
+    recent: &mut Recent,
+    forest: &Forest,
+    paths: &mut ToldPaths,
+    layer: u32,
+    place: &Option<Id>,
+) -> Result<ArcStr, Fault>
+    requires known { Knows path_text forest.now.spans paths.old }
+    requires remembers { Remembers forest.now recent.old.paths }
+    ensures text { IfOk result (λ text. arc_str_bytes text ≡ path_text (path_at layer forest.now.spans place.now)) }
+    ensures known { OnOk result (Knows path_text forest.now.spans paths.new) }
+    ensures remembers { Remembers forest.now recent.new.paths }
+    ensures memory { IfErr result (λ fault. fault ≡ Fault.Memory) }
+{
+    let same = text_at(forest, layer, place, &mut recent.path)?;
+    let text = recent.path.as_str();
+    remember(&mut recent.paths, recent.alloc, forest, layer, place, text);
+    paths.tell(recent.alloc, place, text, same)
+}
+
+// Remembers the text of a layer's path, if it was read at a span.
+fn remember(
+    known: &mut KnownPaths,
+    alloc: Global,
+    forest: &Forest,
+    layer: u32,
+    place: &Option<Id>,
+    text: &str,
+)
+    requires text { text.now ≡ path_text (path_at layer forest.now.spans place.now) }
+    requires remembers { Remembers forest.now known.old }
+    ensures remembers { Remembers forest.now known.new }
+{
+    each_slot_has_one_open_id(forest);
+    if let Some(id) = place {
+        if forest.find(*id).is_some() {
+            known.keep(alloc, layer, *id, text);
+        }
+    }
 }
 
 // The same of a path that has one name more.
 pub(crate) fn new_text(
-    alloc: Global,
+    recent: &mut Recent,
     forest: &Forest,
     paths: &mut ToldPaths,
     layer: u32,
@@ -191,16 +262,18 @@ pub(crate) fn new_text(
     name: &str,
 ) -> Result<ArcStr, Fault>
     requires known { Knows (λ path. path_text (path ++ name.now ∷ [])) forest.now.spans paths.old }
+    requires remembers { Remembers forest.now recent.old.paths }
     ensures text { IfOk result (λ text. arc_str_bytes text
         ≡ path_text (path_at layer forest.now.spans place.now ++ name.now ∷ [])) }
     ensures known { OnOk result (Knows (λ path. path_text (path ++ name.now ∷ [])) forest.now.spans paths.new) }
+    ensures remembers { Remembers forest.now recent.new.paths }
     ensures memory { IfErr result (λ fault. fault ≡ Fault.Memory) }
 {
     if let Some(text) = paths.seen(layer, place) {
         return Ok(text.clone()?);
     }
-    let seen = text_below(alloc, forest, layer, place, name)?;
-    paths.tell(place, seen)
+    let same = text_below(forest, layer, place, name, &mut recent.path)?;
+    paths.tell(recent.alloc, place, recent.path.as_str(), same)
 }
 
 // This text: the one that was told, where it is the same.
@@ -221,50 +294,58 @@ pub(crate) fn same_text(alloc: Global, paths: &mut ToldPaths, text: &str) -> Res
     })
 }
 
-// The text of a layer's path at a place, and layers that see the same there.
+// Writes the text of a layer's path at a place, and answers layers that see the same there.
 fn text_at(
-    alloc: Global,
     forest: &Forest,
     layer: u32,
     place: &Option<Id>,
-) -> Result<PathText, Fault>
-    ensures text { IfOk result (λ seen. string_bytes seen.text ≡ path_text (path_at layer forest.now.spans place.now)) }
-    ensures same { IfOk result (λ seen. (other : ℕ) → IsTrue (has_bit seen.same.0 other) →
+    text: &mut String,
+) -> Result<Bits, Fault>
+    ensures text { OnOk result
+        (string_bytes text.new ≡ path_text (path_at layer forest.now.spans place.now)) }
+    ensures same { IfOk result (λ same. (other : ℕ) → IsTrue (has_bit same.0 other) →
         path_at other forest.now.spans place.now ≡ path_at layer forest.now.spans place.now) }
     ensures memory { IfErr result (λ fault. fault ≡ Fault.Memory) }
 {
     let Some(id) = place else {
-        let text = copy_text(alloc, "-")?;
-        let same = Bits::all();
-        return Ok(PathText { text, same });
+        write_only(text, "-")?;
+        return Ok(Bits::all());
     };
-    match forest.path_text(layer, *id) {
-        Ok(seen) => Ok(seen),
+    match forest.write_path(layer, *id, text) {
+        Ok(same) => Ok(same),
         Err(_) => Err(Fault::Memory),
     }
 }
 
 // The same with one more name, as that of a new child.
 fn text_below(
-    alloc: Global,
     forest: &Forest,
     layer: u32,
     place: &Option<Id>,
     name: &str,
-) -> Result<PathText, Fault>
-    ensures text { IfOk result (λ seen. string_bytes seen.text
+    text: &mut String,
+) -> Result<Bits, Fault>
+    ensures text { OnOk result (string_bytes text.new
         ≡ path_text (path_at layer forest.now.spans place.now ++ name.now ∷ [])) }
-    ensures same { IfOk result (λ seen. (other : ℕ) → IsTrue (has_bit seen.same.0 other) →
+    ensures same { IfOk result (λ same. (other : ℕ) → IsTrue (has_bit same.0 other) →
         path_at other forest.now.spans place.now ≡ path_at layer forest.now.spans place.now) }
     ensures memory { IfErr result (λ fault. fault ≡ Fault.Memory) }
 {
     let Some(id) = place else {
-        let text = copy_text(alloc, name)?;
-        let same = Bits::all();
-        return Ok(PathText { text, same });
+        write_only(text, name)?;
+        return Ok(Bits::all());
     };
-    match forest.path_text_below(layer, *id, name) {
-        Ok(seen) => Ok(seen),
+    match forest.write_path_below(layer, *id, name, text) {
+        Ok(same) => Ok(same),
         Err(_) => Err(Fault::Memory),
     }
+}
+
+// Writes this into a buffer, and nothing else.
+fn write_only(text: &mut String, only: &str) -> Result<(), Fault>
+    ensures text { OnOk result (string_bytes text.new ≡ only.now) }
+    ensures memory { IfErr result (λ fault. fault ≡ Fault.Memory) }
+{
+    text.clear();
+    Ok(text.push_str(only)?)
 }

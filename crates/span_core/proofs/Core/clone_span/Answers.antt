@@ -1,12 +1,13 @@
 use Rattle.std.proofs.Common.{◌≡◌, ◌<◌, true, length, sym, ap, refl, subst, arith, rules}
 use Rattle.span_forest.specs.declared.span.Holder.TheVariants.{Handle}
-use Rattle.span_forest.specs.Holders.{IsHeld}
+use Rattle.span_forest.specs.Holders.{IsHeld, with_more}
 use Rattle.span_stack.specs.Stack.{ids_of_each}
 use Rattle.span_core.specs.Core.{CoreView, has_handle}
 use Rattle.span_core.proofs.Made.{none_made}
 use Rattle.span_core.proofs.Deciding.{held_from}
 use Rattle.span_core.proofs.Accepting.{step_clone, sound_clone}
 use Rattle.span_core.proofs.Clauses.{accepted_by}
+use Rattle.span_core.proofs.Remembering.{one_more, remembers_changed}
 use Rattle.span_core.proofs.Core.clone_span.Given as given
 use Rattle.span_core.proofs.Core.clone_span.Goals as goal
 use Rattle.span_core.proofs.Core.clone_span.Goals.{After-put}
@@ -22,6 +23,7 @@ pub invariant_of-self-2 : goal.invariant_of-self-2
 invariant_of-self-2 g c = (
   sound_clone _ _ _ _ _ _ _ _ _ _ _ _ c.self.invariant.0 (within g c) (held g c) c.in-Ok.ensures.forest (search rules) c.in_ok-ask.ensures.sent c.put.ensures.sent,
   none_made _ _ _ _ _ c.self.invariant.1 refl c.in_ok-ask.ensures.sent c.put.ensures.sent,
+  remembers_changed _ _ (with_more Handle) c.args.id _ (one_more Handle) c.in-Ok.ensures.forest c.self.invariant.2,
 )
 
 pub returns-clause-accepted : goal.returns-clause-accepted

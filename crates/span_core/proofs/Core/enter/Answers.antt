@@ -12,6 +12,7 @@ use Rattle.span_core.proofs.Deciding.{held_from}
 use Rattle.span_core.proofs.Accepting.{step_enter, sound_enter}
 use Rattle.span_core.proofs.Telling.{one_happening}
 use Rattle.span_core.proofs.Clauses.{accepted_by}
+use Rattle.span_core.proofs.Remembering.{remembers_entered}
 use Rattle.span_core.proofs.Core.enter.Given as given
 use Rattle.span_core.proofs.Core.enter.Goals as goal
 use Rattle.span_core.proofs.Core.enter.Goals.{After-put}
@@ -39,6 +40,7 @@ invariant_of-self-2 g c = (
   sound_enter _ _ _ _ _ _ _ _ _ _ c.args.worker c.args.id _ _ c.self.invariant.0 (held g c) (within g c) (first g c)
       c.keep_first.ensures c.in_ok-push_at.ensures.pushed (told g c) c.in_ok-ask.ensures.sent c.put.ensures.sent,
   none_made _ _ _ _ _ c.self.invariant.1 refl c.in_ok-ask.ensures.sent c.put.ensures.sent,
+  remembers_entered _ _ c.in_ok-entering.entering.first c.args.id _ c.keep_first.ensures c.in_ok-notes.ensures.remembers,
 )
 
 pub returns-clause-accepted : goal.returns-clause-accepted

@@ -27,6 +27,7 @@ invariant_of-self-2 g c = (
   sound_event _ _ _ _ _ _ _ _ c.args.worker (meta_given c.args.given.now.meta) (text_given c.args.given.now.message) (fields_given c.args.given.now.fields) _ _ c.self.invariant.0 (within g c) (notes_told g c)
       c.in_ok-call.ensures.call c.in_ok-ask.ensures.sent c.put.ensures.sent,
   none_made _ _ _ _ _ c.self.invariant.1 refl c.in_ok-ask.ensures.sent c.put.ensures.sent,
+  c.in_ok-call.ensures.remembers,
 )
 
 pub returns-clause-accepted : goal.returns-clause-accepted

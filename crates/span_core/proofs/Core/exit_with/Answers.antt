@@ -38,6 +38,7 @@ invariant_of-self-2 g c = (
   sound_exit _ _ _ _ _ _ _ _ _ _ c.args.worker c.args.id c.in_ok-leaving.leaving.stays _ _ c.self.invariant.0 (within g c) (stands g c) (stays g c)
       c.in_ok-ids.ensures.ids c.in_ok-ids.ensures.forest c.in_ok-ids.ensures.stacks c.in_ok-ids.ensures.notes c.in_ok-ask.ensures.sent c.put.ensures.sent,
   none_made _ _ _ _ _ c.self.invariant.1 refl c.in_ok-ask.ensures.sent c.put.ensures.sent,
+  c.in_ok-ids.ensures.remembers,
 )
 
 pub returns-clause-accepted : goal.returns-clause-accepted

@@ -97,6 +97,7 @@ invariant_of-self-2 g c = (
       c.self.invariant.0 (within g c) (in_layout g c) (never g c) (now_issued g c) (no_other g c) (wanted g c) (parent_open g c) (gone g c) (forest_is g c) (told g c)
       c.in_ok-call.ensures.call c.in_ok-ask.ensures.sent c.put.ensures.sent,
   one_made _ _ _ _ _ _ c.self.invariant.1 refl c.in_ok-ask.ensures.sent c.put.ensures.sent,
+  c.in_ok-call.ensures.remembers,
 )
 
 pub returns-clause-made : goal.returns-clause-made

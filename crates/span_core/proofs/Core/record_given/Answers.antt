@@ -34,6 +34,7 @@ invariant_of-self-2 g c = (
   sound_record _ _ _ _ _ _ _ _ _ c.args.worker c.args.id (fields_given c.args.fields.now) _ _ c.self.invariant.0 (within g c) (held g c)
       c.in_ok-call.ensures.forest (told g c) c.in_ok-call.ensures.call c.in_ok-ask.ensures.sent c.put.ensures.sent,
   none_made _ _ _ _ _ c.self.invariant.1 refl c.in_ok-ask.ensures.sent c.put.ensures.sent,
+  c.in_ok-call.ensures.remembers,
 )
 
 pub returns-clause-accepted : goal.returns-clause-accepted

@@ -13,6 +13,7 @@ loop-layer-preserved c =
           (ap (map plain_note) c.in_ok-push.ensures.items ∙ map-append plain_note c.loop-layer.notes.items (c.in_ok-note.note ∷ [])
           ∙ ap (λ note. before ++ note ∷ []) c.in_ok-note.ensures.note);
       known = c.in_ok-note.ensures.known;
+      remembers = c.in_ok-note.ensures.remembers;
     }
 
 pub returns-clause-notes : goal.returns-clause-notes

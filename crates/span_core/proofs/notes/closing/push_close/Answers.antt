@@ -26,6 +26,7 @@ loop-layer-init c =
       length = c.requires.length;
       below = below_start c.args.rules.now c.args.forest.now.spans c.args.what.now.id _ _ _ _ c.requires.found ends c.requires.length (layers c) c.requires.below;
       known = c.requires.known;
+      remembers = c.requires.remembers;
     }
 
 pub loop-layer-preserved : goal.loop-layer-preserved
@@ -42,6 +43,7 @@ loop-layer-preserved c =
           c.requires.found ends was.length (sym (length-map c.loop-layer.notes.items plain_note)) next was.left was.below
           c.in_ok-push_close_note.ensures.notes c.in_ok-push_close_note.ensures.places;
       known = c.in_ok-push_close_note.ensures.known;
+      remembers = c.in_ok-push_close_note.ensures.remembers;
     }
 
 pub push_close_note-requires-clause-there : goal.push_close_note-requires-clause-there

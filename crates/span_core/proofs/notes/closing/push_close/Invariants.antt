@@ -4,6 +4,7 @@ use Rattle.span_forest.specs.Path.{path_text}
 use Rattle.span_core.specs.inside.Telling.{Knows}
 use Rattle.span_core.specs.Happening.{close_of, is_told, note_of}
 use Rattle.span_core.specs.inside.ClosingPaths.{AreAscending, AreBelow, with_left}
+use Rattle.span_core.specs.inside.Remembering.{Remembers}
 use Rattle.span_core.proofs.notes.closing.push_close.Given as goal
 
 -- the notes so far, with those of the layers that are left, are those of all; the places of the other layers are at
@@ -16,4 +17,5 @@ invariant-loop-layer l = record {
   length : length l.places.items ≡ length l.rules;
   below : AreBelow l.rules l.forest.spans (map plain_note l.notes.items) (with_left l.forest.spans l.what.id l.layer-iterator) l.places.items;
   known : Knows path_text l.forest.spans l.paths;
+  remembers : Remembers l.forest l.recent.paths;
 }

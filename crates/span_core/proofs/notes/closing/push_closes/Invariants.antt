@@ -5,6 +5,7 @@ use Rattle.span_forest.specs.Path.{path_text}
 use Rattle.span_core.specs.inside.Telling.{Knows}
 use Rattle.span_core.specs.Happening.{close_of, notes_of}
 use Rattle.span_core.specs.inside.ClosingPaths.{IsChain, AreBelowFirst}
+use Rattle.span_core.specs.inside.Remembering.{Remembers}
 use Rattle.span_core.proofs.notes.closing.push_closes.Given as goal
 
 -- the notes so far, with those of the spans that are left, are those of all; the places are at the next span
@@ -16,4 +17,5 @@ invariant-loop-id l = record {
   chain : IsChain l.forest.spans (drop l.id-index l.closed);
   below : AreBelowFirst l.rules l.forest.spans (map plain_note l.notes.items) (drop l.id-index l.closed) l.places.items;
   known : Knows path_text l.forest.spans l.paths;
+  remembers : Remembers l.forest l.recent.paths;
 }

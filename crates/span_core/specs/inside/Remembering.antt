@@ -1,0 +1,23 @@
+-- The paths that a core remembers from call to call, for the functions inside this crate: no public clause cites it.
+--
+-- A span that is open keeps its name, its layers and its parent, and so does each span above it, which stays open as
+-- long as it does. So the path that was told at it is what its layer reads there until it closes. And no id is given
+-- twice: a path that was told at a span that closed is never read again.
+use Rattle.std.specs.Prelude.{◌≡◌, ℕ, IfSome, All}
+use Rattle.std.specs.Arc.{arc_str_bytes}
+use Rattle.span_slots.specs.Table.{IsIssued}
+use Rattle.span_forest.specs.Spans.{IsOpen}
+use Rattle.span_forest.specs.Forest.{ForestView, table_of}
+use Rattle.span_forest.specs.Path.{path, path_text}
+use Rattle.span_core.specs.declared.known_paths.KnownPath.{KnownPath}
+use Rattle.span_core.specs.declared.known_paths.KnownPaths.{KnownPaths}
+
+-- the path was told at an id that was given, and as long as its span is open it is what the layer reads there
+pub record IsRemembered (forest : ForestView) (known : KnownPath) : Type 0 where
+  pub issued : IsIssued (table_of forest) known.place
+  pub text : IsOpen forest.spans known.place
+      → arc_str_bytes known.text ≡ path_text (path known.layer forest.spans known.place)
+
+-- the same of each path that is remembered
+pub record Remembers (forest : ForestView) (known : KnownPaths) : Type 0 where
+  pub each : All (λ place. IfSome place (IsRemembered forest)) known.places.items

@@ -1,0 +1,70 @@
+//! Metas that were copied lately.
+ghost use Rattle.std.specs.Prelude.{◌≡◌, ◌<◌, IfOk, IfErr, IfSome};
+ghost use Rattle.span_id.specs.Meta.{plain_meta};
+
+use crate::place::{PLACES, place_of};
+use span_id::{Fault, Meta, SharedMeta};
+use std::alloc::Global;
+
+/// The metas that were copied lately, one at each of a few places. They stay owned until others take their places.
+#[derive(Drop)]
+pub struct RecentMetas {
+    alloc: Global,
+    // Empty, or one for each place.
+    places: Vec<Option<SharedMeta>>,
+}
+
+impl RecentMetas {
+    /// None yet. It takes no memory.
+    pub fn none(alloc: Global) -> RecentMetas {
+        RecentMetas {
+            alloc,
+            places: Vec::new(alloc),
+        }
+    }
+
+    /// An equal meta: one that was copied lately gets one more owner, else it is copied. The only error is `Memory`.
+    pub fn share(&mut self, meta: &Meta) -> Result<SharedMeta, Fault>
+        ensures meta { IfOk result (λ shared. shared ≡ plain_meta meta.now) }
+        ensures memory { IfErr result (λ fault. fault ≡ Fault.Memory) }
+    {
+        let at = place_of(meta.name.as_bytes());
+        if let Some(recent) = self.at(at, meta) {
+            return recent.share();
+        }
+        let copy = SharedMeta::copy_of(self.alloc, meta)?;
+        self.keep(at, &copy);
+        Ok(copy)
+    }
+
+    // What stands at a place, if it is equal to this meta.
+    fn at(&self, at: usize, meta: &Meta) -> Option<&SharedMeta>
+        ensures { IfSome result (λ recent. recent.now ≡ plain_meta meta.now) }
+    {
+        let recent = self.places.get(at)?.as_ref()?;
+        if recent.as_meta() == meta {
+            Some(recent)
+        } else {
+            None
+        }
+    }
+
+    // Puts a meta at its place. Where memory is refused it isn't kept, which is no error.
+    fn keep(&mut self, at: usize, meta: &SharedMeta) {
+        if self.places.is_empty() && self.make_places().is_err() {
+            return;
+        }
+        if let (Some(place), Ok(shared)) = (self.places.get_mut(at), meta.share()) {
+            *place = Some(shared);
+        }
+    }
+
+    // Makes the places, in which nothing stands.
+    fn make_places(&mut self) -> Result<(), Fault> {
+        self.places.reserve_exact(PLACES)?;
+        for _ in 0..PLACES {
+            self.places.push(None)?;
+        }
+        Ok(())
+    }
+}
