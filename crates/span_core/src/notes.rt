@@ -19,7 +19,7 @@ pub(crate) mod paths;
 use crate::recent::Recent;
 use closing::push_closes;
 use events::contextual_span;
-use layers::{is_told_to_none, told_count, told_layers};
+use layers::{is_told_to_none, told_layers};
 use paths::{ToldPaths, new_text, seen_text};
 use span_forest::Forest;
 use span_id::{Bits, Fault, Fields, Id, Level};
@@ -180,12 +180,9 @@ fn push_told(
     ensures remembers { Remembers forest.now recent.new.paths }
     ensures memory { IfErr result (λ fault. fault ≡ Fault.Memory) }
 {
-    let count = told_count(rules, what.bits, what.kind);
-    if count == 0 {
-        return Ok(());
-    }
-    notes.reserve_exact(count)?;
-    for layer in told_layers(rules, what.bits, what.kind) {
+    let layers = told_layers(rules, what.bits, what.kind);
+    notes.reserve_exact(layers.len())?;
+    for layer in layers {
         let note = note(recent, forest, what, paths, layer)?;
         notes.push(note)?;
     }

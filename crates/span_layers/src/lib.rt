@@ -13,6 +13,7 @@ mod room;
 mod rule;
 mod style;
 mod tellers;
+mod wanting;
 
 pub use filters::{Admit, Admitters, Filters, MAX_LAYERS, Rules};
 pub use form::{Form, text};

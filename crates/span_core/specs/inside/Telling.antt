@@ -62,9 +62,9 @@ told_to spans what layer = record {
   tail = tail_told what.subject;
 }
 
--- the layers from this number on that these bits have and that want notes of this kind, ascending
-abbrev pub told_from : List Filter → ℕ → Kind → ℕ → List ℕ
-told_from rules bits kind from = filter (hears rules bits kind) (range_with_len from (length rules - from))
+-- the layers from this number on that this mask has, ascending
+unfoldable pub told_from : ℕ → ℕ → List ℕ
+told_from mask from = filter (has_bit mask) (range_with_len from (64 - from))
 
 -- what the layers are told, one note for each that is
 abbrev pub notes_told : List Filter → Spans → Telling → List PlainNote

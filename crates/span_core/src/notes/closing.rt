@@ -13,7 +13,7 @@ ghost use Rattle.span_core.specs.inside.ClosingPaths.{IsChain, TellsBelow, IsBel
 ghost use Rattle.span_core.specs.inside.Telling.{Knows};
 ghost use Rattle.span_core.specs.inside.Remembering.{Remembers};
 
-use crate::notes::layers::{is_wanted, told_count, told_layers};
+use crate::notes::layers::{is_wanted, told_layers};
 use crate::notes::paths::{ToldPaths, same_text, seen_text};
 use crate::recent::Recent;
 use span_forest::laws::{
@@ -127,7 +127,7 @@ fn closes_count(rules: &Rules, forest: &Forest, closed: &[Id]) -> usize {
     let mut count = 0usize;
     for id in closed {
         if let Some(span) = forest.find(*id) {
-            count = count.saturating_add(told_count(rules, span.bits, Kind::OnClose));
+            count = count.saturating_add(told_layers(rules, span.bits, Kind::OnClose).len());
         }
     }
     count

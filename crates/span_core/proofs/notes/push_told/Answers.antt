@@ -19,6 +19,6 @@ loop-layer-preserved c =
 pub returns-clause-notes : goal.returns-clause-notes
 returns-clause-notes c =
     let told = told_to c.args.forest.now.spans c.args.what.now in
-    let layers = c.into_iter-layer-iterator.ensures.into_iter_gives ∙ c.told_layers-layer-items.ensures in
+    let layers = c.into_iter-layer-iterator.ensures.into_iter_gives ∙ c.told_layers-layers.ensures in
     layers_end told _ _ _ c.in-None.ensures.steps.0 c.loop-layer.invariant.told
     ∙ (λ j. map plain_note (c.reserve_exact.ensures.items j) ++ map told (layers j))
