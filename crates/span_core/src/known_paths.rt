@@ -1,5 +1,5 @@
 //! The paths that were told lately, to be told again without a walk.
-ghost use Rattle.std.specs.Prelude.{◌≡◌, IfSome};
+ghost use Rattle.std.specs.Prelude.{◌≡◌, IfOk, IfSome};
 ghost use Rattle.std.specs.Arc.{arc_str_bytes};
 ghost use Rattle.span_slots.specs.Table.{IsIssued};
 ghost use Rattle.span_forest.specs.Spans.{IsOpen};
@@ -31,44 +31,48 @@ pub(crate) struct KnownPath {
 /// The paths that were told lately, one at each of a few places. They stay owned until others take their places.
 #[derive(Drop)]
 pub(crate) struct KnownPaths {
+    // Whether the notes of later calls may share the texts. Where batches are kept they don't, so that whoever takes a
+    // batch is the only owner of what its notes tell.
+    pub(crate) shares: bool,
     // Empty, or one for each place.
     places: Vec<Option<KnownPath>>,
 }
 
 impl KnownPaths {
     /// None yet. It takes no memory.
-    pub(crate) fn none(alloc: Global) -> KnownPaths
+    pub(crate) fn none(alloc: Global, shares: bool) -> KnownPaths
         ensures { (forest : ForestView) → Remembers forest result }
     {
         KnownPaths {
+            shares,
             places: Vec::new(alloc),
         }
     }
 
     /// The text of a layer's path at a span that is open, if it was told lately.
-    pub(crate) fn get(&self, layer: u32, id: Id) -> Option<&str>
+    pub(crate) fn get(&self, layer: u32, id: Id) -> Option<&ArcStr>
         ensures { IfSome result (λ text. (forest : ForestView) → Remembers forest self.now → IsOpen forest.spans id →
-            text.now ≡ path_text (path layer forest.spans id)) }
+            arc_str_bytes text.now ≡ path_text (path layer forest.spans id)) }
     {
         let known = self.places.get(place_of(layer, id))?.as_ref()?;
         if known.place == id && known.layer == layer {
-            Some(known.text.as_str())
+            Some(&known.text)
         } else {
             None
         }
     }
 
-    /// Remembers a copy of the text of a layer's path at a span. Where memory is refused it isn't kept, which is no
-    /// error.
-    pub(crate) fn keep(&mut self, alloc: Global, layer: u32, id: Id, text: &str)
+    /// Remembers the text of a layer's path at a span, as one more owner or as a copy. Where memory is refused it isn't
+    /// kept, which is no error.
+    pub(crate) fn keep(&mut self, alloc: Global, layer: u32, id: Id, text: &ArcStr)
         ensures { (forest : ForestView) → IsIssued (table_of forest) id →
-            text.now ≡ path_text (path layer forest.spans id) →
+            arc_str_bytes text.now ≡ path_text (path layer forest.spans id) →
             Remembers forest self.old → Remembers forest self.new }
     {
         if text.len() > LONGEST {
             return;
         }
-        let Ok(text) = ArcStr::from_str(alloc, text) else {
+        let Ok(text) = self.own(alloc, text) else {
             return;
         };
         self.put(KnownPath {
@@ -76,6 +80,17 @@ impl KnownPaths {
             layer,
             text,
         });
+    }
+
+    // The text, to be kept.
+    fn own(&self, alloc: Global, text: &ArcStr) -> Result<ArcStr, Fault>
+        ensures { IfOk result (λ kept. arc_str_bytes kept ≡ arc_str_bytes text.now) }
+    {
+        if self.shares {
+            Ok(text.clone()?)
+        } else {
+            Ok(ArcStr::from_str(alloc, text.as_str())?)
+        }
     }
 
     // Puts a path at its place, in place of what stood there.

@@ -103,7 +103,7 @@ impl<O: Outlet + Drop, F: Drop> Core<O, Admitters<F>> {
         let stacks = empty_stacks(alloc, checked.limits().workers)?;
         let forest = Forest::new(alloc, checked)?;
         Ok(Core {
-            recent: Recent::none(alloc),
+            recent: Recent::none(alloc, false),
             limits: *checked,
             forest,
             stacks,

@@ -17,14 +17,14 @@ pub(crate) struct Recent {
 }
 
 impl Recent {
-    /// Nothing yet. It takes no memory.
-    pub(crate) fn none(alloc: Global) -> Recent
+    /// Nothing yet; the notes of later calls may share the paths or not. It takes no memory.
+    pub(crate) fn none(alloc: Global, shares: bool) -> Recent
         ensures { (forest : ForestView) → Remembers forest result.paths }
     {
         Recent {
             alloc,
             metas: RecentMetas::none(alloc),
-            paths: KnownPaths::none(alloc),
+            paths: KnownPaths::none(alloc, shares),
             path: String::new(alloc),
         }
     }

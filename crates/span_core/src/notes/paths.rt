@@ -190,7 +190,7 @@ pub(crate) fn seen_text(
         return Ok(text.clone()?);
     }
     if let Some(text) = known_text(&recent.paths, forest, layer, place) {
-        return same_text(recent.alloc, paths, text);
+        return told_again(recent.alloc, paths, text, recent.paths.shares);
     }
     walked_text(recent, forest, paths, layer, place)
 }
@@ -201,13 +201,31 @@ fn known_text<'a>(
     forest: &Forest,
     layer: u32,
     place: &Option<Id>,
-) -> Option<&'a str>
+) -> Option<&'a ArcStr>
     requires remembers { Remembers forest.now known.now }
-    ensures text { IfSome result (λ text. text.now ≡ path_text (path_at layer forest.now.spans place.now)) }
+    ensures text { IfSome result (λ text. arc_str_bytes text.now ≡ path_text (path_at layer forest.now.spans place.now)) }
 {
     let id = (*place)?;
     forest.find(id)?;
     known.get(layer, id)
+}
+
+// A text that an earlier call told: by one more owner, where they are shared, else by one of this call.
+fn told_again(
+    alloc: Global,
+    paths: &mut ToldPaths,
+    text: &ArcStr,
+    shares: bool,
+) -> Result<ArcStr, Fault>
+    ensures text { IfOk result (λ told. arc_str_bytes told ≡ arc_str_bytes text.now) }
+    ensures known { OnOk result ((told : List (List ℕ) → List ℕ) (spans : Spans) →
+        Knows told spans paths.old → Knows told spans paths.new) }
+    ensures memory { IfErr result (λ fault. fault ≡ Fault.Memory) }
+{
+    if shares {
+        return Ok(text.clone()?);
+    }
+    same_text(alloc, paths, text.as_str())
 }
 
 // The path of a layer at a place by a walk, which later calls will know.
@@ -226,9 +244,9 @@ fn walked_text(
     ensures memory { IfErr result (λ fault. fault ≡ Fault.Memory) }
 {
     let same = text_at(forest, layer, place, &mut recent.path)?;
-    let text = recent.path.as_str();
-    remember(&mut recent.paths, recent.alloc, forest, layer, place, text);
-    paths.tell(recent.alloc, place, text, same)
+    let text = paths.tell(recent.alloc, place, recent.path.as_str(), same)?;
+    remember(&mut recent.paths, recent.alloc, forest, layer, place, &text);
+    Ok(text)
 }
 
 // Remembers the text of a layer's path, if it was read at a span.
@@ -238,9 +256,9 @@ fn remember(
     forest: &Forest,
     layer: u32,
     place: &Option<Id>,
-    text: &str,
+    text: &ArcStr,
 )
-    requires text { text.now ≡ path_text (path_at layer forest.now.spans place.now) }
+    requires text { arc_str_bytes text.now ≡ path_text (path_at layer forest.now.spans place.now) }
     requires remembers { Remembers forest.now known.old }
     ensures remembers { Remembers forest.now known.new }
 {
