@@ -1,4 +1,5 @@
 pub mod Admission
+pub mod Blocks
 pub mod Deciding
 mod Examples
 pub mod Masks

@@ -1,2 +1,4 @@
+pub mod Clean
+pub mod Sheet
 pub mod Tokens
 pub mod Wanting

@@ -1,6 +1,6 @@
 //! The JSON form of a note: its object, written member by member.
 
-ghost use Rattle.std.specs.Prelude.{◌≡◌, IfOk};
+ghost use Rattle.std.specs.Prelude.{◌≡◌, ◌++◌, IfOk, OnOk, OnErr};
 ghost use Rattle.json.specs.Tree.{json_tokens};
 ghost use Rattle.serde_json.specs.Written.{compact_text, outline};
 ghost use Rattle.span_layers.specs.Note.{plain_note};
@@ -13,24 +13,39 @@ mod pairs;
 use crate::json_form::members::{write_number, write_text, write_told};
 use crate::json_form::pairs::write_fields;
 use crate::note::Note;
-use crate::room::room;
+use crate::room::json_room;
 use json::Writer;
 use std::alloc::{AllocError, Global};
-
-// A text without its path, its message and its fields has at most 114 bytes.
-const FRAME: usize = 120;
-
-// What stands around a field's key and value: brackets, quotes and commas.
-const PAIR: usize = 8;
+use std::mem;
 
 /// The JSON text of a note. It is written into one buffer, with no value in between.
 pub(crate) fn json_text(alloc: Global, note: &Note) -> Result<Vec<u8>, AllocError>
     ensures { IfOk result (λ text. text.items ≡ compact_text (json_value (plain_note note.now))) }
 {
-    let buffer = Vec::with_capacity(alloc, room(note, FRAME, PAIR))?;
+    let buffer = Vec::with_capacity(alloc, json_room(note))?;
     let mut out = Writer::new(buffer);
     write_note(&mut out, note)?;
     Ok(out.into_inner())
+}
+
+/// Appends the JSON text of a note to a buffer, which stays as it was where memory is refused.
+pub(crate) fn json_onto(note: &Note, out: &mut Vec<u8>) -> Result<(), AllocError>
+    ensures text { OnOk result (out.new.items ≡ out.old.items ++ compact_text (json_value (plain_note note.now))) }
+    ensures unchanged { OnErr result (out.new.items ≡ out.old.items) }
+{
+    out.reserve(json_room(note))?;
+    let alloc = *out.allocator();
+    let held = out.len();
+    let mut writer = Writer::new(mem::replace(out, Vec::new(alloc)));
+    let done = write_note(&mut writer, note);
+    *out = writer.into_inner();
+    match done {
+        Ok(()) => Ok(()),
+        Err(error) => {
+            out.truncate(held);
+            Err(error)
+        }
+    }
 }
 
 // Writes the object of a note.

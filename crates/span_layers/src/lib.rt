@@ -1,6 +1,7 @@
 //! Layers: which spans and events they admit, which kinds of notes they want, and what they write of a note.
 #![tactic(auto)]
 
+mod clean;
 mod compact;
 mod filters;
 mod form;
@@ -11,12 +12,13 @@ mod note;
 mod plain_hooks;
 mod room;
 mod rule;
+mod sheet;
 mod style;
 mod tellers;
 mod wanting;
 
 pub use filters::{Admit, Admitters, Filters, MAX_LAYERS, Rules};
-pub use form::{Form, text};
+pub use form::{Form, text, text_onto};
 pub use hooks::{AdmitHook, Admitter, Formatter, Hooks, SayHook};
 pub use layers::{Layer, Layers};
 pub use note::{Kind, Note};

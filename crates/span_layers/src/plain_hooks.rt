@@ -1,7 +1,7 @@
 //! Layers with no closures: each admits as `admits` does and writes as `text` does.
 
 use crate::filters::{Admit, Admitters};
-use crate::form::{Form, text};
+use crate::form::{Form, text, text_onto};
 use crate::hooks::Hooks;
 use crate::note::Note;
 use crate::rule::{Rule, admits};
@@ -38,5 +38,10 @@ impl Say for Formatters<ByForm> {
     // The note's text is made here, whichever layer it is.
     fn say(&self, form: Form, note: &Note) -> Result<Vec<u8>, AllocError> {
         text(self.alloc, form, note)
+    }
+
+    // The text is written where it shall stand.
+    fn say_onto(&self, form: Form, note: &Note, out: &mut Vec<u8>) -> Result<(), AllocError> {
+        text_onto(form, note, out)
     }
 }

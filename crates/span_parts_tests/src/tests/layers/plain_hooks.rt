@@ -4,7 +4,7 @@ use crate::tests::compare::same;
 use crate::tests::layers::fixtures::{Plan, Wanted, admission, layers, note, plain_layers, tells};
 use crate::tests::values::meta;
 use span_id::{Bits, Level};
-use span_layers::{Admit, ByForm, ByRule, Filters, Form, Say, Tellers};
+use span_layers::{Admit, ByRule, Filters, Form, Say};
 use std::alloc::Global;
 use std::process::Abort;
 
@@ -68,15 +68,20 @@ fn layers_without_closures_tell(rt: HostRuntime) {
     let (_, tellers) = plain_layers(&rt, alloc, &PLANS).split();
     let (_, others) = layers(&rt, alloc, &PLANS).split();
     for (layer, want) in &TOLD {
-        say(&rt, alloc, &tellers, *layer, want);
+        let form = tellers.forms.get(*layer).expect(&rt, "no layer");
+        say(&rt, alloc, &tellers.formatters, form, *layer, want);
+        say(&rt, alloc, &others.formatters, form, *layer, want);
         tells(&rt, alloc, &others, *layer, want);
     }
     same(&rt, tellers.forms.len(), 2, "the forms");
 }
 
-fn say(rt: &impl Abort, alloc: Global, tellers: &Tellers<ByForm>, layer: u32, want: &str) {
-    let form = tellers.forms.get(layer).expect(rt, "no layer");
+// Whether this text is said, by itself and onto a buffer.
+fn say<S: Say>(rt: &impl Abort, alloc: Global, says: &S, form: Form, layer: u32, want: &str) {
     let note = note(rt, alloc, layer);
-    let text = tellers.formatters.say(form, &note).expect(rt, "memory");
+    let text = says.say(form, &note).expect(rt, "memory");
     same(rt, text.as_slice(), want.as_bytes(), layer);
+    let mut out = Vec::new(alloc);
+    says.say_onto(form, &note, &mut out).expect(rt, "memory");
+    same(rt, out.as_slice(), want.as_bytes(), layer);
 }

@@ -2,8 +2,9 @@
 
 use crate::tests::compare::same;
 use crate::tests::layers::fixtures::fields;
+use crate::tests::layers::rooms::has_no_more_room;
 use span_id::Level;
-use span_layers::{Form, Kind, Note, text};
+use span_layers::{Form, Kind, Note, text, text_onto};
 use std::alloc::Global;
 use std::process::Abort;
 use std::sync::ArcStr;
@@ -59,7 +60,20 @@ fn is_written(rt: &impl Abort, alloc: Global, note: &Note, compact: &str, json: 
     for (form, want) in [(Form::Compact, compact), (Form::Json, json)] {
         let text = text(alloc, form, note).expect(rt, "memory");
         same(rt, text.as_slice(), want.as_bytes(), want);
+        has_no_more_room(rt, &text, want);
+        is_appended(rt, alloc, form, note, want);
     }
+}
+
+// Whether the note is written so behind what a buffer holds.
+fn is_appended(rt: &impl Abort, alloc: Global, form: Form, note: &Note, want: &str) {
+    let mut out = Vec::from_slice(alloc, b"held ").expect(rt, "memory");
+    text_onto(form, note, &mut out).expect(rt, "memory");
+    let mut whole = Vec::from_slice(alloc, b"held ").expect(rt, "memory");
+    whole
+        .extend_from_slice(want.as_bytes())
+        .expect(rt, "memory");
+    same(rt, out.as_slice(), whole.as_slice(), want);
 }
 
 static CASES: [Case<'static>; 11] = [
