@@ -10,4 +10,5 @@ mod rows;
 mod shared;
 mod sharing;
 mod strangers;
+mod told_again;
 mod workers;
