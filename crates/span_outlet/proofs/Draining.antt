@@ -5,15 +5,18 @@ use Rattle.std.proofs.lemmas.List.{append-nil, length-append, length-map, map-ap
 use Rattle.std.proofs.lemmas.List.FromFn.{length-enumerate_from}
 use Rattle.std.specs.List.{enumerate_from}
 use Rattle.span_layers.specs.declared.form.Form.{Form}
+use Rattle.span_layers.specs.declared.note.Note.{Note}
 use Rattle.span_layers.specs.Note.{plain_note}
-use Rattle.span_outlet.specs.declared.batch.Batch.{Batch}
+use Rattle.span_outlet.specs.declared.posted.Posted.{Posted}
 use Rattle.span_outlet.specs.declared.line.Line.{Line}
-use Rattle.span_outlet.specs.Batch.{PlainBatch, plain_batch}
+use Rattle.span_outlet.specs.Batch.{PlainBatch}
 use Rattle.span_outlet.specs.Outlet.{RingName}
 use Rattle.span_outlet.specs.Lines.{PlainLine, plain_line}
 use Rattle.span_outlet.specs.Kept.{NumberedNote, numbered_in, AreTold, GainsLines}
 use Rattle.span_outlet.specs.Kept.AreTold.{none, told, missed}
 use Rattle.span_outlet.specs.Drain.{TakesBatch}
+use Rattle.span_outlet.specs.inside.Posted.{plain_posted}
+use Rattle.span_outlet.specs.inside.Telling.{numbered_notes}
 
 -- ---- each note is told or missed
 
@@ -22,42 +25,42 @@ each_once forms none = refl
 each_once forms (told note line says rest) = let later = each_once forms rest in omega (arith, later)
 each_once forms (missed note rest) = let later = each_once forms rest in omega (arith, later)
 
-in_batch : (number : ℕ) (batch : Batch) → length (numbered_in (number, plain_batch batch)) ≡ length batch.notes.items
-in_batch number batch =
-    length-map (enumerate_from 0 (map plain_note batch.notes.items)) (λ note. record { batch = number; place = note.0; note = note.1 })
-    ∙ length-enumerate_from 0 (map plain_note batch.notes.items) ∙ length-map batch.notes.items plain_note
+as_many : (number : ℕ) (notes : List Note) → length (numbered_notes number (map plain_note notes)) ≡ length notes
+as_many number notes =
+    length-map (enumerate_from 0 (map plain_note notes)) (λ note. record { batch = number; place = note.0; note = note.1 })
+    ∙ length-enumerate_from 0 (map plain_note notes) ∙ length-map notes plain_note
 
 -- a batch brings no more lines than it has notes
-pub most_gained : (forms : List Form) (number : ℕ) (batch : Batch) (lines after : List Line) (refused more : ℕ)
-    → GainsLines forms (numbered_in (number, plain_batch batch)) (map plain_line lines) refused (map plain_line after) more
-    → length after ≤ length lines + length batch.notes.items
-most_gained forms number batch lines after refused more gains =
-    let all = each_once forms gains.each ∙ in_batch number batch in
+pub most_gained : (forms : List Form) (number : ℕ) (notes : List Note) (lines after : List Line) (refused more : ℕ)
+    → GainsLines forms (numbered_notes number (map plain_note notes)) (map plain_line lines) refused (map plain_line after) more
+    → length after ≤ length lines + length notes
+most_gained forms number notes lines after refused more gains =
+    let all = each_once forms gains.each ∙ as_many number notes in
     let now = sym (length-map after plain_line) ∙ ap length gains.lines_are ∙ length-append (map plain_line lines) gains.added in
     let before = length-map lines plain_line in
     omega (arith, all, now, before)
 
 -- ---- a batch more
 
-pub one_more_taken : (old new : List Batch) (batch : Batch) (number : ℕ) → new ≡ old ++ batch ∷ [] → number ≡ length old → number + 1 ≡ length new
+pub one_more_taken : (old new : List Posted) (batch : Posted) (number : ℕ) → new ≡ old ++ batch ∷ [] → number ≡ length old → number + 1 ≡ length new
 one_more_taken old new batch number is number_is = let len = ap length is ∙ length-append old (batch ∷ []) in omega (arith, len, number_is)
 
-pub batch_taken : (name same : RingName) (forms kept : List Form) (old new : List Batch) (batch : Batch) (number : ℕ) (lines after : List Line) (refused more notes fresh : ℕ)
+pub batch_taken : (name same : RingName) (forms kept : List Form) (old new : List Posted) (batch : Posted) (number : ℕ) (lines after : List Line) (refused more notes fresh : ℕ)
     → same ≡ name → kept ≡ forms → number ≡ length old → new ≡ old ++ batch ∷ []
-    → GainsLines forms (numbered_in (number, plain_batch batch)) (map plain_line lines) refused (map plain_line after) more
+    → GainsLines forms (numbered_in (number, plain_posted batch)) (map plain_line lines) refused (map plain_line after) more
     → notes ≡ length batch.notes.items → length lines + fresh ≡ length after
-    → TakesBatch (record { name = name; forms = forms; taken = map plain_batch old; lines = map plain_line lines; refused = refused })
-    (record { name = same; forms = kept; taken = map plain_batch new; lines = map plain_line after; refused = more })
+    → TakesBatch (record { name = name; forms = forms; taken = map plain_posted old; lines = map plain_line lines; refused = refused })
+    (record { name = same; forms = kept; taken = map plain_posted new; lines = map plain_line after; refused = more })
     (record { told = fresh; refused = notes - fresh })
 batch_taken name same forms kept old new batch number lines after refused more notes fresh name_is forms_are number_is is gains notes_are counted =
     let before = length-map lines plain_line in
     let now = length-map after plain_line in
-    let most = most_gained forms number batch lines after refused more gains in
+    let most = most_gained forms number batch.notes.items lines after refused more gains in
     let plain = length-map batch.notes.items plain_note in
     record {
-      batch = plain_batch batch;
-      taken = ap (map plain_batch) is ∙ map-append plain_batch old (batch ∷ []);
-      gains = subst (λ n. GainsLines forms (numbered_in (n, plain_batch batch)) (map plain_line lines) refused (map plain_line after) more) (number_is ∙ sym (length-map old plain_batch)) gains;
+      batch = plain_posted batch;
+      taken = ap (map plain_posted) is ∙ map-append plain_posted old (batch ∷ []);
+      gains = subst (λ n. GainsLines forms (numbered_in (n, plain_posted batch)) (map plain_line lines) refused (map plain_line after) more) (number_is ∙ sym (length-map old plain_posted)) gains;
       told = omega (arith, before, now, counted);
       refused = omega (arith, counted, most, notes_are, plain);
     }
@@ -71,7 +74,7 @@ pub prefix_more : {A : Type 0} (xs ys zs more : List A) → IsPrefix xs ys → z
 prefix_more xs ys zs more front is = (front.0 ++ more, sym (append_assoc xs front.0 more) ∙ ap (λ l. l ++ more) front.1 ∙ sym is)
 
 -- a batch goes from those that stand to those that were taken
-pub moved_on : (taken standing more left : List Batch) (batch : Batch) (all : List PlainBatch) → more ≡ taken ++ batch ∷ [] → standing ≡ batch ∷ left
-    → map plain_batch (taken ++ standing) ≡ all → map plain_batch (more ++ left) ≡ all
+pub moved_on : (taken standing more left : List Posted) (batch : Posted) (all : List PlainBatch) → more ≡ taken ++ batch ∷ [] → standing ≡ batch ∷ left
+    → map plain_posted (taken ++ standing) ≡ all → map plain_posted (more ++ left) ≡ all
 moved_on taken standing more left batch all is was fifo =
-    ap (map plain_batch) (ap (λ l. l ++ left) is ∙ append_assoc taken (batch ∷ []) left ∙ ap (λ l. taken ++ l) (sym was)) ∙ fifo
+    ap (map plain_posted) (ap (λ l. l ++ left) is ∙ append_assoc taken (batch ∷ []) left ∙ ap (λ l. taken ++ l) (sym was)) ∙ fifo

@@ -8,12 +8,12 @@ use Rattle.std.proofs.lemmas.List.Elements.{filter_map-append}
 use Rattle.span_layers.specs.declared.form.Form.{Form}
 use Rattle.span_layers.specs.declared.note.Note.{Note}
 use Rattle.span_layers.specs.Note.{PlainNote, plain_note}
-use Rattle.span_outlet.specs.declared.batch.Batch.{Batch}
-use Rattle.span_outlet.specs.Batch.{PlainBatch, plain_batch}
+use Rattle.span_outlet.specs.Batch.{PlainBatch}
 use Rattle.span_outlet.specs.declared.line.Line.{Line}
 use Rattle.span_outlet.specs.Lines.{PlainLine, plain_line, line_of, lines_of_batch, lines_of}
 use Rattle.span_outlet.specs.Kept.{NumberedNote, numbered_in, numbered, AreTold, AreKept, GainsLines}
 use Rattle.span_outlet.specs.Kept.AreTold.{none, told, missed}
+use Rattle.span_outlet.specs.inside.Telling.{numbered_notes}
 
 -- ---- notes, and then others
 
@@ -78,16 +78,12 @@ enumerated_more {X} n [] x = ap {B = List (ℕ × X)} (λ k. (k, x) ∷ []) (ome
 enumerated_more {X} n (y ∷ ys) x =
     ap {B = List (ℕ × X)} (λ l. (n, y) ∷ l) (enumerated_more (n + 1) ys x ∙ ap {B = List (ℕ × X)} (λ k. enumerate_from (n + 1) ys ++ (k, x) ∷ []) (omega arith))
 
--- the first notes of a batch
-abbrev pub numbered_first : ℕ → List PlainNote → List NumberedNote
-numbered_first batch notes = map (λ note. record { batch = batch; place = note.0; note = note.1 }) (enumerate_from 0 notes)
-
 first_more : (batch place : ℕ) (notes : List PlainNote) (note : PlainNote) → place < length notes → get_or notes place note ≡ note
-    → numbered_first batch (take (place + 1) notes) ≡ numbered_first batch (take place notes) ++ (record { batch = batch; place = place; note = note }) ∷ []
+    → numbered_notes batch (take (place + 1) notes) ≡ numbered_notes batch (take place notes) ++ (record { batch = batch; place = place; note = note }) ∷ []
 first_more batch place notes note within at =
     let len : length (take place notes) ≡ place = length-take-le place notes (omega arith) in
     let next : take (place + 1) notes ≡ take place notes ++ note ∷ [] = take_more notes place note within ∙ ap (λ n. take place notes ++ n ∷ []) at in
-    ap (λ ns. numbered_first batch ns) next
+    ap (λ ns. numbered_notes batch ns) next
     ∙ ap (λ ns. map (λ n. record { batch = batch; place = n.0; note = n.1 }) ns) (enumerated_more 0 (take place notes) note ∙ ap {B = List (ℕ × PlainNote)} (λ k. enumerate_from 0 (take place notes) ++ (k, note) ∷ []) (omega (arith, len)))
     ∙ map-append (λ n. record { batch = batch; place = n.0; note = n.1 }) (enumerate_from 0 (take place notes)) ((place, note) ∷ [])
 
@@ -104,9 +100,9 @@ numbered_more history batch =
 -- a turn
 pub next_gains : (forms same : List Form) (batch place : ℕ) (notes : List Note) (note : Note) (lines between after : List PlainLine) (refused some more : ℕ)
     → same ≡ forms → place < length notes → get_or notes place note ≡ note
-    → GainsLines forms (numbered_first batch (take place (map plain_note notes))) lines refused between some
+    → GainsLines forms (numbered_notes batch (take place (map plain_note notes))) lines refused between some
     → GainsLines same ((record { batch = batch; place = place; note = plain_note note }) ∷ []) between some after more
-    → GainsLines forms (numbered_first batch (take (place + 1) (map plain_note notes))) lines refused after more
+    → GainsLines forms (numbered_notes batch (take (place + 1) (map plain_note notes))) lines refused after more
 next_gains forms same batch place notes note lines between after refused some more is within at gains gained =
     let inside : place < length (map plain_note notes) = rw (length-map notes plain_note) within in
     let here : get_or (map plain_note notes) place (plain_note note) ≡ plain_note note = get_or-map plain_note notes place note (plain_note note) within ∙ ap plain_note at in
@@ -116,24 +112,29 @@ next_gains forms same batch place notes note lines between after refused some mo
 
 -- the end
 pub all_gained : (forms : List Form) (batch place : ℕ) (notes : List Note) (lines after : List PlainLine) (refused more : ℕ) → length notes ≤ place
-    → GainsLines forms (numbered_first batch (take place (map plain_note notes))) lines refused after more → GainsLines forms (numbered_first batch (map plain_note notes)) lines refused after more
+    → GainsLines forms (numbered_notes batch (take place (map plain_note notes))) lines refused after more → GainsLines forms (numbered_notes batch (map plain_note notes)) lines refused after more
 all_gained forms batch place notes lines after refused more ends gains =
-    subst (λ ns. GainsLines forms (numbered_first batch ns) lines refused after more) (take_all place (map plain_note notes) (rw (length-map notes plain_note) ends)) gains
+    subst (λ ns. GainsLines forms (numbered_notes batch ns) lines refused after more) (take_all place (map plain_note notes) (rw (length-map notes plain_note) ends)) gains
+
+-- the notes of a batch, as a slice shows them
+pub as_shown : (forms : List Form) (number : ℕ) (shown notes : List Note) (lines after : List PlainLine) (refused more : ℕ) → shown ≡ notes
+    → GainsLines forms (numbered_notes number (map plain_note shown)) lines refused after more → GainsLines forms (numbered_notes number (map plain_note notes)) lines refused after more
+as_shown forms number shown notes lines after refused more is gains = subst (λ ns. GainsLines forms (numbered_notes number (map plain_note ns)) lines refused after more) is gains
 
 -- nothing was sent yet
-pub nothing_kept : (forms : List Form) (sent : List Batch) (lines : List Line) → sent ≡ [] → lines ≡ [] → AreKept forms (numbered (map plain_batch sent)) (map plain_line lines) 0
-nothing_kept forms sent lines none_sent no_lines = rw (none_sent, no_lines) (record { missed = []; each = none; counted = refl })
+pub nothing_kept : {B : Type 0} (plain : B → PlainBatch) (forms : List Form) (sent : List B) (lines : List Line) → sent ≡ [] → lines ≡ [] → AreKept forms (numbered (map plain sent)) (map plain_line lines) 0
+nothing_kept plain forms sent lines none_sent no_lines = rw (none_sent, no_lines) (record { missed = []; each = none; counted = refl })
 
 -- a batch more was sent
-pub batch_kept : (forms same : List Form) (old new : List Batch) (batch : Batch) (number : ℕ) (lines : List PlainLine) (refused : ℕ)
+pub batch_kept : {B : Type 0} (plain : B → PlainBatch) (forms same : List Form) (old new : List B) (batch : B) (number : ℕ) (lines : List PlainLine) (refused : ℕ)
     → same ≡ forms → number ≡ length old → new ≡ old ++ batch ∷ []
-    → AreKept forms (numbered (map plain_batch old) ++ numbered_in (number, plain_batch batch)) lines refused → AreKept same (numbered (map plain_batch new)) lines refused
-batch_kept forms same old new batch number lines refused is number_is sent kept =
-    let number_of : number ≡ length (map plain_batch old) = number_is ∙ sym (length-map old plain_batch) in
-    let notes : numbered (map plain_batch old) ++ numbered_in (number, plain_batch batch) ≡ numbered (map plain_batch new) =
-    (ap (λ n. numbered (map plain_batch old) ++ numbered_in (n, plain_batch batch)) number_of
-    ∙ sym (ap numbered (ap (map plain_batch) sent ∙ map-append plain_batch old (batch ∷ [])) ∙ numbered_more (map plain_batch old) (plain_batch batch))) in
-    subst (λ fs. AreKept fs (numbered (map plain_batch new)) lines refused) (sym is)
+    → AreKept forms (numbered (map plain old) ++ numbered_in (number, plain batch)) lines refused → AreKept same (numbered (map plain new)) lines refused
+batch_kept plain forms same old new batch number lines refused is number_is sent kept =
+    let number_of : number ≡ length (map plain old) = number_is ∙ sym (length-map old plain) in
+    let notes : numbered (map plain old) ++ numbered_in (number, plain batch) ≡ numbered (map plain new) =
+    (ap (λ n. numbered (map plain old) ++ numbered_in (n, plain batch)) number_of
+    ∙ sym (ap numbered (ap (map plain) sent ∙ map-append plain old (batch ∷ [])) ∙ numbered_more (map plain old) (plain batch))) in
+    subst (λ fs. AreKept fs (numbered (map plain new)) lines refused) (sym is)
     (subst (λ ns. AreKept forms ns lines refused) notes kept)
 
 -- ---- where no note was missed

@@ -8,14 +8,15 @@ use Rattle.std.proofs.lemmas.List.{append-nil, length-append, length-map, map-ap
 use Rattle.std.proofs.lemmas.List.Concat.{flat_map-append}
 use Rattle.std.proofs.lemmas.List.Elements.{All-nil, All-tail, All-weaker}
 use Rattle.span_layers.specs.declared.form.Form.{Form}
-use Rattle.span_outlet.specs.declared.batch.Batch.{Batch}
+use Rattle.span_outlet.specs.declared.posted.Posted.{Posted}
 use Rattle.span_outlet.specs.declared.line.Line.{Line}
-use Rattle.span_outlet.specs.Batch.{PlainBatch, plain_batch}
+use Rattle.span_outlet.specs.Batch.{PlainBatch}
 use Rattle.span_outlet.specs.Outlet.{RingName}
 use Rattle.span_outlet.specs.Lines.{plain_line}
 use Rattle.span_outlet.specs.Kept.{numbered_in, numbered, AreKept, GainsLines}
 use Rattle.span_outlet.specs.Kept.AreTold.{none}
 use Rattle.span_outlet.specs.LineReader.{LineReaderView, numbered_from, TakesBatches, AreLeft}
+use Rattle.span_outlet.specs.inside.Posted.{plain_posted}
 use Rattle.span_outlet.specs.inside.Reading.{reader_view}
 use Rattle.span_outlet.proofs.Keeping.{gains_none, gains_more, kept_more}
 use Rattle.span_outlet.proofs.Apart.{of_one_batch}
@@ -38,62 +39,62 @@ pub takes_none : (view : LineReaderView) → view.refused ≤ 2 ^ 64 - 1 → Tak
 takes_none view low = record { batches = []; taken = sym (append-nil view.taken); gains = gains_none view.forms view.waiting view.refused low }
 
 -- the ring was looked at, and no batch was taken
-pub takes_nothing : (name same : RingName) (forms : List Form) (old new : List Batch) (lines : List Line) (refused : ℕ) → new ≡ old → lines ≡ [] → refused ≤ 2 ^ 64 - 1
+pub takes_nothing : (name same : RingName) (forms : List Form) (old new : List Posted) (lines : List Line) (refused : ℕ) → new ≡ old → lines ≡ [] → refused ≤ 2 ^ 64 - 1
     → TakesBatches (reader_view name 0 forms old [] refused) (reader_view same 0 forms new lines refused)
 takes_nothing name same forms old new lines refused is nothing low = record {
   batches = [];
-  taken = ap (map plain_batch) is ∙ sym (append-nil (map plain_batch old));
+  taken = ap (map plain_posted) is ∙ sym (append-nil (map plain_posted old));
   gains = subst (λ ls. GainsLines forms [] [] refused (map plain_line ls) refused) (sym nothing) (gains_none forms [] refused low);
 }
 
 -- some batches were taken, and then one more
-pub takes_more : (name same other : RingName) (forms kept still : List Form) (old mid new : List Batch) (batch : Batch) (number : ℕ)
+pub takes_more : (name same other : RingName) (forms kept still : List Form) (old mid new : List Posted) (batch : Posted) (number : ℕ)
     (lines after : List Line) (refused some more : ℕ)
     → kept ≡ forms → number ≡ length mid → new ≡ mid ++ batch ∷ []
     → TakesBatches (reader_view name 0 forms old [] refused) (reader_view same 0 kept mid lines some)
-    → GainsLines kept (numbered_in (number, plain_batch batch)) (map plain_line lines) some (map plain_line after) more
+    → GainsLines kept (numbered_in (number, plain_posted batch)) (map plain_line lines) some (map plain_line after) more
     → TakesBatches (reader_view name 0 forms old [] refused) (reader_view other 0 still new after more)
 takes_more name same other forms kept still old mid new batch number lines after refused some more kept_is number_is is takes gains =
-    let first = length (map plain_batch old) in
-    let count : length mid ≡ first + length takes.batches = sym (length-map mid plain_batch) ∙ ap length takes.taken ∙ length-append (map plain_batch old) takes.batches in
+    let first = length (map plain_posted old) in
+    let count : length mid ≡ first + length takes.batches = sym (length-map mid plain_posted) ∙ ap length takes.taken ∙ length-append (map plain_posted old) takes.batches in
     let here : number ≡ first + length takes.batches = number_is ∙ count in
-    let notes : numbered_from first takes.batches ++ numbered_in (number, plain_batch batch) ≡ numbered_from first (takes.batches ++ plain_batch batch ∷ []) =
-    (ap (λ n. numbered_from first takes.batches ++ numbered_in (n, plain_batch batch)) here
-    ∙ ap (λ ns. numbered_from first takes.batches ++ ns) (sym (append-nil (numbered_in (first + length takes.batches, plain_batch batch))))
-    ∙ sym (numbered_append first takes.batches (plain_batch batch ∷ []))) in
-    let gained : GainsLines forms (numbered_in (number, plain_batch batch)) (map plain_line lines) some (map plain_line after) more =
-    subst (λ fs. GainsLines fs (numbered_in (number, plain_batch batch)) (map plain_line lines) some (map plain_line after) more) kept_is gains in
+    let notes : numbered_from first takes.batches ++ numbered_in (number, plain_posted batch) ≡ numbered_from first (takes.batches ++ plain_posted batch ∷ []) =
+    (ap (λ n. numbered_from first takes.batches ++ numbered_in (n, plain_posted batch)) here
+    ∙ ap (λ ns. numbered_from first takes.batches ++ ns) (sym (append-nil (numbered_in (first + length takes.batches, plain_posted batch))))
+    ∙ sym (numbered_append first takes.batches (plain_posted batch ∷ []))) in
+    let gained : GainsLines forms (numbered_in (number, plain_posted batch)) (map plain_line lines) some (map plain_line after) more =
+    subst (λ fs. GainsLines fs (numbered_in (number, plain_posted batch)) (map plain_line lines) some (map plain_line after) more) kept_is gains in
     record {
-      batches = takes.batches ++ plain_batch batch ∷ [];
-      taken = ap (map plain_batch) is ∙ map-append plain_batch mid (batch ∷ []) ∙ ap (λ bs. bs ++ plain_batch batch ∷ []) takes.taken ∙ append_assoc (map plain_batch old) takes.batches (plain_batch batch ∷ []);
+      batches = takes.batches ++ plain_posted batch ∷ [];
+      taken = ap (map plain_posted) is ∙ map-append plain_posted mid (batch ∷ []) ∙ ap (λ bs. bs ++ plain_posted batch ∷ []) takes.taken ∙ append_assoc (map plain_posted old) takes.batches (plain_posted batch ∷ []);
       gains = subst (λ ns. GainsLines forms ns [] refused (map plain_line after) more) notes
           (gains_more forms _ _ [] (map plain_line lines) (map plain_line after) refused some more takes.gains gained);
     }
 
 -- ---- the lines are of the last batch
 
-abbrev pub OfLast : List Batch → List Line → Type 0
-OfLast taken lines = All (λ line. line.batch + 1 ≡ length (map plain_batch taken)) (map plain_line lines)
+abbrev pub OfLast : List Posted → List Line → Type 0
+OfLast taken lines = All (λ line. line.batch + 1 ≡ length (map plain_posted taken)) (map plain_line lines)
 
 -- where no line waited
-pub of_batch : (forms : List Form) (old new : List Batch) (batch : Batch) (number : ℕ) (lines after : List Line) (some more : ℕ)
+pub of_batch : (forms : List Form) (old new : List Posted) (batch : Posted) (number : ℕ) (lines after : List Line) (some more : ℕ)
     → lines ≡ [] → number ≡ length old → new ≡ old ++ batch ∷ []
-    → GainsLines forms (numbered_in (number, plain_batch batch)) (map plain_line lines) some (map plain_line after) more
+    → GainsLines forms (numbered_in (number, plain_posted batch)) (map plain_line lines) some (map plain_line after) more
     → OfLast new after
 of_batch forms old new batch number lines after some more nothing number_is is gains =
-    let count : number + 1 ≡ length (map plain_batch new) =
-    (let len = ap length is ∙ length-append old (batch ∷ []) in let plain = length-map new plain_batch in omega (arith, len, plain, number_is)) in
+    let count : number + 1 ≡ length (map plain_posted new) =
+    (let len = ap length is ∙ length-append old (batch ∷ []) in let plain = length-map new plain_posted in omega (arith, len, plain, number_is)) in
     let all : map plain_line after ≡ gains.added = gains.lines_are ∙ ap (λ ls. map plain_line ls ++ gains.added) nothing in
-    subst (All (λ line. line.batch + 1 ≡ length (map plain_batch new))) (sym all)
-    (All-weaker (λ line. line.batch ≡ number) (λ line. line.batch + 1 ≡ length (map plain_batch new)) (λ line at. ap (λ n. n + 1) at ∙ count) gains.added (of_one_batch forms number (plain_batch batch) gains.each))
+    subst (All (λ line. line.batch + 1 ≡ length (map plain_posted new))) (sym all)
+    (All-weaker (λ line. line.batch ≡ number) (λ line. line.batch + 1 ≡ length (map plain_posted new)) (λ line at. ap (λ n. n + 1) at ∙ count) gains.added (of_one_batch forms number (plain_posted batch) gains.each))
 
-pub none_of_last : (taken : List Batch) (lines : List Line) → lines ≡ [] → OfLast taken lines
-none_of_last taken lines nothing = subst (OfLast taken) (sym nothing) (All-nil (λ line. line.batch + 1 ≡ length (map plain_batch taken)))
+pub none_of_last : (taken : List Posted) (lines : List Line) → lines ≡ [] → OfLast taken lines
+none_of_last taken lines nothing = subst (OfLast taken) (sym nothing) (All-nil (λ line. line.batch + 1 ≡ length (map plain_posted taken)))
 
 -- ---- the lines are those that are left
 
 -- nothing was taken yet
-pub nothing_left : (name : RingName) (looks : ℕ) (forms : List Form) (taken : List Batch) (lines : List Line) → taken ≡ [] → lines ≡ [] → AreLeft (reader_view name looks forms taken lines 0)
+pub nothing_left : (name : RingName) (looks : ℕ) (forms : List Form) (taken : List Posted) (lines : List Line) → taken ≡ [] → lines ≡ [] → AreLeft (reader_view name looks forms taken lines 0)
 nothing_left name looks forms taken lines none_taken no_lines = rw (none_taken, no_lines) (record { given = []; kept = record { missed = []; each = none; counted = refl } })
 
 -- batches more were taken where no line waited
@@ -118,7 +119,7 @@ more_left old new nothing same left takes =
 pub as_told : (lines kept : List Line) → kept ≡ reverse lines → reverse kept ≡ lines
 as_told lines kept is = ap reverse is ∙ reverse-reverse lines
 
-pub filled_takes : (name seen same : RingName) (times counted : ℕ) (forms kept : List Form) (old looked new : List Batch) (before lines waiting : List Line) (refused more : ℕ)
+pub filled_takes : (name seen same : RingName) (times counted : ℕ) (forms kept : List Form) (old looked new : List Posted) (before lines waiting : List Line) (refused more : ℕ)
     → before ≡ [] → looked ≡ old → waiting ≡ lines → TakesBatches (reader_view seen 0 forms looked [] refused) (reader_view same 0 kept new lines more)
     → TakesBatches (reader_view name times forms old before refused) (reader_view same counted kept new waiting more)
 filled_takes name seen same times counted forms kept old looked new before lines waiting refused more nothing looks is takes =
@@ -129,7 +130,7 @@ filled_takes name seen same times counted forms kept old looked new before lines
     subst (λ ls. TakesBatches (reader_view seen 0 forms old before refused) (reader_view same 0 kept new ls more)) (sym is) from_old in
     record { batches = to_new.batches; taken = to_new.taken; gains = to_new.gains }
 
-pub filled_left : (name seen same : RingName) (times counted : ℕ) (forms kept : List Form) (old looked new : List Batch) (before lines waiting : List Line) (refused more : ℕ)
+pub filled_left : (name seen same : RingName) (times counted : ℕ) (forms kept : List Form) (old looked new : List Posted) (before lines waiting : List Line) (refused more : ℕ)
     → before ≡ [] → kept ≡ forms → looked ≡ old → waiting ≡ lines
     → AreLeft (reader_view name times forms old before refused) → TakesBatches (reader_view seen 0 forms looked [] refused) (reader_view same 0 kept new lines more)
     → AreLeft (reader_view same counted kept new waiting more)
@@ -138,11 +139,11 @@ filled_left name seen same times counted forms kept old looked new before lines 
     (filled_takes name seen same times counted forms kept old looked new before lines waiting refused more nothing looks is takes)
 
 -- where nothing is left in the ring
-pub all_taken : (taken standing : List Batch) (lines waiting : List Line) (sent : List PlainBatch) → waiting ≡ lines → (lines ≡ [] → standing ≡ []) → map plain_batch (taken ++ standing) ≡ sent
-    → map plain_line waiting ≡ [] → map plain_batch taken ≡ sent
+pub all_taken : (taken standing : List Posted) (lines waiting : List Line) (sent : List PlainBatch) → waiting ≡ lines → (lines ≡ [] → standing ≡ []) → map plain_posted (taken ++ standing) ≡ sent
+    → map plain_line waiting ≡ [] → map plain_posted taken ≡ sent
 all_taken taken standing lines waiting sent is rest fifo nothing =
     let no_lines : lines ≡ [] = nil_from_length lines (sym (length-map lines plain_line) ∙ ap length (ap (map plain_line) (sym is) ∙ nothing)) in
-    ap (map plain_batch) (sym (ap (λ l. taken ++ l) (rest no_lines) ∙ append-nil taken)) ∙ fifo
+    ap (map plain_posted) (sym (ap (λ l. taken ++ l) (rest no_lines) ∙ append-nil taken)) ∙ fifo
 
 -- ---- a line is given out
 
@@ -155,17 +156,17 @@ all_rest : {X : Type 0} (P : X → Type 0) (xs ys : List X) → All P (xs ++ ys)
 all_rest P [] ys each = each
 all_rest P (x ∷ xs) ys each = all_rest P xs ys (All-tail P x (xs ++ ys) each)
 
-pub rest_left : (name : RingName) (looks : ℕ) (forms : List Form) (taken : List Batch) (lines out rest : List Line) (refused : ℕ) → lines ≡ out ++ rest
+pub rest_left : (name : RingName) (looks : ℕ) (forms : List Form) (taken : List Posted) (lines out rest : List Line) (refused : ℕ) → lines ≡ out ++ rest
     → AreLeft (reader_view name looks forms taken lines refused) → AreLeft (reader_view name looks forms taken rest refused)
 rest_left name looks forms taken lines out rest refused is left =
     let all : left.given ++ map plain_line lines ≡ (left.given ++ map plain_line out) ++ map plain_line rest =
     (ap (λ ls. left.given ++ map plain_line ls) is ∙ ap (λ ls. left.given ++ ls) (map-append plain_line out rest) ∙ sym (append_assoc left.given (map plain_line out) (map plain_line rest))) in
     record {
       given = left.given ++ map plain_line out;
-      kept = subst (λ ls. AreKept forms (numbered (map plain_batch taken)) ls refused) all left.kept;
+      kept = subst (λ ls. AreKept forms (numbered (map plain_posted taken)) ls refused) all left.kept;
     }
 
-pub rest_of_last : (taken : List Batch) (lines out rest : List Line) → lines ≡ out ++ rest → OfLast taken lines → OfLast taken rest
+pub rest_of_last : (taken : List Posted) (lines out rest : List Line) → lines ≡ out ++ rest → OfLast taken lines → OfLast taken rest
 rest_of_last taken lines out rest is each =
-    all_rest (λ line. line.batch + 1 ≡ length (map plain_batch taken)) (map plain_line out) (map plain_line rest)
-    (subst (All (λ line. line.batch + 1 ≡ length (map plain_batch taken))) (ap (map plain_line) is ∙ map-append plain_line out rest) each)
+    all_rest (λ line. line.batch + 1 ≡ length (map plain_posted taken)) (map plain_line out) (map plain_line rest)
+    (subst (All (λ line. line.batch + 1 ≡ length (map plain_posted taken))) (ap (map plain_line) is ∙ map-append plain_line out rest) each)

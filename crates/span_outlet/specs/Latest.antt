@@ -1,5 +1,5 @@
 -- What the outlet that keeps the lines of the last batch alone has of a history.
-use Rattle.std.specs.Prelude.{◌≡◌, ℕ, ◌-◌, Bool, List, flat_map, drop, length}
+use Rattle.std.specs.Prelude.{ℕ, ◌-◌, Bool, List, flat_map, drop, length}
 use Rattle.std.specs.List.{enumerate_from}
 use Rattle.span_layers.specs.declared.form.Form.{Form}
 use Rattle.span_outlet.specs.Batch.{PlainBatch}

@@ -1,5 +1,6 @@
 pub mod Request
 pub mod Batch
+pub mod KnownEvent
 pub mod Outlet
 pub mod Lines
 pub mod Kept

@@ -1,9 +1,10 @@
 -- A history that is known and not kept.
 use Rattle.std.specs.Prelude.{List, [], ◌∷◌, ◌++◌}
-use Rattle.span_outlet.specs.Batch.{PlainBatch, plain_batch}
+use Rattle.span_outlet.specs.Batch.{PlainBatch}
 use Rattle.span_outlet.specs.declared.past.Past.{Past, Nothing, After'}
+use Rattle.span_outlet.specs.inside.Posted.{plain_posted}
 
 -- the batches that were sent, in order
 abbrev pub batches_of : Past → List PlainBatch
 batches_of Nothing = []
-batches_of (After' p before batch) = batches_of before ++ plain_batch batch.value ∷ []
+batches_of (After' p before batch) = batches_of before ++ plain_posted batch.value ∷ []

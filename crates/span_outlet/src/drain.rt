@@ -40,24 +40,24 @@ pub struct Drain<V = Formatters> {
 impl<V> Model for Drain<V> {
     ghost use Rattle.std.specs.Prelude.{◌≡◌, map, length};
     ghost use Rattle.rtrb.specs.Ring.{received};
-    ghost use Rattle.span_outlet.specs.Batch.{plain_batch};
     ghost use Rattle.span_outlet.specs.Lines.{plain_line};
     ghost use Rattle.span_outlet.specs.Kept.{AreKept, numbered};
     ghost use Rattle.span_outlet.specs.Drain.{DrainView};
     ghost use Rattle.span_outlet.specs.inside.Ends.{name_of_consumer};
+    ghost use Rattle.span_outlet.specs.inside.Posted.{plain_posted};
 
     ghost Value = { DrainView };
 
     ghost view = { λ drain. record {
       name = name_of_consumer drain.consumer;
       forms = drain.told.forms;
-      taken = map plain_batch (received drain.consumer);
+      taken = map plain_posted (received drain.consumer);
       lines = map plain_line drain.told.lines.items;
       refused = drain.told.refused;
     } };
 
     ghost invariant = { λ drain.
-        AreKept drain.told.forms (numbered (map plain_batch (received drain.consumer)))
+        AreKept drain.told.forms (numbered (map plain_posted (received drain.consumer)))
         (map plain_line drain.told.lines.items) drain.told.refused
         × (drain.taken ≡ length (received drain.consumer)) };
 }
@@ -100,7 +100,7 @@ impl<V: Say> Drain<V> {
             return None;
         };
         let lines = told.lines.len();
-        told.tell_all(&*formatters, *taken, &batch);
+        told.tell_all(&*formatters, *taken, batch.notes.as_slice());
         *taken += 1;
         let more = told.lines.len() - lines;
         Some(Step {

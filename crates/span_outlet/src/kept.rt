@@ -160,7 +160,7 @@ impl<V: Say> Outlet for Kept<V> {
             ready,
             formatters,
         } = self;
-        told.tell_all(&*formatters, batches.len() as u64, &batch);
+        told.tell_all(&*formatters, batches.len() as u64, batch.notes.as_slice());
         *ready = false;
         batches.push_reserved(batch);
     }

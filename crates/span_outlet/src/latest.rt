@@ -1,16 +1,20 @@
 //! The outlet that writes the notes of a batch at once, and keeps its lines until the next one.
-ghost use Rattle.std.specs.Prelude.{◌≡◌, ◌-◌, ◌^◌, ◌<◌, ◌++◌, ◌∷◌, [], true, None, Ok, false, map, length};
+ghost use Rattle.std.specs.Prelude.{◌≡◌, ◌-◌, ◌^◌, ◌<◌, ◌++◌, ◌∷◌, [], true, None, Ok, IsOk, false, map, length};
 ghost use Rattle.span_outlet.specs.Batch.{plain_batch};
+ghost use Rattle.span_outlet.specs.KnownEvent.{batch_of_known};
 ghost use Rattle.span_outlet.specs.Lines.{plain_line};
 ghost use Rattle.span_outlet.specs.Kept.{GainsLines, numbered_in};
 ghost use Rattle.span_outlet.specs.Latest.{last_lines};
+ghost use Rattle.span_outlet.specs.inside.Posted.{plain_posted};
 
 use crate::batch::Batch;
+use crate::known_event::KnownEvent;
 use crate::line::Line;
 use crate::outlet::Outlet;
 use crate::past::Past;
+use crate::posted::Posted;
 use crate::told::Told;
-use span_layers::{Formatters, Say, Tellers};
+use span_layers::{Formatters, Note, Say, Tellers};
 use std::alloc::{AllocError, Global};
 use std::marker::Model;
 
@@ -122,6 +126,36 @@ impl<V: Say> Outlet for Latest<V> {
         ensures told { GainsLines self.old.forms (numbered_in (length self.old.sent, plain_batch batch))
             [] self.old.refused self.new.lines self.new.refused }
     {
+        self.tell(&Posted::of_batch(batch));
+    }
+
+    /// The lines are those of these notes, in order, but for the notes that are missed, which are counted.
+    fn put_event(&mut self, event: KnownEvent, notes: Vec<Note>) -> Result<(), Vec<Note>>
+        requires ready { self.old.ready ≡ true }
+        requires countable { length self.old.sent < 2 ^ 64 - 1 }
+        ensures taken { IsOk result }
+        ensures sent { self.new.sent ≡ self.old.sent ++ batch_of_known event notes.items ∷ [] }
+        ensures forms { self.new.forms ≡ self.old.forms }
+        ensures ready { self.new.ready ≡ false }
+        ensures told { GainsLines self.old.forms
+            (numbered_in (length self.old.sent, batch_of_known event notes.items))
+            [] self.old.refused self.new.lines self.new.refused }
+    {
+        self.tell(&Posted::of_event(event, notes));
+        Ok(())
+    }
+}
+
+impl<V: Say> Latest<V> {
+    // One batch more is known, and its notes are told in place of those of the batch before.
+    fn tell(&mut self, batch: &Posted)
+        requires countable { length self.old.sent < 2 ^ 64 - 1 }
+        ensures sent { self.new.sent ≡ self.old.sent ++ plain_posted batch.now ∷ [] }
+        ensures forms { self.new.forms ≡ self.old.forms }
+        ensures ready { self.new.ready ≡ false }
+        ensures told { GainsLines self.old.forms (numbered_in (length self.old.sent, plain_posted batch.now))
+            [] self.old.refused self.new.lines self.new.refused }
+    {
         let Latest {
             past,
             count,
@@ -130,9 +164,9 @@ impl<V: Say> Outlet for Latest<V> {
             formatters,
         } = self;
         told.lines.clear();
-        told.tell_all(&*formatters, *count, &batch);
+        told.tell_all(&*formatters, *count, batch.notes.as_slice());
         *ready = false;
         *count += 1;
-        past.add(&batch);
+        past.add(batch);
     }
 }

@@ -5,18 +5,21 @@
 mod batch;
 mod drain;
 mod kept;
+mod known_event;
 mod latest;
 mod layer_lines;
 mod line;
 mod line_reader;
 mod outlet;
 mod past;
+mod posted;
 mod ring;
 mod told;
 
 pub use batch::{Batch, Call, ParentOf, Reply};
 pub use drain::{Drain, Step};
 pub use kept::Kept;
+pub use known_event::KnownEvent;
 pub use latest::Latest;
 pub use layer_lines::LayerLines;
 pub use line::Line;

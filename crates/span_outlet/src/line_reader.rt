@@ -1,11 +1,11 @@
 //! What takes the batches out of a ring and gives out the lines of their notes, one after another.
 ghost use Rattle.std.specs.Prelude.{◌≡◌, ◌<◌, ◌+◌, ◌∷◌, [], ◌++◌, ◌↔◌, false, Some, IfSome, IfNone, IsTrue, map, take, length, slice_get};
 ghost use Rattle.rtrb.specs.Ring.{received, known_items, ConsumerLooked};
-ghost use Rattle.span_outlet.specs.Batch.{plain_batch};
 ghost use Rattle.span_outlet.specs.Lines.{plain_line};
 ghost use Rattle.span_outlet.specs.Outlet.{one_more};
 ghost use Rattle.span_outlet.specs.LineReader.{AreLeft, AreOfLast, TakesBatches, looks_of_fill};
 ghost use Rattle.span_outlet.specs.inside.Ends.{name_of_consumer};
+ghost use Rattle.span_outlet.specs.inside.Posted.{plain_posted};
 ghost use Rattle.span_outlet.specs.inside.Reading.{reader_view};
 
 use crate::line::Line;
@@ -84,8 +84,8 @@ fn take_until_told<V: Say>(
     ensures last { AreOfLast
         (reader_view (name_of_consumer consumer.new) 0 told.new.forms (received consumer.new) told.new.lines.items
         told.new.refused) }
-    ensures fifo { map plain_batch (received consumer.new ++ known_items consumer.new)
-        ≡ map plain_batch (received consumer.old ++ known_items consumer.old) }
+    ensures fifo { map plain_posted (received consumer.new ++ known_items consumer.new)
+        ≡ map plain_posted (received consumer.old ++ known_items consumer.old) }
     ensures none_left { told.new.lines.items ≡ [] → known_items consumer.new ≡ [] }
 {
     for _ in 0..standing {

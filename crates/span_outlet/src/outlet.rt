@@ -1,9 +1,12 @@
-ghost use Rattle.std.specs.Prelude.{◌≡◌, ◌++◌, ◌∷◌, [], ◌<◌, ◌-◌, ◌^◌, ℕ, List, Option, Bool, true, false, IfOk, OnErr, length, if◌then◌else◌};
+ghost use Rattle.std.specs.Prelude.{◌≡◌, ◌++◌, ◌∷◌, [], ◌<◌, ◌-◌, ◌^◌, ℕ, List, Option, Bool, true, false, IfOk, OnOk, IfErr, OnErr, length, if◌then◌else◌};
 ghost use Rattle.span_layers.specs.declared.form.Form.{Form};
 ghost use Rattle.span_outlet.specs.Batch.{PlainBatch, plain_batch};
+ghost use Rattle.span_outlet.specs.KnownEvent.{batch_of_known};
 ghost use Rattle.span_outlet.specs.Outlet.{RingName, one_more};
 
 use crate::batch::Batch;
+use crate::known_event::KnownEvent;
+use span_layers::Note;
 use std::alloc::AllocError;
 
 /// Where the batches of accepted calls go.
@@ -44,4 +47,21 @@ pub trait Outlet {
         ensures name { name self.new ≡ name self.old }
         ensures ready { ready self.new ≡ false }
         ensures times_full { times_full self.new ≡ times_full self.old };
+
+    /// Sends the batch of an event to an outlet that needs nothing of it but the notes. Any other outlet gives the notes
+    /// back, and nothing has changed: then the caller sends the whole batch by `put`.
+    fn put_event(&mut self, event: KnownEvent, notes: Vec<Note>) -> Result<(), Vec<Note>>
+        requires ready { ready self.old ≡ true }
+        requires countable { length (sent self.old) < 2 ^ 64 - 1 }
+        ensures sent { OnOk result (sent self.new ≡ sent self.old ++ batch_of_known event notes.items ∷ []) }
+        ensures ready { OnOk result (ready self.new ≡ false) }
+        ensures forms { forms self.new ≡ forms self.old }
+        ensures name { name self.new ≡ name self.old }
+        ensures times_full { times_full self.new ≡ times_full self.old }
+        ensures same { OnErr result (self.new ≡ self.old) }
+        ensures back { IfErr result (λ back. back ≡ notes) }
+    {
+        let _ = event;
+        Err(notes)
+    }
 }

@@ -1,9 +1,9 @@
 //! A history that is known and not kept.
 ghost use Rattle.std.specs.Prelude.{◌≡◌, ◌++◌, ◌∷◌, []};
-ghost use Rattle.span_outlet.specs.Batch.{plain_batch};
 ghost use Rattle.span_outlet.specs.Past.{batches_of};
+ghost use Rattle.span_outlet.specs.inside.Posted.{plain_posted};
 
-use crate::batch::Batch;
+use crate::posted::Posted;
 use std::mem;
 use std::snapshot::Snapshot;
 
@@ -11,13 +11,13 @@ use std::snapshot::Snapshot;
 #[derive(Drop)]
 pub(crate) enum Past {
     Nothing,
-    After(Snapshot<Past>, Snapshot<Batch>),
+    After(Snapshot<Past>, Snapshot<Posted>),
 }
 
 impl Past {
     // One batch more.
-    pub(crate) fn add(&mut self, batch: &Batch)
-        ensures { batches_of self.new ≡ batches_of self.old ++ plain_batch batch.now ∷ [] }
+    pub(crate) fn add(&mut self, batch: &Posted)
+        ensures { batches_of self.new ≡ batches_of self.old ++ plain_posted batch.now ∷ [] }
     {
         let before = mem::replace(self, Past::Nothing);
         *self = Past::After(Snapshot::of(&before), Snapshot::of(batch));

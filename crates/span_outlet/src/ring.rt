@@ -1,36 +1,42 @@
 //! The ring through which batches leave the thread of the core.
-ghost use Rattle.std.specs.Prelude.{◌≡◌, ◌+◌, ◌-◌, ◌^◌, ◌<◌, ◌≤◌, ◌++◌, ◌∷◌, [], true, false, Some, IfOk, IfErr, IsOkAnd, map, length, if◌then◌else◌, IsTrue, ◌↔◌};
+ghost use Rattle.std.specs.Prelude.{◌≡◌, ◌+◌, ◌-◌, ◌^◌, ◌<◌, ◌≤◌, ◌++◌, ◌∷◌, [], true, false, Some, IfOk, IfErr, IsOk, IsOkAnd, map, length, if◌then◌else◌, IsTrue, ◌↔◌};
 ghost use Rattle.rtrb.specs.Ring.{received, known_items, ConsumerLooked};
 ghost use Rattle.span_outlet.specs.Batch.{plain_batch};
+ghost use Rattle.span_outlet.specs.KnownEvent.{batch_of_known};
 ghost use Rattle.span_outlet.specs.Outlet.{one_more};
 ghost use Rattle.span_outlet.specs.Ring.{places_of};
 ghost use Rattle.span_outlet.specs.inside.Ends.{name_of_consumer};
+ghost use Rattle.span_outlet.specs.inside.Posted.{plain_posted};
 
 use crate::batch::Batch;
+use crate::known_event::KnownEvent;
 use crate::outlet::Outlet;
+use crate::posted::Posted;
 use rtrb::{Consumer, Producer, Protocol, RingBuffer};
 use span_id::{Checked, Fault};
+use span_layers::Note;
 use std::alloc::{AllocError, Global};
 use std::marker::Model;
 
 /// What both ends know of each batch: fewer than 2^64 - 1 went before it.
 pub(crate) struct Few;
 
-impl Protocol<Batch> for Few {
+impl Protocol<Posted> for Few {
     ghost use Rattle.std.specs.Prelude.{◌<◌, ◌-◌, ◌^◌, length};
 
     ghost allows = { λ before batch. length before < 2 ^ 64 - 1 };
 }
 
 /// The end that gives the batches out.
-pub(crate) type Consuming = Consumer<Batch, Global, Few>;
+pub(crate) type Consuming = Consumer<Posted, Global, Few>;
 
 /// The end of a ring that puts batches in: the outlet of a core whose batches another thread takes.
 ///
-/// It keeps no batch once it was taken. It writes no text, so it has no forms.
+/// Of a batch it keeps the notes, until they are taken: its call and its reply are known to clauses alone. It writes
+/// no text, so it has no forms.
 #[derive(Drop)]
 pub struct Ring {
-    producer: Producer<Batch, Global, Few>,
+    producer: Producer<Posted, Global, Few>,
     ready: bool,
     // Stays at its greatest value.
     times_full: u64,
@@ -39,15 +45,15 @@ pub struct Ring {
 impl Model for Ring {
     ghost use Rattle.std.specs.Prelude.{◌≡◌, ◌-◌, ◌^◌, ◌≤◌, ◌<◌, true, map};
     ghost use Rattle.rtrb.specs.Ring.{sent, known_free};
-    ghost use Rattle.span_outlet.specs.Batch.{plain_batch};
     ghost use Rattle.span_outlet.specs.Ring.{RingView};
     ghost use Rattle.span_outlet.specs.inside.Ends.{name_of_producer};
+    ghost use Rattle.span_outlet.specs.inside.Posted.{plain_posted};
 
     ghost Value = { RingView };
 
     ghost view = { λ ring. record {
       name = name_of_producer ring.producer;
-      sent = map plain_batch (sent ring.producer);
+      sent = map plain_posted (sent ring.producer);
       free = known_free ring.producer;
       ready = ring.ready;
       times_full = ring.times_full;
@@ -113,7 +119,7 @@ impl Ring {
         ensures free { self.old.free ≤ self.new.free }
         ensures looked { ConsumerLooked consumer.old consumer.new }
         ensures value { result ≡ length (known_items consumer.new) }
-        ensures fifo { map plain_batch (received consumer.new ++ known_items consumer.new) ≡ self.old.sent }
+        ensures fifo { map plain_posted (received consumer.new ++ known_items consumer.new) ≡ self.old.sent }
     {
         consumer.slots_beside(&mut self.producer)
     }
@@ -147,7 +153,7 @@ impl Outlet for Ring {
         Ok(self.ready)
     }
 
-    /// The batch takes one of the free places.
+    /// The notes of the batch take one of the free places. Its call and its reply are dropped.
     // Inlined, a call builds its batch where the ring keeps it.
     #[inline(always)]
     fn put(&mut self, batch: Batch)
@@ -160,6 +166,23 @@ impl Outlet for Ring {
         ensures times_full { self.new.times_full ≡ self.old.times_full }
     {
         self.ready = false;
-        self.producer.push_reserved(batch);
+        self.producer.push_reserved(Posted::of_batch(batch));
+    }
+
+    /// The notes of the event take one of the free places.
+    #[inline(always)]
+    fn put_event(&mut self, event: KnownEvent, notes: Vec<Note>) -> Result<(), Vec<Note>>
+        requires ready { self.old.ready ≡ true }
+        requires countable { length self.old.sent < 2 ^ 64 - 1 }
+        ensures taken { IsOk result }
+        ensures sent { self.new.sent ≡ self.old.sent ++ batch_of_known event notes.items ∷ [] }
+        ensures free { self.new.free + 1 ≡ self.old.free }
+        ensures ready { self.new.ready ≡ false }
+        ensures name { self.new.name ≡ self.old.name }
+        ensures times_full { self.new.times_full ≡ self.old.times_full }
+    {
+        self.ready = false;
+        self.producer.push_reserved(Posted::of_event(event, notes));
+        Ok(())
     }
 }

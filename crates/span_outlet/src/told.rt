@@ -1,14 +1,12 @@
 //! The telling of notes, one after another.
 ghost use Rattle.std.specs.Prelude.{◌≡◌, ◌+◌, ◌-◌, ◌^◌, ◌<◌, ◌≤◌, ◌∷◌, [], Some, IfSome, map, length, min};
 ghost use Rattle.span_layers.specs.Note.{plain_note};
-ghost use Rattle.span_outlet.specs.Batch.{plain_batch};
 ghost use Rattle.span_outlet.specs.Lines.{line_of, plain_line};
-ghost use Rattle.span_outlet.specs.Kept.{GainsLines, numbered_in};
+ghost use Rattle.span_outlet.specs.Kept.{GainsLines};
 ghost use Rattle.span_outlet.specs.inside.Ends.{name_of_consumer};
-ghost use Rattle.span_outlet.specs.inside.Telling.{TellsNext};
+ghost use Rattle.span_outlet.specs.inside.Telling.{TellsNext, numbered_notes};
 ghost use Rattle.rtrb.specs.Ring.{received, known_items};
 
-use crate::batch::Batch;
 use crate::line::Line;
 use crate::ring::Consuming;
 use span_layers::{Forms, Note, Say};
@@ -74,16 +72,16 @@ impl Told {
     }
 
     // Tells the notes of the batch of this number, in order.
-    pub(crate) fn tell_all<V: Say>(&mut self, formatters: &V, number: u64, batch: &Batch)
+    pub(crate) fn tell_all<V: Say>(&mut self, formatters: &V, number: u64, notes: &[Note])
         ensures forms { self.new.forms ≡ self.old.forms }
-        ensures told { GainsLines self.old.forms (numbered_in (number, plain_batch batch.now))
+        ensures told { GainsLines self.old.forms (numbered_notes number (map plain_note notes.now))
             (map plain_line self.old.lines.items) self.old.refused
             (map plain_line self.new.lines.items) self.new.refused }
         ensures more { length self.old.lines.items ≤ length self.new.lines.items }
         ensures most { length self.new.lines.items
-            ≤ length self.old.lines.items + length batch.now.notes.items }
+            ≤ length self.old.lines.items + length notes.now }
     {
-        for (place, note) in batch.notes.iter().enumerate() {
+        for (place, note) in notes.iter().enumerate() {
             self.tell(formatters, number, place, note);
         }
     }
@@ -105,7 +103,7 @@ impl Told {
         ensures name { name_of_consumer consumer.new ≡ name_of_consumer consumer.old }
     {
         let batch = consumer.pop_known();
-        self.tell_all(formatters, *taken, &batch);
+        self.tell_all(formatters, *taken, batch.notes.as_slice());
         *taken += 1;
     }
 }

@@ -1,21 +1,21 @@
 -- What a contract sees of a line reader, of its parts: no public clause cites it.
 use Rattle.std.specs.Prelude.{ℕ, List, map}
 use Rattle.span_layers.specs.declared.form.Form.{Form}
-use Rattle.span_outlet.specs.declared.batch.Batch.{Batch}
+use Rattle.span_outlet.specs.declared.posted.Posted.{Posted}
 use Rattle.span_outlet.specs.declared.line.Line.{Line}
-use Rattle.span_outlet.specs.Batch.{plain_batch}
 use Rattle.span_outlet.specs.Lines.{plain_line}
 use Rattle.span_outlet.specs.Outlet.{RingName}
 use Rattle.span_outlet.specs.LineReader.{LineReaderView}
+use Rattle.span_outlet.specs.inside.Posted.{plain_posted}
 
 -- the looks, the batches that it took, and the lines that wait, in order
-abbrev pub reader_view : RingName → ℕ → List Form → List Batch → List Line → ℕ → LineReaderView
+abbrev pub reader_view : RingName → ℕ → List Form → List Posted → List Line → ℕ → LineReaderView
 reader_view name looks forms taken waiting refused =
     record {
       name = name;
       looks = looks;
       forms = forms;
-      taken = map plain_batch taken;
+      taken = map plain_posted taken;
       waiting = map plain_line waiting;
       refused = refused;
     }

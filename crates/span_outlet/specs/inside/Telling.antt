@@ -1,18 +1,24 @@
 -- What is told of the batch that stands first in a ring, as the code keeps it: no public clause cites it.
 use Rattle.std.specs.Prelude.{ℕ, ◌≡◌, List, [], ◌∷◌, ◌++◌, map}
+use Rattle.std.specs.List.{enumerate_from}
 use Rattle.span_layers.specs.declared.form.Form.{Form}
-use Rattle.span_outlet.specs.declared.batch.Batch.{Batch}
+use Rattle.span_layers.specs.Note.{PlainNote}
+use Rattle.span_outlet.specs.declared.posted.Posted.{Posted}
 use Rattle.span_outlet.specs.declared.line.Line.{Line}
-use Rattle.span_outlet.specs.Batch.{plain_batch}
 use Rattle.span_outlet.specs.Lines.{plain_line}
-use Rattle.span_outlet.specs.Kept.{GainsLines, numbered_in}
+use Rattle.span_outlet.specs.Kept.{GainsLines, NumberedNote, numbered_in}
+use Rattle.span_outlet.specs.inside.Posted.{plain_posted}
+
+-- the notes of a batch with this number
+abbrev pub numbered_notes : ℕ → List PlainNote → List NumberedNote
+numbered_notes batch notes = map (λ note. record { batch = batch; place = note.0; note = note.1 }) (enumerate_from 0 notes)
 
 -- the batch that stood first was taken, and its notes were told, as those of the batch of this number
 pub record TellsNext
-    (forms : List Form) (number : ℕ) (taken standing now left : List Batch)
+    (forms : List Form) (number : ℕ) (taken standing now left : List Posted)
     (lines : List Line) (refused : ℕ) (after : List Line) (more : ℕ)
     : Type 0 where
-  pub batch : Batch
+  pub batch : Posted
   pub moved : now ≡ taken ++ batch ∷ []
   pub stood : standing ≡ batch ∷ left
-  pub gains : GainsLines forms (numbered_in (number, plain_batch batch)) (map plain_line lines) refused (map plain_line after) more
+  pub gains : GainsLines forms (numbered_in (number, plain_posted batch)) (map plain_line lines) refused (map plain_line after) more

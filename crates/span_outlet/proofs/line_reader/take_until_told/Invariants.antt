@@ -1,9 +1,9 @@
 use Rattle.std.proofs.Common.{◌≡◌, ◌+◌, ◌++◌, [], length, map}
 use Rattle.rtrb.specs.Ring.{received, known_items}
-use Rattle.span_outlet.specs.Batch.{plain_batch}
 use Rattle.span_outlet.specs.LineReader.{TakesBatches}
 use Rattle.span_outlet.specs.inside.Ends.{name_of_consumer}
 use Rattle.span_outlet.specs.inside.Reading.{reader_view}
+use Rattle.span_outlet.specs.inside.Posted.{plain_posted}
 use Rattle.span_outlet.proofs.line_reader.take_until_told.Given as goal
 
 -- what was taken had no line, and the batches that are still to come stand in the ring
@@ -13,7 +13,7 @@ invariant-loop g l = record {
   forms : l.told.forms ≡ l.fn.told.forms;
   number : l.taken ≡ length (received l.consumer);
   standing : length (known_items l.consumer) + l.counter ≡ l.standing;
-  fifo : map plain_batch (received l.consumer ++ known_items l.consumer) ≡ map plain_batch (received l.fn.consumer ++ known_items l.fn.consumer);
+  fifo : map plain_posted (received l.consumer ++ known_items l.consumer) ≡ map plain_posted (received l.fn.consumer ++ known_items l.fn.consumer);
   nothing : l.told.lines.items ≡ [];
   batches : TakesBatches (reader_view (name_of_consumer l.fn.consumer) 0 l.fn.told.forms (received l.fn.consumer) [] l.fn.told.refused)
       (reader_view (name_of_consumer l.consumer) 0 l.told.forms (received l.consumer) l.told.lines.items l.told.refused);

@@ -1,10 +1,10 @@
 use Rattle.std.proofs.Common.{◌≡◌, ◌+◌, ◌++◌, map, length}
 use mathlib.Core.List.{IsPrefix}
 use Rattle.rtrb.specs.Ring.{received, known_items}
-use Rattle.span_outlet.specs.Batch.{plain_batch}
 use Rattle.span_outlet.specs.Lines.{plain_line}
 use Rattle.span_outlet.specs.Kept.{AreKept, numbered}
 use Rattle.span_outlet.specs.inside.Ends.{name_of_consumer}
+use Rattle.span_outlet.specs.inside.Posted.{plain_posted}
 use Rattle.span_outlet.proofs.drain.Drain.last.Given as goal
 
 -- what was taken is kept, and with what still stands in the ring it is all that was sent
@@ -13,9 +13,9 @@ invariant-loop g l = record {
   name : name_of_consumer l.consumer ≡ name_of_consumer l.initial.consumer;
   forms : l.told.forms ≡ l.initial.told.forms;
   number : l.taken ≡ length (received l.consumer);
-  kept : AreKept l.told.forms (numbered (map plain_batch (received l.consumer))) (map plain_line l.told.lines.items) l.told.refused;
-  fifo : map plain_batch (received l.consumer ++ known_items l.consumer) ≡ l.ring.sent;
+  kept : AreKept l.told.forms (numbered (map plain_posted (received l.consumer))) (map plain_line l.told.lines.items) l.told.refused;
+  fifo : map plain_posted (received l.consumer ++ known_items l.consumer) ≡ l.ring.sent;
   standing : length (known_items l.consumer) + l.counter ≡ l.standing;
-  before : IsPrefix (map plain_batch (received l.initial.consumer)) (map plain_batch (received l.consumer));
+  before : IsPrefix (map plain_posted (received l.initial.consumer)) (map plain_posted (received l.consumer));
   first : IsPrefix (map plain_line l.initial.told.lines.items) (map plain_line l.told.lines.items);
 }

@@ -8,8 +8,8 @@ loop-place-init g c = record { forms = refl; so_far = gains_none _ _ _ c.args.se
 
 pub loop-place-preserved : goal.loop-place-preserved
 loop-place-preserved g c =
-    let within : c.loop-place.place < length c.args.batch.now.notes.items = search rules in
-    let at : get_or c.args.batch.now.notes.items c.loop-place.place c.note-item.result ≡ c.note-item.result = search rules in
+    let within : c.loop-place.place < length c.args.notes.now = search rules in
+    let at : get_or c.args.notes.now c.loop-place.place c.index-notes-place.result ≡ c.index-notes-place.result = search rules in
     record {
       forms = c.tell.ensures.forms ∙ c.loop-place.invariant.forms;
       so_far = next_gains _ _ _ _ _ _ _ _ _ _ _ _ c.loop-place.invariant.forms within at c.loop-place.invariant.so_far c.tell.ensures.told;
@@ -17,8 +17,8 @@ loop-place-preserved g c =
 
 pub returns-clause-told : goal.returns-clause-told
 returns-clause-told g c =
-    let ends : length c.args.batch.now.notes.items ≤ c.loop-place.place = search rules in
+    let ends : length c.args.notes.now ≤ c.loop-place.place = search rules in
     all_gained _ _ _ _ _ _ _ _ ends c.loop-place.invariant.so_far
 
 pub returns-clause-most : goal.returns-clause-most
-returns-clause-most g c = most_gained _ _ c.args.batch.now _ _ _ _ (returns-clause-told g c)
+returns-clause-most g c = most_gained _ _ c.args.notes.now _ _ _ _ (returns-clause-told g c)

@@ -1,0 +1,22 @@
+-- A batch of which the notes alone are kept: no public clause cites it.
+use Rattle.std.specs.Prelude.{map}
+use Rattle.span_layers.specs.Note.{plain_note}
+use Rattle.span_outlet.specs.declared.posted.Posted.{Posted}
+use Rattle.span_outlet.specs.declared.posted.Said.{Said}
+use Rattle.span_outlet.specs.declared.posted.Said.TheVariants.{Call, Event}
+use Rattle.span_outlet.specs.Batch.{PlainBatch}
+use Rattle.span_outlet.specs.KnownEvent.{request_of_known}
+use Rattle.span_outlet.specs.Request.{Request, Answer, request_of, answer_of, told}
+
+-- the call, and what it answered
+abbrev pub request_said : Said → Request
+request_said (Call call reply) = request_of call.value
+request_said (Event known) = request_of_known known
+
+abbrev pub answer_said : Said → Answer
+answer_said (Call call reply) = answer_of reply.value
+answer_said (Event known) = told
+
+abbrev pub plain_posted : Posted → PlainBatch
+plain_posted posted =
+    record { request = request_said posted.said; answer = answer_said posted.said; notes = map plain_note posted.notes.items }
