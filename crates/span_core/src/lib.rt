@@ -102,8 +102,9 @@ impl<O: Outlet + Drop, F: Drop> Core<O, Admitters<F>> {
         let Filters { rules, admitters } = filters;
         let stacks = empty_stacks(alloc, checked.limits().workers)?;
         let forest = Forest::new(alloc, checked)?;
+        let shares = !outlet.keeps_batches();
         Ok(Core {
-            recent: Recent::none(alloc, false),
+            recent: Recent::none(alloc, shares),
             limits: *checked,
             forest,
             stacks,

@@ -144,6 +144,11 @@ impl<V: Say> Outlet for Latest<V> {
         self.tell(&Posted::of_event(event, notes));
         Ok(())
     }
+
+    /// None is kept.
+    fn keeps_batches(&self) -> bool {
+        false
+    }
 }
 
 impl<V: Say> Latest<V> {

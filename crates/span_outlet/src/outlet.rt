@@ -64,4 +64,10 @@ pub trait Outlet {
         let _ = event;
         Err(notes)
     }
+
+    /// Whether batches are kept as they are sent, for somebody to take. Then the notes of two batches share nothing, so
+    /// that a batch that is taken is the only owner of what it tells. It is a hint: no contract rests on it.
+    fn keeps_batches(&self) -> bool {
+        true
+    }
 }

@@ -185,4 +185,9 @@ impl Outlet for Ring {
         self.producer.push_reserved(Posted::of_event(event, notes));
         Ok(())
     }
+
+    /// None is kept as it was sent.
+    fn keeps_batches(&self) -> bool {
+        false
+    }
 }
