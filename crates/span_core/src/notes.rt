@@ -256,7 +256,7 @@ pub(crate) fn span_notes(
 }
 
 // Appends these notes.
-fn push_notes(
+pub(crate) fn push_notes(
     recent: &mut Recent,
     notes: &mut Vec<Note>,
     paths: &mut ToldPaths,

@@ -4,7 +4,7 @@ ghost use Rattle.std.specs.Arc.{arc_str_bytes};
 ghost use Rattle.span_layers.specs.Note.{plain_note};
 ghost use Rattle.span_forest.specs.declared.span.Holder.{Holder};
 ghost use Rattle.span_forest.specs.Node.{node_of};
-ghost use Rattle.span_forest.specs.Spans.{find, parent_of};
+ghost use Rattle.span_forest.specs.Spans.{IsOpen, find, parent_of};
 ghost use Rattle.span_forest.specs.Path.{path, path_text};
 ghost use Rattle.span_forest.specs.Holders.{IsHeld};
 ghost use Rattle.span_forest.specs.Release.{closing_list};
@@ -14,6 +14,7 @@ ghost use Rattle.span_core.specs.inside.Telling.{Knows};
 ghost use Rattle.span_core.specs.inside.Remembering.{Remembers};
 
 use crate::notes::layers::{is_wanted, told_layers};
+use crate::notes::{Happening, push_notes};
 use crate::notes::paths::{ToldPaths, same_text, seen_text};
 use crate::recent::Recent;
 use span_forest::laws::{
@@ -106,6 +107,9 @@ pub(crate) fn push_closes(
     if !is_wanted(rules, Kind::OnClose) {
         return Ok(());
     }
+    if let [id] = closed {
+        return push_close_alone(recent, notes, paths, rules, forest, worker, *id);
+    }
     notes.reserve_exact(closes_count(rules, forest, closed))?;
     let mut places = no_places(recent.alloc, rules.len())?;
     for id in closed {
@@ -120,6 +124,36 @@ pub(crate) fn push_closes(
         push_close(recent, notes, &mut places, paths, rules, forest, &what)?;
     }
     Ok(())
+}
+
+// Appends the notes of a span that closes alone, as most do: no place is written down, since no span follows.
+fn push_close_alone(
+    recent: &mut Recent,
+    notes: &mut Vec<Note>,
+    paths: &mut ToldPaths,
+    rules: &Rules,
+    forest: &Forest,
+    worker: u32,
+    id: Id,
+) -> Result<(), Fault>
+    requires open { IsOpen forest.now.spans id }
+    requires known { Knows path_text forest.now.spans paths.old }
+    requires remembers { Remembers forest.now recent.old.paths }
+    ensures notes { OnOk result (map plain_note notes.new.items ≡ map plain_note notes.old.items
+        ++ notes_of rules.now worker (close_of forest.now.spans id)) }
+    ensures remembers { Remembers forest.now recent.new.paths }
+    ensures memory { IfErr result (λ fault. fault ≡ Fault.Memory) }
+{
+    let Some(span) = forest.find(id) else {
+        unreachable!()
+    };
+    let what = Happening {
+        worker,
+        kind: Kind::OnClose,
+        id,
+        bits: span.bits,
+    };
+    push_notes(recent, notes, paths, rules, forest, &what, &span.fields)
 }
 
 // How many notes the layers are told of spans that close.
