@@ -14,7 +14,6 @@ use Rattle.span_layers.specs.declared.note.Kind.TheVariants.{OnClose}
 use Rattle.span_layers.specs.Note.{PlainNote}
 use Rattle.span_layers.specs.Filter.{Filter, layer_wants}
 use Rattle.span_forest.specs.Spans.{Spans}
-use Rattle.span_core.specs.inside.Sound.{hears}
 use Rattle.span_core.specs.inside.Telling.{told_from}
 use Rattle.span_core.specs.Happening.{Happening, bits_in, is_told, note_of, notes_of, notes_of_all, close_of, event_at}
 
@@ -34,6 +33,7 @@ passed_over test from zero n all is fails =
   where
     only : all ≡ n
     only = omega (arith, is)
+
     same : from ≡ from + 0
     same = omega arith
 passed_over test from (suc skip) n all is fails =
@@ -45,6 +45,7 @@ passed_over test from (suc skip) n all is fails =
   where
     more : all ≡ suc (skip + n)
     more = omega (arith, is)
+
     same : from + 1 + skip ≡ from + suc skip
     same = omega arith
 
@@ -122,12 +123,15 @@ told_next mask from skip within set clear =
   where
     rest : List ℕ
     rest = filter (has_bit mask) (range_with_len (from + skip + 1) (64 - (from + skip + 1)))
+
     one_more : 64 - (from + skip) ≡ suc (64 - (from + skip + 1))
     one_more = omega (arith, within)
+
     unset_at : (k : ℕ) → from ≤ k → k < from + skip → bit_at mask k ≡ 0
     unset_at k least lt =
         let at : from + (k - from) ≡ k = omega (arith, least) in
         ap (bit_at mask) (sym at) ∙ sym (bit_left mask from (k - from)) ∙ clear (k - from) (omega (arith, least, lt))
+
     here : has_bit mask (from + skip) ≡ true
     here = rw (lt-ltb (from + skip) 64 within, sym (bit_left mask from skip) ∙ set) refl
 

@@ -2,7 +2,7 @@
 ghost use Rattle.std.specs.Prelude.{◌≡◌, IfOk, IfErr};
 ghost use Rattle.std.specs.Arc.{arc_str_bytes};
 ghost use Rattle.span_id.specs.Meta.{plain_meta, plain_fields};
-ghost use Rattle.span_core.specs.inside.Given.{meta_given, fields_given, text_given};
+ghost use Rattle.span_core.specs.inside.Given.{meta_given, fields_given, text_given, IsKept};
 
 use span_id::{Fault, Field, Fields, Meta, SharedMeta};
 use span_recent::RecentMetas;
@@ -28,6 +28,13 @@ pub(crate) enum GivenFields<'a> {
 pub(crate) enum GivenText<'a> {
     Lent(&'a str),
     Shared(&'a ArcStr),
+}
+
+/// An event's message and fields, to be shared.
+#[derive(Drop)]
+pub(crate) struct KeptEvent {
+    pub(crate) message: ArcStr,
+    pub(crate) fields: Fields,
 }
 
 /// An event as a caller gives it: lent or shared.
@@ -86,6 +93,16 @@ impl<'a> GivenFields<'a> {
 }
 
 impl<'a> GivenText<'a> {
+    // The text, to be read.
+    pub(crate) fn read(&self) -> &'a str
+        ensures { result.now ≡ text_given self.now }
+    {
+        match self {
+            GivenText::Lent(text) => text,
+            GivenText::Shared(text) => text.as_str(),
+        }
+    }
+
     // The text, to be kept.
     pub(crate) fn keep(&self, alloc: Global) -> Result<ArcStr, Fault>
         ensures text { IfOk result (λ kept. arc_str_bytes kept ≡ text_given self.now) }
@@ -95,5 +112,17 @@ impl<'a> GivenText<'a> {
             GivenText::Lent(text) => Ok(ArcStr::from_str(alloc, text)?),
             GivenText::Shared(text) => Ok((**text).clone()?),
         }
+    }
+}
+
+impl<'a> GivenEvent<'a> {
+    // The message and the fields, to be kept.
+    pub(crate) fn keep(&self, alloc: Global) -> Result<KeptEvent, Fault>
+        ensures kept { IfOk result (λ kept. IsKept self.now kept) }
+        ensures memory { IfErr result (λ fault. fault ≡ Fault.Memory) }
+    {
+        let message = self.message.keep(alloc)?;
+        let fields = self.fields.keep(alloc)?;
+        Ok(KeptEvent { message, fields })
     }
 }

@@ -3,7 +3,7 @@
 -- A span that is open keeps its name, its layers and its parent, and so does each span above it, which stays open as
 -- long as it does. So the path that was told at it is what its layer reads there until it closes. And no id is given
 -- twice: a path that was told at a span that closed is never read again.
-use Rattle.std.specs.Prelude.{◌≡◌, ℕ, IfSome, All}
+use Rattle.std.specs.Prelude.{◌≡◌, IfSome, All}
 use Rattle.std.specs.Arc.{arc_str_bytes}
 use Rattle.span_slots.specs.Table.{IsIssued}
 use Rattle.span_forest.specs.Spans.{IsOpen}

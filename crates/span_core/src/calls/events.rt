@@ -1,20 +1,22 @@
 //! Events.
-ghost use Rattle.std.specs.Prelude.{◌<◌, OnOk, IfErr};
+ghost use Rattle.std.specs.Prelude.{◌≡◌, ◌<◌, ◌-◌, ◌^◌, ◌++◌, ◌∷◌, [], true, map, length, OnOk, OnErr, IfErr, IfSome};
 ghost use Rattle.std.specs.Arc.{arc_str_bytes};
 ghost use Rattle.span_id.specs.Meta.{plain_meta, plain_fields};
+ghost use Rattle.span_layers.specs.Note.{plain_note};
 ghost use Rattle.span_outlet.specs.Request.{event, told};
-ghost use Rattle.span_core.specs.inside.Lent.{given_event};
+ghost use Rattle.span_core.specs.inside.Given.{IsKept};
+ghost use Rattle.span_core.specs.inside.Lent.{given_event, event_request};
 ghost use Rattle.span_core.specs.Core.{IsDue, IsAccepted, IsRefused};
 
 use crate::Core;
 use crate::calls::names::are_keys;
 use crate::calls::room::ask;
 use crate::given::{GivenEvent, GivenFields, GivenMeta, GivenText};
-use crate::notes::Announced;
-use crate::notes::events::{Event, event_told};
+use crate::notes::events::{Event, ToldEvent, event_call, event_told};
+use crate::recent::Recent;
 use span_id::{Fault, Field, Fields, Meta, SharedMeta};
 use span_layers::Admit;
-use span_outlet::{Batch, Outlet, Reply};
+use span_outlet::{Batch, KnownEvent, Outlet, Reply};
 use std::sync::ArcStr;
 
 impl<O: Outlet, A: Admit> Core<O, A> {
@@ -81,19 +83,9 @@ impl<O: Outlet, A: Admit> Core<O, A> {
             given,
         };
         let stacks = self.stacks.as_slice();
-        let Announced { call, notes } = event_told(
-            &mut self.recent,
-            &self.rules,
-            &self.forest,
-            stacks,
-            &event,
-        )?;
+        let told = event_told(&mut self.recent, &self.rules, &self.forest, stacks, &event)?;
+        put_told(&mut self.outlet, &mut self.recent, &event, told)?;
         self.calls += 1;
-        self.outlet.put(Batch {
-            call,
-            reply: Reply::Told,
-            notes,
-        });
         Ok(())
     }
 
@@ -110,4 +102,45 @@ impl<O: Outlet, A: Admit> Core<O, A> {
         }
         Ok(())
     }
+}
+
+// Sends the batch of an event: its notes alone, or the call too where the outlet gives them back.
+fn put_told<O: Outlet>(
+    outlet: &mut O,
+    recent: &mut Recent,
+    event: &Event<'_>,
+    told_event: ToldEvent,
+) -> Result<(), Fault>
+    requires ready { O.ready outlet.old ≡ true }
+    requires countable { length (O.sent outlet.old) < 2 ^ 64 - 1 }
+    requires kept { IfSome told_event.kept (IsKept event.now.given.now) }
+    ensures sent { OnOk result (O.sent outlet.new ≡ O.sent outlet.old ++ (record {
+      request = event_request event.now;
+      answer = told;
+      notes = map plain_note told_event.notes.items;
+    }) ∷ []) }
+    ensures unsent { OnErr result (O.sent outlet.new ≡ O.sent outlet.old) }
+    ensures forms { O.forms outlet.new ≡ O.forms outlet.old }
+    ensures name { O.name outlet.new ≡ O.name outlet.old }
+    ensures times_full { O.times_full outlet.new ≡ O.times_full outlet.old }
+    ensures paths { recent.new.paths ≡ recent.old.paths }
+    ensures memory { IfErr result (λ fault. fault ≡ Fault.Memory) }
+{
+    let ToldEvent { notes, kept } = told_event;
+    let given = event.given;
+    let known = KnownEvent::new(
+        event.worker,
+        given.meta.read(),
+        given.message.read(),
+        given.fields.read(),
+    );
+    if let Err(notes) = outlet.put_event(known, notes) {
+        let call = event_call(recent, event, kept)?;
+        outlet.put(Batch {
+            call,
+            reply: Reply::Told,
+            notes,
+        });
+    }
+    Ok(())
 }

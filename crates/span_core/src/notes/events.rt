@@ -1,25 +1,24 @@
 //! An event's call and its notes, in the span where each layer sees the caller.
-ghost use Rattle.std.specs.Prelude.{◌≡◌, ◌<◌, [], map, length, IfOk, IfErr, slice_index_or};
-ghost use Rattle.std.specs.Arc.{arc_str_bytes};
+ghost use Rattle.std.specs.Prelude.{◌≡◌, ◌<◌, [], map, length, IfOk, IfErr, IfSome, slice_index_or};
 ghost use Rattle.std.specs.List.{find as first_that};
 ghost use Rattle.span_id.specs.Bits.{has_bit};
 ghost use Rattle.span_layers.specs.Note.{plain_note};
 ghost use Rattle.span_outlet.specs.Request.{request_of};
 ghost use Rattle.span_stack.specs.Stack.{walk, ids_of_each};
 ghost use Rattle.span_core.specs.Happening.{bits_in, notes_of};
-ghost use Rattle.span_core.specs.inside.Given.{fields_given, text_given};
+ghost use Rattle.span_core.specs.inside.Given.{IsKept};
 ghost use Rattle.span_core.specs.inside.Lent.{event_request, event_seen};
 ghost use Rattle.span_core.specs.inside.Remembering.{Remembers};
 
-use crate::given::GivenEvent;
-use crate::notes::{Announced, Subject, Telling, told};
+use crate::given::{GivenEvent, KeptEvent};
+use crate::notes::layers::is_told_to_none;
+use crate::notes::{Subject, Telling, told_to_some};
 use crate::recent::Recent;
 use span_forest::Forest;
-use span_id::{Bits, Fault, Fields, Id};
+use span_id::{Bits, Fault, Id};
 use span_layers::{Kind, Note, Rules};
 use span_outlet::Call;
 use span_stack::SpanStack;
-use std::sync::ArcStr;
 
 /// An event: which worker tells it, the layers that admit it, and what the caller gave.
 #[derive(Clone, Copy)]
@@ -29,35 +28,41 @@ pub(crate) struct Event<'a> {
     pub(crate) given: &'a GivenEvent<'a>,
 }
 
-// The call that tells an event, and its notes, which share its message and its fields.
+/// The notes of an event, and the message and the fields that they share, where some layer is told.
+#[derive(Drop)]
+pub(crate) struct ToldEvent {
+    pub(crate) notes: Vec<Note>,
+    pub(crate) kept: Option<KeptEvent>,
+}
+
+// Tells an event: where no layer is told of it, nothing is copied.
 pub(crate) fn event_told(
     recent: &mut Recent,
     rules: &Rules,
     forest: &Forest,
     stacks: &[SpanStack],
     event: &Event<'_>,
-) -> Result<Announced, Fault>
+) -> Result<ToldEvent, Fault>
     requires worker { event.now.worker < length stacks.now }
     requires remembers { Remembers forest.now recent.old.paths }
-    ensures call { IfOk result (λ told. request_of told.call ≡ event_request event.now) }
     ensures notes { IfOk result (λ told. map plain_note told.notes.items
         ≡ notes_of rules.now event.now.worker
         (event_seen forest.now.spans (slice_index_or (ids_of_each stacks.now) event.now.worker []) event.now)) }
+    ensures kept { IfOk result (λ told. IfSome told.kept (IsKept event.now.given.now)) }
     ensures remembers { Remembers forest.now recent.new.paths }
     ensures memory { IfErr result (λ fault. fault ≡ Fault.Memory) }
 {
-    let meta = event.given.meta.keep(&mut recent.metas)?;
-    let message = event.given.message.keep(recent.alloc)?;
-    let fields = event.given.fields.keep(recent.alloc)?;
-    let notes = event_notes(recent, rules, forest, stacks, event, &message, &fields)?;
-    Ok(Announced {
-        call: Call::Event {
-            worker: event.worker,
-            meta,
-            message,
-            fields,
-        },
+    if is_told_to_none(rules, event.bits, Kind::OnEvent) {
+        return Ok(ToldEvent {
+            notes: Vec::new(recent.alloc),
+            kept: None,
+        });
+    }
+    let kept = event.given.keep(recent.alloc)?;
+    let notes = event_notes(recent, rules, forest, stacks, event, &kept)?;
+    Ok(ToldEvent {
         notes,
+        kept: Some(kept),
     })
 }
 
@@ -68,12 +73,10 @@ fn event_notes(
     forest: &Forest,
     stacks: &[SpanStack],
     event: &Event<'_>,
-    message: &ArcStr,
-    fields: &Fields,
+    kept: &KeptEvent,
 ) -> Result<Vec<Note>, Fault>
     requires worker { event.now.worker < length stacks.now }
-    requires message { arc_str_bytes message.now ≡ text_given event.now.given.now.message }
-    requires fields { fields.now ≡ fields_given event.now.given.now.fields }
+    requires kept { IsKept event.now.given.now kept.now }
     requires remembers { Remembers forest.now recent.old.paths }
     ensures notes { IfOk result (λ notes. map plain_note notes.items
         ≡ notes_of rules.now event.now.worker
@@ -85,14 +88,39 @@ fn event_notes(
         worker: event.worker,
         kind: Kind::OnEvent,
         bits: event.bits,
-        fields,
+        fields: &kept.fields,
         subject: Subject::Event {
             stack: &stacks[event.worker as usize],
             level: event.given.meta.read().level,
-            message,
+            message: &kept.message,
         },
     };
-    told(recent, rules, forest, &what)
+    told_to_some(recent, rules, forest, &what)
+}
+
+// The call that tells an event: it shares the message and the fields with the notes, if these share any.
+pub(crate) fn event_call(
+    recent: &mut Recent,
+    event: &Event<'_>,
+    kept: Option<KeptEvent>,
+) -> Result<Call, Fault>
+    requires kept { IfSome kept (IsKept event.now.given.now) }
+    ensures call { IfOk result (λ call. request_of call ≡ event_request event.now) }
+    ensures paths { recent.new.paths ≡ recent.old.paths }
+    ensures memory { IfErr result (λ fault. fault ≡ Fault.Memory) }
+{
+    let meta = event.given.meta.keep(&mut recent.metas)?;
+    let kept = match kept {
+        Some(kept) => kept,
+        None => event.given.keep(recent.alloc)?,
+    };
+    let KeptEvent { message, fields } = kept;
+    Ok(Call::Event {
+        worker: event.worker,
+        meta,
+        message,
+        fields,
+    })
 }
 
 // Where a layer sees an event: the topmost entry, duplicates skipped, that the layer admits.

@@ -12,26 +12,26 @@ use Rattle.span_core.proofs.Telling.{event_notes}
 use Rattle.span_core.proofs.Clauses.{accepted_by}
 use Rattle.span_core.proofs.Core.event_given.Given as given
 use Rattle.span_core.proofs.Core.event_given.Goals as goal
-use Rattle.span_core.proofs.Core.event_given.Goals.{After-put}
+use Rattle.span_core.proofs.Core.event_given.Goals.{After-self-1}
 
-notes_told : (g : given.Over) (c : After-put g) → map plain_note c.in_ok-call.field-0.notes.items ≡ notes_of_all c.self.inside.rules c.args.worker (event_told c.self.inside.rules (record { spans = c.self.inside.forest.spans; stacks = ids_of_each c.self.inside.stacks.items }) c.args.worker (meta_given c.args.given.now.meta) (text_given c.args.given.now.message) (fields_given c.args.given.now.fields) ∷ [])
+notes_told : (g : given.Over) (c : After-self-1 g) → map plain_note c.in_ok-told.told.notes.items ≡ notes_of_all c.self.inside.rules c.args.worker (event_told c.self.inside.rules (record { spans = c.self.inside.forest.spans; stacks = ids_of_each c.self.inside.stacks.items }) c.args.worker (meta_given c.args.given.now.meta) (text_given c.args.given.now.message) (fields_given c.args.given.now.fields) ∷ [])
 notes_told g c =
     event_notes c.self.inside.rules c.args.worker c.self.inside.forest.spans _ _ _ _ (meta_given c.args.given.now.meta) (text_given c.args.given.now.message) (fields_given c.args.given.now.fields) _
-    (ap (λ (ss : List Stack). get_or (ids_of_each ss) c.args.worker []) c.as_slice-stacks.ensures.value) (c.bits.ensures.value ∙ ap (λ (meta : PlainMeta). admission_set c.self.inside.rules meta.target meta.level) c.read.ensures) c.in_ok-call.ensures.notes
+    (ap (λ (ss : List Stack). get_or (ids_of_each ss) c.args.worker []) c.as_slice-stacks.ensures.value) (c.bits.ensures.value ∙ ap (λ (meta : PlainMeta). admission_set c.self.inside.rules meta.target meta.level) c.read.ensures) c.in_ok-told.ensures.notes
 
-within : (g : given.Over) (c : After-put g) → c.args.worker < length (ids_of_each c.self.inside.stacks.items)
+within : (g : given.Over) (c : After-self-1 g) → c.args.worker < length (ids_of_each c.self.inside.stacks.items)
 within g c = omega (arith, c.requires, ap (λ (v : CoreView). v.limits.workers) c.self.view_is, c.self.invariant.0.stacks_are)
 
 pub invariant_of-self-2 : goal.invariant_of-self-2
 invariant_of-self-2 g c = (
   sound_event _ _ _ _ _ _ _ _ c.args.worker (meta_given c.args.given.now.meta) (text_given c.args.given.now.message) (fields_given c.args.given.now.fields) _ _ c.self.invariant.0 (within g c) (notes_told g c)
-      c.in_ok-call.ensures.call c.in_ok-ask.ensures.sent c.put.ensures.sent,
-  none_made _ _ _ _ _ c.self.invariant.1 refl c.in_ok-ask.ensures.sent c.put.ensures.sent,
-  c.in_ok-call.ensures.remembers,
+      refl c.in_ok-ask.ensures.sent c.in_ok-put_told.ensures.sent,
+  none_made _ _ _ _ _ c.self.invariant.1 refl c.in_ok-ask.ensures.sent c.in_ok-put_told.ensures.sent,
+  rw c.in_ok-put_told.ensures.paths c.in_ok-told.ensures.remembers,
 )
 
 pub returns-clause-accepted : goal.returns-clause-accepted
 returns-clause-accepted g c =
     accepted_by _ _ _ _ _ _ _ _ _ _ _ _ _ _ _ c.self.view_is c.in_ok-telling.ensures.due
     (record { within = within g c; changes = refl; notes_are = notes_told g c })
-    c.in_ok-call.ensures.call c.in_ok-ask.ensures.sent c.put.ensures.sent c.in_ok-ask.ensures.times_full c.put.ensures.times_full c.in_ok-ask.ensures.forms c.put.ensures.forms c.in_ok-ask.ensures.name c.put.ensures.name
+    refl c.in_ok-ask.ensures.sent c.in_ok-put_told.ensures.sent c.in_ok-ask.ensures.times_full c.in_ok-put_told.ensures.times_full c.in_ok-ask.ensures.forms c.in_ok-put_told.ensures.forms c.in_ok-ask.ensures.name c.in_ok-put_told.ensures.name

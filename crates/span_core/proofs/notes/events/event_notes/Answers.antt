@@ -10,6 +10,6 @@ pub returns-clause-notes : goal.returns-clause-notes
 returns-clause-notes c =
     let event = c.args.event.now in
     let ids_are = sym (ids_at c.args.stacks.now event.worker _ c.requires.worker c.index-stacks-event.is) in
-    subst (λ (given : List ℕ × PlainMeta × List ℕ × List KeyValue). IfOk c.told.result (λ notes. map plain_note notes.items
+    subst (λ (given : List ℕ × PlainMeta × List ℕ × List KeyValue). IfOk c.told_to_some.result (λ notes. map plain_note notes.items
     ≡ notes_of c.args.rules.now event.worker (event_at c.args.forest.now.spans given.0 event.bits.0 given.1.level given.2 given.3)))
-    (λ j. (ids_are j, c.read.ensures j, c.requires.message j, c.requires.fields j)) c.told.ensures.notes
+    (λ j. (ids_are j, c.read.ensures j, c.requires.kept.message j, c.requires.kept.fields j)) c.told_to_some.ensures.notes

@@ -1,4 +1,4 @@
-use Rattle.std.proofs.Common.{◌≡◌, ◌≤◌, ◌&&◌, ℕ, length, false, ap, ◌∙◌, arith}
+use Rattle.std.proofs.Common.{◌&&◌, length, ap, ◌∙◌, arith}
 use Rattle.span_id.specs.Bits.{has_bit}
 use Rattle.span_layers.specs.Filter.{layer_wants}
 use Rattle.span_core.specs.inside.Sound.{hears}

@@ -1,8 +1,7 @@
-use Rattle.std.proofs.Common.{◌≡◌, ◌+◌, ◌/◌, ◌^◌, ◌<◌, ◌≤◌, ◌∷◌, ℕ, ◌∙◌, length, sym, ap, inl, inr, arith, w64}
+use Rattle.std.proofs.Common.{◌≡◌, ◌+◌, ◌/◌, ◌^◌, ◌<◌, ◌≤◌, ℕ, ◌∙◌, length, sym, ap, inl, inr, arith, w64}
 use Rattle.std.specs.Int.{trailing_zeros, bit_at}
 use Rattle.std.proofs.lemmas.Bool.{cases_lt}
 use Rattle.std.proofs.lemmas.Nat.Bits.{bit_at-trailing_zeros, bit_at_above}
-use Rattle.span_core.specs.inside.Telling.{told_from}
 use Rattle.std.proofs.Math.Nat.{div-le_self}
 use Rattle.span_core.proofs.Telling.{bit_left, told_past, told_none, told_next}
 use Rattle.span_core.proofs.notes.layers.ToldLayersIterator.next.Goals as goal
