@@ -32,3 +32,30 @@ impl<T> KnownItems<T> {
         }
     }
 }
+
+/// A value as clauses see it. It has no bytes and owns nothing, so it may go to any thread, whatever it is of.
+#[derive(Drop)]
+pub struct KnownValue<T> {
+    marker: PhantomData<T>,
+    pub ghost value: { T },
+}
+
+impl<T> Model for KnownValue<T> {
+    ghost also_owns = { λ _. ftrue };
+}
+
+unsafe impl<T> Send for KnownValue<T> {}
+
+unsafe impl<T> Sync for KnownValue<T> {}
+
+impl<T> KnownValue<T> {
+    /// What `value` shows.
+    pub fn of(value: &T) -> KnownValue<T>
+        ensures { result.value ≡ value.now }
+    {
+        let _ = value;
+        KnownValue {
+            marker: PhantomData,
+        }
+    }
+}

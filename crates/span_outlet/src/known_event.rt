@@ -5,14 +5,13 @@ ghost use Rattle.span_outlet.specs.KnownEvent.{request_of_known};
 ghost use Rattle.span_outlet.specs.Request.{event};
 
 use span_id::{Field, Meta};
-use span_known::KnownItems;
-use std::snapshot::Snapshot;
+use span_known::{KnownItems, KnownValue};
 
 /// An event that was accepted, as clauses see it: nothing of it is kept but the number of its worker.
 #[derive(Drop)]
 pub struct KnownEvent {
     pub worker: u32,
-    pub meta: Snapshot<Meta>,
+    pub meta: KnownValue<Meta>,
     pub message: KnownItems<u8>,
     pub fields: KnownItems<Field>,
 }
@@ -26,7 +25,7 @@ impl KnownEvent {
     {
         KnownEvent {
             worker,
-            meta: Snapshot::of(meta),
+            meta: KnownValue::of(meta),
             message: KnownItems::of(message.as_bytes()),
             fields: KnownItems::of(fields),
         }

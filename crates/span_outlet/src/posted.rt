@@ -7,12 +7,12 @@ ghost use Rattle.span_outlet.specs.inside.Posted.{plain_posted};
 use crate::batch::{Batch, Call, Reply};
 use crate::known_event::KnownEvent;
 use span_layers::Note;
-use std::snapshot::Snapshot;
+use span_known::KnownValue;
 
 /// What was asked and answered, as clauses see it.
 #[derive(Drop)]
 pub(crate) enum Said {
-    Call(Snapshot<Call>, Snapshot<Reply>),
+    Call(KnownValue<Call>, KnownValue<Reply>),
     Event(KnownEvent),
 }
 
@@ -31,7 +31,7 @@ impl Posted {
     {
         let Batch { call, reply, notes } = batch;
         Posted {
-            said: Said::Call(Snapshot::of(&call), Snapshot::of(&reply)),
+            said: Said::Call(KnownValue::of(&call), KnownValue::of(&reply)),
             notes,
         }
     }
