@@ -100,6 +100,33 @@ impl<O: Outlet + Drop, F: Drop> Core<O, Admitters<F>> {
         ensures memory { IfErr result (λ fault. fault ≡ Fault.Memory) }
     {
         let Filters { rules, admitters } = filters;
+        Core::with_admitters(alloc, checked, rules, admitters, outlet)
+    }
+}
+
+impl<O: Outlet + Drop, A: Drop> Core<O, A> {
+    /// An empty registry as `new` makes it, in which `admitters` applies the rules, whatever it is.
+    ///
+    /// The only error is `Memory`; the rules, the admitters and the outlet are dropped then.
+    pub fn with_admitters(
+        alloc: Global,
+        checked: &Checked,
+        rules: Rules,
+        admitters: A,
+        outlet: O,
+    ) -> Result<Core<O, A>, Fault>
+        requires { O.sent outlet ≡ [] }
+        ensures empty { IfOk result (λ core. core ≡ record {
+          limits = checked.now;
+          rules = rules;
+          world = empty_world checked.now.workers;
+          sent = [];
+          times_full = O.times_full outlet;
+          forms = O.forms outlet;
+          name = O.name outlet;
+        }) }
+        ensures memory { IfErr result (λ fault. fault ≡ Fault.Memory) }
+    {
         let stacks = empty_stacks(alloc, checked.limits().workers)?;
         let forest = Forest::new(alloc, checked)?;
         let shares = !outlet.keeps_batches();

@@ -14,7 +14,7 @@ use crate::outlet::Outlet;
 use crate::past::Past;
 use crate::posted::Posted;
 use crate::told::Told;
-use span_layers::{Formatters, Note, Say, Tellers};
+use span_layers::{Formatters, Forms, Note, Say, Tellers};
 use std::alloc::{AllocError, Global};
 use std::marker::Model;
 
@@ -58,6 +58,15 @@ impl<F: Drop> Latest<Formatters<F>> {
         ensures { result ≡ record { forms = tellers.forms; sent = []; lines = []; refused = 0; ready = false } }
     {
         let Tellers { forms, formatters } = tellers;
+        Latest::with_formatters(alloc, forms, formatters)
+    }
+}
+
+impl<V: Drop> Latest<V> {
+    /// An outlet as `new` makes it, in which `formatters` makes the texts, whatever it is.
+    pub fn with_formatters(alloc: Global, forms: Forms, formatters: V) -> Latest<V>
+        ensures { result ≡ record { forms = forms; sent = []; lines = []; refused = 0; ready = false } }
+    {
         Latest {
             past: Past::Nothing,
             count: 0,

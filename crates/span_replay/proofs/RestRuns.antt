@@ -78,6 +78,19 @@ at_opening : (limits : Limits) (rules : List Filter) (forms : List Form) (stage 
     → record { core = core; labels = labels; stage = stage } ≡ opened_state limits rules forms stage
 at_opening limits rules forms stage core labels e none = λ i. record { core = e i; labels = none i; stage = stage }
 
+-- a registry of which no call was made, and the labels there
+abbrev begun : CoreView → Bound → Stage → State
+begun core labels stage = record { core = core; labels = labels; stage = stage }
+
+-- a script of which no call has run is on the registry that it was given
+pub fresh_runs : (hooks number : ℕ) (stage : Stage) (core core' : CoreView) (labels : Bound) (value : Option Data) (lines : List ℕ) (a b : Known) (r : Result ℕ RunFault)
+    → core' ≡ core → labels ≡ []
+    → Runs (resumed_run hooks number (record { core = core'; labels = labels; stage = stage }) value lines) a b r
+    → Runs (resumed_run hooks number (record { core = core; labels = []; stage = stage }) value lines) a b r
+fresh_runs hooks number stage core core' labels value lines a b r same none p =
+    subst (λ ls. Runs (resumed_run hooks number (begun core ls stage) value lines) a b r) none
+    (subst (λ k. Runs (resumed_run hooks number (begun k labels stage) value lines) a b r) same p)
+
 -- it runs as what is left is meant to
 pub made_runs : (hooks number : ℕ) (limits : Limits) (rules : List Filter) (forms : List Form) (stage : Stage) (core : CoreView) (labels : Bound) (value : Option Data) (lines : List ℕ) (a b : Known) (r : Result ℕ RunFault)
     → core ≡ (opened_state limits rules forms stage).core → labels ≡ []

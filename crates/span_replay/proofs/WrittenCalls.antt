@@ -228,7 +228,7 @@ pub made_by : (calls : ℕ → call.Request) (worker meant : ℕ) (old : CoreVie
 made_by calls worker meant old answer new same made = subst (λ w. IsMade old (calls w) answer new) same made
 
 -- all lines are written after a call's answer
-pub still_written : {V X F g : _} (result : Result ⊤ Stop) (script : Script V X F g) (old : CoreView) (request : call.Request) (answer : Answer) (mid : CoreView) (workers : ℕ)
+pub still_written : {V A : _} (result : Result ⊤ Stop) (script : Script V A) (old : CoreView) (request : call.Request) (answer : Answer) (mid : CoreView) (workers : ℕ)
     → IsMade old request answer mid → core_in script ≡ mid → workers ≡ old.limits.workers → 1 ≤ workers → OnOk result (script.written ≡ length mid.sent) → script.workers ≡ workers
     → OnOk result (IsWritten script)
 still_written (Ok _) script old request answer mid workers made same are some lines more = record {

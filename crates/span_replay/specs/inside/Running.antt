@@ -13,18 +13,18 @@ use Rattle.span_script.specs.declared.stop.Stop.{Stop}
 use Rattle.span_script.specs.declared.stop.Stop.TheVariants.{Memory, Refused}
 
 -- the registry of a script, and the labels that it has bound
-abbrev pub core_in : {V X F g : _} → Script V X F g → CoreView
+abbrev pub core_in : {V A : _} → Script V A → CoreView
 core_in script = script.core
 
-abbrev pub labels_in : {V X F g : _} → Script V X F g → Bound
+abbrev pub labels_in : {V A : _} → Script V A → Bound
 labels_in script = script.labels
 
 -- how far a script has run, where such lines came
-abbrev pub state_at : {V X F g : _} → Script V X F g → Stage → State
+abbrev pub state_at : {V A : _} → Script V A → Stage → State
 state_at script stage = record { core = core_in script; labels = labels_in script; stage = stage }
 
 -- the lines of all batches were written, and there are as many workers as the limits say, and at least one
-pub record IsWritten {V X F g : _} (script : Script V X F g) : Type 0 where
+pub record IsWritten {V A : _} (script : Script V A) : Type 0 where
   pub lines : script.written ≡ length (core_in script).sent
   pub workers : script.workers ≡ (core_in script).limits.workers
   pub some : 1 ≤ script.workers

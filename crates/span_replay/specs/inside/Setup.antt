@@ -1,5 +1,5 @@
 -- What the lines before the first call have come to: no public clause cites it.
-use Rattle.std.specs.Prelude.{ℕ, ◌+◌, length, vec_len}
+use Rattle.std.specs.Prelude.{ℕ}
 use Rattle.span_layers.specs.Layers.{filters_in, forms_in}
 use Rattle.span_replay.specs.State.{State}
 use Rattle.span_replay.specs.inside.Turns.{opened_state}
@@ -7,10 +7,10 @@ use Rattle.span_script.specs.Views.{stage_seen}
 use Rattle.span_replay.specs.declared.run.setup.Setup.{Setup}
 
 -- a core of which no call was made, with the limits that stand and the layers that were added
-abbrev pub setup_state : {X Y F G g h : _} → Setup X Y F G g h → State
+abbrev pub setup_state : Setup → State
 setup_state setup =
     opened_state setup.checked (filters_in setup.layers) (forms_in setup.layers) (stage_seen setup.stage)
 
--- how many hooks there were: those of the layers and those that are left
-abbrev pub hooks_in : {X Y F G g h : _} → Setup X Y F G g h → ℕ
-hooks_in setup = length (filters_in setup.layers) + vec_len setup.hooks
+-- how many layers there may be
+abbrev pub hooks_in : Setup → ℕ
+hooks_in setup = setup.most

@@ -10,15 +10,15 @@ ghost use Rattle.span_script.specs.Views.{new_seen, event_seen};
 use crate::run::answer::Answer;
 use span_core::Core;
 use span_id::{Fault, Fields, Id};
-use span_layers::Say;
+use span_layers::{Admit, Say};
 use span_outlet::{Latest, ParentOf};
 use span_script::{NewEvent, NewSpan, SpanCall, Stop};
 
 /// Makes a span under the parent that was found. The answer is its id, or that no layer wants it, or a refusal.
 ///
 /// The only error is `Memory`.
-pub fn new_span<V: Say>(
-    core: &mut Core<Latest<V>>,
+pub fn new_span<V: Say, A: Admit>(
+    core: &mut Core<Latest<V>, A>,
     new: &NewSpan<'_>,
     worker: u32,
     parent: Option<Id>,
@@ -37,8 +37,8 @@ pub fn new_span<V: Say>(
 }
 
 /// Makes a worker's call on a span. The only error is `Memory`.
-pub fn call<V: Say>(
-    core: &mut Core<Latest<V>>,
+pub fn call<V: Say, A: Admit>(
+    core: &mut Core<Latest<V>, A>,
     call: SpanCall,
     worker: u32,
     id: Id,
@@ -54,8 +54,8 @@ pub fn call<V: Say>(
 }
 
 /// Makes a worker's call on a span, which may be refused.
-fn make_call<V: Say>(
-    core: &mut Core<Latest<V>>,
+fn make_call<V: Say, A: Admit>(
+    core: &mut Core<Latest<V>, A>,
     call: SpanCall,
     worker: u32,
     id: Id,
@@ -85,8 +85,8 @@ fn make_call<V: Say>(
 }
 
 /// Adds fields to a span. The only error is `Memory`.
-pub fn record<V: Say>(
-    core: &mut Core<Latest<V>>,
+pub fn record<V: Say, A: Admit>(
+    core: &mut Core<Latest<V>, A>,
     worker: u32,
     id: Id,
     fields: &Fields,
@@ -102,8 +102,8 @@ pub fn record<V: Say>(
 }
 
 /// Tells an event. The only error is `Memory`.
-pub fn event<V: Say>(
-    core: &mut Core<Latest<V>>,
+pub fn event<V: Say, A: Admit>(
+    core: &mut Core<Latest<V>, A>,
     event: &NewEvent,
     worker: u32,
 ) -> Result<Answer, Stop>
@@ -119,7 +119,7 @@ pub fn event<V: Say>(
 }
 
 /// The answer of a refused call. Want of memory is none: it ends the run.
-fn refusal<V: Say>(core: &Core<Latest<V>>, fault: Fault) -> Result<Answer, Stop>
+fn refusal<V: Say, A: Admit>(core: &Core<Latest<V>, A>, fault: Fault) -> Result<Answer, Stop>
     requires { fault ≡ Backlog → 0 < core.now.times_full }
     ensures judged { OnOk result (IsLate fault → ⊥) }
     ensures answer { IfOk result (λ answer. answer ≡ Answer.Refused fault) }
@@ -136,7 +136,7 @@ fn refusal<V: Say>(core: &Core<Latest<V>>, fault: Fault) -> Result<Answer, Stop>
 }
 
 /// The outlet never lacked a place: it takes memory for each batch.
-fn outlet_has_places<V: Say>(core: &Core<Latest<V>>)
+fn outlet_has_places<V: Say, A: Admit>(core: &Core<Latest<V>, A>)
     ensures { core.now.times_full ≡ 0 }
 {
     let _ = core.outlet();

@@ -1,20 +1,15 @@
 //! The hooks that the layers of a run call.
-ghost use Rattle.std.specs.Prelude.{◌≡◌, ◌+◌, ◌^◌, ◌<◌, ◌≤◌, IfOk, IfErr, IfSome, OnOk, string_bytes};
+ghost use Rattle.std.specs.Prelude.{◌≡◌, ◌+◌, ◌^◌, ◌<◌, ◌≤◌, IfOk, IfErr, IfSome, OnOk};
 ghost use Rattle.std.specs.Io.KnownBytes.{IsAtEnd};
-ghost use Rattle.std.specs.Result.{ForOk};
-ghost use Rattle.span_layers.specs.Note.{plain_note};
-ghost use Rattle.span_layers.specs.Rule.{pairs_of, is_admitted};
-ghost use Rattle.span_layers.specs.Text.{text_of};
 ghost use Rattle.span_run.specs.Counted.{inner_of, calls_of, failed_of, flushes_of, flushed_of};
 ghost use Rattle.span_replay.specs.Replayed.{FlushesOnce, IsReplayed, IsWhole, KeepsUnread};
 ghost use Rattle.span_run.specs.RunFault.{EndsAsCounted};
 
-use crate::run::replay::replay;
+use crate::run::replay::replay_with;
 use crate::run::tidying::Remains;
-use span_id::Meta;
-use span_layers::{Form, Hooks, Note, Rule, admits, text};
+use span_layers::{ByForm, ByRule, Layers};
 use span_run::{Counted, RunFault};
-use std::alloc::{AllocError, Global};
+use std::alloc::Global;
 use std::io::{Read, Write};
 
 /// Runs a script that may have so many layers, as `replay` does. Each layer applies its rule by `admits` and writes its
@@ -42,28 +37,15 @@ pub fn replay_with_layers<R: Read, W: Write>(
         (failed_of input.old) (failed_of input.new) (failed_of output.old) (failed_of output.new) result }
     ensures reads { calls_of input.new ≤ calls_of input.old + 16777217 }
 {
-    let mut hooks = Vec::new(alloc);
-    for _ in 0..layers {
-        let Ok(admit) = Box::new(
-            alloc,
-            |rule: &Rule, meta: &Meta| -> bool
-                ensures { result
-                    ≡ is_admitted (pairs_of rule.now) (string_bytes meta.now.target) meta.now.level }
-            { admits(rule, meta) },
-        ) else {
-            return Err(RunFault::Memory);
-        };
-        let Ok(say) = Box::new(
-            alloc,
-            |alloc: Global, form: Form, note: &Note| -> Result<Vec<u8>, AllocError>
-                ensures { ForOk result (λ text. text.items ≡ text_of form (plain_note note.now)) }
-            { text(alloc, form, note) },
-        ) else {
-            return Err(RunFault::Memory);
-        };
-        if hooks.push(Hooks::new(admit, say)).is_err() {
-            return Err(RunFault::Memory);
-        }
-    }
-    replay(alloc, input, output, hooks, remains)
+    // Whatever the layers are, their rules are applied and their notes are written alike.
+    let (filters, tellers) = Layers::<ByRule, ByForm>::new(alloc).split();
+    replay_with(
+        alloc,
+        input,
+        output,
+        layers,
+        filters.admitters,
+        tellers.formatters,
+        remains,
+    )
 }

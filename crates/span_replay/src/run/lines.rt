@@ -11,54 +11,54 @@ ghost use Rattle.span_replay.specs.Replayed.{Fails, Runs};
 ghost use Rattle.span_run.specs.RunFault.{EndsAsCounted};
 ghost use Rattle.span_replay.specs.inside.Running.{IsWritten, state_at};
 ghost use Rattle.span_script.specs.Script.{lines_of, most_bytes};
-ghost use Rattle.span_replay.specs.inside.Turns.{HasTurned, Sent, TurnFails, opened_state, resumed_run};
+ghost use Rattle.span_replay.specs.inside.Turns.{HasTurned, Sent, TurnFails, resumed_run};
 
 use crate::run::fault::at_line;
 use crate::run::opening::Rest;
 use crate::run::script::Script;
 use crate::run::tidying::{Remains, let_go, tidy};
-use span_id::Checked;
+use span_core::Core;
 use span_json::{Scratch, Value};
-use span_layers::{Filters, Say};
+use span_layers::{Admit, Say};
 use span_outlet::Latest;
 use span_run::{Counted, RunFault, write_text};
 use span_script::{Stop, cut_line, is_skipped, json_line, operation_in_line};
 use std::alloc::Global;
 use std::io::Write;
 
-/// Runs what is left of a script, with these limits and layers, then the tidying, and writes the last line.
-pub fn run_rest<V: Say, W: Write>(
+/// Runs what is left of a script on a registry of so many workers, of which no call was made, then the tidying, and
+/// writes the last line.
+pub fn run_rest<V: Say, A: Admit, W: Write>(
     alloc: Global,
-    checked: &Checked,
-    filters: Filters,
-    latest: Latest<V>,
+    workers: u32,
+    core: Core<Latest<V>, A>,
     rest: &Rest<'_>,
     remains: Remains,
     text: &mut Vec<u8>,
     output: &mut Counted<W>,
 ) -> Result<u64, RunFault>
     requires failed { failed_of output.old < 2 ^ 63 }
-    requires fresh { latest.sent ≡ [] }
+    requires fresh { core.sent ≡ [] }
+    requires workers { workers ≡ core.limits.workers }
+    requires some { 1 ≤ workers }
     requires call { IfSome rest.now.value (λ value. is_setup (view value) ≡ false) }
     requires done { IfNone rest.now.value (rest.now.lines.now ≡ []) }
     requires place { rest.now.number + length rest.now.lines.now ≤ most_bytes + 1 }
     ensures runs { (hooks : ℕ) (stage : Stage) →
-        Runs (resumed_run hooks rest.now.number (opened_state checked.now filters.rules latest.forms stage)
+        Runs (resumed_run hooks rest.now.number (record { core = core; labels = []; stage = stage })
         (option_map view rest.now.value) rest.now.lines.now)
         (W.contents (inner_of output.old)) (W.contents (inner_of output.new)) result }
     ensures counts { EndsAsCounted 0 0 (failed_of output.old) (failed_of output.new) result }
     ensures flushes { flushes_of output.new ≡ flushes_of output.old }
 {
-    match Script::new(alloc, checked, filters, latest) {
-        Ok(script) => run_to_end(alloc, script, rest, remains, text, output),
-        Err(_) => Err(RunFault::Memory),
-    }
+    let script = Script::new(alloc, workers, core);
+    run_to_end(alloc, script, rest, remains, text, output)
 }
 
 /// Runs what is left of a script, and then frees what it kept, or leaves it where the run ended well.
-fn run_to_end<V: Say, W: Write>(
+fn run_to_end<V: Say, A: Admit, W: Write>(
     alloc: Global,
-    mut script: Script<V>,
+    mut script: Script<V, A>,
     rest: &Rest<'_>,
     remains: Remains,
     text: &mut Vec<u8>,
@@ -81,10 +81,10 @@ fn run_to_end<V: Say, W: Write>(
 }
 
 /// Runs what is left of a script, and then the tidying.
-fn run_and_tidy<V: Say, W: Write>(
+fn run_and_tidy<V: Say, A: Admit, W: Write>(
     alloc: Global,
     rest: &Rest<'_>,
-    script: &mut Script<V>,
+    script: &mut Script<V, A>,
     text: &mut Vec<u8>,
     output: &mut Counted<W>,
 ) -> Result<u64, RunFault>
@@ -106,10 +106,10 @@ fn run_and_tidy<V: Say, W: Write>(
 }
 
 /// Runs the line whose value was read already, and then the other lines that are left.
-fn run_first<V: Say, W: Write>(
+fn run_first<V: Say, A: Admit, W: Write>(
     alloc: Global,
     rest: &Rest<'_>,
-    script: &mut Script<V>,
+    script: &mut Script<V, A>,
     text: &mut Vec<u8>,
     output: &mut Counted<W>,
 ) -> Result<(), RunFault>
@@ -140,11 +140,11 @@ fn run_first<V: Say, W: Write>(
 }
 
 /// Runs lines, of which the first has this number.
-fn run_lines<V: Say, W: Write>(
+fn run_lines<V: Say, A: Admit, W: Write>(
     alloc: Global,
     first: u64,
     lines: &[u8],
-    script: &mut Script<V>,
+    script: &mut Script<V, A>,
     text: &mut Vec<u8>,
     output: &mut Counted<W>,
 ) -> Result<(), RunFault>
@@ -176,12 +176,12 @@ fn run_lines<V: Say, W: Write>(
 }
 
 /// Runs one line, and writes its notes and its answer. A skipped line has none.
-fn run_line<V: Say, W: Write>(
+fn run_line<V: Say, A: Admit, W: Write>(
     alloc: Global,
     number: u64,
     line: &[u8],
     scratch: &mut Scratch,
-    script: &mut Script<V>,
+    script: &mut Script<V, A>,
     text: &mut Vec<u8>,
     output: &mut Counted<W>,
 ) -> Result<(), RunFault>
@@ -207,11 +207,11 @@ fn run_line<V: Say, W: Write>(
 }
 
 /// Runs the line of a JSON value, and writes its notes and its answer.
-fn run_value<V: Say, W: Write>(
+fn run_value<V: Say, A: Admit, W: Write>(
     alloc: Global,
     number: u64,
     line: &Value<'_>,
-    script: &mut Script<V>,
+    script: &mut Script<V, A>,
     text: &mut Vec<u8>,
     output: &mut Counted<W>,
 ) -> Result<(), RunFault>
@@ -235,10 +235,10 @@ fn run_value<V: Say, W: Write>(
 }
 
 /// Makes the call that a line asks for. The text is its notes and its answer.
-fn call<V: Say>(
+fn call<V: Say, A: Admit>(
     alloc: Global,
     line: &Value<'_>,
-    script: &mut Script<V>,
+    script: &mut Script<V, A>,
     text: &mut Vec<u8>,
 ) -> Result<(), Stop>
     requires { IsWritten script.old }

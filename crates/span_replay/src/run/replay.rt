@@ -18,8 +18,9 @@ use crate::run::lines::run_rest;
 use crate::run::opening::{Rest, open};
 use crate::run::setup::Setup;
 use crate::run::tidying::Remains;
+use span_core::Core;
 use span_json::Scratch;
-use span_layers::Hooks;
+use span_layers::{Admit, Hooks, Say, hooks_apart};
 use span_outlet::Latest;
 use span_run::{Counted, RunFault, flush, read_script};
 use std::alloc::Global;
@@ -57,7 +58,43 @@ pub fn replay<R: Read, W: Write>(
         (failed_of input.old) (failed_of input.new) (failed_of output.old) (failed_of output.new) result }
     ensures reads { calls_of input.new ≤ calls_of input.old + 16777217 }
 {
-    match perform(alloc, input, output, hooks, remains) {
+    let layers = hooks.len();
+    match hooks_apart(alloc, hooks) {
+        Ok((admitters, formatters)) => {
+            replay_with(alloc, input, output, layers, admitters, formatters, remains)
+        }
+        Err(_) => Err(RunFault::Memory),
+    }
+}
+
+/// The same with so many layers, whose rules `admitters` applies and whose notes `formatters` writes.
+pub fn replay_with<V: Say, A: Admit, R: Read, W: Write>(
+    alloc: Global,
+    input: &mut Counted<R>,
+    output: &mut Counted<W>,
+    layers: usize,
+    admitters: A,
+    formatters: V,
+    remains: Remains,
+) -> Result<u64, RunFault>
+    requires calls { calls_of input.old < 2 ^ 63 }
+    requires reads_failed { failed_of input.old < 2 ^ 63 }
+    requires failed { failed_of output.old < 2 ^ 63 }
+    ensures replayed { IfSome (R.remaining (inner_of input.old)) (λ bytes.
+        IsReplayed layers bytes
+        (W.contents (inner_of output.old)) (W.contents (inner_of output.new)) result) }
+    ensures whole { OnOk result (IsAtEnd (R.remaining (inner_of input.new))) }
+    ensures unread { IfErr result (KeepsUnread (W.contents (inner_of output.old)) (W.contents (inner_of output.new))) }
+    ensures flushed { FlushesOnce
+        (IsWhole layers (R.remaining (inner_of input.old))
+        (W.contents (inner_of output.old)) (W.contents (inner_of output.new)))
+        (flushes_of output.old) (flushes_of output.new) (flushed_of output.new) result }
+    ensures left { IfSome (R.remaining (inner_of input.old)) (λ bytes. IfOk result (λ left. left ≡ 0)) }
+    ensures counts { EndsAsCounted
+        (failed_of input.old) (failed_of input.new) (failed_of output.old) (failed_of output.new) result }
+    ensures reads { calls_of input.new ≤ calls_of input.old + 16777217 }
+{
+    match perform(alloc, input, output, layers, admitters, formatters, remains) {
         Ok(left) => match flush(output) {
             Ok(()) => Ok(left),
             Err(fault) => Err(fault),
@@ -74,18 +111,20 @@ pub fn replay<R: Read, W: Write>(
 }
 
 /// Reads a script to its end and runs it.
-fn perform<R: Read, W: Write>(
+fn perform<V: Say, A: Admit, R: Read, W: Write>(
     alloc: Global,
     input: &mut Counted<R>,
     output: &mut Counted<W>,
-    hooks: Vec<Hooks>,
+    layers: usize,
+    admitters: A,
+    formatters: V,
     remains: Remains,
 ) -> Result<u64, RunFault>
     requires calls { calls_of input.old < 2 ^ 63 }
     requires reads_failed { failed_of input.old < 2 ^ 63 }
     requires failed { failed_of output.old < 2 ^ 63 }
     ensures replayed { IfSome (R.remaining (inner_of input.old)) (λ bytes.
-        IsReplayed (vec_len hooks) bytes
+        IsReplayed layers bytes
         (W.contents (inner_of output.old)) (W.contents (inner_of output.new)) result) }
     ensures whole { OnOk result (IsAtEnd (R.remaining (inner_of input.new))) }
     ensures unread { IfErr result (KeepsUnread (W.contents (inner_of output.old)) (W.contents (inner_of output.new))) }
@@ -95,36 +134,44 @@ fn perform<R: Read, W: Write>(
     ensures reads { calls_of input.new ≤ calls_of input.old + 16777217 }
 {
     match read_script(alloc, input) {
-        Ok(script) => run_script(alloc, &script, output, hooks, remains),
+        Ok(script) => run_script(
+            alloc, &script, output, layers, admitters, formatters, remains,
+        ),
         Err(fault) => Err(fault),
     }
 }
 
 /// Runs a script that was read.
-fn run_script<W: Write>(
+fn run_script<V: Say, A: Admit, W: Write>(
     alloc: Global,
     script: &[u8],
     output: &mut Counted<W>,
-    hooks: Vec<Hooks>,
+    layers: usize,
+    admitters: A,
+    formatters: V,
     remains: Remains,
 ) -> Result<u64, RunFault>
     requires failed { failed_of output.old < 2 ^ 63 }
     requires fits { length script.now ≤ most_bytes }
-    ensures runs { Runs (run (vec_len hooks) 1 first_state (lines_of script.now))
+    ensures runs { Runs (run layers 1 first_state (lines_of script.now))
         (W.contents (inner_of output.old)) (W.contents (inner_of output.new)) result }
     ensures counts { EndsAsCounted 0 0 (failed_of output.old) (failed_of output.new) result }
     ensures flushes { flushes_of output.new ≡ flushes_of output.old }
 {
-    let setup = Setup::new(alloc, hooks);
+    let setup = Setup::new(alloc, layers);
     let mut text = Vec::new(alloc);
-    run_all(alloc, script, setup, remains, &mut text, output)
+    run_all(
+        alloc, script, setup, admitters, formatters, remains, &mut text, output,
+    )
 }
 
 /// Runs all lines of a script from this set-up on.
-fn run_all<W: Write>(
+fn run_all<V: Say, A: Admit, W: Write>(
     alloc: Global,
     script: &[u8],
     mut setup: Setup,
+    admitters: A,
+    formatters: V,
     remains: Remains,
     text: &mut Vec<u8>,
     output: &mut Counted<W>,
@@ -138,15 +185,19 @@ fn run_all<W: Write>(
 {
     let mut scratch = Scratch::new(alloc);
     match open(alloc, script, &mut scratch, &mut setup, text, output) {
-        Ok(rest) => run_opened(alloc, setup, &rest, remains, text, output),
+        Ok(rest) => run_opened(
+            alloc, setup, admitters, formatters, &rest, remains, text, output,
+        ),
         Err(fault) => Err(fault),
     }
 }
 
 /// Runs what is left of a script, with the limits and the layers that its first lines gave.
-fn run_opened<W: Write>(
+fn run_opened<V: Say, A: Admit, W: Write>(
     alloc: Global,
     setup: Setup,
+    admitters: A,
+    formatters: V,
     rest: &Rest<'_>,
     remains: Remains,
     text: &mut Vec<u8>,
@@ -162,9 +213,11 @@ fn run_opened<W: Write>(
     ensures counts { EndsAsCounted 0 0 (failed_of output.old) (failed_of output.new) result }
     ensures flushes { flushes_of output.new ≡ flushes_of output.old }
 {
-    let (checked, filters, tellers) = setup.split();
-    let latest = Latest::new(alloc, tellers);
-    run_rest(
-        alloc, &checked, filters, latest, rest, remains, text, output,
-    )
+    let (checked, rules, forms) = setup.split();
+    let latest = Latest::with_formatters(alloc, forms, formatters);
+    let workers = checked.limits().workers;
+    match Core::with_admitters(alloc, &checked, rules, admitters, latest) {
+        Ok(core) => run_rest(alloc, workers, core, rest, remains, text, output),
+        Err(_) => Err(RunFault::Memory),
+    }
 }

@@ -15,18 +15,18 @@ use crate::run::calls;
 use crate::run::labels::Labels;
 use span_core::Core;
 use span_forest::Span;
-use span_id::{Checked, Fault, Fields, Id};
-use span_layers::{Filters, Say};
+use span_id::{Fault, Fields, Id};
+use span_layers::{Admit, Say};
 use span_outlet::Latest;
 use span_script::{NewEvent, NewSpan, Operation, Parent, Reason, SpanCall, SpanKey, Stop};
 use span_stack::SpanStack;
 use std::alloc::{AllocError, Global};
 
-/// A script as far as its calls have run.
+/// A script as far as its calls have run. `V` makes the texts of the notes, and `A` applies the layers' rules.
 #[derive(Drop)]
-pub struct Script<V: Say> {
+pub struct Script<V: Say, A> {
     /// The registry. Its outlet makes the lines of the notes.
-    core: Core<Latest<V>>,
+    core: Core<Latest<V>, A>,
     /// The labels that are bound.
     pub labels: Labels,
     // How many batches were sent whose lines were written.
@@ -35,12 +35,12 @@ pub struct Script<V: Say> {
     pub workers: u32,
 }
 
-impl<V: Say> Script<V> {
+impl<V: Say, A: Admit> Script<V, A> {
     ghost use Rattle.span_forest.specs.declared.span.Holder.TheVariants.{Handle};
     ghost use Rattle.span_forest.specs.Holders.{held_in};
     ghost use Rattle.span_forest.specs.Spans.{find};
     ghost use Rattle.span_stack.specs.Stack.{current};
-    ghost use Rattle.span_core.specs.World.{stack_of, empty_world};
+    ghost use Rattle.span_core.specs.World.{stack_of};
     ghost use Rattle.span_replay.specs.Answer.{answer_text};
     ghost use Rattle.span_replay.specs.Faults.{is_taken, parent_of_key};
     ghost use Rattle.span_replay.specs.Meaning.{turn_of};
@@ -49,36 +49,21 @@ impl<V: Say> Script<V> {
     ghost use Rattle.span_replay.specs.inside.Running.{core_in, labels_in, state_at, IsWritten, RunsAs, IsWrittenCall};
     ghost use Rattle.span_script.specs.Views.{parent_seen, new_seen, event_seen, operation_seen, NamesWorker, IsCall};
 
-    /// A script of which no call has run.
-    ///
-    /// The only error is `Memory`; the filters and the outlet are dropped then.
-    pub fn new(
-        alloc: Global,
-        checked: &Checked,
-        filters: Filters,
-        latest: Latest<V>,
-    ) -> Result<Script<V>, Fault>
-        requires { latest.sent ≡ [] }
-        ensures core { IfOk result (λ script. core_in script ≡ record {
-          limits = checked.now;
-          rules = filters.rules;
-          world = empty_world checked.now.workers;
-          sent = [];
-          times_full = 0;
-          forms = latest.forms;
-          name = None;
-        }) }
-        ensures labels { IfOk result (λ script. labels_in script ≡ []) }
-        ensures written { IfOk result (λ script. IsWritten script) }
-        ensures memory { IfErr result (λ fault. fault ≡ Fault.Memory) }
+    /// A script of which no call has run, on this registry. The workers are as many as its limits say.
+    pub fn new(alloc: Global, workers: u32, core: Core<Latest<V>, A>) -> Script<V, A>
+        requires fresh { core.sent ≡ [] }
+        requires workers { workers ≡ core.limits.workers }
+        requires some { 1 ≤ workers }
+        ensures core { core_in result ≡ core }
+        ensures labels { labels_in result ≡ [] }
+        ensures written { IsWritten result }
     {
-        let core = Core::new(alloc, checked, filters, latest)?;
-        Ok(Script {
+        Script {
             core,
             labels: Labels::new(alloc),
             written: 0,
-            workers: checked.limits().workers,
-        })
+            workers,
+        }
     }
 
     /// Runs a call or `find`, and appends its notes and its answer to the text.

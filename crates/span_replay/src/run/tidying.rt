@@ -18,7 +18,7 @@ use crate::run::answer::write_left;
 use crate::run::labels::Labels;
 use crate::run::script::Script;
 use span_id::Id;
-use span_layers::Say;
+use span_layers::{Admit, Say};
 use span_run::{Counted, RunFault, write_text};
 use span_script::SpanCall;
 use std::alloc::Global;
@@ -35,7 +35,7 @@ pub enum Remains {
 }
 
 /// Frees what a run kept, or leaves it to the system where that is asked for and the run ended well.
-pub fn let_go<V: Say>(script: Script<V>, remains: Remains, ended_well: bool) {
+pub fn let_go<V: Say, A: Admit>(script: Script<V, A>, remains: Remains, ended_well: bool) {
     if ended_well && remains == Remains::Left {
         mem::forget(script);
     } else {
@@ -45,9 +45,9 @@ pub fn let_go<V: Say>(script: Script<V>, remains: Remains, ended_well: bool) {
 
 /// Leaves what is entered, worker by worker, closes what the labels name, label by label, and writes how many spans
 /// are left open, which is the answer.
-pub fn tidy<V: Say, W: Write>(
+pub fn tidy<V: Say, A: Admit, W: Write>(
     alloc: Global,
-    script: &mut Script<V>,
+    script: &mut Script<V, A>,
     text: &mut Vec<u8>,
     output: &mut Counted<W>,
 ) -> Result<u64, RunFault>
@@ -65,9 +65,9 @@ pub fn tidy<V: Say, W: Write>(
 }
 
 /// Leaves what is entered, closes what these labels name, and writes how many spans are left open.
-fn leave_and_close<V: Say, W: Write>(
+fn leave_and_close<V: Say, A: Admit, W: Write>(
     alloc: Global,
-    script: &mut Script<V>,
+    script: &mut Script<V, A>,
     labels: &Labels,
     text: &mut Vec<u8>,
     output: &mut Counted<W>,
@@ -90,9 +90,9 @@ fn leave_and_close<V: Say, W: Write>(
 }
 
 /// Leaves what the workers have entered, worker by worker, the last entry first.
-fn leave_all<V: Say, W: Write>(
+fn leave_all<V: Say, A: Admit, W: Write>(
     alloc: Global,
-    script: &mut Script<V>,
+    script: &mut Script<V, A>,
     text: &mut Vec<u8>,
     output: &mut Counted<W>,
 ) -> Result<(), RunFault>
@@ -119,10 +119,10 @@ fn leave_all<V: Say, W: Write>(
 }
 
 /// Leaves what a worker has entered, the last entry first.
-fn leave<V: Say, W: Write>(
+fn leave<V: Say, A: Admit, W: Write>(
     alloc: Global,
     worker: u32,
-    script: &mut Script<V>,
+    script: &mut Script<V, A>,
     text: &mut Vec<u8>,
     output: &mut Counted<W>,
 ) -> Result<(), RunFault>
@@ -148,9 +148,9 @@ fn leave<V: Say, W: Write>(
 }
 
 /// Closes what the labels name, label by label, as often as it has handles.
-fn close_all<V: Say, W: Write>(
+fn close_all<V: Say, A: Admit, W: Write>(
     alloc: Global,
-    script: &mut Script<V>,
+    script: &mut Script<V, A>,
     labels: &Labels,
     text: &mut Vec<u8>,
     output: &mut Counted<W>,
@@ -176,10 +176,10 @@ fn close_all<V: Say, W: Write>(
 }
 
 /// Closes a span as often as it has handles.
-fn close<V: Say, W: Write>(
+fn close<V: Say, A: Admit, W: Write>(
     alloc: Global,
     id: Id,
-    script: &mut Script<V>,
+    script: &mut Script<V, A>,
     text: &mut Vec<u8>,
     output: &mut Counted<W>,
 ) -> Result<(), RunFault>
@@ -204,11 +204,11 @@ fn close<V: Say, W: Write>(
 }
 
 /// Makes a worker's call on these spans, one after another.
-fn call_all<V: Say, W: Write>(
+fn call_all<V: Say, A: Admit, W: Write>(
     call: SpanCall,
     worker: u32,
     ids: &[Id],
-    script: &mut Script<V>,
+    script: &mut Script<V, A>,
     text: &mut Vec<u8>,
     output: &mut Counted<W>,
 ) -> Result<(), RunFault>
@@ -236,11 +236,11 @@ fn call_all<V: Say, W: Write>(
 }
 
 /// Makes a worker's call on a span, and writes its notes and its answer.
-fn call_one<V: Say, W: Write>(
+fn call_one<V: Say, A: Admit, W: Write>(
     call: SpanCall,
     worker: u32,
     id: Id,
-    script: &mut Script<V>,
+    script: &mut Script<V, A>,
     text: &mut Vec<u8>,
     output: &mut Counted<W>,
 ) -> Result<(), RunFault>

@@ -1,10 +1,17 @@
-use Rattle.std.proofs.Common.{ap, ◌∙◌}
+use Rattle.std.proofs.Common.{ap, refl, ◌∙◌}
 use Rattle.span_outlet.specs.Latest.{LatestView}
 use Rattle.span_replay.specs.inside.Setup.{setup_state}
 use Rattle.span_replay.proofs.Openings.{opened_runs}
+use Rattle.span_replay.proofs.RestRuns.{made_runs}
+use Rattle.span_replay.proofs.Written.{empty_front}
 use Rattle.span_replay.proofs.run.replay.run_opened.Goals as goal
 
-pub returns-clause-runs : goal.returns-clause-runs
-returns-clause-runs g c =
+pub returns-in-Ok-clause-runs : goal.returns-in-Ok-clause-runs
+returns-in-Ok-clause-runs g c =
     let parts = c.split-checked.ensures in
-    λ hooks. opened_runs hooks _ _ _ _ _ _ _ _ _ _ _ _ _ parts.limits parts.rules (ap (λ (latest : LatestView). latest.forms) c.new-latest.ensures ∙ parts.forms) (c.run_rest.ensures.runs hooks (setup_state c.args.setup).stage)
+    λ hooks.
+    opened_runs hooks _ _ _ _ _ _ _ _ _ _ _ _ _ parts.limits parts.rules (ap (λ (latest : LatestView). latest.forms) c.with_formatters-latest.ensures ∙ parts.forms)
+    (made_runs hooks _ _ _ _ (setup_state c.args.setup).stage _ _ _ _ _ _ _ c.in-Ok.ensures.empty refl (c.run_rest.ensures.runs hooks (setup_state c.args.setup).stage))
+
+pub returns-in-Err-clause-runs : goal.returns-in-Err-clause-runs
+returns-in-Err-clause-runs g c = λ hooks. empty_front _ _
