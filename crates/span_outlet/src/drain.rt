@@ -75,6 +75,7 @@ impl<F: Drop> Drain<Formatters<F>> {
             told: Told {
                 forms,
                 lines: Vec::new(alloc),
+                spare: Vec::new(alloc),
                 refused: 0,
             },
             formatters,
@@ -194,6 +195,7 @@ impl<V: Drop> Drain<V> {
         let Told {
             forms: _,
             lines,
+            spare: _,
             refused: _,
         } = told;
         lines

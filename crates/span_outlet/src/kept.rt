@@ -58,6 +58,7 @@ impl<F: Drop> Kept<Formatters<F>> {
             told: Told {
                 forms,
                 lines: Vec::new(alloc),
+                spare: Vec::new(alloc),
                 refused: 0,
             },
             ready: false,
@@ -114,6 +115,7 @@ impl<V: Drop> Kept<V> {
         let Told {
             forms: _,
             lines,
+            spare: _,
             refused: _,
         } = told;
         lines

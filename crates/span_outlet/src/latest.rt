@@ -13,7 +13,7 @@ use crate::line::Line;
 use crate::outlet::Outlet;
 use crate::past::Past;
 use crate::posted::Posted;
-use crate::told::Told;
+use crate::told::{Told, recycle};
 use span_layers::{Formatters, Forms, Note, Say, Tellers};
 use std::alloc::{AllocError, Global};
 use std::marker::Model;
@@ -21,7 +21,7 @@ use std::marker::Model;
 /// An outlet that keeps no batch, and of the last one the lines of its notes.
 ///
 /// It always has room for one more batch. A note is missed as in a `Kept`, and `refused` counts those that were missed
-/// so far. `V` makes the texts.
+/// so far. `V` makes the texts, in buffers that are used again.
 #[derive(Drop)]
 pub struct Latest<V = Formatters> {
     past: Past,
@@ -73,6 +73,7 @@ impl<V: Drop> Latest<V> {
             told: Told {
                 forms,
                 lines: Vec::new(alloc),
+                spare: Vec::new(alloc),
                 refused: 0,
             },
             ready: false,
@@ -177,7 +178,7 @@ impl<V: Say> Latest<V> {
             ready,
             formatters,
         } = self;
-        told.lines.clear();
+        recycle(&mut told.lines, &mut told.spare);
         told.tell_all(&*formatters, *count, batch.notes.as_slice());
         *ready = false;
         *count += 1;

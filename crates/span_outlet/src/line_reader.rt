@@ -117,6 +117,7 @@ impl<F: Drop> LineReader<Formatters<F>> {
             told: Told {
                 forms,
                 lines: Vec::new(alloc),
+                spare: Vec::new(alloc),
                 refused: 0,
             },
             formatters,

@@ -6,8 +6,8 @@ ghost use Rattle.span_outlet.specs.inside.Posted.{plain_posted};
 
 use crate::batch::{Batch, Call, Reply};
 use crate::known_event::KnownEvent;
-use span_layers::Note;
 use span_known::KnownValue;
+use span_layers::Note;
 
 /// What was asked and answered, as clauses see it.
 #[derive(Drop)]

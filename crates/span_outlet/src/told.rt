@@ -1,6 +1,7 @@
 //! The telling of notes, one after another.
-ghost use Rattle.std.specs.Prelude.{◌≡◌, ◌+◌, ◌-◌, ◌^◌, ◌<◌, ◌≤◌, ◌∷◌, [], Some, IfSome, map, length, min};
+ghost use Rattle.std.specs.Prelude.{◌≡◌, ◌+◌, ◌-◌, ◌^◌, ◌<◌, ◌≤◌, ◌∷◌, [], Some, IfOk, IfSome, map, length, min};
 ghost use Rattle.span_layers.specs.Note.{plain_note};
+ghost use Rattle.span_layers.specs.Text.{text_of};
 ghost use Rattle.span_outlet.specs.Lines.{line_of, plain_line};
 ghost use Rattle.span_outlet.specs.Kept.{GainsLines};
 ghost use Rattle.span_outlet.specs.inside.Ends.{name_of_consumer};
@@ -9,22 +10,89 @@ ghost use Rattle.rtrb.specs.Ring.{received, known_items};
 
 use crate::line::Line;
 use crate::ring::Consuming;
-use span_layers::{Forms, Note, Say};
+use span_layers::{Form, Forms, Note, Say};
+use std::alloc::AllocError;
+
+// The most buffers that are kept for texts to come: as many as there may be layers, each of which may be told of a call.
+const MOST_SPARE: usize = 64;
+
+// A buffer with more room than this is freed with its text.
+const MOST_ROOM: usize = 4096;
+
+// A text keeps room for as many bytes more: fewer aren't worth that it is moved.
+const MOST_LEFT: usize = 16;
 
 /// The lines so far, and how many notes were missed.
 #[derive(Drop)]
 pub(crate) struct Told {
     pub(crate) forms: Forms,
     pub(crate) lines: Vec<Line>,
+    // Buffers of texts that are gone, for texts to come. What they still hold is of no account.
+    pub(crate) spare: Vec<Vec<u8>>,
     // Stays at its greatest value.
     pub(crate) refused: u64,
     // The range of a `u64`, known where it isn't read.
     ghost in_range: { refused ≤ 2 ^ 64 - 1 },
 }
 
+/// Lets go of the lines. The buffers of their texts are kept for texts to come, as long as they are few and small.
+pub(crate) fn recycle(lines: &mut Vec<Line>, spare: &mut Vec<Vec<u8>>)
+    ensures { lines.new.items ≡ [] }
+{
+    while let Some(line) = lines.pop() {
+        keep_buffer(spare, line);
+    }
+}
+
+// Keeps the buffer of a line's text, unless it is too large, or there are enough, or memory is refused.
+fn keep_buffer(spare: &mut Vec<Vec<u8>>, line: Line) {
+    let Line {
+        batch: _,
+        place: _,
+        layer: _,
+        text,
+    } = line;
+    if text.capacity() <= MOST_ROOM && spare.len() < MOST_SPARE {
+        let _ = spare.push(text);
+    }
+}
+
+// The text of a note in a form, in a spare buffer if there is one. The only error is that memory was refused.
+fn text_of_note<V: Say>(
+    spare: &mut Vec<Vec<u8>>,
+    formatters: &V,
+    form: Form,
+    note: &Note,
+) -> Result<Vec<u8>, AllocError>
+    ensures { IfOk result (λ text. text.items ≡ text_of form (plain_note note.now)) }
+{
+    match spare.pop() {
+        Some(mut text) => {
+            text.clear();
+            formatters.say_onto(form, note, &mut text)?;
+            Ok(text)
+        }
+        None => {
+            let mut text = formatters.say(form, note)?;
+            give_room_back(&mut text);
+            Ok(text)
+        }
+    }
+}
+
+// Gives back the room that a text leaves, if it is worth it.
+fn give_room_back(text: &mut Vec<u8>)
+    ensures { text.new.items ≡ text.old.items }
+{
+    if text.capacity() - text.len() > MOST_LEFT {
+        text.shrink_to_fit();
+    }
+}
+
 // The line of a note, if its layer has a form, its place fits and there is memory for its text.
 fn line_of_note<V: Say>(
     forms: &Forms,
+    spare: &mut Vec<Vec<u8>>,
     formatters: &V,
     batch: u64,
     place: usize,
@@ -34,8 +102,7 @@ fn line_of_note<V: Say>(
 {
     let form = forms.get(note.layer)?;
     let place = u32::try_from(place).ok()?;
-    let mut text = formatters.say(form, note).ok()?;
-    text.shrink_to_fit();
+    let text = text_of_note(spare, formatters, form, note).ok()?;
     Some(Line {
         batch,
         place,
@@ -62,7 +129,8 @@ impl Told {
             (map plain_line self.old.lines.items) self.old.refused
             (map plain_line self.new.lines.items) self.new.refused }
     {
-        let Some(line) = line_of_note(&self.forms, formatters, batch, place, note) else {
+        let Some(line) = line_of_note(&self.forms, &mut self.spare, formatters, batch, place, note)
+        else {
             self.miss();
             return;
         };

@@ -14,8 +14,8 @@ ghost use Rattle.span_core.specs.inside.Telling.{Knows};
 ghost use Rattle.span_core.specs.inside.Remembering.{Remembers};
 
 use crate::notes::layers::{is_wanted, told_layers};
-use crate::notes::{Happening, push_notes};
 use crate::notes::paths::{ToldPaths, same_text, seen_text};
+use crate::notes::{Happening, push_notes};
 use crate::recent::Recent;
 use span_forest::laws::{
     closing_list_begins_the_walk, held_ids_are_open, open_spans_are_counted, walks_end,
