@@ -27,6 +27,8 @@ pub mod Named
 pub mod Follows
 pub mod UsedUp
 pub mod Steady
+pub mod Summaries
+pub mod KeptSummaries
 pub mod Weights
 pub mod OutcomeCases
 mod Examples

@@ -210,6 +210,11 @@ find-filtered keep spans id there =
       | inr u ↦ absurd (false≢true (sym (ap is_some (find-dropped keep spans id u)) ∙ there))
     ]
 
+pub find-left : (old new : Spans) (id : ℕ) (holder : Holder) (j : ℕ) → new ≡ spans_left old id holder → IsOpen new j → find new j ≡ find (without_holder old id holder) j
+find-left old new id holder j is there =
+    let less = without_holder old id holder in
+    ap (λ spans. find spans j) is ∙ find-filtered (is_live less) less j (subst (λ spans. IsOpen spans j) is there)
+
 -- a holder less, and the spans that it leaves
 pub remembers_released : (old new : ForestView) (id : ℕ) (holder : Holder) (known : KnownPaths) → new.spans ≡ spans_left old.spans id holder → new.given ≡ old.given
     → ParentsOpen new.spans → WalksEnd old.spans → WalksEnd new.spans → Remembers old known → Remembers new known
@@ -222,8 +227,7 @@ remembers_released old new id holder known is given_is whole old_ends new_ends =
     less = without_holder old.spans id holder
 
     found : (j : ℕ) → IsOpen new.spans j → find new.spans j ≡ find less j
-    found j there =
-        ap (λ spans. find spans j) is ∙ find-filtered (is_live less) less j (subst (λ spans. IsOpen spans j) is there)
+    found j there = find-left old.spans new.spans id holder j is there
 
     was : (j : ℕ) → IsOpen new.spans j → IsOpen old.spans j
     was j there = IsOpen-changed (with_less holder) old.spans id j (subst IsSome (found j there) there)

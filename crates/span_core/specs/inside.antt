@@ -5,3 +5,4 @@ pub mod Given
 pub mod ClosingPaths
 pub mod Telling
 pub mod Remembering
+pub mod Summary

@@ -18,10 +18,12 @@ pub mod laws;
 mod notes;
 mod recent;
 mod stacks;
+mod summary;
 
 use crate::laws::{entries_are_counted_once, made_spans_are_open_or_closed};
 use crate::recent::Recent;
 use crate::stacks::empty_stacks;
+use crate::summary::Summary;
 use span_forest::laws::open_spans_are_counted;
 use span_forest::{Forest, Span};
 use span_id::{Checked, Fault, Id, Limits};
@@ -42,6 +44,7 @@ pub struct Core<O: Outlet, A = Admitters> {
     pub(crate) limits: Checked,
     pub(crate) forest: Forest,
     pub(crate) stacks: Vec<SpanStack>,
+    pub(crate) summary: Summary,
     pub(crate) rules: Rules,
     // How many calls were accepted, and how many of them made a span.
     pub(crate) calls: u64,
@@ -61,6 +64,7 @@ impl<O: Outlet, A> Model for Core<O, A> {
     ghost use Rattle.span_core.specs.History.{issued};
     ghost use Rattle.span_core.specs.inside.Sound.{IsSound};
     ghost use Rattle.span_core.specs.inside.Remembering.{Remembers};
+    ghost use Rattle.span_core.specs.inside.Summary.{IsSummary};
 
     ghost view = { λ s. record {
       limits = s.limits;
@@ -74,7 +78,8 @@ impl<O: Outlet, A> Model for Core<O, A> {
 
     ghost invariant = { λ s. IsSound s.limits s.forest (ids_of_each s.stacks.items) s.rules s.calls (O.sent s.outlet)
         × (s.made ≡ length (issued (O.sent s.outlet)))
-        × Remembers s.forest s.recent.paths };
+        × Remembers s.forest s.recent.paths
+        × IsSummary s.forest.spans (ids_of_each s.stacks.items) s.summary };
 }
 
 impl<O: Outlet + Drop, F: Drop> Core<O, Admitters<F>> {
@@ -135,6 +140,7 @@ impl<O: Outlet + Drop, A: Drop> Core<O, A> {
             limits: *checked,
             forest,
             stacks,
+            summary: Summary::none(alloc),
             rules,
             calls: 0,
             made: 0,
@@ -249,6 +255,7 @@ impl<O: Outlet, A: Drop> Core<O, A> {
             limits: _,
             forest: _,
             stacks: _,
+            summary: _,
             rules: _,
             calls: _,
             made: _,

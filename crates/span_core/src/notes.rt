@@ -7,7 +7,7 @@ ghost use Rattle.span_forest.specs.Path.{path_text};
 ghost use Rattle.span_outlet.specs.Request.{record_fields, request_of};
 ghost use Rattle.span_core.specs.Happening.{at_span, close_of, bits_in, notes_of, notes_of_all, path_at};
 ghost use Rattle.span_core.specs.inside.ClosingPaths.{IsChain};
-ghost use Rattle.span_core.specs.inside.Telling.{id_told, place_told, tail_told, text_told, told_to, notes_told, Knows};
+ghost use Rattle.span_core.specs.inside.Telling.{id_told, place_told, tail_told, text_told, told_to, IsSummarised, notes_told, Knows};
 ghost use Rattle.span_core.specs.inside.Remembering.{Remembers};
 
 pub(crate) mod closing;
@@ -65,9 +65,10 @@ pub(crate) enum Subject<'a> {
         parent: Option<Id>,
         name: &'a str,
     },
-    /// An event, told by a worker with this stack.
+    /// An event, told by a worker with this stack, which these blocks summarise.
     Event {
         stack: &'a SpanStack,
+        blocks: &'a [Bits],
         level: Level,
         message: &'a ArcStr,
     },
@@ -75,12 +76,13 @@ pub(crate) enum Subject<'a> {
 
 // Where a layer's path is read.
 fn place_of(forest: &Forest, subject: &Subject<'_>, layer: u32) -> Option<Id>
+    requires { IsSummarised forest.now.spans subject.now }
     ensures { result ≡ place_told forest.now.spans subject.now layer }
 {
     match subject {
         Subject::Span(id) => Some(*id),
         Subject::NewSpan { parent, .. } => *parent,
-        Subject::Event { stack, .. } => contextual_span(forest, stack, layer),
+        Subject::Event { stack, blocks, .. } => contextual_span(forest, stack, blocks, layer),
     }
 }
 
@@ -143,6 +145,7 @@ fn note(
 ) -> Result<Note, Fault>
     requires known { Knows (text_told what.now.subject) forest.now.spans paths.old }
     requires remembers { Remembers forest.now recent.old.paths }
+    requires summarised { IsSummarised forest.now.spans what.now.subject }
     ensures note { IfOk result (λ note. plain_note note ≡ told_to forest.now.spans what.now layer) }
     ensures known { OnOk result (Knows (text_told what.now.subject) forest.now.spans paths.new) }
     ensures remembers { Remembers forest.now recent.new.paths }
@@ -174,6 +177,7 @@ fn push_told(
 ) -> Result<(), Fault>
     requires known { Knows (text_told what.now.subject) forest.now.spans paths.old }
     requires remembers { Remembers forest.now recent.old.paths }
+    requires summarised { IsSummarised forest.now.spans what.now.subject }
     ensures notes { OnOk result (map plain_note notes.new.items ≡ map plain_note notes.old.items
         ++ notes_told rules.now forest.now.spans what.now) }
     ensures known { OnOk result (Knows (text_told what.now.subject) forest.now.spans paths.new) }
@@ -198,6 +202,7 @@ fn told(
     what: &Telling<'_>,
 ) -> Result<Vec<Note>, Fault>
     requires remembers { Remembers forest.now recent.old.paths }
+    requires summarised { IsSummarised forest.now.spans what.now.subject }
     ensures notes { IfOk result (λ notes. map plain_note notes.items
         ≡ notes_told rules.now forest.now.spans what.now) }
     ensures remembers { Remembers forest.now recent.new.paths }
@@ -218,6 +223,7 @@ fn told_to_some(
     what: &Telling<'_>,
 ) -> Result<Vec<Note>, Fault>
     requires remembers { Remembers forest.now recent.old.paths }
+    requires summarised { IsSummarised forest.now.spans what.now.subject }
     ensures notes { IfOk result (λ notes. map plain_note notes.items
         ≡ notes_told rules.now forest.now.spans what.now) }
     ensures remembers { Remembers forest.now recent.new.paths }

@@ -1,8 +1,9 @@
 -- Facts on the entries of a stack.
-use Rattle.std.proofs.Common.{◌≡◌, ℕ, Bool, true, false, not, cond, ◌||◌, ◌&&◌, List, [], ◌∷◌, ◌++◌, eqb, reverse, refl, sym, ap, ◌∙◌}
-use Rattle.std.specs.List.{filter, list_any}
+use Rattle.std.proofs.Common.{◌≡◌, ℕ, Bool, true, false, not, cond, ◌||◌, ◌&&◌, List, [], ◌∷◌, ◌++◌, eqb, length, reverse, take, drop, ◌≤◌, arith, refl, sym, ap, subst, ◌∙◌}
+use Rattle.std.specs.List.{filter, list_any, between}
 use Rattle.std.proofs.lemmas.Bool.{eqb-true, eq-eqb, false≢true}
-use Rattle.std.proofs.lemmas.List.{map-append, reverse-append}
+use Rattle.std.proofs.lemmas.List.{map-append, reverse-append, length-reverse, take-append-drop, take-take, take-map}
+use Rattle.std.proofs.lemmas.Slice.{between_is}
 use Rattle.std.proofs.lemmas.List.Elements.{filter-append, filter_agree}
 use Rattle.std.proofs.lemmas.List.Folds.{list_any-append}
 use Rattle.span_stack.specs.declared.entry.Entry.{Entry}
@@ -112,3 +113,44 @@ unflagged-push entries entry =
     first : (b : Bool) → reverse (ids_of (cond b (entry ∷ []) [])) ++ unflagged entries ≡ cond b (entry.id ∷ unflagged entries) (unflagged entries)
     first true = refl
     first false = refl
+
+-- of two parts, the upper one comes first
+unflagged-append : (below above : List Entry) → unflagged (below ++ above) ≡ unflagged above ++ unflagged below
+unflagged-append below above =
+    ap (λ l. reverse (ids_of l)) (filter-append (λ e. not e.duplicate) below above)
+    ∙ ap reverse (ids_of-append (filter (λ e. not e.duplicate) below) (filter (λ e. not e.duplicate) above))
+    ∙ reverse-append (ids_of (filter (λ e. not e.duplicate) below)) (ids_of (filter (λ e. not e.duplicate) above))
+
+-- the lowest entries are flagged rightly too
+AreFlagged-below : (before : List ℕ) (below above : List Entry) → AreFlagged before (below ++ above) → AreFlagged before below
+AreFlagged-below before [] above flagged = tt
+AreFlagged-below before (lowest ∷ below) above flagged =
+    (flagged.0, AreFlagged-below (lowest.id ∷ before) below above flagged.1)
+
+-- so those of them that aren't flagged are the walk of so many ids
+unflagged-take : (n : ℕ) (entries : List Entry) → AreFlagged [] entries → unflagged (take n entries) ≡ walk (take n (ids_of entries))
+unflagged-take n entries flagged =
+    unflagged-walk (take n entries)
+    (AreFlagged-below [] (take n entries) (drop n entries) (subst (AreFlagged []) (sym (take-append-drop n entries)) flagged))
+    ∙ ap walk (sym (take-map (λ (entry : Entry). entry.id) n entries))
+
+-- the walk of the entries below a place is that of the upper part, and then that of the part below
+pub walk-between : (from to : ℕ) (entries : List Entry) → from ≤ to → AreFlagged [] entries
+    → walk (take to (ids_of entries)) ≡ unflagged (between from to entries) ++ walk (take from (ids_of entries))
+walk-between from to entries order flagged =
+    let lower = take to entries in
+    sym (unflagged-take to entries flagged)
+    ∙ ap unflagged (sym (take-append-drop from lower))
+    ∙ unflagged-append (take from lower) (drop from lower)
+    ∙ ap (λ l. unflagged (drop from lower) ++ unflagged l) (take-take from to entries order)
+    ∙ (λ j. unflagged (sym (between_is entries from to) j) ++ unflagged-take from entries flagged j)
+
+-- no more of them than entries
+pub length-unflagged : (entries : List Entry) → length (unflagged entries) ≤ length entries
+length-unflagged entries = rw (length-reverse (ids_of (filter (λ e. not e.duplicate) entries))) (fewer entries)
+  where
+    fewer : (es : List Entry) → length (ids_of (filter (λ e. not e.duplicate) es)) ≤ length es
+    fewer [] = omega arith
+    fewer (entry ∷ above) =
+        let step = fewer above in
+        by_cases (entry.duplicate) (λ is. rw is (omega arith)) (λ isnt. rw isnt (omega arith))

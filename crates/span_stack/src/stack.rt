@@ -1,4 +1,4 @@
-ghost use Rattle.std.specs.Prelude.{◌≡◌, ℕ, ◌+◌, ◌^◌, ◌<◌, ◌≤◌, ◌==◌, ◌&&◌, true, false, not, [], ◌∷◌, ◌++◌, length, IsOk, IfErr, OnOk, OnErr, IfSome, IfNone, OnSome, MatchOption, is_some, slice_get};
+ghost use Rattle.std.specs.Prelude.{◌≡◌, ℕ, ◌+◌, ◌^◌, ◌<◌, ◌≤◌, ◌==◌, ◌&&◌, true, false, not, [], ◌∷◌, ◌++◌, length, IsOk, IfErr, OnOk, OnErr, IfSome, IfNone, OnSome, MatchOption, is_some, slice_get, take};
 ghost use Rattle.std.specs.Iterator.{YieldsFirst};
 ghost use Rattle.std.specs.Iterator.Runs.{YieldsInOrder};
 ghost use Rattle.span_stack.specs.inside.Entry.{ids_of, IsLastPlace};
@@ -149,6 +149,22 @@ impl SpanStack {
     {
         Walk {
             entries: self.entries.as_slice().iter(),
+        }
+    }
+
+    /// Those of the entries from one place to below another, counted from the lowest, that are no duplicates, topmost
+    /// first. So the walk of all entries below the second place is this one, and then that of those below the first.
+    ///
+    /// A walk to its end looks once at each entry between the places, and at no other.
+    pub fn walk_between(&self, from: usize, to: usize) -> Walk<'_>
+        requires order { from ≤ to }
+        requires within { to ≤ length self.now.ids }
+        ensures ids { words.walk (take to self.now.ids) ≡ result ++ words.walk (take from self.now.ids) }
+        ensures fits { length result < 2 ^ 64 }
+        ensures runs { YieldsInOrder (YieldsFirst {A = ℕ} (λ rest. rest)) (λ rest. rest) }
+    {
+        Walk {
+            entries: self.entries.as_slice()[from..to].iter(),
         }
     }
 

@@ -125,6 +125,8 @@ impl<O: Outlet, A> Core<O, A> {
             id,
             bits: leaving.bits,
         };
+        let stacks = self.stacks.as_slice();
+        self.summary.cut(stacks, worker, id);
         let Closes { ids, notes } = leave(
             &mut self.recent,
             &self.rules,

@@ -83,7 +83,14 @@ impl<O: Outlet, A: Admit> Core<O, A> {
             given,
         };
         let stacks = self.stacks.as_slice();
-        let told = event_told(&mut self.recent, &self.rules, &self.forest, stacks, &event)?;
+        let told = event_told(
+            &mut self.recent,
+            &self.rules,
+            &self.forest,
+            stacks,
+            &mut self.summary,
+            &event,
+        )?;
         put_told(&mut self.outlet, &mut self.recent, &event, told)?;
         self.calls += 1;
         Ok(())

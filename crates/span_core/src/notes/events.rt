@@ -1,19 +1,21 @@
 //! An event's call and its notes, in the span where each layer sees the caller.
-ghost use Rattle.std.specs.Prelude.{◌≡◌, ◌<◌, [], map, length, IfOk, IfErr, IfSome, slice_index_or};
+ghost use Rattle.std.specs.Prelude.{◌≡◌, ◌<◌, [], map, length, IfOk, IfErr, IfSome, IfNone, Some, ◌≤◌, take, slice_index_or};
 ghost use Rattle.std.specs.List.{find as first_that};
 ghost use Rattle.span_id.specs.Bits.{has_bit};
 ghost use Rattle.span_layers.specs.Note.{plain_note};
 ghost use Rattle.span_outlet.specs.Request.{request_of};
 ghost use Rattle.span_stack.specs.Stack.{walk, ids_of_each};
-ghost use Rattle.span_core.specs.Happening.{bits_in, notes_of};
+ghost use Rattle.span_core.specs.Happening.{bits_in, contextual_span as seen_in, notes_of};
 ghost use Rattle.span_core.specs.inside.Given.{IsKept};
 ghost use Rattle.span_core.specs.inside.Lent.{event_request, event_seen};
 ghost use Rattle.span_core.specs.inside.Remembering.{Remembers};
+ghost use Rattle.span_core.specs.inside.Summary.{Summarises, IsSummary};
 
 use crate::given::{GivenEvent, KeptEvent};
 use crate::notes::layers::is_told_to_none;
 use crate::notes::{Subject, Telling, told_to_some};
 use crate::recent::Recent;
+use crate::summary::{BLOCK, Summary};
 use span_forest::Forest;
 use span_id::{Bits, Fault, Id};
 use span_layers::{Kind, Note, Rules};
@@ -41,15 +43,18 @@ pub(crate) fn event_told(
     rules: &Rules,
     forest: &Forest,
     stacks: &[SpanStack],
+    summary: &mut Summary,
     event: &Event<'_>,
 ) -> Result<ToldEvent, Fault>
     requires worker { event.now.worker < length stacks.now }
     requires remembers { Remembers forest.now recent.old.paths }
+    requires summary { IsSummary forest.now.spans (ids_of_each stacks.now) summary.old }
     ensures notes { IfOk result (λ told. map plain_note told.notes.items
         ≡ notes_of rules.now event.now.worker
         (event_seen forest.now.spans (slice_index_or (ids_of_each stacks.now) event.now.worker []) event.now)) }
     ensures kept { IfOk result (λ told. IfSome told.kept (IsKept event.now.given.now)) }
     ensures remembers { Remembers forest.now recent.new.paths }
+    ensures summary { IsSummary forest.now.spans (ids_of_each stacks.now) summary.new }
     ensures memory { IfErr result (λ fault. fault ≡ Fault.Memory) }
 {
     if is_told_to_none(rules, event.bits, Kind::OnEvent) {
@@ -59,7 +64,8 @@ pub(crate) fn event_told(
         });
     }
     let kept = event.given.keep(recent.alloc)?;
-    let notes = event_notes(recent, rules, forest, stacks, event, &kept)?;
+    summary.extend(forest, stacks, event.worker);
+    let notes = event_notes(recent, rules, forest, stacks, summary, event, &kept)?;
     Ok(ToldEvent {
         notes,
         kept: Some(kept),
@@ -72,12 +78,14 @@ fn event_notes(
     rules: &Rules,
     forest: &Forest,
     stacks: &[SpanStack],
+    summary: &Summary,
     event: &Event<'_>,
     kept: &KeptEvent,
 ) -> Result<Vec<Note>, Fault>
     requires worker { event.now.worker < length stacks.now }
     requires kept { IsKept event.now.given.now kept.now }
     requires remembers { Remembers forest.now recent.old.paths }
+    requires summary { IsSummary forest.now.spans (ids_of_each stacks.now) summary.now }
     ensures notes { IfOk result (λ notes. map plain_note notes.items
         ≡ notes_of rules.now event.now.worker
         (event_seen forest.now.spans (slice_index_or (ids_of_each stacks.now) event.now.worker []) event.now)) }
@@ -91,6 +99,7 @@ fn event_notes(
         fields: &kept.fields,
         subject: Subject::Event {
             stack: &stacks[event.worker as usize],
+            blocks: summary.of(event.worker),
             level: event.given.meta.read().level,
             message: &kept.message,
         },
@@ -123,11 +132,44 @@ pub(crate) fn event_call(
     })
 }
 
-// Where a layer sees an event: the topmost entry, duplicates skipped, that the layer admits.
-pub(crate) fn contextual_span(forest: &Forest, stack: &SpanStack, layer: u32) -> Option<Id>
+// Where a layer sees an event: the topmost entry, duplicates skipped, that the layer admits. Blocks in which it admits
+// none are skipped.
+pub(crate) fn contextual_span(
+    forest: &Forest,
+    stack: &SpanStack,
+    blocks: &[Bits],
+    layer: u32,
+) -> Option<Id>
+    requires { Summarises forest.now.spans stack.now.ids blocks.now }
     ensures { result ≡ first_that (λ id. has_bit (bits_in forest.now.spans id) layer) (walk stack.now.ids) }
 {
-    stack.walk().find(|id| admits(forest, *id, layer))
+    let entries = stack.len();
+    if let Some(id) = topmost(forest, stack, blocks.len() * BLOCK, entries, layer) {
+        return Some(id);
+    }
+    for nth in (0..blocks.len()).rev() {
+        if !blocks[nth].has(layer) {
+            let from = nth * BLOCK;
+            if let Some(id) = topmost(forest, stack, from, from + BLOCK, layer) {
+                return Some(id);
+            }
+        }
+    }
+    None
+}
+
+// The topmost entry from one place to below another, duplicates skipped, that a layer admits. Where it admits none of
+// them, it sees what it sees below the first place.
+fn topmost(forest: &Forest, stack: &SpanStack, from: usize, to: usize, layer: u32) -> Option<Id>
+    requires order { from ≤ to }
+    requires within { to ≤ length stack.now.ids }
+    ensures some { IfSome result (λ id. Some id ≡ seen_in forest.now.spans (take to stack.now.ids) layer) }
+    ensures none { IfNone result (seen_in forest.now.spans (take to stack.now.ids) layer
+        ≡ seen_in forest.now.spans (take from stack.now.ids) layer) }
+{
+    stack
+        .walk_between(from, to)
+        .find(|id| admits(forest, *id, layer))
 }
 
 // Whether a layer admits a span that is open.

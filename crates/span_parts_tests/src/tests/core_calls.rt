@@ -3,6 +3,7 @@ mod acts;
 mod answers;
 mod chain;
 mod closing_lists;
+mod deep_stack;
 mod missed;
 mod on_a_ring;
 mod play;

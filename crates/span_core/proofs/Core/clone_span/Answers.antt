@@ -8,6 +8,7 @@ use Rattle.span_core.proofs.Deciding.{held_from}
 use Rattle.span_core.proofs.Accepting.{step_clone, sound_clone}
 use Rattle.span_core.proofs.Clauses.{accepted_by}
 use Rattle.span_core.proofs.Remembering.{one_more, remembers_changed}
+use Rattle.span_core.proofs.KeptSummaries.{summary_changed}
 use Rattle.span_core.proofs.Core.clone_span.Given as given
 use Rattle.span_core.proofs.Core.clone_span.Goals as goal
 use Rattle.span_core.proofs.Core.clone_span.Goals.{After-put}
@@ -24,6 +25,7 @@ invariant_of-self-2 g c = (
   sound_clone _ _ _ _ _ _ _ _ _ _ _ _ c.self.invariant.0 (within g c) (held g c) c.in-Ok.ensures.forest (search rules) c.in_ok-ask.ensures.sent c.put.ensures.sent,
   none_made _ _ _ _ _ c.self.invariant.1 refl c.in_ok-ask.ensures.sent c.put.ensures.sent,
   remembers_changed _ _ (with_more Handle) c.args.id _ (one_more Handle) c.in-Ok.ensures.forest c.self.invariant.2,
+  summary_changed _ _ _ _ (with_more Handle) c.args.id (one_more Handle) (ap (λ f. f.spans) c.in-Ok.ensures.forest) c.self.invariant.3,
 )
 
 pub returns-clause-accepted : goal.returns-clause-accepted

@@ -13,6 +13,7 @@ use Rattle.span_core.proofs.Accepting.{step_enter, sound_enter}
 use Rattle.span_core.proofs.Telling.{one_happening}
 use Rattle.span_core.proofs.Clauses.{accepted_by}
 use Rattle.span_core.proofs.Remembering.{remembers_entered}
+use Rattle.span_core.proofs.KeptSummaries.{summary_entered}
 use Rattle.span_core.proofs.Core.enter.Given as given
 use Rattle.span_core.proofs.Core.enter.Goals as goal
 use Rattle.span_core.proofs.Core.enter.Goals.{After-put}
@@ -41,6 +42,7 @@ invariant_of-self-2 g c = (
       c.keep_first.ensures c.in_ok-push_at.ensures.pushed (told g c) c.in_ok-ask.ensures.sent c.put.ensures.sent,
   none_made _ _ _ _ _ c.self.invariant.1 refl c.in_ok-ask.ensures.sent c.put.ensures.sent,
   remembers_entered _ _ c.in_ok-entering.entering.first c.args.id _ c.keep_first.ensures c.in_ok-notes.ensures.remembers,
+  summary_entered _ _ _ _ _ c.in_ok-entering.entering.first c.args.worker c.args.id (ap (λ f. f.spans) c.keep_first.ensures) (within g c) c.in_ok-push_at.ensures.pushed c.self.invariant.3,
 )
 
 pub returns-clause-accepted : goal.returns-clause-accepted

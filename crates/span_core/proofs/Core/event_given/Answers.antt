@@ -1,10 +1,14 @@
-use Rattle.std.proofs.Common.{◌≡◌, ◌∙◌, ◌<◌, List, [], ◌∷◌, length, get_or, ap, map, refl, arith}
+use Rattle.std.proofs.Common.{◌≡◌, ◌∙◌, ◌<◌, List, [], ◌∷◌, length, get_or, sym, ap, map, refl, subst, arith}
 use Rattle.span_id.specs.Meta.{PlainMeta}
 use Rattle.span_layers.specs.Note.{plain_note}
 use Rattle.span_layers.specs.Filter.{admission_set}
 use Rattle.span_stack.specs.Stack.{Stack, ids_of_each}
 use Rattle.span_core.specs.Happening.{event_told, notes_of_all}
 use Rattle.span_core.specs.inside.Given.{meta_given, text_given, fields_given}
+use Rattle.span_outlet.specs.Batch.{PlainBatch}
+use Rattle.span_core.specs.History.{issued}
+use Rattle.span_core.specs.inside.Sound.{IsSound}
+use Rattle.span_core.specs.inside.Summary.{IsSummary}
 use Rattle.span_core.specs.Core.{CoreView}
 use Rattle.span_core.proofs.Made.{none_made}
 use Rattle.span_core.proofs.Accepting.{sound_event}
@@ -22,12 +26,24 @@ notes_told g c =
 within : (g : given.Over) (c : After-self-1 g) → c.args.worker < length (ids_of_each c.self.inside.stacks.items)
 within g c = omega (arith, c.requires, ap (λ (v : CoreView). v.limits.workers) c.self.view_is, c.self.invariant.0.stacks_are)
 
+-- where the outlet is refused memory, the summary may have grown, and else nothing changes
+pub invariant_of-self-in_err-put_told : goal.invariant_of-self-in_err-put_told
+invariant_of-self-in_err-put_told g c =
+    let sent_is = c.in_err-put_told.ensures.unsent ∙ c.in_ok-ask.ensures.sent in (
+      subst (λ (sent : List PlainBatch). IsSound c.self.inside.limits c.self.inside.forest (ids_of_each c.self.inside.stacks.items) c.self.inside.rules c.self.inside.calls sent)
+          (sym sent_is) c.self.invariant.0,
+      c.self.invariant.1 ∙ ap (λ (sent : List PlainBatch). length (issued sent)) (sym sent_is),
+      rw c.in_err-put_told.ensures.paths c.in_ok-told.ensures.remembers,
+      subst (λ (ss : List Stack). IsSummary c.self.inside.forest.spans (ids_of_each ss) c.event_told.new.summary) c.as_slice-stacks.ensures.value c.in_ok-told.ensures.summary,
+    )
+
 pub invariant_of-self-2 : goal.invariant_of-self-2
 invariant_of-self-2 g c = (
   sound_event _ _ _ _ _ _ _ _ c.args.worker (meta_given c.args.given.now.meta) (text_given c.args.given.now.message) (fields_given c.args.given.now.fields) _ _ c.self.invariant.0 (within g c) (notes_told g c)
       refl c.in_ok-ask.ensures.sent c.in_ok-put_told.ensures.sent,
   none_made _ _ _ _ _ c.self.invariant.1 refl c.in_ok-ask.ensures.sent c.in_ok-put_told.ensures.sent,
   rw c.in_ok-put_told.ensures.paths c.in_ok-told.ensures.remembers,
+  subst (λ (ss : List Stack). IsSummary c.self.inside.forest.spans (ids_of_each ss) c.event_told.new.summary) c.as_slice-stacks.ensures.value c.in_ok-told.ensures.summary,
 )
 
 pub returns-clause-accepted : goal.returns-clause-accepted

@@ -24,6 +24,7 @@ use Rattle.span_core.proofs.Legal.{stands_itself}
 use Rattle.span_core.proofs.Made.{few_made, one_made}
 use Rattle.span_core.proofs.Clauses.{accepted_by}
 use Rattle.span_core.proofs.NewSpans.{sound_new, step_new, new_notes, not_open, not_in_history}
+use Rattle.span_core.proofs.KeptSummaries.{summary_new}
 use Rattle.span_core.proofs.Core.make.Given as given
 use Rattle.span_core.proofs.Core.make.Goals as goal
 use Rattle.span_core.proofs.Core.make.Goals.{After-put}
@@ -98,6 +99,7 @@ invariant_of-self-2 g c = (
       c.in_ok-call.ensures.call c.in_ok-ask.ensures.sent c.put.ensures.sent,
   one_made _ _ _ _ _ _ c.self.invariant.1 refl c.in_ok-ask.ensures.sent c.put.ensures.sent,
   c.in_ok-call.ensures.remembers,
+  summary_new _ _ _ _ c.args.new.now.id _ (ap (λ f. f.spans) (forest_is g c)) (gone g c) c.self.invariant.0.world c.self.invariant.3,
 )
 
 pub returns-clause-made : goal.returns-clause-made

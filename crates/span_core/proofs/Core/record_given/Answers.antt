@@ -13,6 +13,8 @@ use Rattle.span_core.proofs.Deciding.{held_from}
 use Rattle.span_core.proofs.Accepting.{step_record, sound_record}
 use Rattle.span_core.proofs.Telling.{one_happening}
 use Rattle.span_core.proofs.Clauses.{accepted_by}
+use Rattle.span_core.proofs.KeptSummaries.{summary_changed}
+use Rattle.span_core.proofs.Remembering.{more_fields}
 use Rattle.span_core.proofs.Core.record_given.Given as given
 use Rattle.span_core.proofs.Core.record_given.Goals as goal
 use Rattle.span_core.proofs.Core.record_given.Goals.{After-put}
@@ -35,6 +37,7 @@ invariant_of-self-2 g c = (
       c.in_ok-call.ensures.forest (told g c) c.in_ok-call.ensures.call c.in_ok-ask.ensures.sent c.put.ensures.sent,
   none_made _ _ _ _ _ c.self.invariant.1 refl c.in_ok-ask.ensures.sent c.put.ensures.sent,
   c.in_ok-call.ensures.remembers,
+  summary_changed _ _ _ _ _ c.args.id (more_fields (fields_given c.args.fields.now)) (ap (λ f. f.spans) c.in_ok-call.ensures.forest) c.self.invariant.3,
 )
 
 pub returns-clause-accepted : goal.returns-clause-accepted

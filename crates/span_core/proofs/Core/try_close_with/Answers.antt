@@ -9,6 +9,7 @@ use Rattle.span_core.proofs.Made.{none_made}
 use Rattle.span_core.proofs.Deciding.{held_from}
 use Rattle.span_core.proofs.Accepting.{step_close, sound_close}
 use Rattle.span_core.proofs.Clauses.{accepted_as, accepted_by}
+use Rattle.span_core.proofs.KeptSummaries.{summary_released}
 use Rattle.span_core.proofs.Core.try_close_with.Given as given
 use Rattle.span_core.proofs.Core.try_close_with.Goals as goal
 use Rattle.span_core.proofs.Core.try_close_with.Goals.{After-put}
@@ -29,6 +30,7 @@ invariant_of-self-2 g c = (
       c.in_ok-ids.ensures.ids c.in_ok-ids.ensures.forest c.in_ok-ids.ensures.notes c.in_ok-ask.ensures.sent c.put.ensures.sent,
   none_made _ _ _ _ _ c.self.invariant.1 refl c.in_ok-ask.ensures.sent c.put.ensures.sent,
   c.in_ok-ids.ensures.remembers,
+  summary_released _ _ _ _ c.args.id Handle (ap (λ f. f.spans) c.in_ok-ids.ensures.forest) c.self.invariant.3,
 )
 
 pub returns-clause-accepted : goal.returns-clause-accepted

@@ -7,4 +7,4 @@ use Rattle.span_core.proofs.Core.with_admitters.Goals as goal
 
 pub invariant_of-result : goal.invariant_of-result
 invariant_of-result g c =
-    (sound_start c.args.checked.now c.args.rules _ _ _ c.requires c.in_ok-forest.ensures.empty (c.in_ok-stacks.ensures.stacks ∙ ap (λ (l : Limits). replicate l.workers []) c.limits.ensures.value), ap (λ (sent : List PlainBatch). length (issued sent)) (sym c.requires), c.none.ensures c.in_ok-forest.forest)
+    (sound_start c.args.checked.now c.args.rules _ _ _ c.requires c.in_ok-forest.ensures.empty (c.in_ok-stacks.ensures.stacks ∙ ap (λ (l : Limits). replicate l.workers []) c.limits.ensures.value), ap (λ (sent : List PlainBatch). length (issued sent)) (sym c.requires), c.none.ensures c.in_ok-forest.forest, c.none-2.ensures _ _)

@@ -46,6 +46,10 @@ pub(crate) enum Act<'a> {
     Count,
     /// Below the span 1, each under the one before, the spans up to this id, whose handles are given back but the last.
     Grow(u64),
+    /// The spans from this id to another, each made under the one before and entered by the worker 0.
+    GoDown(u64, u64),
+    /// Those from this id down to another, left by it.
+    ComeUp(u64, u64),
     /// Whether the paths and the messages of all batches have so many owners.
     Owners(&'a [(usize, usize)]),
     /// Each call that takes an id, on each of these ids.

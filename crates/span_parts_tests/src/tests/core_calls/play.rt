@@ -5,6 +5,7 @@ use crate::tests::compare::equal;
 use crate::tests::core_calls::acts::{Act, perform};
 use crate::tests::core_calls::answers::{Answer, push_answer, push_lines};
 use crate::tests::core_calls::chain::grow;
+use crate::tests::core_calls::deep_stack::{come_up, go_down};
 use crate::tests::core_calls::sharing::are_shared;
 use crate::tests::layers::fixtures::{Plan, layers};
 use span_core::Core;
@@ -40,6 +41,8 @@ fn answer<V: Say>(
 ) -> Answer {
     match act {
         Act::Grow(length) => Answer::Right(grow(rt, alloc, core, *length)),
+        Act::GoDown(first, last) => Answer::Right(go_down(rt, alloc, core, (*first, *last))),
+        Act::ComeUp(first, last) => Answer::Right(come_up(rt, alloc, core, (*first, *last))),
         Act::Owners(owners) => Answer::Is(are_shared(core.outlet().batches(), owners)),
         _ => perform(rt, alloc, core, *worker, act),
     }

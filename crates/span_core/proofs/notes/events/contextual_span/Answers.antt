@@ -1,18 +1,17 @@
-use Rattle.std.proofs.Common.{◌≡◌, ◌∙◌, ℕ, Option, Some, None, option_map, refl, rules, tests}
-use Rattle.std.proofs.lemmas.Iterator.Search.{find_from_yields_List}
-use Rattle.std.proofs.lemmas.Iterator.Consumers.{YieldsList-from_first}
-use Rattle.span_id.specs.Bits.{has_bit}
-use Rattle.span_stack.specs.Stack.{walk}
-use Rattle.span_core.specs.Happening.{bits_in}
+use Rattle.std.proofs.Common.{◌≡◌, ◌∙◌, ◌<◌, ◌+◌, ◌*◌, ◌-◌, length, take, ap, sym, arith}
+use Rattle.std.proofs.lemmas.Option.{slice_get-get_or}
+use Rattle.span_core.specs.Happening.{contextual_span}
+use Rattle.span_core.proofs.Summaries.{seen_skipped}
 use Rattle.span_core.proofs.notes.events.contextual_span.Goals as goal
 
-as_it_is : (o : Option ℕ) → o ≡ option_map (λ x. x) o
-as_it_is None = refl
-as_it_is (Some x) = refl
-
-pub returns : goal.returns
-returns c =
-    as_it_is c.find.result
-    ∙ find_from_yields_List (λ id. has_bit (bits_in c.args.forest.now.spans id) c.args.layer) _ _ c.find.result c.find.ensures.ran
-    (YieldsList-from_first (λ x. x) (λ rest. rest) (walk c.args.stack.now.ids) c.walk.ensures.ids)
-    (λ x b q k. search (rules, tests))
+-- a block in which the layer admits none is skipped
+pub loop-nth-preserved : goal.loop-nth-preserved
+loop-nth-preserved c =
+    let ids = c.args.stack.now.ids in
+    let blocks = c.args.blocks.now in
+    let nth = c.loop-nth.nth - 1 in
+    let next : c.loop-nth.nth * 64 ≡ nth * 64 + 64 = omega (arith, c.loop-nth-test.true) in
+    let inside : nth < length blocks = omega (arith, c.loop-nth-test.true, c.loop-nth.auto.nth) in
+    c.loop-nth.invariant
+    ∙ ap (λ k. contextual_span c.args.forest.now.spans (take k ids) c.args.layer) next
+    ∙ seen_skipped c.args.forest.now.spans ids blocks nth c.args.layer _ c.requires (slice_get-get_or blocks nth _ inside) (sym c.has.ensures ∙ c.if-not-has.false)
