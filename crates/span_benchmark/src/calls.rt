@@ -1,4 +1,4 @@
-//! Requests on a registry in the thread of its one worker, under layers.
+//! Requests on a registry in the thread of its one worker, under three layers.
 ghost use Rattle.std.specs.Prelude.{◌≡◌, string_bytes};
 ghost use Rattle.std.specs.Result.{ForOk};
 ghost use Rattle.span_layers.specs.Note.{plain_note};
@@ -8,11 +8,10 @@ ghost use Rattle.span_layers.specs.Text.{text_of};
 mod caller;
 mod metas;
 mod parts;
-mod quiet_caller;
+pub mod quiet;
 mod requests;
-mod reused;
 
-use crate::calls::requests::{Manner, Plan, on_registry};
+use crate::calls::requests::on_registry;
 use crate::layers::{add, rule_of};
 use crate::outcome::Outcome;
 use crate::workload::Scale;
@@ -43,56 +42,10 @@ const LAYERS: [(FmtSpan, FmtSpan, Form, &[(&str, Level)]); 3] = [
     ),
 ];
 
-// Those of a program that is told little.
-const QUIET_LAYERS: [(FmtSpan, FmtSpan, Form, &[(&str, Level)]); 2] = [
-    (
-        FmtSpan::NONE,
-        FmtSpan::NONE,
-        Form::Compact,
-        &[("", Level::Info)],
-    ),
-    (
-        FmtSpan::NONE,
-        FmtSpan::NONE,
-        Form::Json,
-        &[("app::db", Level::Warn)],
-    ),
-];
-
-/// Makes requests most of whose calls are told to a layer.
+/// Makes the requests. The closures' contracts are what `Hooks::new` asks for.
 pub fn run<R: Wait>(rt: &R, alloc: Global, seed: u32, scale: Scale) -> Result<Outcome, Fault> {
-    let plan = Plan {
-        seed,
-        requests: scale.pick(20, 80_000),
-        manner: Manner::Told,
-    };
-    under(rt, alloc, plan, &LAYERS)
-}
-
-/// Makes requests most of whose calls are told to nobody.
-pub fn run_quietly<R: Wait>(
-    rt: &R,
-    alloc: Global,
-    seed: u32,
-    scale: Scale,
-) -> Result<Outcome, Fault> {
-    let plan = Plan {
-        seed,
-        requests: scale.pick(5, 90_000),
-        manner: Manner::Quiet,
-    };
-    under(rt, alloc, plan, &QUIET_LAYERS)
-}
-
-// Makes the requests under these layers. The closures' contracts are what `Hooks::new` asks for.
-fn under<R: Wait>(
-    rt: &R,
-    alloc: Global,
-    plan: Plan,
-    described: &[(FmtSpan, FmtSpan, Form, &[(&str, Level)])],
-) -> Result<Outcome, Fault> {
     let mut layers = Layers::new(alloc);
-    for (first, second, form, pairs) in described {
+    for (first, second, form, pairs) in LAYERS {
         let admit = Box::new(
             alloc,
             |rule: &Rule, meta: &Meta| -> bool
@@ -108,11 +61,11 @@ fn under<R: Wait>(
         )?;
         let rule = rule_of(alloc, pairs)?;
         let style = Style {
-            form: *form,
-            spans: *first | *second,
+            form,
+            spans: first | second,
         };
         let hooks = Hooks::new(admit, say);
         add(&mut layers, Layer { style, rule, hooks })?;
     }
-    on_registry(rt, alloc, plan, layers)
+    on_registry(rt, alloc, seed, scale.pick(20, 80_000), layers)
 }

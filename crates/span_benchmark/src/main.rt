@@ -95,7 +95,7 @@ fn made<R: Threads + Wait + Sync>(
         Workload::Far => far::run(alloc, seed, scale),
         Workload::Calls => Ok(calls::run(rt, alloc, seed, scale)?),
         Workload::Storms => storms::run(rt, alloc, seed, scale),
-        Workload::Quiet => Ok(calls::run_quietly(rt, alloc, seed, scale)?),
+        Workload::Quiet => Ok(calls::quiet::run(rt, alloc, seed, scale)?),
     }
 }
 

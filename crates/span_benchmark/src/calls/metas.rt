@@ -10,26 +10,6 @@ const NUMBER: u32 = 16;
 
 const LEVELS: [Level; 4] = [Level::Info, Level::Debug, Level::Warn, Level::Trace];
 
-// Those of the call sites of a quiet program: layers that admit `Info` are told of 3 of 16.
-const QUIET_LEVELS: [Level; 16] = [
-    Level::Warn,
-    Level::Info,
-    Level::Info,
-    Level::Debug,
-    Level::Debug,
-    Level::Debug,
-    Level::Debug,
-    Level::Debug,
-    Level::Debug,
-    Level::Debug,
-    Level::Trace,
-    Level::Trace,
-    Level::Trace,
-    Level::Trace,
-    Level::Trace,
-    Level::Trace,
-];
-
 /// Metas to pick from.
 #[derive(Drop)]
 pub struct Metas {
@@ -42,13 +22,6 @@ impl Metas {
     pub fn new(alloc: Global, dice: &mut Dice) -> Result<Metas, Fault> {
         let requests = table(alloc, dice, &REQUESTS)?;
         let steps = table(alloc, dice, &STEPS)?;
-        Ok(Metas { requests, steps })
-    }
-
-    /// Random ones of a quiet program. All requests are at `Info`.
-    pub fn quiet(alloc: Global, dice: &mut Dice) -> Result<Metas, Fault> {
-        let requests = sites(alloc, dice, &REQUESTS, &[Level::Info; 16])?;
-        let steps = sites(alloc, dice, &STEPS, &QUIET_LEVELS)?;
         Ok(Metas { requests, steps })
     }
 
@@ -70,29 +43,6 @@ fn table(alloc: Global, dice: &mut Dice, names: &[&'static str; 8]) -> Result<Ve
             name,
             target,
             level,
-        })?;
-    }
-    Ok(metas)
-}
-
-// A meta of each level, with a name of its own. What warns is of the database.
-fn sites(
-    alloc: Global,
-    dice: &mut Dice,
-    names: &[&'static str; 8],
-    levels: &[Level; 16],
-) -> Result<Vec<Meta>, Fault> {
-    let mut metas = Vec::new(alloc);
-    for level in levels {
-        let name = text(alloc, dice, names)?;
-        let target = match level {
-            Level::Warn => "app::db::pool",
-            _ => dice.word(&TARGETS),
-        };
-        metas.push(Meta {
-            name,
-            target: copy_text(alloc, target)?,
-            level: *level,
         })?;
     }
     Ok(metas)

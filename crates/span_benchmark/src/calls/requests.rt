@@ -1,9 +1,10 @@
 //! The registry with its worker and the reader of its lines, and the requests.
 ghost use Rattle.std.specs.Prelude.{◌≡◌, [], Some};
 
-use crate::calls::caller::Caller;
+use crate::calls::caller::{Caller, DEEPEST};
+use crate::calls::metas::Metas;
 use crate::calls::parts::{PLACES, Parts};
-use crate::calls::quiet_caller::QuietCaller;
+use crate::dice::Dice;
 use crate::outcome::Outcome;
 use span_id::{Checked, Fault};
 use span_layers::{Filters, Layers, Say};
@@ -14,37 +15,12 @@ use std::marker::Brand;
 use std::sync::Wait;
 use std::sync::ledger::{Blank, Ledger};
 
-/// What the calls of requests are like.
-#[derive(Clone, Copy)]
-pub enum Manner {
-    /// Spans of all levels, with texts made for each call.
-    Told,
-    /// Spans and events most of which are below the layers' levels, with texts in kept memory.
-    Quiet,
-}
-
-/// Which requests are made.
-#[derive(Clone, Copy)]
-pub struct Plan {
-    pub seed: u32,
-    pub requests: u32,
-    pub manner: Manner,
-}
-
-/// Who makes the calls of requests.
-pub trait Requester<H: Ledger, C: Ledger, S: Setup> {
-    /// Makes the calls of a request, which are fewer than the ring has places.
-    fn request<R: Wait>(&mut self, rt: &R, registry: &Registry<H, C, S, Ring>) -> Result<(), Fault>;
-
-    /// How many calls were accepted so far.
-    fn accepted(&self) -> u64;
-}
-
-/// Makes the requests on a registry with these layers.
+/// Makes so many requests on a registry with these layers.
 pub fn on_registry<R: Wait>(
     rt: &R,
     alloc: Global,
-    plan: Plan,
+    seed: u32,
+    requests: u32,
     layers: Layers,
 ) -> Result<Outcome, Fault> {
     let Parts {
@@ -57,7 +33,8 @@ pub fn on_registry<R: Wait>(
     run::<Brand, Brand, Brand, _, _>(
         rt,
         alloc,
-        plan,
+        seed,
+        requests,
         &checked,
         filters,
         ring,
@@ -72,7 +49,8 @@ pub fn on_registry<R: Wait>(
 fn run<H: Ledger, C: Ledger, S: Setup, V: Say + Drop, R: Wait>(
     rt: &R,
     alloc: Global,
-    plan: Plan,
+    seed: u32,
+    requests: u32,
     checked: &Checked,
     filters: Filters,
     ring: Ring,
@@ -94,34 +72,58 @@ fn run<H: Ledger, C: Ledger, S: Setup, V: Say + Drop, R: Wait>(
     let Some(worker) = workers.pop() else {
         unreachable!()
     };
+    let mut dice = Dice::new(seed, 20);
+    let metas = Metas::new(alloc, &mut dice)?;
+    let mut caller = Caller {
+        alloc,
+        worker,
+        inside: Vec::with_capacity(alloc, DEEPEST)?,
+        dice,
+        metas,
+    };
     let mut reader = reader;
-    match plan.manner {
-        Manner::Told => {
-            let mut caller = Caller::new(alloc, worker, plan.seed)?;
-            serve(rt, &registry, &mut caller, &mut reader, plan.requests)
-        }
-        Manner::Quiet => {
-            let mut caller = QuietCaller::new(alloc, worker, plan.seed)?;
-            serve(rt, &registry, &mut caller, &mut reader, plan.requests)
-        }
-    }
+    serve(rt, &registry, &mut caller, &mut reader, requests)
 }
 
 // Makes the requests, and reads the lines after each.
-fn serve<H: Ledger, C: Ledger, S: Setup, Q: Requester<H, C, S>, V: Say, R: Wait>(
+fn serve<H: Ledger, C: Ledger, S: Setup, V: Say, R: Wait>(
     rt: &R,
     registry: &Registry<H, C, S, Ring>,
-    caller: &mut Q,
+    caller: &mut Caller<H, C, S>,
     reader: &mut LineReader<V>,
     requests: u32,
 ) -> Result<Outcome, Fault> {
     let mut outcome = Outcome::new();
     for _ in 0..requests {
-        caller.request(rt, registry)?;
+        request(rt, registry, caller)?;
         read_all(reader, &mut outcome);
     }
-    outcome.count(caller.accepted(), 0);
+    outcome.count(caller.worker.accepted(), 0);
     Ok(outcome)
+}
+
+// A root, some turns inside it, and the way out.
+fn request<H: Ledger, C: Ledger, S: Setup, R: Wait>(
+    rt: &R,
+    registry: &Registry<H, C, S, Ring>,
+    caller: &mut Caller<H, C, S>,
+) -> Result<(), Fault> {
+    caller.open(rt, registry, true)?;
+    for _ in 0..caller.dice.below(16).saturating_add(4) {
+        caller.turn(rt, registry)?;
+    }
+    go_out(rt, registry, caller)
+}
+
+fn go_out<H: Ledger, C: Ledger, S: Setup, R: Wait>(
+    rt: &R,
+    registry: &Registry<H, C, S, Ring>,
+    caller: &mut Caller<H, C, S>,
+) -> Result<(), Fault> {
+    for _ in 0..DEEPEST {
+        caller.leave(rt, registry)?;
+    }
+    Ok(())
 }
 
 // Reads the lines of what stands in the ring.

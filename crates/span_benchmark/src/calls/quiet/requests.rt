@@ -1,0 +1,115 @@
+//! The registry of a quiet program, with its worker and the reader of its lines, and the requests.
+ghost use Rattle.std.specs.Prelude.{◌≡◌, [], Some};
+
+use crate::calls::parts::{PLACES, Parts};
+use crate::calls::quiet::caller::Caller;
+use crate::outcome::Outcome;
+use span_id::{Checked, Fault};
+use span_layers::{Filters, Layers, Say};
+use span_outlet::LineReader;
+use span_registry::{HANDLE_PARTS, Registry, Ring, SeatTable, Setup};
+use std::alloc::Global;
+use std::marker::Brand;
+use std::sync::Wait;
+use std::sync::ledger::{Blank, Ledger};
+
+/// Makes so many requests on a registry with these layers.
+pub fn on_registry<R: Wait>(
+    rt: &R,
+    alloc: Global,
+    seed: u32,
+    requests: u32,
+    layers: Layers,
+) -> Result<Outcome, Fault> {
+    let Parts {
+        checked,
+        ring,
+        tap,
+        table,
+    } = Parts::new(alloc)?;
+    let (filters, tellers) = layers.split();
+    run::<Brand, Brand, Brand, _, _>(
+        rt,
+        alloc,
+        seed,
+        requests,
+        &checked,
+        filters,
+        ring,
+        LineReader::new(alloc, tap, tellers),
+        Blank::new(HANDLE_PARTS),
+        Blank::new(1),
+        table,
+    )
+}
+
+// It is generic in the registry's names, so that its caller picks them.
+fn run<H: Ledger, C: Ledger, S: Setup, V: Say + Drop, R: Wait>(
+    rt: &R,
+    alloc: Global,
+    seed: u32,
+    requests: u32,
+    checked: &Checked,
+    filters: Filters,
+    ring: Ring,
+    reader: LineReader<V>,
+    handles: Blank,
+    calls: Blank,
+    table: SeatTable,
+) -> Result<Outcome, Fault>
+    requires workers { checked.now.workers ≡ 1 }
+    requires setup { (checked.now ≡ S.limits) × (filters.rules ≡ S.rules) × (Some ring.name ≡ S.ring) }
+    requires ring { ring.sent ≡ [] }
+    requires handles { (handles.name ≡ H.name) × (handles.parts ≡ H.parts) × (H.parts ≡ HANDLE_PARTS) }
+    requires calls { (calls.name ≡ C.name) × (calls.parts ≡ C.parts) × (C.parts ≡ checked.now.workers) }
+    requires table { (table ≡ S.table) × (table.words ≡ checked.now.slots) }
+{
+    let (registry, mut workers) = Registry::<H, C, S, Ring>::new(
+        alloc, checked, filters, ring, handles, calls, table,
+    )?;
+    let Some(worker) = workers.pop() else {
+        unreachable!()
+    };
+    let mut caller = Caller::new(alloc, worker, seed)?;
+    let mut reader = reader;
+    serve(rt, &registry, &mut caller, &mut reader, requests)
+}
+
+// Makes the requests, and reads the lines after each.
+fn serve<H: Ledger, C: Ledger, S: Setup, V: Say, R: Wait>(
+    rt: &R,
+    registry: &Registry<H, C, S, Ring>,
+    caller: &mut Caller<H, C, S>,
+    reader: &mut LineReader<V>,
+    requests: u32,
+) -> Result<Outcome, Fault> {
+    let mut outcome = Outcome::new();
+    for _ in 0..requests {
+        caller.request(rt, registry)?;
+        read_all(reader, &mut outcome);
+    }
+    outcome.count(caller.accepted(), 0);
+    Ok(outcome)
+}
+
+// Reads the lines of what stands in the ring.
+fn read_all<V: Say>(reader: &mut LineReader<V>, outcome: &mut Outcome) {
+    for _ in 0..PLACES {
+        if !reader.fill() {
+            break;
+        }
+        read_waiting(reader, outcome);
+    }
+}
+
+// Adds the lines that wait to the outcome. A batch has fewer than the bound.
+fn read_waiting<V>(reader: &mut LineReader<V>, outcome: &mut Outcome) {
+    for _ in 0..1_000 {
+        let Some(line) = reader.next() else {
+            break;
+        };
+        outcome.count(0, 1);
+        outcome.digest.number(u64::from(line.layer));
+        outcome.digest.text(line.text.as_slice());
+    }
+}
