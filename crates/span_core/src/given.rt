@@ -4,6 +4,7 @@ ghost use Rattle.std.specs.Arc.{arc_str_bytes};
 ghost use Rattle.span_id.specs.Meta.{plain_meta, plain_fields};
 ghost use Rattle.span_core.specs.inside.Given.{meta_given, fields_given, text_given, IsKept};
 
+use crate::recent::Recent;
 use span_id::{Fault, Field, Fields, Meta, SharedMeta};
 use span_recent::RecentMetas;
 use std::alloc::Global;
@@ -81,12 +82,13 @@ impl<'a> GivenFields<'a> {
     }
 
     // The fields, to be kept.
-    pub(crate) fn keep(&self, alloc: Global) -> Result<Fields, Fault>
+    pub(crate) fn keep(&self, recent: &mut Recent) -> Result<Fields, Fault>
         ensures fields { IfOk result (λ kept. kept ≡ fields_given self.now) }
+        ensures paths { recent.new.paths ≡ recent.old.paths }
         ensures memory { IfErr result (λ fault. fault ≡ Fault.Memory) }
     {
         match self {
-            GivenFields::Lent(fields) => Fields::copy_of(alloc, fields),
+            GivenFields::Lent(fields) => recent.copy_fields(fields),
             GivenFields::Shared(fields) => fields.share(),
         }
     }
@@ -117,12 +119,13 @@ impl<'a> GivenText<'a> {
 
 impl<'a> GivenEvent<'a> {
     // The message and the fields, to be kept.
-    pub(crate) fn keep(&self, alloc: Global) -> Result<KeptEvent, Fault>
+    pub(crate) fn keep(&self, recent: &mut Recent) -> Result<KeptEvent, Fault>
         ensures kept { IfOk result (λ kept. IsKept self.now kept) }
+        ensures paths { recent.new.paths ≡ recent.old.paths }
         ensures memory { IfErr result (λ fault. fault ≡ Fault.Memory) }
     {
-        let message = self.message.keep(alloc)?;
-        let fields = self.fields.keep(alloc)?;
+        let message = self.message.keep(recent.alloc)?;
+        let fields = self.fields.keep(recent)?;
         Ok(KeptEvent { message, fields })
     }
 }

@@ -1,17 +1,22 @@
 //! What a core keeps from call to call to spare allocations and walks.
+ghost use Rattle.std.specs.Prelude.{◌≡◌, IfOk, IfErr};
+ghost use Rattle.span_id.specs.Meta.{plain_fields};
 ghost use Rattle.span_forest.specs.Forest.{ForestView};
 ghost use Rattle.span_core.specs.inside.Remembering.{Remembers};
 
 use crate::known_paths::KnownPaths;
-use span_recent::RecentMetas;
+use span_id::{Fault, Field, Fields};
+use span_recent::{RecentFields, RecentMetas};
 use std::alloc::Global;
 
-/// The metas that were copied lately, to be shared where they come again, the paths that were told at spans, and a
-/// buffer that each other path is written into first.
+/// The metas that were copied lately, to be shared where they come again, the fields that were copied lately, to be
+/// written over where nobody else has them, the paths that were told at spans, and a buffer that each other path is
+/// written into first.
 #[derive(Drop)]
 pub(crate) struct Recent {
     pub(crate) alloc: Global,
     pub(crate) metas: RecentMetas,
+    fields: RecentFields,
     pub(crate) paths: KnownPaths,
     pub(crate) path: String,
 }
@@ -24,8 +29,23 @@ impl Recent {
         Recent {
             alloc,
             metas: RecentMetas::none(alloc),
+            fields: RecentFields::none(alloc),
             paths: KnownPaths::none(alloc, shares),
             path: String::new(alloc),
+        }
+    }
+
+    /// Equal fields of their own. Where the notes of later calls may share what a call tells, they are made in the memory
+    /// of an earlier copy that nobody else has any longer; where they may not, the caller is the only owner.
+    pub(crate) fn copy_fields(&mut self, fields: &[Field]) -> Result<Fields, Fault>
+        ensures fields { IfOk result (λ copy. copy ≡ plain_fields fields.now) }
+        ensures paths { self.new.paths ≡ self.old.paths }
+        ensures memory { IfErr result (λ fault. fault ≡ Fault.Memory) }
+    {
+        if self.paths.shares {
+            self.fields.copy(fields)
+        } else {
+            Fields::copy_of(self.alloc, fields)
         }
     }
 }

@@ -1,5 +1,5 @@
 //! Copies of texts and fields that a caller lent.
-ghost use Rattle.std.specs.Prelude.{◌≡◌, IfOk, IfErr, string_bytes};
+ghost use Rattle.std.specs.Prelude.{◌≡◌, IfOk, IfErr, OnOk, length, string_bytes, vec_len};
 ghost use Rattle.span_id.specs.Meta.{plain_fields};
 
 use crate::fault::Fault;
@@ -25,4 +25,29 @@ pub fn copy_fields(alloc: Global, fields: &[Field]) -> Result<Vec<Field>, Fault>
         copies.push_reserved(copy);
     }
     Ok(copies)
+}
+
+/// Writes equal fields over those of a list that is as long, place by place. The only error is `Memory`, after which any
+/// texts may stand in the list.
+pub(crate) fn write_fields(list: &mut Vec<Field>, fields: &[Field]) -> Result<(), Fault>
+    requires len { vec_len list.old ≡ length fields.now }
+    ensures fields { OnOk result (plain_fields list.new.items ≡ plain_fields fields.now) }
+    ensures memory { IfErr result (λ fault. fault ≡ Fault.Memory) }
+{
+    for (index, place) in list.iter_mut().enumerate() {
+        let field = &fields[index];
+        write_text(&mut place.key, &field.key)?;
+        write_text(&mut place.value, &field.value)?;
+    }
+    Ok(())
+}
+
+// Writes a text over the one that stands there: in its memory, where that is enough. The only error is `Memory`.
+fn write_text(place: &mut String, text: &str) -> Result<(), Fault>
+    ensures text { OnOk result (string_bytes place.new ≡ text.now) }
+    ensures memory { IfErr result (λ fault. fault ≡ Fault.Memory) }
+{
+    place.clear();
+    place.push_str(text)?;
+    Ok(())
 }

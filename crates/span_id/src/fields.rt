@@ -2,7 +2,7 @@
 ghost use Rattle.std.specs.Prelude.{◌≡◌, ◌++◌, [], IfOk, IfErr, OnOk, OnErr, length, map, nat_eq};
 ghost use Rattle.span_id.specs.Meta.{key_value, plain_fields};
 
-use crate::copies::copy_fields;
+use crate::copies::{copy_fields, write_fields};
 use crate::fault::Fault;
 use crate::meta::Field;
 use std::alloc::Global;
@@ -64,6 +64,26 @@ impl Fields {
     {
         let copies = copy_fields(alloc, fields)?;
         Fields::new(alloc, copies)
+    }
+
+    /// Equal fields of their own, in the same order, as `copy_of` makes them: in the memory of these, where they are as
+    /// many and have no other owner.
+    ///
+    /// The only error is `Memory`; these fields are dropped then.
+    pub fn copy_over(self, alloc: Global, fields: &[Field]) -> Result<Fields, Fault>
+        ensures fields { IfOk result (λ copies. copies ≡ plain_fields fields.now) }
+        ensures memory { IfErr result (λ fault. fault ≡ Fault.Memory) }
+    {
+        let mut these = self;
+        if let Some(list) = &mut these.shared {
+            if let Some(list) = Arc::get_mut(list) {
+                if list.len() == fields.len() {
+                    write_fields(list, fields)?;
+                    return Ok(these);
+                }
+            }
+        }
+        Fields::copy_of(alloc, fields)
     }
 
     /// One more owner of the same list: nothing is copied. The only error is `Memory`, where one more can't be counted.

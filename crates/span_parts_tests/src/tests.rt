@@ -5,6 +5,7 @@ mod forest;
 mod ids;
 mod layers;
 mod outlet;
+mod recent;
 mod seats;
 mod slots;
 mod stack;

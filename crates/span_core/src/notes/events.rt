@@ -63,7 +63,7 @@ pub(crate) fn event_told(
             kept: None,
         });
     }
-    let kept = event.given.keep(recent.alloc)?;
+    let kept = event.given.keep(recent)?;
     summary.extend(forest, stacks, event.worker);
     let notes = event_notes(recent, rules, forest, stacks, summary, event, &kept)?;
     Ok(ToldEvent {
@@ -121,7 +121,7 @@ pub(crate) fn event_call(
     let meta = event.given.meta.keep(&mut recent.metas)?;
     let kept = match kept {
         Some(kept) => kept,
-        None => event.given.keep(recent.alloc)?,
+        None => event.given.keep(recent)?,
     };
     let KeptEvent { message, fields } = kept;
     Ok(Call::Event {
