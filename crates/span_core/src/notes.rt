@@ -16,7 +16,7 @@ pub(crate) mod layers;
 pub(crate) mod new_spans;
 pub(crate) mod paths;
 
-use crate::recent::Recent;
+use crate::recent::{Recent, empty_list};
 use closing::push_closes;
 use events::contextual_span;
 use layers::{is_told_to_none, told_layers};
@@ -229,7 +229,7 @@ fn told_to_some(
     ensures remembers { Remembers forest.now recent.new.paths }
     ensures memory { IfErr result (λ fault. fault ≡ Fault.Memory) }
 {
-    let mut notes = Vec::new(recent.alloc);
+    let mut notes = empty_list(recent.alloc, &mut recent.spare);
     let mut paths = ToldPaths::none(recent.alloc);
     push_told(recent, &mut notes, &mut paths, rules, forest, what)?;
     Ok(notes)
@@ -341,7 +341,7 @@ pub(crate) fn exit_notes(
     if closing.is_empty() {
         return span_notes(recent, rules, forest, exit, &Fields::none());
     }
-    let mut notes = Vec::new(recent.alloc);
+    let mut notes = empty_list(recent.alloc, &mut recent.spare);
     let mut paths = ToldPaths::none(recent.alloc);
     push_notes(
         recent,

@@ -1,17 +1,19 @@
 //! What a core keeps from call to call to spare allocations and walks.
-ghost use Rattle.std.specs.Prelude.{◌≡◌, IfOk, IfErr};
+ghost use Rattle.std.specs.Prelude.{◌≡◌, [], IfOk, IfErr};
 ghost use Rattle.span_id.specs.Meta.{plain_fields};
 ghost use Rattle.span_forest.specs.Forest.{ForestView};
 ghost use Rattle.span_core.specs.inside.Remembering.{Remembers};
 
 use crate::known_paths::KnownPaths;
 use span_id::{Fault, Field, Fields};
+use span_layers::Note;
 use span_recent::{RecentFields, RecentMetas};
 use std::alloc::Global;
+use std::mem;
 
 /// The metas that were copied lately, to be shared where they come again, the fields that were copied lately, to be
-/// written over where nobody else has them, the paths that were told at spans, and a buffer that each other path is
-/// written into first.
+/// written over where nobody else has them, the paths that were told at spans, a buffer that each other path is written
+/// into first, and a list for the notes of a call to come, which has no memory where there is none.
 #[derive(Drop)]
 pub(crate) struct Recent {
     pub(crate) alloc: Global,
@@ -19,6 +21,7 @@ pub(crate) struct Recent {
     fields: RecentFields,
     pub(crate) paths: KnownPaths,
     pub(crate) path: String,
+    pub(crate) spare: Vec<Note>,
 }
 
 impl Recent {
@@ -32,6 +35,7 @@ impl Recent {
             fields: RecentFields::none(alloc),
             paths: KnownPaths::none(alloc, shares),
             path: String::new(alloc),
+            spare: Vec::new(alloc),
         }
     }
 
@@ -48,4 +52,13 @@ impl Recent {
             Fields::copy_of(self.alloc, fields)
         }
     }
+}
+
+/// An empty list for notes: the spare one, in place of which another without memory stands then.
+pub(crate) fn empty_list(alloc: Global, spare: &mut Vec<Note>) -> Vec<Note>
+    ensures { result.items ≡ [] }
+{
+    let mut list = mem::replace(spare, Vec::new(alloc));
+    list.clear();
+    list
 }

@@ -1,5 +1,5 @@
 //! The outlet that writes the notes of a batch at once, and keeps its lines until the next one.
-ghost use Rattle.std.specs.Prelude.{◌≡◌, ◌-◌, ◌^◌, ◌<◌, ◌++◌, ◌∷◌, [], true, None, Ok, IsOk, false, map, length};
+ghost use Rattle.std.specs.Prelude.{◌≡◌, ◌-◌, ◌^◌, ◌<◌, ◌++◌, ◌∷◌, [], true, None, Ok, IsOk, false, IfSome, map, length};
 ghost use Rattle.span_outlet.specs.Batch.{plain_batch};
 ghost use Rattle.span_outlet.specs.KnownEvent.{batch_of_known};
 ghost use Rattle.span_outlet.specs.Lines.{plain_line};
@@ -10,6 +10,7 @@ ghost use Rattle.span_outlet.specs.inside.Posted.{plain_posted};
 use crate::batch::Batch;
 use crate::known_event::KnownEvent;
 use crate::line::Line;
+use crate::lists::emptied;
 use crate::outlet::Outlet;
 use crate::past::Past;
 use crate::posted::Posted;
@@ -28,6 +29,8 @@ pub struct Latest<V = Formatters> {
     // How many batches were sent.
     count: u64,
     told: Told,
+    // The list of the notes that were told last, for notes to come.
+    list: Option<Vec<Note>>,
     ready: bool,
     formatters: V,
 }
@@ -76,6 +79,7 @@ impl<V: Drop> Latest<V> {
                 spare: Vec::new(alloc),
                 refused: 0,
             },
+            list: None,
             ready: false,
             formatters,
         }
@@ -136,7 +140,7 @@ impl<V: Say> Outlet for Latest<V> {
         ensures told { GainsLines self.old.forms (numbered_in (length self.old.sent, plain_batch batch))
             [] self.old.refused self.new.lines self.new.refused }
     {
-        self.tell(&Posted::of_batch(batch));
+        self.tell(Posted::of_batch(batch));
     }
 
     /// The lines are those of these notes, in order, but for the notes that are missed, which are counted.
@@ -151,8 +155,18 @@ impl<V: Say> Outlet for Latest<V> {
             (numbered_in (length self.old.sent, batch_of_known event notes.items))
             [] self.old.refused self.new.lines self.new.refused }
     {
-        self.tell(&Posted::of_event(event, notes));
+        self.tell(Posted::of_event(event, notes));
         Ok(())
+    }
+
+    /// The list of the notes that were told last, unless it was given out.
+    fn spare_notes(&mut self) -> Option<Vec<Note>>
+        ensures empty { IfSome result (λ list. list.items ≡ []) }
+        ensures same { self.new ≡ self.old }
+    {
+        let mut list = self.list.take()?;
+        list.clear();
+        Some(list)
     }
 
     /// None is kept.
@@ -163,18 +177,19 @@ impl<V: Say> Outlet for Latest<V> {
 
 impl<V: Say> Latest<V> {
     // One batch more is known, and its notes are told in place of those of the batch before.
-    fn tell(&mut self, batch: &Posted)
+    fn tell(&mut self, batch: Posted)
         requires countable { length self.old.sent < 2 ^ 64 - 1 }
-        ensures sent { self.new.sent ≡ self.old.sent ++ plain_posted batch.now ∷ [] }
+        ensures sent { self.new.sent ≡ self.old.sent ++ plain_posted batch ∷ [] }
         ensures forms { self.new.forms ≡ self.old.forms }
         ensures ready { self.new.ready ≡ false }
-        ensures told { GainsLines self.old.forms (numbered_in (length self.old.sent, plain_posted batch.now))
+        ensures told { GainsLines self.old.forms (numbered_in (length self.old.sent, plain_posted batch))
             [] self.old.refused self.new.lines self.new.refused }
     {
         let Latest {
             past,
             count,
             told,
+            list,
             ready,
             formatters,
         } = self;
@@ -182,6 +197,15 @@ impl<V: Say> Latest<V> {
         told.tell_all(&*formatters, *count, batch.notes.as_slice());
         *ready = false;
         *count += 1;
-        past.add(batch);
+        past.add(&batch);
+        let Posted { said: _, notes } = batch;
+        keep_list(list, notes);
+    }
+}
+
+// Keeps the list of notes that were told, without them, if it is worth it.
+fn keep_list(kept: &mut Option<Vec<Note>>, notes: Vec<Note>) {
+    if let Some(list) = emptied(notes) {
+        *kept = Some(list);
     }
 }

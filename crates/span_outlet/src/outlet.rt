@@ -1,4 +1,4 @@
-ghost use Rattle.std.specs.Prelude.{◌≡◌, ◌++◌, ◌∷◌, [], ◌<◌, ◌-◌, ◌^◌, ℕ, List, Option, Bool, true, false, IfOk, OnOk, IfErr, OnErr, length, if◌then◌else◌};
+ghost use Rattle.std.specs.Prelude.{◌≡◌, ◌++◌, ◌∷◌, [], ◌<◌, ◌-◌, ◌^◌, ℕ, List, Option, Bool, true, false, IfOk, OnOk, IfErr, OnErr, IfSome, length, if◌then◌else◌};
 ghost use Rattle.span_layers.specs.declared.form.Form.{Form};
 ghost use Rattle.span_outlet.specs.Batch.{PlainBatch, plain_batch};
 ghost use Rattle.span_outlet.specs.KnownEvent.{batch_of_known};
@@ -63,6 +63,19 @@ pub trait Outlet {
     {
         let _ = event;
         Err(notes)
+    }
+
+    /// An empty list for the notes of a batch to come, in the memory that an earlier one's notes had, if the outlet has
+    /// one to give. It changes nothing that contracts tell of the outlet.
+    fn spare_notes(&mut self) -> Option<Vec<Note>>
+        ensures empty { IfSome result (λ list. list.items ≡ []) }
+        ensures sent { sent self.new ≡ sent self.old }
+        ensures ready { ready self.new ≡ ready self.old }
+        ensures forms { forms self.new ≡ forms self.old }
+        ensures name { name self.new ≡ name self.old }
+        ensures times_full { times_full self.new ≡ times_full self.old }
+    {
+        None
     }
 
     /// Whether batches are kept as they are sent, for somebody to take. Then the notes of two batches share nothing, so

@@ -51,7 +51,7 @@ impl<O: Outlet, A> Core<O, A> {
         ensures refused { IfErr result (λ fault. IsRefused self.old (enter worker id) fault self.new) }
     {
         let entering = self.entering(worker, id)?;
-        ask(&mut self.outlet)?;
+        ask(&mut self.outlet, &mut self.recent.spare)?;
         let what = Happening {
             worker,
             kind: Kind::OnEnter,
@@ -118,7 +118,7 @@ impl<O: Outlet, A> Core<O, A> {
         ensures not_shown { OnErr result (state.new ≡ state.old) }
     {
         let leaving = self.leaving(worker, id)?;
-        ask(&mut self.outlet)?;
+        ask(&mut self.outlet, &mut self.recent.spare)?;
         let what = Happening {
             worker,
             kind: Kind::OnExit,

@@ -76,7 +76,7 @@ impl<O: Outlet, A: Admit> Core<O, A> {
         ensures refused { IfErr result (λ fault. IsRefused self.old (given_event worker given.now) fault self.new) }
     {
         self.telling(worker, given)?;
-        ask(&mut self.outlet)?;
+        ask(&mut self.outlet, &mut self.recent.spare)?;
         let event = Event {
             worker,
             bits: self.rules.bits(&self.admitters, given.meta.read()),

@@ -39,7 +39,7 @@ impl<O: Outlet, A> Core<O, A> {
         ensures refused { IfErr result (λ fault. IsRefused self.old (clone_span worker id) fault self.new) }
     {
         self.cloning(worker, id)?;
-        ask(&mut self.outlet)?;
+        ask(&mut self.outlet, &mut self.recent.spare)?;
         let Ok(()) = self.forest.keep(id, Holder::Handle) else {
             unreachable!();
         };
@@ -87,7 +87,7 @@ impl<O: Outlet, A> Core<O, A> {
             (record_fields worker id (fields_given fields.now)) fault self.new) }
     {
         let bits = self.recording(worker, id, fields)?;
-        ask(&mut self.outlet)?;
+        ask(&mut self.outlet, &mut self.recent.spare)?;
         let what = Happening {
             worker,
             kind: Kind::OnRecord,
@@ -153,7 +153,7 @@ impl<O: Outlet, A> Core<O, A> {
         ensures not_shown { OnErr result (state.new ≡ state.old) }
     {
         self.releasing(worker, id)?;
-        ask(&mut self.outlet)?;
+        ask(&mut self.outlet, &mut self.recent.spare)?;
         let Closes { ids, notes } = give_back(
             &mut self.recent,
             &self.rules,

@@ -175,7 +175,7 @@ impl<O: Outlet, A: Admit> Core<O, A> {
         ensures made { OnOk result (IsAccepted self.old (span_request new.now) (made new.now.id) self.new) }
         ensures refused { IfErr result (λ fault. IsRefused self.old (span_request new.now) fault self.new) }
     {
-        ask(&mut self.outlet)?;
+        ask(&mut self.outlet, &mut self.recent.spare)?;
         next_id_is_new(&self.forest);
         each_slot_has_one_open_id(&self.forest);
         open_spans_are_counted(&self.forest);

@@ -16,7 +16,7 @@ ghost use Rattle.span_core.specs.inside.Remembering.{Remembers};
 use crate::notes::layers::{is_wanted, told_layers};
 use crate::notes::paths::{ToldPaths, same_text, seen_text};
 use crate::notes::{Happening, push_notes};
-use crate::recent::Recent;
+use crate::recent::{Recent, empty_list};
 use span_forest::laws::{
     closing_list_begins_the_walk, held_ids_are_open, open_spans_are_counted, walks_end,
 };
@@ -74,7 +74,12 @@ pub(crate) fn close_notes(
     ensures remembers { Remembers forest.now recent.new.paths }
     ensures memory { IfErr result (λ fault. fault ≡ Fault.Memory) }
 {
-    let mut notes = Vec::new(recent.alloc);
+    let told = !closed.is_empty() && is_wanted(rules, Kind::OnClose);
+    let mut notes = if told {
+        empty_list(recent.alloc, &mut recent.spare)
+    } else {
+        Vec::new(recent.alloc)
+    };
     let mut paths = ToldPaths::none(recent.alloc);
     push_closes(
         recent, &mut notes, &mut paths, rules, forest, worker, closed,

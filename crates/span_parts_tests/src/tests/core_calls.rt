@@ -1,6 +1,7 @@
 //! The calls of a core run, with their answers and the lines of their notes.
 mod acts;
 mod answers;
+mod by_turns;
 mod chain;
 mod closing_lists;
 mod deep_stack;
