@@ -14,8 +14,8 @@ use std::sync::ArcStr;
 // How many places there are.
 const PLACES: usize = 256;
 
-// How many of them the layers of one span have.
-const LAYERS: u32 = 4;
+/// How many of them the layers of one span have.
+pub(crate) const LAYERS: u32 = 4;
 
 // The length of the longest text that is kept, in bytes: so what is kept takes little memory.
 const LONGEST: usize = 4096;

@@ -26,6 +26,7 @@ use crate::calls::room::ask;
 use crate::given::{GivenFields, GivenMeta};
 use crate::notes::Announced;
 use crate::notes::new_spans::{NewSpan, new_told};
+use crate::notes::paths::remember_new;
 use crate::recent::Recent;
 use span_forest::Forest;
 use span_forest::laws::{
@@ -229,6 +230,7 @@ fn add_span(
         unreachable!();
     };
     walks_end(forest);
+    remember_new(recent, forest, new.id, told.notes.as_slice());
     Ok(told)
 }
 

@@ -1,18 +1,19 @@
 //! The texts of the paths that a call tells its layers, each made once for all that see it.
-ghost use Rattle.std.specs.Prelude.{◌≡◌, ◌++◌, ◌∷◌, [], ℕ, List, string_bytes, IsTrue, IfOk, IfErr, OnOk, IfSome};
+ghost use Rattle.std.specs.Prelude.{◌≡◌, ◌++◌, ◌∷◌, [], ℕ, List, string_bytes, IsTrue, IfOk, IfErr, OnOk, IfSome, All};
 ghost use Rattle.std.specs.Arc.{arc_str_bytes};
 ghost use Rattle.span_id.specs.Bits.{has_bit};
-ghost use Rattle.span_forest.specs.Spans.{Spans};
-ghost use Rattle.span_forest.specs.Path.{path_text};
+ghost use Rattle.span_forest.specs.Spans.{Spans, IsOpen};
+ghost use Rattle.span_forest.specs.Path.{path, path_text};
 ghost use Rattle.span_core.specs.Happening.{path_at};
 ghost use Rattle.span_core.specs.inside.Telling.{Knows, KnowsPath};
 ghost use Rattle.span_core.specs.inside.Remembering.{Remembers};
 
-use crate::known_paths::KnownPaths;
+use crate::known_paths::{KnownPaths, LAYERS};
 use crate::recent::Recent;
 use span_forest::Forest;
 use span_forest::laws::each_slot_has_one_open_id;
 use span_id::{Bits, Fault, Id};
+use span_layers::Note;
 use std::alloc::Global;
 use std::sync::ArcStr;
 
@@ -267,6 +268,25 @@ fn remember(
         if forest.find(*id).is_some() {
             known.keep(alloc, layer, *id, text);
         }
+    }
+}
+
+// Remembers the paths that layers were told of a new span, as many as it has places: each layer reads its own there
+// from now on. Where notes can't share the texts, each would be a copy, and none is made ahead of its use.
+pub(crate) fn remember_new(recent: &mut Recent, forest: &Forest, id: Id, notes: &[Note])
+    requires open { IsOpen forest.now.spans id }
+    requires told { All (λ note. arc_str_bytes note.path ≡ path_text (path note.layer forest.now.spans id)) notes.now }
+    requires remembers { Remembers forest.now recent.old.paths }
+    ensures remembers { Remembers forest.now recent.new.paths }
+{
+    each_slot_has_one_open_id(forest);
+    let most = if recent.paths.shares {
+        LAYERS as usize
+    } else {
+        0
+    };
+    for note in notes.iter().take(most) {
+        recent.paths.keep(recent.alloc, note.layer, id, &note.path);
     }
 }
 
