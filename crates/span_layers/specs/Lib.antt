@@ -1,3 +1,4 @@
+pub mod Apart
 pub mod Filter
 pub mod FmtSpan
 pub mod Hooks

@@ -9,8 +9,8 @@ use std::simd::prelude::*;
 // The newline and the carriage return are below this.
 const COMPACT_BOUND: u8 = 14;
 
-// The control characters are below this.
-const JSON_BOUND: u8 = 32;
+/// The control characters are below this.
+pub(crate) const JSON_BOUND: u8 = 32;
 
 /// Whether the compact form writes the text as it is. It may say no of a text with a tab or another control character.
 #[inline]

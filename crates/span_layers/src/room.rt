@@ -1,9 +1,13 @@
 //! How long the text of a note is, so that it takes one allocation and no byte too many.
-ghost use Rattle.std.specs.Prelude.{◌≤◌};
+ghost use Rattle.std.specs.Prelude.{◌≤◌, ◌+◌, length};
 
-use crate::clean::{is_clean_compact, is_clean_json};
+use crate::clean::{JSON_BOUND, is_clean_compact, is_clean_json};
 use crate::note::{Kind, Note};
 use span_id::Level;
+use std::simd::prelude::*;
+
+// How many bytes are looked at at once.
+const BLOCK: usize = 32;
 
 // The blanks before the id, the worker and the path, and the `w`.
 const COMPACT_HEAD: usize = 4;
@@ -87,18 +91,38 @@ fn compact_len(text: &[u8]) -> usize {
     if is_clean_compact(text) {
         text.len()
     } else {
-        compact_len_of_each(text)
+        text.len().saturating_add(compact_escapes(text))
     }
 }
 
-fn compact_len_of_each(text: &[u8]) -> usize {
-    let mut len = text.len();
-    for byte in text {
+// How many bytes of a text the compact form writes as two.
+fn compact_escapes(text: &[u8]) -> usize {
+    let mut more = 0usize;
+    let mut at = 0;
+    while text.len() - at >= BLOCK {
+        more = more.saturating_add(compact_escapes_in(text, at));
+        at += BLOCK;
+    }
+    for byte in &text[at..] {
         if matches!(byte, b'\\' | b'\n' | b'\r') {
-            len = len.saturating_add(1);
+            more = more.saturating_add(1);
         }
     }
-    len
+    more
+}
+
+// The same of the block that begins at a place.
+#[inline(always)]
+fn compact_escapes_in(text: &[u8], at: usize) -> usize
+    requires { at + 32 ≤ length text.now }
+{
+    let block = u8x32::from_slice(&text[at..]);
+    let slash = block.simd_eq(u8x32::splat(b'\\'));
+    let newline = block.simd_eq(u8x32::splat(b'\n'));
+    let carriage_return = block.simd_eq(u8x32::splat(b'\r'));
+    (slash | newline | carriage_return)
+        .to_bitmask()
+        .count_ones() as usize
 }
 
 // How long JSON writes a text, without its quotes.
@@ -106,24 +130,60 @@ fn json_len(text: &[u8]) -> usize {
     if is_clean_json(text) {
         text.len()
     } else {
-        json_len_of_each(text)
+        text.len().saturating_add(json_escapes(text))
     }
 }
 
-fn json_len_of_each(text: &[u8]) -> usize {
-    let mut len: usize = 0;
-    for byte in text {
-        len = len.saturating_add(json_byte_len(*byte));
+// How many bytes more than a text's own JSON writes for it.
+fn json_escapes(text: &[u8]) -> usize {
+    let mut more = 0usize;
+    let mut at = 0;
+    while text.len() - at >= BLOCK {
+        more = more.saturating_add(json_escapes_in(text, at));
+        at += BLOCK;
     }
-    len
+    for byte in &text[at..] {
+        more = more.saturating_add(json_more(*byte));
+    }
+    more
 }
 
-// The bytes of a JSON escape: two where the byte has a letter, six of another control character.
-fn json_byte_len(byte: u8) -> usize {
+// The same of the block that begins at a place: one more for each byte that is escaped, and four beside it for each
+// control character that has no letter.
+#[inline(always)]
+fn json_escapes_in(text: &[u8], at: usize) -> usize
+    requires { at + 32 ≤ length text.now }
+{
+    let block = u8x32::from_slice(&text[at..]);
+    let slash = block.simd_eq(u8x32::splat(b'\\'));
+    let quote = block.simd_eq(u8x32::splat(b'"'));
+    let low = block.simd_lt(u8x32::splat(JSON_BOUND));
+    let escaped = (slash | quote | low).to_bitmask().count_ones() as usize;
+    let controls = low.to_bitmask();
+    if controls == 0 {
+        return escaped;
+    }
+    escaped.saturating_add(4 * (controls & !lettered(block)).count_ones() as usize)
+}
+
+// The control characters of a block whose escape is a letter: backspace, tab, newline, form feed and carriage return.
+#[inline(always)]
+fn lettered(block: u8x32) -> u64 {
+    let backspace = block.simd_eq(u8x32::splat(8));
+    let tab = block.simd_eq(u8x32::splat(b'\t'));
+    let newline = block.simd_eq(u8x32::splat(b'\n'));
+    let form_feed = block.simd_eq(u8x32::splat(12));
+    let carriage_return = block.simd_eq(u8x32::splat(b'\r'));
+    (backspace | tab | newline | form_feed | carriage_return).to_bitmask()
+}
+
+// By how many bytes a byte's JSON escape is longer: one where the escape has a letter, five of another control
+// character.
+fn json_more(byte: u8) -> usize {
     match byte {
-        b'"' | b'\\' | b'\n' | b'\r' | b'\t' | 8 | 12 => 2,
-        0..32 => 6,
-        _ => 1,
+        b'"' | b'\\' | b'\n' | b'\r' | b'\t' | 8 | 12 => 1,
+        0..32 => 5,
+        _ => 0,
     }
 }
 

@@ -1,12 +1,12 @@
-use Rattle.std.proofs.Common.{◌≡◌, ◌++◌, [], ◌∷◌, map, length, sym, ap, ◌∙◌, arith}
-use Rattle.std.specs.Prelude.{ℕ, Bool, ◌==◌}
+use Rattle.std.proofs.Common.{◌≡◌, ◌++◌, [], ◌∷◌, map, length, ap, ◌∙◌, arith}
+use Rattle.std.specs.Prelude.{ℕ, ◌==◌}
 use Rattle.std.proofs.lemmas.List.{length-map, map-append}
 use Rattle.span_id.specs.Bits.{has_bit}
 use Rattle.span_layers.specs.declared.filters.Filter as declared
 use Rattle.span_layers.specs.declared.note.Kind.{Kind}
 use Rattle.span_layers.specs.Filter.{Filter, filter_of}
 use Rattle.span_layers.specs.FmtSpan.{bits_of, is_wanted}
-use Rattle.span_layers.specs.inside.Wanting.{AreWanted, mask_of, with_bit}
+use Rattle.span_layers.specs.inside.Wanting.{mask_of, with_bit}
 use Rattle.span_layers.proofs.Masks.{added_wanted}
 use Rattle.span_layers.proofs.layers.push_filter.Goals as goal
 

@@ -1,0 +1,75 @@
+//! How the rules of layers are shown: as a derived `Debug` shows the filters alone, whatever is kept beside them.
+
+use crate::tests::compare::same;
+use crate::tests::layers::fixtures::{Plan, Wanted, add, layer_with};
+use span_id::Level;
+use span_layers::{ByForm, ByRule, FmtSpan, Form, Hooks, Layer, Layers, Rule};
+use std::alloc::Global;
+use std::process::Abort;
+
+/// The filters alone, under the names that are shown.
+#[derive(Debug, Drop)]
+struct Rules {
+    filters: Vec<Filter>,
+}
+
+#[derive(Debug, Drop)]
+struct Filter {
+    rule: Rule,
+    spans: FmtSpan,
+}
+
+static PLANS: [Plan<'static>; 4] = [
+    (Form::Compact, Wanted::All, "", Level::Trace),
+    (Form::Json, Wanted::NewAndClose, "app", Level::Info),
+    (Form::Compact, Wanted::None, "a \"b\"\n", Level::Error),
+    (Form::Json, Wanted::EnterAndExit, "\u{e9}", Level::Debug),
+];
+
+/// The layer of this number.
+fn layer_of(rt: &impl Abort, alloc: Global, number: usize) -> Layer<ByRule, ByForm> {
+    let plan = &PLANS[number % PLANS.len()];
+    layer_with(rt, alloc, plan, Hooks::by_rule_and_form())
+}
+
+fn layers_of(rt: &impl Abort, alloc: Global, count: usize) -> Layers<ByRule, ByForm> {
+    let mut layers = Layers::new(alloc);
+    for number in 0..count {
+        add(rt, &mut layers, layer_of(rt, alloc, number));
+    }
+    layers
+}
+
+fn rules_of(rt: &impl Abort, alloc: Global, count: usize) -> Rules {
+    let mut filters = Vec::new(alloc);
+    for number in 0..count {
+        let Layer { style, rule, .. } = layer_of(rt, alloc, number);
+        let spans = style.spans;
+        filters.push(Filter { rule, spans }).expect(rt, "memory");
+    }
+    Rules { filters }
+}
+
+#[test]
+fn rules_are_shown_by_their_filters(rt: HostRuntime) {
+    for count in [0, 1, 2, 64] {
+        are_shown(&rt, rt.alloc(), count);
+        are_shown_on_lines(&rt, rt.alloc(), count);
+    }
+}
+
+fn are_shown(rt: &impl Abort, alloc: Global, count: usize) {
+    let (filters, _) = layers_of(rt, alloc, count).split();
+    let rules = rules_of(rt, alloc, count);
+    let shown = format!(in alloc; "{:?}", filters.rules).expect(rt, "memory");
+    let want = format!(in alloc; "{rules:?}").expect(rt, "memory");
+    same(rt, shown.as_str(), want.as_str(), count);
+}
+
+fn are_shown_on_lines(rt: &impl Abort, alloc: Global, count: usize) {
+    let (filters, _) = layers_of(rt, alloc, count).split();
+    let rules = rules_of(rt, alloc, count);
+    let shown = format!(in alloc; "{:#?}", filters.rules).expect(rt, "memory");
+    let want = format!(in alloc; "{rules:#?}").expect(rt, "memory");
+    same(rt, shown.as_str(), want.as_str(), count);
+}
