@@ -1,5 +1,5 @@
 -- The value of a key: the last one that the text gives.
-use Rattle.std.proofs.Common.{◌≡◌, ℕ, List, [], ◌∷◌, Bool, true, false, true≢false, cond, Option, Some, None, option_map, Bor, refl, sym, ap, ◌∙◌, bytes_eq, subst}
+use Rattle.std.proofs.Common.{◌≡◌, ℕ, List, Bool, true, false, true≢false, cond, Option, Some, None, option_map, Bor, refl, sym, ap, ◌∙◌, bytes_eq, subst}
 use Rattle.std.proofs.lemmas.Slice.Eq.{bytes_eq-Decides}
 use Rattle.std.specs.declared.alloc.Global.{Global}
 use Rattle.json.specs.Json as json

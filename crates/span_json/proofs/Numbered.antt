@@ -1,5 +1,5 @@
 -- Numbers in range.
-use Rattle.std.proofs.Common.{◌≡◌, ℕ, ◌+◌, ◌==◌, ◌<◌, ◌≤◌, List, [], ◌∷◌, length, drop, get_or, Bool, true, false, true≢false, Option, Some, None, option_and_then, option_map, Bor, refl, sym, ap, ◌∙◌, arith}
+use Rattle.std.proofs.Common.{◌≡◌, ℕ, ◌+◌, ◌==◌, ◌<◌, ◌≤◌, List, ◌∷◌, length, drop, get_or, Bool, true, false, true≢false, Option, Some, None, option_and_then, option_map, Bor, refl, sym, ap, ◌∙◌}
 use Rattle.std.specs.Prelude.{is_some, slice_index}
 use Rattle.std.proofs.lemmas.List.{drop_more, drop_all}
 use Rattle.std.specs.declared.alloc.Global.{Global}
@@ -7,7 +7,7 @@ use Rattle.fast_float.specs.Text.{Parts, scan}
 use Rattle.json.specs.Json as json
 use Rattle.json.specs.Value.{value_view, items_view, members_view}
 use Rattle.json.specs.declared.value.Value.{Value}
-use Rattle.serde_json.specs.Data.{Num, Data, Items, item, Members, no_members, put}
+use Rattle.serde_json.specs.Data.{Data, Items, item, Members, no_members, put}
 use Rattle.serde_json.specs.Read.{number_of, number_from, of_json, of_items, of_members}
 
 pub of_negative : (s : List ℕ) (p : Parts) → (slice_index s 0 == 45) ≡ true → p ≡ scan (drop 1 s) → number_from true p ≡ number_of s

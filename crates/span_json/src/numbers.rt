@@ -6,7 +6,10 @@ ghost use Rattle.serde_json.specs.Data.{no_members};
 ghost use Rattle.json.specs.Value.{value_view, items_view, members_view};
 
 use fast_float::Numeral;
-use json::Value;
+use json::{Reader, Scratch, Token, Value};
+
+// A number of fewer bytes with no exponent is in its range.
+const SURELY_IN_RANGE: usize = 300;
 
 // The number, where it is written in digits alone and below 2^64.
 pub(crate) fn whole_number(text: &str) -> Option<u64>
@@ -69,6 +72,30 @@ fn is_negative_in_range(numeral: &Numeral<'_>) -> bool
         }
     }
     numeral.to_float::<f64>(true).is_finite()
+}
+
+/// Whether a number of a text is out of its range, as its tokens tell. Where the scratch has no room for them, none is.
+pub(crate) fn has_number_out_of_range(text: &str, scratch: &mut Scratch) -> bool {
+    let Ok(mut reader) = Reader::new(text, scratch) else {
+        return false;
+    };
+    while let Some(token) = reader.next() {
+        if let Token::Number(number) = token {
+            if may_be_out_of_range(number) && !is_in_range(number) {
+                return true;
+            }
+        }
+    }
+    false
+}
+
+// Whether it is worth a closer look.
+fn may_be_out_of_range(number: &str) -> bool {
+    number.len() >= SURELY_IN_RANGE
+        || number
+            .as_bytes()
+            .iter()
+            .any(|&byte| byte == b'e' || byte == b'E')
 }
 
 /// Whether all numbers of a value are in their ranges.

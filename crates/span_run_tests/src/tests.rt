@@ -2,6 +2,7 @@
 mod compare;
 mod faults;
 mod lines;
+mod numbers;
 mod replay;
 mod script;
 mod storm;

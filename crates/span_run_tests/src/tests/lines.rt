@@ -64,7 +64,7 @@ fn asks_the_same(
 }
 
 /// Whether a line's op is the same.
-fn has_the_same_op(
+pub(crate) fn has_the_same_op(
     rt: &impl Abort,
     alloc: Global,
     line: &[u8],

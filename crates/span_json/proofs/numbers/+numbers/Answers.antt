@@ -1,4 +1,4 @@
-use Rattle.std.proofs.Common.{rules, ◌≡◌, true, sym, ◌∙◌}
+use Rattle.std.proofs.Common.{rules, ◌≡◌, true}
 use Rattle.std.specs.Prelude.{is_some}
 use Rattle.serde_json.specs.Read.{of_json}
 use Rattle.json.specs.Value.{value_view}

@@ -1,6 +1,6 @@
 use Rattle.std.proofs.Common.{◌≡◌, ◌==◌, ◌∙◌, true, false, sym, ap, option_and_then, drop, take_all, length-drop, arith}
 use Rattle.fast_float.specs.Text.{scan}
-use Rattle.std.specs.Prelude.{is_some, slice_index}
+use Rattle.std.specs.Prelude.{slice_index}
 use Rattle.serde_json.specs.Find.{as_u64}
 use Rattle.serde_json.specs.Read.{number_of}
 use Rattle.span_json.proofs.Numbered.{of_negative, of_unsigned}

@@ -1,4 +1,4 @@
-use Rattle.std.proofs.Common.{rules, ◌≡◌, true, false, [], sym, ◌∙◌}
+use Rattle.std.proofs.Common.{rules, ◌≡◌, true, [], sym, ◌∙◌}
 use Rattle.std.specs.Prelude.{is_some}
 use Rattle.serde_json.specs.Read.{of_json}
 use Rattle.json.specs.Reads.{token_of}
