@@ -9,8 +9,6 @@ ghost use Rattle.span_outlet.specs.Drain.{TakesBatch};
 
 use crate::layer_lines::LayerLines;
 use crate::line::Line;
-use crate::lists::Giving;
-use crate::posted::Posted;
 use crate::ring::{Consuming, Ring, Tap};
 use crate::told::Told;
 use span_layers::{Formatters, Say, Tellers};
@@ -34,7 +32,6 @@ pub struct Step {
 #[derive(Drop)]
 pub struct Drain<V = Formatters> {
     consumer: Consuming,
-    lists: Giving,
     taken: u64,
     told: Told,
     formatters: V,
@@ -70,11 +67,10 @@ impl<F: Drop> Drain<Formatters<F>> {
     pub fn new(alloc: Global, tap: Tap, tellers: Tellers<F>) -> Drain<Formatters<F>>
         ensures { result ≡ record { name = tap; forms = tellers.forms; taken = []; lines = []; refused = 0 } }
     {
-        let Tap { consumer, lists } = tap;
+        let Tap { consumer } = tap;
         let Tellers { forms, formatters } = tellers;
         Drain {
             consumer,
-            lists,
             taken: 0,
             told: Told {
                 forms,
@@ -97,7 +93,6 @@ impl<V: Say> Drain<V> {
     {
         let Drain {
             consumer,
-            lists,
             taken,
             told,
             formatters,
@@ -109,12 +104,9 @@ impl<V: Say> Drain<V> {
         told.tell_all(&*formatters, *taken, batch.notes.as_slice());
         *taken += 1;
         let more = told.lines.len() - lines;
-        let refused = batch.notes.len() - more;
-        let Posted { said: _, notes } = batch;
-        lists.give(notes);
         Some(Step {
             told: more,
-            refused,
+            refused: batch.notes.len() - more,
         })
     }
 
@@ -132,14 +124,13 @@ impl<V: Say> Drain<V> {
     {
         let Drain {
             consumer,
-            lists,
             taken,
             told,
             formatters,
         } = self;
         let standing = ring.look_beside(consumer);
         for _ in 0..standing {
-            told.tell_next(&*formatters, consumer, lists, taken);
+            told.tell_next(&*formatters, consumer, taken);
         }
     }
 }
@@ -197,7 +188,6 @@ impl<V: Drop> Drain<V> {
     {
         let Drain {
             consumer: _,
-            lists: _,
             taken: _,
             told,
             formatters: _,

@@ -10,7 +10,6 @@ ghost use Rattle.span_outlet.specs.inside.Posted.{plain_posted};
 use crate::batch::Batch;
 use crate::known_event::KnownEvent;
 use crate::line::Line;
-use crate::lists::emptied;
 use crate::outlet::Outlet;
 use crate::past::Past;
 use crate::posted::Posted;
@@ -18,6 +17,9 @@ use crate::told::{Told, recycle};
 use span_layers::{Formatters, Forms, Note, Say, Tellers};
 use std::alloc::{AllocError, Global};
 use std::marker::Model;
+
+// A list with room for more notes than this is freed.
+const MOST_NOTES: usize = 16;
 
 /// An outlet that keeps no batch, and of the last one the lines of its notes.
 ///
@@ -203,9 +205,13 @@ impl<V: Say> Latest<V> {
     }
 }
 
-// Keeps the list of notes that were told, without them, if it is worth it.
+// Keeps the list of notes that were told, without them, if it has some room and not too much.
 fn keep_list(kept: &mut Option<Vec<Note>>, notes: Vec<Note>) {
-    if let Some(list) = emptied(notes) {
-        *kept = Some(list);
+    let room = notes.capacity();
+    if room == 0 || room > MOST_NOTES {
+        return;
     }
+    let mut list = notes;
+    list.clear();
+    *kept = Some(list);
 }

@@ -10,7 +10,6 @@ mod latest;
 mod layer_lines;
 mod line;
 mod line_reader;
-mod lists;
 mod outlet;
 mod past;
 mod posted;

@@ -9,7 +9,6 @@ ghost use Rattle.span_outlet.specs.inside.Posted.{plain_posted};
 ghost use Rattle.span_outlet.specs.inside.Reading.{reader_view};
 
 use crate::line::Line;
-use crate::lists::Giving;
 use crate::ring::{Consuming, Ring, Tap};
 use crate::told::Told;
 use span_layers::{Formatters, Say, Tellers};
@@ -24,7 +23,6 @@ use std::marker::Model;
 #[derive(Drop)]
 pub struct LineReader<V = Formatters> {
     consumer: Consuming,
-    lists: Giving,
     // How often it looked into the ring for batches. Stays at its greatest value.
     looks: u64,
     taken: u64,
@@ -68,7 +66,6 @@ fn look(consumer: &mut Consuming, looks: &mut u64) -> usize
 // Takes the batches that are known to stand in the ring, one by one, and tells their notes, until there is a line.
 fn take_until_told<V: Say>(
     consumer: &mut Consuming,
-    lists: &mut Giving,
     taken: &mut u64,
     told: &mut Told,
     formatters: &V,
@@ -92,7 +89,7 @@ fn take_until_told<V: Say>(
     ensures none_left { told.new.lines.items ≡ [] → known_items consumer.new ≡ [] }
 {
     for _ in 0..standing {
-        told.tell_next(formatters, consumer, lists, taken);
+        told.tell_next(formatters, consumer, taken);
         if !told.lines.is_empty() {
             return;
         }
@@ -111,11 +108,10 @@ impl<F: Drop> LineReader<Formatters<F>> {
           refused = 0;
         } }
     {
-        let Tap { consumer, lists } = tap;
+        let Tap { consumer } = tap;
         let Tellers { forms, formatters } = tellers;
         LineReader {
             consumer,
-            lists,
             looks: 0,
             taken: 0,
             told: Told {
@@ -145,7 +141,6 @@ impl<V: Say> LineReader<V> {
     {
         let LineReader {
             consumer,
-            lists,
             looks,
             taken,
             told,
@@ -155,7 +150,7 @@ impl<V: Say> LineReader<V> {
             return true;
         }
         let standing = look(consumer, looks);
-        take_until_told(consumer, lists, taken, told, &*formatters, standing);
+        take_until_told(consumer, taken, told, &*formatters, standing);
         told.lines.reverse();
         !told.lines.is_empty()
     }
@@ -176,7 +171,6 @@ impl<V: Say> LineReader<V> {
     {
         let LineReader {
             consumer,
-            lists,
             looks,
             taken,
             told,
@@ -187,7 +181,7 @@ impl<V: Say> LineReader<V> {
         }
         *looks = looks.saturating_add(1);
         let standing = ring.look_beside(consumer);
-        take_until_told(consumer, lists, taken, told, &*formatters, standing);
+        take_until_told(consumer, taken, told, &*formatters, standing);
         told.lines.reverse();
         !told.lines.is_empty()
     }

@@ -1,5 +1,5 @@
 //! The ring through which batches leave the thread of the core.
-ghost use Rattle.std.specs.Prelude.{◌≡◌, ◌+◌, ◌-◌, ◌^◌, ◌<◌, ◌≤◌, ◌++◌, ◌∷◌, [], true, false, Some, IfOk, IfErr, IfSome, IsOk, IsOkAnd, map, length, if◌then◌else◌, IsTrue, ◌↔◌};
+ghost use Rattle.std.specs.Prelude.{◌≡◌, ◌+◌, ◌-◌, ◌^◌, ◌<◌, ◌≤◌, ◌++◌, ◌∷◌, [], true, false, Some, IfOk, IfErr, IsOk, IsOkAnd, map, length, if◌then◌else◌, IsTrue, ◌↔◌};
 ghost use Rattle.rtrb.specs.Ring.{received, known_items, ConsumerLooked};
 ghost use Rattle.span_outlet.specs.Batch.{plain_batch};
 ghost use Rattle.span_outlet.specs.KnownEvent.{batch_of_known};
@@ -10,7 +10,6 @@ ghost use Rattle.span_outlet.specs.inside.Posted.{plain_posted};
 
 use crate::batch::Batch;
 use crate::known_event::KnownEvent;
-use crate::lists::{Giving, Taking, lists_back};
 use crate::outlet::Outlet;
 use crate::posted::Posted;
 use rtrb::{Consumer, Producer, Protocol, RingBuffer};
@@ -38,8 +37,6 @@ pub(crate) type Consuming = Consumer<Posted, Global, Few>;
 #[derive(Drop)]
 pub struct Ring {
     producer: Producer<Posted, Global, Few>,
-    // Lists of notes that were told, for notes to come.
-    lists: Taking,
     ready: bool,
     // Stays at its greatest value.
     times_full: u64,
@@ -69,7 +66,6 @@ impl Model for Ring {
 #[derive(Drop)]
 pub struct Tap {
     pub(crate) consumer: Consuming,
-    pub(crate) lists: Giving,
 }
 
 impl Model for Tap {
@@ -101,18 +97,12 @@ impl Ring {
     {
         let places = limits.limits().ring as usize;
         let (producer, consumer) = RingBuffer::with_protocol::<Global, Few>(alloc, places)?;
-        let (giving, taking) = lists_back(alloc, places)?;
         let ring = Ring {
             producer,
-            lists: taking,
             ready: false,
             times_full: 0,
         };
-        let tap = Tap {
-            consumer,
-            lists: giving,
-        };
-        Ok((ring, tap))
+        Ok((ring, Tap { consumer }))
     }
 
     /// How often there was no place when `room` was asked. It stays at its greatest value.
@@ -194,14 +184,6 @@ impl Outlet for Ring {
         self.ready = false;
         self.producer.push_reserved(Posted::of_event(event, notes));
         Ok(())
-    }
-
-    /// A list that the other end gave back, once the notes of its batch were told.
-    fn spare_notes(&mut self) -> Option<Vec<Note>>
-        ensures empty { IfSome result (λ list. list.items ≡ []) }
-        ensures same { self.new ≡ self.old }
-    {
-        self.lists.take()
     }
 
     /// None is kept as it was sent.

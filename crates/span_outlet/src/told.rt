@@ -9,8 +9,6 @@ ghost use Rattle.span_outlet.specs.inside.Telling.{TellsNext, numbered_notes};
 ghost use Rattle.rtrb.specs.Ring.{received, known_items};
 
 use crate::line::Line;
-use crate::lists::Giving;
-use crate::posted::Posted;
 use crate::ring::Consuming;
 use span_layers::{Form, Forms, Note, Say};
 use std::alloc::AllocError;
@@ -156,12 +154,11 @@ impl Told {
         }
     }
 
-    // Takes the batch that is known to stand first in the ring, and tells its notes. Their list is given back.
+    // Takes the batch that is known to stand first in the ring, and tells its notes.
     pub(crate) fn tell_next<V: Say>(
         &mut self,
         formatters: &V,
         consumer: &mut Consuming,
-        lists: &mut Giving,
         taken: &mut u64,
     )
         requires standing { 0 < length (known_items consumer.old) }
@@ -176,7 +173,5 @@ impl Told {
         let batch = consumer.pop_known();
         self.tell_all(formatters, *taken, batch.notes.as_slice());
         *taken += 1;
-        let Posted { said: _, notes } = batch;
-        lists.give(notes);
     }
 }

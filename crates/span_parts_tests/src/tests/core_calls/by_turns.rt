@@ -1,5 +1,5 @@
-//! A core whose outlet is a ring, and a drain that takes its batches between the calls: their lists of notes come back
-//! and are used again. Beside it a core that keeps its lines, whose lists are never used twice.
+//! A core whose outlet is a ring, and a drain that takes its batches between the calls. Beside it a core that keeps its
+//! lines, of which no text and no list is used twice.
 ghost use Rattle.std.specs.Prelude.{◌≡◌, []};
 
 use crate::tests::compare::same;
@@ -14,7 +14,7 @@ use span_outlet::{Drain, Kept, Ring};
 use std::alloc::Global;
 use std::process::Abort;
 
-// How many spans close at once: each has one note, so that the list is longer than those that are used again.
+// How many spans close at once: each has one note.
 const CHAIN: u64 = 70;
 
 const ROUNDS: u64 = 6;
@@ -164,7 +164,7 @@ fn compare_rounds<V: Say>(
 }
 
 #[test]
-fn lists_of_notes_are_used_again(rt: HostRuntime) {
+fn a_drain_between_the_calls_tells_the_same(rt: HostRuntime) {
     let alloc = rt.alloc();
     let (filters, tellers) = layers(&rt, alloc, &PLANS).split();
     let ringed = layers(&rt, alloc, &PLANS);
