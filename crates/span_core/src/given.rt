@@ -81,8 +81,20 @@ impl<'a> GivenFields<'a> {
         }
     }
 
-    // The fields, to be kept.
-    pub(crate) fn keep(&self, recent: &mut Recent) -> Result<Fields, Fault>
+    // The fields, to be kept by a span: it alone has the list of a copy once its batch is told, so that it may append to
+    // it.
+    pub(crate) fn keep(&self, alloc: Global) -> Result<Fields, Fault>
+        ensures fields { IfOk result (λ kept. kept ≡ fields_given self.now) }
+        ensures memory { IfErr result (λ fault. fault ≡ Fault.Memory) }
+    {
+        match self {
+            GivenFields::Lent(fields) => Fields::copy_of(alloc, fields),
+            GivenFields::Shared(fields) => fields.share(),
+        }
+    }
+
+    // The fields, to be kept until an event is told.
+    fn keep_of_event(&self, recent: &mut Recent) -> Result<Fields, Fault>
         ensures fields { IfOk result (λ kept. kept ≡ fields_given self.now) }
         ensures paths { recent.new.paths ≡ recent.old.paths }
         ensures memory { IfErr result (λ fault. fault ≡ Fault.Memory) }
@@ -125,7 +137,7 @@ impl<'a> GivenEvent<'a> {
         ensures memory { IfErr result (λ fault. fault ≡ Fault.Memory) }
     {
         let message = self.message.keep(recent.alloc)?;
-        let fields = self.fields.keep(recent)?;
+        let fields = self.fields.keep_of_event(recent)?;
         Ok(KeptEvent { message, fields })
     }
 }

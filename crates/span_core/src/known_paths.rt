@@ -1,5 +1,5 @@
 //! The paths that were told lately, to be told again without a walk.
-ghost use Rattle.std.specs.Prelude.{◌≡◌, IfOk, IfSome};
+ghost use Rattle.std.specs.Prelude.{◌≡◌, IfSome};
 ghost use Rattle.std.specs.Arc.{arc_str_bytes};
 ghost use Rattle.span_slots.specs.Table.{IsIssued};
 ghost use Rattle.span_forest.specs.Spans.{IsOpen};
@@ -32,7 +32,8 @@ pub(crate) struct KnownPath {
 #[derive(Drop)]
 pub(crate) struct KnownPaths {
     // Whether the notes of later calls may share the texts. Where batches are kept they don't, so that whoever takes a
-    // batch is the only owner of what its notes tell.
+    // batch is the only owner of what its notes tell, and nothing is remembered: a copy for each would cost more than
+    // most walks.
     pub(crate) shares: bool,
     // Empty, or one for each place.
     places: Vec<Option<KnownPath>>,
@@ -62,17 +63,17 @@ impl KnownPaths {
         }
     }
 
-    /// Remembers the text of a layer's path at a span, as one more owner or as a copy. Where memory is refused it isn't
-    /// kept, which is no error.
-    pub(crate) fn keep(&mut self, alloc: Global, layer: u32, id: Id, text: &ArcStr)
+    /// Remembers the text of a layer's path at a span, as one more owner, where notes may share it. Where memory is
+    /// refused for it, it isn't kept, which is no error.
+    pub(crate) fn keep(&mut self, layer: u32, id: Id, text: &ArcStr)
         ensures { (forest : ForestView) → IsIssued (table_of forest) id →
             arc_str_bytes text.now ≡ path_text (path layer forest.spans id) →
             Remembers forest self.old → Remembers forest self.new }
     {
-        if text.len() > LONGEST {
+        if !self.shares || text.len() > LONGEST {
             return;
         }
-        let Ok(text) = self.own(alloc, text) else {
+        let Ok(text) = text.clone() else {
             return;
         };
         self.put(KnownPath {
@@ -80,17 +81,6 @@ impl KnownPaths {
             layer,
             text,
         });
-    }
-
-    // The text, to be kept.
-    fn own(&self, alloc: Global, text: &ArcStr) -> Result<ArcStr, Fault>
-        ensures { IfOk result (λ kept. arc_str_bytes kept ≡ arc_str_bytes text.now) }
-    {
-        if self.shares {
-            Ok(text.clone()?)
-        } else {
-            Ok(ArcStr::from_str(alloc, text.as_str())?)
-        }
     }
 
     // Puts a path at its place, in place of what stood there.

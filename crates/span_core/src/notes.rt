@@ -17,7 +17,7 @@ pub(crate) mod new_spans;
 pub(crate) mod paths;
 
 use crate::recent::{Recent, empty_list};
-use closing::push_closes;
+use closing::{closes_count, push_closes};
 use events::contextual_span;
 use layers::{is_told_to_none, told_layers};
 use paths::{ToldPaths, new_text, seen_text};
@@ -74,15 +74,17 @@ pub(crate) enum Subject<'a> {
     },
 }
 
-// Where a layer's path is read.
-fn place_of(forest: &Forest, subject: &Subject<'_>, layer: u32) -> Option<Id>
+// Where a layer's path is read. At how many entries it looked in vain for it is added to a count.
+fn place_of(forest: &Forest, subject: &Subject<'_>, layer: u32, in_vain: &mut u64) -> Option<Id>
     requires { IsSummarised forest.now.spans subject.now }
     ensures { result ≡ place_told forest.now.spans subject.now layer }
 {
     match subject {
         Subject::Span(id) => Some(*id),
         Subject::NewSpan { parent, .. } => *parent,
-        Subject::Event { stack, blocks, .. } => contextual_span(forest, stack, blocks, layer),
+        Subject::Event { stack, blocks, .. } => contextual_span(
+            forest, stack, blocks, layer, in_vain,
+        ),
     }
 }
 
@@ -151,7 +153,7 @@ fn note(
     ensures remembers { Remembers forest.now recent.new.paths }
     ensures memory { IfErr result (λ fault. fault ≡ Fault.Memory) }
 {
-    let place = place_of(forest, &what.subject, layer);
+    let place = place_of(forest, &what.subject, layer, &mut recent.in_vain);
     let path = path_of(recent, forest, &what.subject, paths, layer, &place)?;
     let fields = what.fields.share()?;
     let tail = tail(&what.subject)?;
@@ -229,7 +231,8 @@ fn told_to_some(
     ensures remembers { Remembers forest.now recent.new.paths }
     ensures memory { IfErr result (λ fault. fault ≡ Fault.Memory) }
 {
-    let mut notes = empty_list(recent.alloc, &mut recent.spare);
+    let layers = told_layers(rules, what.bits, what.kind);
+    let mut notes = empty_list(recent.alloc, &mut recent.spare, layers.len());
     let mut paths = ToldPaths::none(recent.alloc);
     push_told(recent, &mut notes, &mut paths, rules, forest, what)?;
     Ok(notes)
@@ -341,7 +344,10 @@ pub(crate) fn exit_notes(
     if closing.is_empty() {
         return span_notes(recent, rules, forest, exit, &Fields::none());
     }
-    let mut notes = empty_list(recent.alloc, &mut recent.spare);
+    let exits = told_layers(rules, exit.bits, exit.kind).len();
+    let closes = closes_count(rules, forest, closing);
+    let most = exits.saturating_add(closes);
+    let mut notes = empty_list(recent.alloc, &mut recent.spare, most);
     let mut paths = ToldPaths::none(recent.alloc);
     push_notes(
         recent,
@@ -360,6 +366,7 @@ pub(crate) fn exit_notes(
         forest,
         exit.worker,
         closing,
+        closes,
     )?;
     Ok(notes)
 }

@@ -11,17 +11,21 @@ use span_recent::{RecentFields, RecentMetas};
 use std::alloc::Global;
 use std::mem;
 
-/// The metas that were copied lately, to be shared where they come again, the fields that were copied lately, to be
-/// written over where nobody else has them, the paths that were told at spans, a buffer that each other path is written
-/// into first, and a list for the notes of a call to come, which has no memory where there is none.
+// For how many notes more than twice those of a call its list may have room.
+const MOST_LEFT: usize = 2;
+
+/// The metas that were copied lately, to be shared where they come again, the fields of events that were copied lately,
+/// to be written over where nobody else has them, the paths that were told at spans, and a list for the notes of a call
+/// to come, which has no memory where there is none.
 #[derive(Drop)]
 pub(crate) struct Recent {
     pub(crate) alloc: Global,
     pub(crate) metas: RecentMetas,
     fields: RecentFields,
     pub(crate) paths: KnownPaths,
-    pub(crate) path: String,
     pub(crate) spare: Vec<Note>,
+    // At how many entries of a stack the last event that was told looked in vain.
+    pub(crate) in_vain: u64,
 }
 
 impl Recent {
@@ -34,8 +38,8 @@ impl Recent {
             metas: RecentMetas::none(alloc),
             fields: RecentFields::none(alloc),
             paths: KnownPaths::none(alloc, shares),
-            path: String::new(alloc),
             spare: Vec::new(alloc),
+            in_vain: 0,
         }
     }
 
@@ -54,11 +58,19 @@ impl Recent {
     }
 }
 
-/// An empty list for notes: the spare one, in place of which another without memory stands then.
-pub(crate) fn empty_list(alloc: Global, spare: &mut Vec<Note>) -> Vec<Note>
+/// An empty list for so many notes, with no memory where there are none: the spare one, in place of which another
+/// without memory stands then. One with room for many more is freed, so that a batch keeps little more memory than its
+/// notes need.
+pub(crate) fn empty_list(alloc: Global, spare: &mut Vec<Note>, notes: usize) -> Vec<Note>
     ensures { result.items ≡ [] }
 {
+    if notes == 0 {
+        return Vec::new(alloc);
+    }
     let mut list = mem::replace(spare, Vec::new(alloc));
+    if list.capacity() > MOST_LEFT.saturating_add(notes.saturating_mul(2)) {
+        return Vec::new(alloc);
+    }
     list.clear();
     list
 }

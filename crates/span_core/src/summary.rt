@@ -19,8 +19,11 @@ pub(crate) const BLOCK: usize = 64;
 // the topmost spans don't summarise the same block again and again.
 const ENOUGH: usize = 128;
 
+/// How many entries on top of a deep stack a look goes through first.
+pub(crate) const NEAR: usize = 128;
+
 // How many blocks a call summarises at most.
-const AT_ONCE: u32 = 4;
+const AT_ONCE: u64 = 4;
 
 /// For each of the lowest blocks of one worker's stack, layers that admit none of its entries. It only spares looks:
 /// what it leaves out is looked at. The worker is the one with a deep stack that told an event last.
@@ -54,10 +57,17 @@ impl Summary {
         }
     }
 
-    /// Summarises a few more blocks of a worker's stack, where it is deep. Where the blocks are another worker's they are
-    /// forgotten, and none is summarised in that call: so workers that tell events by turns summarise none. Where memory
-    /// is refused it is fewer blocks, which is no error.
-    pub(crate) fn extend(&mut self, forest: &Forest, stacks: &[SpanStack], worker: u32)
+    /// Summarises a few more blocks of a worker's stack, where it is deep: of no more entries than the event before
+    /// looked at in vain, so that whatever calls are made, this takes no more time than their looks took. Where the
+    /// blocks are another worker's they are forgotten, and none is summarised in that call: so workers that tell events
+    /// by turns summarise none. Where memory is refused it is fewer blocks, which is no error.
+    pub(crate) fn extend(
+        &mut self,
+        forest: &Forest,
+        stacks: &[SpanStack],
+        worker: u32,
+        in_vain: u64,
+    )
         requires within { worker < length stacks.now }
         requires summary { IsSummary forest.now.spans (ids_of_each stacks.now) self.old }
         ensures { IsSummary forest.now.spans (ids_of_each stacks.now) self.new }
@@ -71,7 +81,7 @@ impl Summary {
             self.blocks.clear();
             return;
         }
-        for _ in 0..AT_ONCE {
+        for _ in 0..AT_ONCE.min(in_vain / BLOCK as u64) {
             add_block(&mut self.blocks, forest, stack);
         }
     }

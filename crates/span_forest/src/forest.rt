@@ -18,9 +18,7 @@ pub mod laws;
 use crate::adding::{checked_parent, place};
 use crate::closing::{chain, let_go};
 use crate::holders::{count_of, handles_in, is_held, is_open, raise_holder};
-use crate::path_text::{
-    PathText, path_text_below_of, path_text_of, write_path_below_of, write_path_of,
-};
+use crate::path_text::{PathText, path_text_below_of, path_text_of};
 use crate::span::{Holder, Span};
 use crate::writing::{append_fields, names_of};
 use span_id::{Bits, Checked, Fault, Field, Fields, Id, SharedMeta};
@@ -346,45 +344,5 @@ impl Forest {
             return Err(Fault::Unknown);
         }
         Ok(path_text_below_of(&self.slots, self.alloc, layer, id, name)?)
-    }
-
-    /// Writes the text that `path_text` gives into a buffer, in place of what stood there, and answers the layers that
-    /// admit the same spans on the walk. A buffer that has the room, and a walk of few spans, take no memory.
-    ///
-    /// Refused in this order: `Unknown` where the span isn't open, `Memory`. What the buffer holds then isn't told.
-    pub fn write_path(&self, layer: u32, id: Id, text: &mut String) -> Result<Bits, Fault>
-        ensures found { OnOk result (IsOpen self.now.spans id) }
-        ensures text { OnOk result (string_bytes text.new ≡ path_text (path layer self.now.spans id)) }
-        ensures same { IfOk result (λ same. (other : ℕ) → IsTrue (has_bit same.0 other) →
-            path other self.now.spans id ≡ path layer self.now.spans id) }
-        ensures refused { IfErr result (λ fault. WhyNotFound self.now.spans id fault) }
-    {
-        if !is_open(&self.slots, id) {
-            return Err(Fault::Unknown);
-        }
-        Ok(write_path_of(&self.slots, self.alloc, layer, id, text)?)
-    }
-
-    /// Writes the text that `path_text_below` gives, as `write_path` does.
-    ///
-    /// Refused in this order: `Unknown` where the span isn't open, `Memory`.
-    pub fn write_path_below(
-        &self,
-        layer: u32,
-        id: Id,
-        name: &str,
-        text: &mut String,
-    ) -> Result<Bits, Fault>
-        ensures found { OnOk result (IsOpen self.now.spans id) }
-        ensures text { OnOk result (string_bytes text.new
-            ≡ path_text (path layer self.now.spans id ++ name.now ∷ [])) }
-        ensures same { IfOk result (λ same. (other : ℕ) → IsTrue (has_bit same.0 other) →
-            path other self.now.spans id ≡ path layer self.now.spans id) }
-        ensures refused { IfErr result (λ fault. WhyNotFound self.now.spans id fault) }
-    {
-        if !is_open(&self.slots, id) {
-            return Err(Fault::Unknown);
-        }
-        Ok(write_path_below_of(&self.slots, self.alloc, layer, id, name, text)?)
     }
 }

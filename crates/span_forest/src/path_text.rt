@@ -72,47 +72,6 @@ pub(crate) fn path_text_below_of<'a>(
     seen.told(alloc)
 }
 
-// Writes the text of the layer's path at a span into a buffer, and answers the layers that admit the same spans.
-pub(crate) fn write_path_of(
-    slots: &Slots<Span>,
-    alloc: Global,
-    layer: u32,
-    id: Id,
-    text: &mut String,
-) -> Result<Bits, AllocError>
-    requires forest { IsForest (nodes_of slots.now.entries) }
-    requires open { IsOpen (nodes_of slots.now.entries) id }
-    ensures text { OnOk result (string_bytes text.new ≡ path_text (path layer (nodes_of slots.now.entries) id)) }
-    ensures same { IfOk result (λ same. (other : ℕ) → IsTrue (has_bit same.0 other) →
-        path other (nodes_of slots.now.entries) id ≡ path layer (nodes_of slots.now.entries) id) }
-{
-    let seen = path_seen(slots, alloc, layer, id)?;
-    write_joined(seen.names.as_slice(), text)?;
-    Ok(seen.same)
-}
-
-// The same of the path with one more name at its end.
-pub(crate) fn write_path_below_of<'a>(
-    slots: &'a Slots<Span>,
-    alloc: Global,
-    layer: u32,
-    id: Id,
-    name: &'a str,
-    text: &mut String,
-) -> Result<Bits, AllocError>
-    requires forest { IsForest (nodes_of slots.now.entries) }
-    requires open { IsOpen (nodes_of slots.now.entries) id }
-    ensures text { OnOk result (string_bytes text.new
-        ≡ path_text (path layer (nodes_of slots.now.entries) id ++ name.now ∷ [])) }
-    ensures same { IfOk result (λ same. (other : ℕ) → IsTrue (has_bit same.0 other) →
-        path other (nodes_of slots.now.entries) id ≡ path layer (nodes_of slots.now.entries) id) }
-{
-    let mut seen = path_seen(slots, alloc, layer, id)?;
-    seen.names.push(name)?;
-    write_joined(seen.names.as_slice(), text)?;
-    Ok(seen.same)
-}
-
 // The layer's path at a span.
 fn path_seen<'a>(
     slots: &'a Slots<Span>,
@@ -200,23 +159,13 @@ impl<'a> Seen<'a> {
 fn joined(alloc: Global, names: &[&str]) -> Result<String, AllocError>
     ensures { IfOk result (λ text. string_bytes text ≡ path_text (map (λ name. name.now) names.now)) }
 {
-    let mut text = String::new(alloc);
-    write_joined(names, &mut text)?;
-    Ok(text)
-}
-
-// The same, written into a buffer in place of what stood there. An empty buffer gets no room for more.
-fn write_joined(names: &[&str], text: &mut String) -> Result<(), AllocError>
-    ensures { OnOk result (string_bytes text.new ≡ path_text (map (λ name. name.now) names.now)) }
-{
-    text.clear();
     let Some((first, others)) = names.split_first() else {
-        return text.push_str("-");
+        return String::from_str(alloc, "-");
     };
-    text.try_reserve_exact(joined_len(first, others))?;
+    let mut text = String::with_capacity(alloc, joined_len(first, others))?;
     text.push_str(first)?;
-    push_others(text, others)?;
-    Ok(())
+    push_others(&mut text, others)?;
+    Ok(text)
 }
 
 // Appends the names, each behind a `:`.

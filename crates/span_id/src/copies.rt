@@ -27,26 +27,40 @@ pub fn copy_fields(alloc: Global, fields: &[Field]) -> Result<Vec<Field>, Fault>
     Ok(copies)
 }
 
+// The room for how many bytes more a text may have that is written over another one: so fields that are owned for long
+// take little more memory than they need, whatever stood there before them.
+const MOST_LEFT: usize = 32;
+
 /// Writes equal fields over those of a list that is as long, place by place. The only error is `Memory`, after which any
 /// texts may stand in the list.
-pub(crate) fn write_fields(list: &mut Vec<Field>, fields: &[Field]) -> Result<(), Fault>
+pub(crate) fn write_fields(
+    alloc: Global,
+    list: &mut Vec<Field>,
+    fields: &[Field],
+) -> Result<(), Fault>
     requires len { vec_len list.old ≡ length fields.now }
     ensures fields { OnOk result (plain_fields list.new.items ≡ plain_fields fields.now) }
     ensures memory { IfErr result (λ fault. fault ≡ Fault.Memory) }
 {
     for (index, place) in list.iter_mut().enumerate() {
         let field = &fields[index];
-        write_text(&mut place.key, &field.key)?;
-        write_text(&mut place.value, &field.value)?;
+        write_text(alloc, &mut place.key, &field.key)?;
+        write_text(alloc, &mut place.value, &field.value)?;
     }
     Ok(())
 }
 
-// Writes a text over the one that stands there: in its memory, where that is enough. The only error is `Memory`.
-fn write_text(place: &mut String, text: &str) -> Result<(), Fault>
+// Writes a text over the one that stands there: in its memory, where that has room for the text and for few bytes more.
+// The only error is `Memory`.
+fn write_text(alloc: Global, place: &mut String, text: &str) -> Result<(), Fault>
     ensures text { OnOk result (string_bytes place.new ≡ text.now) }
     ensures memory { IfErr result (λ fault. fault ≡ Fault.Memory) }
 {
+    let room = place.capacity();
+    if room < text.len() || room - text.len() > MOST_LEFT {
+        *place = copy_text(alloc, text)?;
+        return Ok(());
+    }
     place.clear();
     place.push_str(text)?;
     Ok(())

@@ -67,7 +67,8 @@ impl Fields {
     }
 
     /// Equal fields of their own, in the same order, as `copy_of` makes them: in the memory of these, where they are as
-    /// many and have no other owner.
+    /// many and have no other owner. A text takes the memory of the one that stood there where that has room for it and
+    /// for at most 32 bytes more.
     ///
     /// The only error is `Memory`; these fields are dropped then.
     pub fn copy_over(self, alloc: Global, fields: &[Field]) -> Result<Fields, Fault>
@@ -78,7 +79,7 @@ impl Fields {
         if let Some(list) = &mut these.shared {
             if let Some(list) = Arc::get_mut(list) {
                 if list.len() == fields.len() {
-                    write_fields(list, fields)?;
+                    write_fields(alloc, list, fields)?;
                     return Ok(these);
                 }
             }

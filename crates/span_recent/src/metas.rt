@@ -6,7 +6,11 @@ use crate::place::{PLACES, place_of};
 use span_id::{Fault, Meta, SharedMeta};
 use std::alloc::Global;
 
-/// The metas that were copied lately, one at each of a few places. They stay owned until others take their places.
+// The length of the longest text that is kept, in bytes: so what is kept takes little memory.
+const LONGEST: usize = 256;
+
+/// The metas that were copied lately, one at each of a few places. They stay owned until others take their places. Of
+/// a meta that is kept neither text has more than 256 bytes.
 #[derive(Drop)]
 pub struct RecentMetas {
     alloc: Global,
@@ -23,11 +27,15 @@ impl RecentMetas {
         }
     }
 
-    /// An equal meta: one that was copied lately gets one more owner, else it is copied. The only error is `Memory`.
+    /// An equal meta: one that was copied lately gets one more owner, else it is copied, as a long one always is. The
+    /// only error is `Memory`.
     pub fn share(&mut self, meta: &Meta) -> Result<SharedMeta, Fault>
         ensures meta { IfOk result (λ shared. shared ≡ plain_meta meta.now) }
         ensures memory { IfErr result (λ fault. fault ≡ Fault.Memory) }
     {
+        if !is_kept(meta) {
+            return SharedMeta::copy_of(self.alloc, meta);
+        }
         let at = place_of(meta.name.as_bytes());
         if let Some(recent) = self.at(at, meta) {
             return recent.share();
@@ -67,4 +75,9 @@ impl RecentMetas {
         }
         Ok(())
     }
+}
+
+// Whether a copy of this meta is kept: of one with short texts.
+fn is_kept(meta: &Meta) -> bool {
+    meta.name.len() <= LONGEST && meta.target.len() <= LONGEST
 }

@@ -243,7 +243,7 @@ fn push_fields(
     ensures remembers { Remembers forest.new recent.new.paths }
     ensures memory { IfErr result (λ fault. fault ≡ Fault.Memory) }
 {
-    let fields = fields.keep(recent)?;
+    let fields = fields.keep(recent.alloc)?;
     let told = record_told(recent, rules, forest, what, &fields)?;
     let Ok(()) = forest.share_fields(what.id, &fields) else {
         return Err(Fault::Memory);

@@ -221,7 +221,7 @@ fn add_span(
     ensures memory { IfErr result (λ fault. fault ≡ Fault.Memory) }
 {
     let meta = new.meta.keep(&mut recent.metas)?;
-    let fields = new.fields.keep(recent)?;
+    let fields = new.fields.keep(recent.alloc)?;
     let told = new_told(recent, rules, forest, new, &meta, &fields)?;
     next_id_is_new(forest);
     open_spans_are_counted(forest);

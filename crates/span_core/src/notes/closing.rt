@@ -74,21 +74,17 @@ pub(crate) fn close_notes(
     ensures remembers { Remembers forest.now recent.new.paths }
     ensures memory { IfErr result (λ fault. fault ≡ Fault.Memory) }
 {
-    let told = !closed.is_empty() && is_wanted(rules, Kind::OnClose);
-    let mut notes = if told {
-        empty_list(recent.alloc, &mut recent.spare)
-    } else {
-        Vec::new(recent.alloc)
-    };
+    let count = closes_count(rules, forest, closed);
+    let mut notes = empty_list(recent.alloc, &mut recent.spare, count);
     let mut paths = ToldPaths::none(recent.alloc);
     push_closes(
-        recent, &mut notes, &mut paths, rules, forest, worker, closed,
+        recent, &mut notes, &mut paths, rules, forest, worker, closed, count,
     )?;
     Ok(notes)
 }
 
 // Appends the notes of a chain of spans that close, one span after the other. A layer's path is had by a walk once,
-// at the first span that the layer is told of, and at each further one from the note before.
+// at the first span that the layer is told of, and at each further one from the note before. There are so many notes.
 pub(crate) fn push_closes(
     recent: &mut Recent,
     notes: &mut Vec<Note>,
@@ -97,6 +93,7 @@ pub(crate) fn push_closes(
     forest: &Forest,
     worker: u32,
     closed: &[Id],
+    count: usize,
 ) -> Result<(), Fault>
     requires chain { IsChain forest.now.spans closed.now }
     requires known { Knows path_text forest.now.spans paths.old }
@@ -115,7 +112,7 @@ pub(crate) fn push_closes(
     if let [id] = closed {
         return push_close_alone(recent, notes, paths, rules, forest, worker, *id);
     }
-    notes.reserve_exact(closes_count(rules, forest, closed))?;
+    notes.reserve_exact(count)?;
     let mut places = no_places(recent.alloc, rules.len())?;
     for id in closed {
         let Some(span) = forest.find(*id) else {
@@ -162,8 +159,11 @@ fn push_close_alone(
 }
 
 // How many notes the layers are told of spans that close.
-fn closes_count(rules: &Rules, forest: &Forest, closed: &[Id]) -> usize {
+pub(crate) fn closes_count(rules: &Rules, forest: &Forest, closed: &[Id]) -> usize {
     let mut count = 0usize;
+    if !is_wanted(rules, Kind::OnClose) {
+        return count;
+    }
     for id in closed {
         if let Some(span) = forest.find(*id) {
             count = count.saturating_add(told_layers(rules, span.bits, Kind::OnClose).len());

@@ -15,12 +15,13 @@ use crate::given::{GivenEvent, KeptEvent};
 use crate::notes::layers::is_told_to_none;
 use crate::notes::{Subject, Telling, told_to_some};
 use crate::recent::Recent;
-use crate::summary::{BLOCK, Summary};
+use crate::summary::{BLOCK, NEAR, Summary};
 use span_forest::Forest;
 use span_id::{Bits, Fault, Id};
 use span_layers::{Kind, Note, Rules};
 use span_outlet::Call;
 use span_stack::SpanStack;
+use std::mem;
 
 /// An event: which worker tells it, the layers that admit it, and what the caller gave.
 #[derive(Clone, Copy)]
@@ -64,7 +65,7 @@ pub(crate) fn event_told(
         });
     }
     let kept = event.given.keep(recent)?;
-    summary.extend(forest, stacks, event.worker);
+    summary.extend(forest, stacks, event.worker, mem::take(&mut recent.in_vain));
     let notes = event_notes(recent, rules, forest, stacks, summary, event, &kept)?;
     Ok(ToldEvent {
         notes,
@@ -133,20 +134,28 @@ pub(crate) fn event_call(
 }
 
 // Where a layer sees an event: the topmost entry, duplicates skipped, that the layer admits. Blocks in which it admits
-// none are skipped.
+// none are skipped. The entries above the blocks at which it looked in vain are added to a count.
 pub(crate) fn contextual_span(
     forest: &Forest,
     stack: &SpanStack,
     blocks: &[Bits],
     layer: u32,
+    in_vain: &mut u64,
 ) -> Option<Id>
     requires { Summarises forest.now.spans stack.now.ids blocks.now }
     ensures { result ≡ first_that (λ id. has_bit (bits_in forest.now.spans id) layer) (walk stack.now.ids) }
 {
     let entries = stack.len();
-    if let Some(id) = topmost(forest, stack, blocks.len() * BLOCK, entries, layer) {
+    let summarised = blocks.len() * BLOCK;
+    let near = summarised.max(entries.saturating_sub(NEAR));
+    if let Some(id) = topmost(forest, stack, near, entries, layer) {
         return Some(id);
     }
+    *in_vain = in_vain.saturating_add((entries - near) as u64);
+    if let Some(id) = topmost(forest, stack, summarised, near, layer) {
+        return Some(id);
+    }
+    *in_vain = in_vain.saturating_add((near - summarised) as u64);
     for nth in (0..blocks.len()).rev() {
         if !blocks[nth].has(layer) {
             let from = nth * BLOCK;

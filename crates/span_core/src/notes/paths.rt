@@ -10,9 +10,9 @@ ghost use Rattle.span_core.specs.inside.Remembering.{Remembers};
 
 use crate::known_paths::{KnownPaths, LAYERS};
 use crate::recent::Recent;
-use span_forest::Forest;
 use span_forest::laws::each_slot_has_one_open_id;
-use span_id::{Bits, Fault, Id};
+use span_forest::{Forest, PathText};
+use span_id::{Bits, Fault, Id, copy_text};
 use span_layers::Note;
 use std::alloc::Global;
 use std::sync::ArcStr;
@@ -136,22 +136,17 @@ impl ToldPaths {
         Ok(told)
     }
 
-    // Tells what was read at a place: the text, which these layers see there.
-    fn tell(
-        &mut self,
-        alloc: Global,
-        place: &Option<Id>,
-        text: &str,
-        same: Bits,
-    ) -> Result<ArcStr, Fault>
-        ensures text { IfOk result (λ told. arc_str_bytes told ≡ text.now) }
+    // Tells what was read at a place: by the text that was told, where it is the same, else by a new one.
+    fn tell(&mut self, place: &Option<Id>, seen: PathText) -> Result<ArcStr, Fault>
+        ensures text { IfOk result (λ told. arc_str_bytes told ≡ string_bytes seen.text) }
         ensures known { OnOk result ((told : List (List ℕ) → List ℕ) (spans : Spans) →
-            ((layer : ℕ) → IsTrue (has_bit same.0 layer) →
-            text.now ≡ told (path_at layer spans place.now)) →
+            ((layer : ℕ) → IsTrue (has_bit seen.same.0 layer) →
+            string_bytes seen.text ≡ told (path_at layer spans place.now)) →
             Knows told spans self.old → Knows told spans self.new) }
         ensures memory { IfErr result (λ fault. fault ≡ Fault.Memory) }
     {
-        let text = self.shared(alloc, text)?;
+        let PathText { text, same } = seen;
+        let text = self.shared(text)?;
         self.keep(ToldPath {
             place: *place,
             same,
@@ -160,14 +155,14 @@ impl ToldPaths {
     }
 
     // A text to be shared: the one that was told, where it is the same.
-    fn shared(&self, alloc: Global, text: &str) -> Result<ArcStr, Fault>
-        ensures text { IfOk result (λ shared. arc_str_bytes shared ≡ text.now) }
+    fn shared(&self, text: String) -> Result<ArcStr, Fault>
+        ensures text { IfOk result (λ shared. arc_str_bytes shared ≡ string_bytes text) }
         ensures memory { IfErr result (λ fault. fault ≡ Fault.Memory) }
     {
-        if let Some(same) = self.same(text) {
+        if let Some(same) = self.same(text.as_str()) {
             return Ok(same.clone()?);
         }
-        Ok(ArcStr::from_str(alloc, text)?)
+        Ok(ArcStr::from_string(text)?)
     }
 }
 
@@ -191,7 +186,7 @@ pub(crate) fn seen_text(
         return Ok(text.clone()?);
     }
     if let Some(text) = known_text(&recent.paths, forest, layer, place) {
-        return told_again(recent.alloc, paths, text, recent.paths.shares);
+        return Ok(text.clone()?);
     }
     walked_text(recent, forest, paths, layer, place)
 }
@@ -211,24 +206,6 @@ fn known_text<'a>(
     known.get(layer, id)
 }
 
-// A text that an earlier call told: by one more owner, where they are shared, else by one of this call.
-fn told_again(
-    alloc: Global,
-    paths: &mut ToldPaths,
-    text: &ArcStr,
-    shares: bool,
-) -> Result<ArcStr, Fault>
-    ensures text { IfOk result (λ told. arc_str_bytes told ≡ arc_str_bytes text.now) }
-    ensures known { OnOk result ((told : List (List ℕ) → List ℕ) (spans : Spans) →
-        Knows told spans paths.old → Knows told spans paths.new) }
-    ensures memory { IfErr result (λ fault. fault ≡ Fault.Memory) }
-{
-    if shares {
-        return Ok(text.clone()?);
-    }
-    same_text(alloc, paths, text.as_str())
-}
-
 // The path of a layer at a place by a walk, which later calls will know.
 fn walked_text(
     recent: &mut Recent,
@@ -244,21 +221,14 @@ fn walked_text(
     ensures remembers { Remembers forest.now recent.new.paths }
     ensures memory { IfErr result (λ fault. fault ≡ Fault.Memory) }
 {
-    let same = text_at(forest, layer, place, &mut recent.path)?;
-    let text = paths.tell(recent.alloc, place, recent.path.as_str(), same)?;
-    remember(&mut recent.paths, recent.alloc, forest, layer, place, &text);
+    let seen = text_at(recent.alloc, forest, layer, place)?;
+    let text = paths.tell(place, seen)?;
+    remember(&mut recent.paths, forest, layer, place, &text);
     Ok(text)
 }
 
 // Remembers the text of a layer's path, if it was read at a span.
-fn remember(
-    known: &mut KnownPaths,
-    alloc: Global,
-    forest: &Forest,
-    layer: u32,
-    place: &Option<Id>,
-    text: &ArcStr,
-)
+fn remember(known: &mut KnownPaths, forest: &Forest, layer: u32, place: &Option<Id>, text: &ArcStr)
     requires text { arc_str_bytes text.now ≡ path_text (path_at layer forest.now.spans place.now) }
     requires remembers { Remembers forest.now known.old }
     ensures remembers { Remembers forest.now known.new }
@@ -266,13 +236,13 @@ fn remember(
     each_slot_has_one_open_id(forest);
     if let Some(id) = place {
         if forest.find(*id).is_some() {
-            known.keep(alloc, layer, *id, text);
+            known.keep(layer, *id, text);
         }
     }
 }
 
 // Remembers the paths that layers were told of a new span, as many as it has places: each layer reads its own there
-// from now on. Where notes can't share the texts, each would be a copy, and none is made ahead of its use.
+// from now on.
 pub(crate) fn remember_new(recent: &mut Recent, forest: &Forest, id: Id, notes: &[Note])
     requires open { IsOpen forest.now.spans id }
     requires told { All (λ note. arc_str_bytes note.path ≡ path_text (path note.layer forest.now.spans id)) notes.now }
@@ -280,13 +250,8 @@ pub(crate) fn remember_new(recent: &mut Recent, forest: &Forest, id: Id, notes: 
     ensures remembers { Remembers forest.now recent.new.paths }
 {
     each_slot_has_one_open_id(forest);
-    let most = if recent.paths.shares {
-        LAYERS as usize
-    } else {
-        0
-    };
-    for note in notes.iter().take(most) {
-        recent.paths.keep(recent.alloc, note.layer, id, &note.path);
+    for note in notes.iter().take(LAYERS as usize) {
+        recent.paths.keep(note.layer, id, &note.path);
     }
 }
 
@@ -310,8 +275,8 @@ pub(crate) fn new_text(
     if let Some(text) = paths.seen(layer, place) {
         return Ok(text.clone()?);
     }
-    let same = text_below(forest, layer, place, name, &mut recent.path)?;
-    paths.tell(recent.alloc, place, recent.path.as_str(), same)
+    let seen = text_below(recent.alloc, forest, layer, place, name)?;
+    paths.tell(place, seen)
 }
 
 // This text: the one that was told, where it is the same.
@@ -332,58 +297,50 @@ pub(crate) fn same_text(alloc: Global, paths: &mut ToldPaths, text: &str) -> Res
     })
 }
 
-// Writes the text of a layer's path at a place, and answers layers that see the same there.
+// The text of a layer's path at a place, and layers that see the same there.
 fn text_at(
+    alloc: Global,
     forest: &Forest,
     layer: u32,
     place: &Option<Id>,
-    text: &mut String,
-) -> Result<Bits, Fault>
-    ensures text { OnOk result
-        (string_bytes text.new ≡ path_text (path_at layer forest.now.spans place.now)) }
-    ensures same { IfOk result (λ same. (other : ℕ) → IsTrue (has_bit same.0 other) →
+) -> Result<PathText, Fault>
+    ensures text { IfOk result (λ seen. string_bytes seen.text ≡ path_text (path_at layer forest.now.spans place.now)) }
+    ensures same { IfOk result (λ seen. (other : ℕ) → IsTrue (has_bit seen.same.0 other) →
         path_at other forest.now.spans place.now ≡ path_at layer forest.now.spans place.now) }
     ensures memory { IfErr result (λ fault. fault ≡ Fault.Memory) }
 {
     let Some(id) = place else {
-        write_only(text, "-")?;
-        return Ok(Bits::all());
+        let text = copy_text(alloc, "-")?;
+        let same = Bits::all();
+        return Ok(PathText { text, same });
     };
-    match forest.write_path(layer, *id, text) {
-        Ok(same) => Ok(same),
+    match forest.path_text(layer, *id) {
+        Ok(seen) => Ok(seen),
         Err(_) => Err(Fault::Memory),
     }
 }
 
 // The same with one more name, as that of a new child.
 fn text_below(
+    alloc: Global,
     forest: &Forest,
     layer: u32,
     place: &Option<Id>,
     name: &str,
-    text: &mut String,
-) -> Result<Bits, Fault>
-    ensures text { OnOk result (string_bytes text.new
+) -> Result<PathText, Fault>
+    ensures text { IfOk result (λ seen. string_bytes seen.text
         ≡ path_text (path_at layer forest.now.spans place.now ++ name.now ∷ [])) }
-    ensures same { IfOk result (λ same. (other : ℕ) → IsTrue (has_bit same.0 other) →
+    ensures same { IfOk result (λ seen. (other : ℕ) → IsTrue (has_bit seen.same.0 other) →
         path_at other forest.now.spans place.now ≡ path_at layer forest.now.spans place.now) }
     ensures memory { IfErr result (λ fault. fault ≡ Fault.Memory) }
 {
     let Some(id) = place else {
-        write_only(text, name)?;
-        return Ok(Bits::all());
+        let text = copy_text(alloc, name)?;
+        let same = Bits::all();
+        return Ok(PathText { text, same });
     };
-    match forest.write_path_below(layer, *id, name, text) {
-        Ok(same) => Ok(same),
+    match forest.path_text_below(layer, *id, name) {
+        Ok(seen) => Ok(seen),
         Err(_) => Err(Fault::Memory),
     }
-}
-
-// Writes this into a buffer, and nothing else.
-fn write_only(text: &mut String, only: &str) -> Result<(), Fault>
-    ensures text { OnOk result (string_bytes text.new ≡ only.now) }
-    ensures memory { IfErr result (λ fault. fault ≡ Fault.Memory) }
-{
-    text.clear();
-    Ok(text.push_str(only)?)
 }

@@ -1,8 +1,8 @@
-//! Copies of fields, in the memory of earlier ones: what is still owned is never written over.
+//! Copies of fields, in the memory of earlier ones: what is still owned is never written over. Metas that are shared.
 use crate::tests::compare::{holds, same};
-use crate::tests::values::field;
-use span_id::{Field, Fields};
-use span_recent::RecentFields;
+use crate::tests::values::{field, meta};
+use span_id::{Field, Fields, Level};
+use span_recent::{RecentFields, RecentMetas};
 use std::alloc::Global;
 use std::process::Abort;
 
@@ -92,13 +92,24 @@ fn room_of_last(rt: &impl Abort, alloc: Global, recent: &mut RecentFields, copie
     room
 }
 
+// The room of the copies before the turn of a dropped one with a value of this length, and at its turn.
+fn rooms_after(rt: &impl Abort, alloc: Global, size: usize) -> (usize, usize) {
+    let mut recent = RecentFields::none(alloc);
+    drop(sized(rt, alloc, &mut recent, size));
+    let before = room_of_last(rt, alloc, &mut recent, 31);
+    (before, room_of_last(rt, alloc, &mut recent, 1))
+}
+
 #[test]
 fn a_dropped_copy_is_written_over_at_its_turn(rt: HostRuntime) {
-    let mut recent = RecentFields::none(rt.alloc());
-    drop(sized(&rt, rt.alloc(), &mut recent, 200));
-    let before = room_of_last(&rt, rt.alloc(), &mut recent, 31);
-    let at_its_turn = room_of_last(&rt, rt.alloc(), &mut recent, 1);
-    same(&rt, (before, at_its_turn), (1, 200), "the room");
+    let rooms = rooms_after(&rt, rt.alloc(), 33);
+    same(&rt, rooms, (1, 33), "the room");
+}
+
+#[test]
+fn a_dropped_copy_with_more_room_to_spare_is_freed(rt: HostRuntime) {
+    let rooms = rooms_after(&rt, rt.alloc(), 34);
+    same(&rt, rooms, (1, 1), "the room");
 }
 
 #[test]
@@ -108,4 +119,29 @@ fn a_kept_copy_is_not_written_over(rt: HostRuntime) {
     let room = room_of_last(&rt, rt.alloc(), &mut recent, 32);
     let size = kept.as_slice().first().map_or(0, |one| one.value.len());
     same(&rt, (room, size), (1, 200), "the room, and the kept value");
+}
+
+// A meta with this name and a target of this length is equal to both its copies.
+fn is_copied_twice(
+    rt: &impl Abort,
+    alloc: Global,
+    recent: &mut RecentMetas,
+    name: &str,
+    size: usize,
+) {
+    let target = "t".repeat(alloc, size).expect(rt, "memory");
+    let meta = meta(rt, alloc, name, target.as_str(), Level::Info);
+    for _ in 0..2 {
+        let copy = recent.share(&meta).expect(rt, "memory");
+        holds(rt, *copy.as_meta() == meta, size);
+    }
+}
+
+#[test]
+fn metas_of_one_name_are_told_apart(rt: HostRuntime) {
+    let mut recent = RecentMetas::none(rt.alloc());
+    for size in [0, 1, 256, 257, 5000, 256, 257] {
+        is_copied_twice(&rt, rt.alloc(), &mut recent, "a", size);
+        is_copied_twice(&rt, rt.alloc(), &mut recent, "b", size);
+    }
 }

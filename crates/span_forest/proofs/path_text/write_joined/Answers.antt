@@ -1,6 +1,0 @@
-use Rattle.std.proofs.Common.{◌∙◌}
-use Rattle.span_forest.proofs.Texts.{joined-path}
-use Rattle.span_forest.proofs.path_text.write_joined.Goals as goal
-
-pub returns : goal.returns
-returns c = joined-path (λ name. name.now) c.args.names.now c.in-Some.others.now c.in-Some.first.now _ _ _ c.in-Some.ensures.cases.0 (c.try_reserve_exact.ensures.bytes ∙ c.clear.ensures.bytes) c.in_ok-push_str.ensures.bytes c.in_ok-push_others.ensures
