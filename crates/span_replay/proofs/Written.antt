@@ -1,5 +1,5 @@
 -- What goes out in a run, piece after piece.
-use Rattle.std.proofs.Common.{◌≡◌, ℕ, ◌+◌, ◌<◌, ◌≤◌, List, [], ◌∷◌, ◌++◌, length, refl, ap, sym, ◌∙◌, subst, append_assoc, Some, None, Result, Ok, Err, IfSome, IfErr, arith, length-append}
+use Rattle.std.proofs.Common.{◌≡◌, ℕ, ◌+◌, ◌<◌, List, [], ◌∷◌, ◌++◌, length, refl, ap, sym, ◌∙◌, subst, append_assoc, Some, None, Result, Ok, Err, IfSome, IfErr, arith, length-append}
 use Rattle.std.specs.Io.KnownBytes.{Appends, Consumes}
 use Rattle.std.proofs.KnownBytes.{Appends-nil, Appends-trans, Appends-kept, Keeps-refl}
 use Rattle.std.proofs.lemmas.Bool.{lt-leb}
@@ -130,10 +130,6 @@ unread_runs hooks i j a (Held party) p = absurd p
 pub none_told : (i : Known) → IfSome i (λ xs. Unit {0})
 none_told None = tt
 none_told (Some xs) = tt
-
--- nothing was read
-pub no_more_reads : (calls : ℕ) → calls ≤ calls + 16777217
-no_more_reads calls = omega arith
 
 -- ---- where the reader failed
 

@@ -7,7 +7,7 @@ ghost use Rattle.span_run.specs.RunFault.{EndsAsCounted};
 
 use crate::run::replay::replay_with;
 use crate::run::tidying::Remains;
-use span_layers::{ByForm, ByRule, Layers};
+use span_layers::{ByForm, ByRule, Hooks};
 use span_run::{Counted, RunFault};
 use std::alloc::Global;
 use std::io::{Read, Write};
@@ -37,15 +37,7 @@ pub fn replay_with_layers<R: Read, W: Write>(
         (failed_of input.old) (failed_of input.new) (failed_of output.old) (failed_of output.new) result }
     ensures reads { calls_of input.new ≤ calls_of input.old + 16777217 }
 {
-    // Whatever the layers are, their rules are applied and their notes are written alike.
-    let (filters, tellers) = Layers::<ByRule, ByForm>::new(alloc).split();
-    replay_with(
-        alloc,
-        input,
-        output,
-        layers,
-        filters.admitters,
-        tellers.formatters,
-        remains,
-    )
+    // Whatever the layers are, their rules are applied and their notes are written alike, so no hooks are kept.
+    let hooks = Vec::<Hooks<ByRule, ByForm>>::new(alloc);
+    replay_with(alloc, input, output, layers, hooks, remains)
 }

@@ -62,16 +62,18 @@ pub fn open<'s, W: Write>(
         let (line, tail) = cut_line(lines);
         match open_line(alloc, number, line, &mut own, setup, text, output) {
             Ok(None) => {}
-            Ok(Some(_)) => match json_line(alloc, line, scratch) {
-                Ok(value) => {
-                    return Ok(Rest {
-                        number,
-                        value: Some(value),
-                        lines: tail,
-                    });
-                }
-                Err(_) => return Err(RunFault::Memory),
-            },
+            Ok(Some(value)) => {
+                // Its memory is freed before the line is read again.
+                drop(value);
+                let Ok(value) = json_line(alloc, line, scratch) else {
+                    return Err(RunFault::Memory);
+                };
+                return Ok(Rest {
+                    number,
+                    value: Some(value),
+                    lines: tail,
+                });
+            }
             Err(fault) => return Err(fault),
         }
         lines = tail;

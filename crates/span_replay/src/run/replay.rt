@@ -20,7 +20,7 @@ use crate::run::setup::Setup;
 use crate::run::tidying::Remains;
 use span_core::Core;
 use span_json::Scratch;
-use span_layers::{Admit, Hooks, Say, hooks_apart};
+use span_layers::{Admit, Admitters, Formatters, Hooks, Say, hooks_apart};
 use span_outlet::Latest;
 use span_run::{Counted, RunFault, flush, read_script};
 use std::alloc::Global;
@@ -58,25 +58,21 @@ pub fn replay<R: Read, W: Write>(
         (failed_of input.old) (failed_of input.new) (failed_of output.old) (failed_of output.new) result }
     ensures reads { calls_of input.new ≤ calls_of input.old + 16777217 }
 {
-    let layers = hooks.len();
-    match hooks_apart(alloc, hooks) {
-        Ok((admitters, formatters)) => {
-            replay_with(alloc, input, output, layers, admitters, formatters, remains)
-        }
-        Err(_) => Err(RunFault::Memory),
-    }
+    replay_with(alloc, input, output, hooks.len(), hooks, remains)
 }
 
-/// The same with so many layers, whose rules `admitters` applies and whose notes `formatters` writes.
-pub fn replay_with<V: Say, A: Admit, R: Read, W: Write>(
+/// The same with so many layers, which call these hooks, of whatever kind.
+pub fn replay_with<A: Drop, F: Drop, R: Read, W: Write>(
     alloc: Global,
     input: &mut Counted<R>,
     output: &mut Counted<W>,
     layers: usize,
-    admitters: A,
-    formatters: V,
+    hooks: Vec<Hooks<A, F>>,
     remains: Remains,
 ) -> Result<u64, RunFault>
+where
+    Admitters<A>: Admit,
+    Formatters<F>: Say,
     requires calls { calls_of input.old < 2 ^ 63 }
     requires reads_failed { failed_of input.old < 2 ^ 63 }
     requires failed { failed_of output.old < 2 ^ 63 }
@@ -94,7 +90,7 @@ pub fn replay_with<V: Say, A: Admit, R: Read, W: Write>(
         (failed_of input.old) (failed_of input.new) (failed_of output.old) (failed_of output.new) result }
     ensures reads { calls_of input.new ≤ calls_of input.old + 16777217 }
 {
-    match perform(alloc, input, output, layers, admitters, formatters, remains) {
+    match perform(alloc, input, output, layers, hooks, remains) {
         Ok(left) => match flush(output) {
             Ok(()) => Ok(left),
             Err(fault) => Err(fault),
@@ -111,15 +107,17 @@ pub fn replay_with<V: Say, A: Admit, R: Read, W: Write>(
 }
 
 /// Reads a script to its end and runs it.
-fn perform<V: Say, A: Admit, R: Read, W: Write>(
+fn perform<A: Drop, F: Drop, R: Read, W: Write>(
     alloc: Global,
     input: &mut Counted<R>,
     output: &mut Counted<W>,
     layers: usize,
-    admitters: A,
-    formatters: V,
+    hooks: Vec<Hooks<A, F>>,
     remains: Remains,
 ) -> Result<u64, RunFault>
+where
+    Admitters<A>: Admit,
+    Formatters<F>: Say,
     requires calls { calls_of input.old < 2 ^ 63 }
     requires reads_failed { failed_of input.old < 2 ^ 63 }
     requires failed { failed_of output.old < 2 ^ 63 }
@@ -134,23 +132,23 @@ fn perform<V: Say, A: Admit, R: Read, W: Write>(
     ensures reads { calls_of input.new ≤ calls_of input.old + 16777217 }
 {
     match read_script(alloc, input) {
-        Ok(script) => run_script(
-            alloc, &script, output, layers, admitters, formatters, remains,
-        ),
+        Ok(script) => run_script(alloc, &script, output, layers, hooks, remains),
         Err(fault) => Err(fault),
     }
 }
 
 /// Runs a script that was read.
-fn run_script<V: Say, A: Admit, W: Write>(
+fn run_script<A: Drop, F: Drop, W: Write>(
     alloc: Global,
     script: &[u8],
     output: &mut Counted<W>,
     layers: usize,
-    admitters: A,
-    formatters: V,
+    hooks: Vec<Hooks<A, F>>,
     remains: Remains,
 ) -> Result<u64, RunFault>
+where
+    Admitters<A>: Admit,
+    Formatters<F>: Say,
     requires failed { failed_of output.old < 2 ^ 63 }
     requires fits { length script.now ≤ most_bytes }
     ensures runs { Runs (run layers 1 first_state (lines_of script.now))
@@ -160,22 +158,22 @@ fn run_script<V: Say, A: Admit, W: Write>(
 {
     let setup = Setup::new(alloc, layers);
     let mut text = Vec::new(alloc);
-    run_all(
-        alloc, script, setup, admitters, formatters, remains, &mut text, output,
-    )
+    run_all(alloc, script, setup, hooks, remains, &mut text, output)
 }
 
 /// Runs all lines of a script from this set-up on.
-fn run_all<V: Say, A: Admit, W: Write>(
+fn run_all<A: Drop, F: Drop, W: Write>(
     alloc: Global,
     script: &[u8],
     mut setup: Setup,
-    admitters: A,
-    formatters: V,
+    mut hooks: Vec<Hooks<A, F>>,
     remains: Remains,
     text: &mut Vec<u8>,
     output: &mut Counted<W>,
 ) -> Result<u64, RunFault>
+where
+    Admitters<A>: Admit,
+    Formatters<F>: Say,
     requires failed { failed_of output.old < 2 ^ 63 }
     requires fits { length script.now ≤ most_bytes }
     ensures runs { Runs (run (hooks_in setup) 1 (setup_state setup) (lines_of script.now))
@@ -185,9 +183,16 @@ fn run_all<V: Say, A: Admit, W: Write>(
 {
     let mut scratch = Scratch::new(alloc);
     match open(alloc, script, &mut scratch, &mut setup, text, output) {
-        Ok(rest) => run_opened(
-            alloc, setup, admitters, formatters, &rest, remains, text, output,
-        ),
+        Ok(rest) => {
+            // Hooks that no layer took are dropped before the first call.
+            hooks.truncate(setup.layers());
+            match hooks_apart(alloc, hooks) {
+                Ok((admitters, formatters)) => run_opened(
+                    alloc, setup, admitters, formatters, &rest, remains, text, output,
+                ),
+                Err(_) => Err(RunFault::Memory),
+            }
+        }
         Err(fault) => Err(fault),
     }
 }

@@ -50,6 +50,11 @@ impl Setup {
         }
     }
 
+    /// How many layers were added so far.
+    pub fn layers(&self) -> usize {
+        self.added
+    }
+
     /// Runs a line of `limits` or `layer`. The text is its answer.
     pub fn run(&mut self, alloc: Global, line: &Value<'_>, text: &mut Vec<u8>) -> Result<(), Stop>
         requires { is_setup (view line.now) ≡ true }

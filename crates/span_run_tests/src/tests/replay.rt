@@ -3,3 +3,4 @@ mod fixtures;
 mod flushes;
 mod hooks;
 mod runs;
+mod taken_hooks;

@@ -41,8 +41,8 @@ returns-clause-place g c =
     let fits = c.requires.fits in
     omega (arith, count, fits)
 
-pub returns-in-Ok-clause-sent : goal.returns-in-Ok-clause-sent
-returns-in-Ok-clause-sent g c =
+pub returns-in-Ok-Some-clause-sent : goal.returns-in-Ok-Some-clause-sent
+returns-in-Ok-Some-clause-sent g c =
     let before = c.loop-scratch.invariant in
     let some = c.in-Ok-Some.field-0-is in
     let same = same_value _ _ _ (when_some _ _ _ some c.in-Ok-Some.ensures.read) c.in-Ok.ensures in
