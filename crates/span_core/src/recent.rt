@@ -24,7 +24,7 @@ pub(crate) struct Recent {
     fields: RecentFields,
     pub(crate) paths: KnownPaths,
     pub(crate) spare: Vec<Note>,
-    // At how many entries of a stack the last event that was told looked in vain.
+    // How many entries of stacks were looked at in vain since the last event that was told in a deep one.
     pub(crate) in_vain: u64,
 }
 

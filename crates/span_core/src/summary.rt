@@ -11,6 +11,7 @@ use span_forest::Forest;
 use span_id::{Bits, Id};
 use span_stack::SpanStack;
 use std::alloc::Global;
+use std::mem;
 
 // How many entries a block has.
 pub(crate) const BLOCK: usize = 64;
@@ -57,16 +58,17 @@ impl Summary {
         }
     }
 
-    /// Summarises a few more blocks of a worker's stack, where it is deep: of no more entries than the event before
-    /// looked at in vain, so that whatever calls are made, this takes no more time than their looks took. Where the
-    /// blocks are another worker's they are forgotten, and none is summarised in that call: so workers that tell events
-    /// by turns summarise none. Where memory is refused it is fewer blocks, which is no error.
+    /// Summarises a few more blocks of a worker's stack, where it is deep: of no more entries than earlier events looked
+    /// at in vain, so that whatever calls are made, this takes no more time than their looks took. What they looked at is
+    /// used up by the next event in a deep stack. Where the blocks are another worker's they are forgotten, and none is
+    /// summarised in that call: so workers with deep stacks that tell events by turns summarise none. Where memory is
+    /// refused it is fewer blocks, which is no error.
     pub(crate) fn extend(
         &mut self,
         forest: &Forest,
         stacks: &[SpanStack],
         worker: u32,
-        in_vain: u64,
+        in_vain: &mut u64,
     )
         requires within { worker < length stacks.now }
         requires summary { IsSummary forest.now.spans (ids_of_each stacks.now) self.old }
@@ -76,12 +78,13 @@ impl Summary {
         if stack.len() < ENOUGH {
             return;
         }
+        let looked_at = mem::take(in_vain);
         if self.worker != worker {
             self.worker = worker;
             self.blocks.clear();
             return;
         }
-        for _ in 0..AT_ONCE.min(in_vain / BLOCK as u64) {
+        for _ in 0..AT_ONCE.min(looked_at / BLOCK as u64) {
             add_block(&mut self.blocks, forest, stack);
         }
     }

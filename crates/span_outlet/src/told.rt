@@ -19,6 +19,9 @@ const MOST_SPARE: usize = 64;
 // A buffer with more room than this is freed with its text.
 const MOST_ROOM: usize = 4096;
 
+// A list with room for more lines than this is freed with them.
+const MOST_LINES: usize = 64;
+
 // A text keeps room for as many bytes more: fewer aren't worth that it is moved.
 const MOST_LEFT: usize = 16;
 
@@ -35,12 +38,17 @@ pub(crate) struct Told {
     ghost in_range: { refused ≤ 2 ^ 64 - 1 },
 }
 
-/// Lets go of the lines. The buffers of their texts are kept for texts to come, as long as they are few and small.
+/// Lets go of the lines. The buffers of their texts are kept for texts to come, as long as they are few and small, and
+/// so is the list.
 pub(crate) fn recycle(lines: &mut Vec<Line>, spare: &mut Vec<Vec<u8>>)
     ensures { lines.new.items ≡ [] }
 {
     while let Some(line) = lines.pop() {
         keep_buffer(spare, line);
+    }
+    if lines.capacity() > MOST_LINES {
+        let alloc = *lines.allocator();
+        *lines = Vec::new(alloc);
     }
 }
 
@@ -70,6 +78,10 @@ fn text_of_note<V: Say>(
         Some(mut text) => {
             text.clear();
             formatters.say_onto(form, note, &mut text)?;
+            if text.capacity() > MOST_ROOM {
+                // It won't be kept for another text.
+                give_room_back(&mut text);
+            }
             Ok(text)
         }
         None => {

@@ -21,7 +21,6 @@ use span_id::{Bits, Fault, Id};
 use span_layers::{Kind, Note, Rules};
 use span_outlet::Call;
 use span_stack::SpanStack;
-use std::mem;
 
 /// An event: which worker tells it, the layers that admit it, and what the caller gave.
 #[derive(Clone, Copy)]
@@ -65,7 +64,7 @@ pub(crate) fn event_told(
         });
     }
     let kept = event.given.keep(recent)?;
-    summary.extend(forest, stacks, event.worker, mem::take(&mut recent.in_vain));
+    summary.extend(forest, stacks, event.worker, &mut recent.in_vain);
     let notes = event_notes(recent, rules, forest, stacks, summary, event, &kept)?;
     Ok(ToldEvent {
         notes,
