@@ -1,3 +1,6 @@
-pub mod Numbered
 pub mod Members
-pub mod Readings
+pub mod Numbered
+pub mod Begun
+pub mod Turns
+pub mod Ends
+pub mod Loops

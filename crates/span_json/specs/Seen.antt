@@ -1,40 +1,46 @@
--- A value over borrowed text, as data: the numbers have their values, and each key its last value.
-use Rattle.std.specs.Prelude.{List, false, Option, Some, None}
-use Rattle.std.specs.declared.alloc.Global.{Global}
-use Rattle.json.specs.Json as json
-use Rattle.json.specs.Value as shown
-use Rattle.json.specs.declared.value.Value.{Value}
-use Rattle.serde_json.specs.Data.{Num, Data, null, boolean, number, string, array, object, Items, no_items, item, Members, no_members, put}
-use Rattle.serde_json.specs.Read.{number_of}
+-- A value over borrowed text, as data: each number has its value, and each key its last value.
+use Rattle.std.specs.Prelude.{ℕ, List, [], ◌∷◌, map}
+use Rattle.std.specs.Borrow.{Bor}
+use Rattle.serde_json.specs.Data.{Num, unsigned, negative, float, Data, null, boolean, number, string, array, object, Items, Members, no_members, put}
+use Rattle.serde_json.specs.View.{items_of}
+use Rattle.span_json.specs.declared.value.Number.{Number}
+use Rattle.span_json.specs.declared.value.Number.TheVariants.{Whole, Negative, Float}
+use Rattle.span_json.specs.declared.value.Value.{Value, fold-Value}
+use Rattle.span_json.specs.declared.value.Value.TheOpen.{Value-F}
 
--- where it is out of range, no text that is read has it, and this is anything but null, a number, a text, a list, an object
-abbrev pub seen_number : Option Num → Data
-seen_number None = boolean false
-seen_number (Some n) = number n
+-- a number is the value that it holds
+abbrev pub number_view : Number → Num
+number_view (Whole n) = unsigned n
+number_view (Negative z) = negative z
+number_view (Float x) = float x
 
-abbrev mutual
-  pub seen : json.Json → Data
-  seen json.null = null
-  seen (json.boolean b) = boolean b
-  seen (json.number s) = seen_number (number_of s)
-  seen (json.string s) = string s
-  seen (json.array js) = array (seen_items js)
-  seen (json.object ms) = object (seen_members ms no_members)
+-- the members go in one after another, so the last value of a key stays
+abbrev pub put_all : List (Bor (List ℕ) × Data) → Members → Members
+put_all [] found = found
+put_all (m ∷ ms) found = put_all ms (put m.0.now m.1 found)
 
-  pub seen_items : json.Items → Items
-  seen_items json.no_items = no_items
-  seen_items (json.item j js) = item (seen j) (seen_items js)
+-- one level, with each value inside already seen as its data
+abbrev pub view_step : Value-F Data → Data
+view_step Value-F.Null = null
+view_step (Value-F.Bool b) = boolean b
+view_step (Value-F.Number n) = number (number_view n)
+view_step (Value-F.Text s) = string s.now
+view_step (Value-F.List v) = array (items_of v.items)
+view_step (Value-F.Object v) = object (put_all v.items no_members)
 
-  -- the members go in one after another
-  pub seen_members : json.Members → Members → Members
-  seen_members json.no_members found = found
-  seen_members (json.member k j ms) found = seen_members ms (put k (seen j) found)
+abbrev pub view : Value → Data
+view = fold-Value Data view_step
 
-abbrev pub view : Value Global → Data
-view value = seen (shown.value_view value)
-
-abbrev pub items_view : List (Value Global) → Items
-items_view values = seen_items (shown.items_view values)
+-- a list's items in their order
+abbrev pub items_view : List Value → Items
+items_view values = items_of (map view values)
 
 abbrev pub Given : Type 0
-Given = Value Global
+Given = Value
+
+abbrev pub Member : Type 0
+Member = Bor (List ℕ) × Value
+
+-- an object's members, after what was found before them
+abbrev pub members_view : List Member → Members → Members
+members_view members found = put_all (map (λ m. (m.0, view m.1)) members) found

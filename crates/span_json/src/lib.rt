@@ -3,8 +3,10 @@
 
 mod numbers;
 mod reading;
+mod value;
 mod values;
 
-pub use json::{Scratch, Value};
+pub use json::Scratch;
 pub use reading::{Unread, read_value};
+pub use value::{Number, Value};
 pub use values::{as_array, as_str, as_u64, is_null, is_object, member};

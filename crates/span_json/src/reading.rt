@@ -1,15 +1,25 @@
-//! Reading a text.
-ghost use Rattle.std.specs.Prelude.{◌≡◌, Some, None, Err, IfOk};
+//! Reading a text, in one pass over its tokens.
+ghost use Rattle.std.specs.Prelude.{◌≡◌, ◌≢◌, [], ◌≤◌, ◌∷◌, length, Some, None, Err, IfOk};
 ghost use Rattle.std.specs.Str.{IsUtf8};
+ghost use Rattle.json.specs.Reads.{token_of};
+ghost use Rattle.serde_json.specs.Data.{no_members};
 ghost use Rattle.serde_json.specs.Read.{read};
-ghost use Rattle.span_json.specs.Seen.{view};
+ghost use Rattle.span_json.specs.Seen.{view, items_view, members_view};
+ghost use Rattle.span_json.specs.inside.Parts.{value_in, items_in, members_in};
 
-use crate::numbers::{are_in_range, has_number_out_of_range};
-use json::{Error, Reader, Scratch, Value};
+use crate::numbers::read_number;
+use crate::value::Value;
+use json::{Reader, Scratch, Token};
 use std::alloc::Global;
 
-// The length of the longest text of which a value is made before its numbers are looked at, in bytes.
-const LONGEST: usize = 65_536;
+// How deep lists and objects may nest.
+const MAX_DEPTH: usize = 127;
+
+// How deep they may nest inside of the outermost one.
+const INSIDE: usize = MAX_DEPTH - 1;
+
+// For how many members the outermost object has room at first, which a line of a script seldom passes.
+const FEW: usize = 8;
 
 /// Why there is no value.
 #[derive(Clone, Copy, Debug, PartialEq, Eq)]
@@ -44,39 +54,124 @@ fn read_text<'t>(
     ensures ok { IfOk result (λ value. read text.now ≡ Some (view value)) }
     ensures err { result ≡ Err Unread.NotJson → read text.now ≡ None }
 {
-    if text.len() > LONGEST && has_number_out_of_range(text, scratch) {
-        judge(alloc, text)?;
-    }
-    let Ok(mut reader) = Reader::new(text, scratch) else {
-        return Err(Unread::Memory);
+    let mut reader = Reader::new(text, scratch).map_err(|_| Unread::Memory)?;
+    let Some(token) = reader.next() else {
+        return Err(Unread::NotJson);
     };
-    let value = match Value::read(alloc, &mut reader, 127) {
-        Ok(value) => value,
-        Err(Error::OutOfMemory) => return Err(Unread::Memory),
-        Err(_) => return Err(Unread::NotJson),
-    };
+    let value = value_from(alloc, token, &mut reader, MAX_DEPTH)?;
     if reader.next().is_some() {
         return Err(Unread::NotJson);
     }
-    if are_in_range(&value) {
-        Ok(value)
-    } else {
-        Err(Unread::NotJson)
+    Ok(value)
+}
+
+// The value that begins with this token, which was taken from the reader before. Reading ends with the value, or at
+// the first token that is wrong there, be it only that its number is out of range.
+#[cycle(reading)]
+#[tactic(auto, using(crate::proofs::Begun::null_begun, crate::proofs::Begun::boolean_begun, crate::proofs::Begun::text_begun, crate::proofs::Begun::list_too_deep, crate::proofs::Begun::object_too_deep))]
+#[inline(always)]
+fn value_from<'t>(
+    alloc: Global,
+    token: Token<'t>,
+    reader: &mut Reader<'t>,
+    depth: usize,
+) -> Result<Value<'t>, Unread>
+    ensures ok { IfOk result (λ v. value_in depth (token_of token.entry ∷ reader.old) ≡ Some (view v, reader.new)) }
+    ensures err { result ≡ Err Unread.NotJson → value_in depth (token_of token.entry ∷ reader.old) ≡ None }
+    ensures no_longer { length reader.new ≤ length reader.old }
+{
+    match token {
+        Token::Null => Ok(Value::Null),
+        Token::Bool(b) => Ok(Value::Bool(b)),
+        Token::String(text) => Ok(Value::Text(text)),
+        Token::Number(text) => match read_number(text) {
+            Some(number) => Ok(Value::Number(number)),
+            None => Err(Unread::NotJson),
+        },
+        Token::BeginArray => {
+            if depth == 0 {
+                return Err(Unread::NotJson);
+            }
+            Ok(Value::List(list_items(alloc, reader, depth - 1)?))
+        }
+        Token::BeginObject => {
+            if depth == 0 {
+                return Err(Unread::NotJson);
+            }
+            Ok(Value::Object(object_members(alloc, reader, depth - 1)?))
+        }
+        Token::EndArray | Token::EndObject | Token::Key(_) | Token::Bad => Err(Unread::NotJson),
     }
 }
 
-// Refuses a text at its first number out of range, or before it: so no value is made of what follows.
-fn judge(alloc: Global, text: &str) -> Result<(), Unread>
-    ensures { result ≡ Err Unread.NotJson → read text.now ≡ None }
+// The items up to the list's end.
+#[cycle(reading)]
+#[inline(never)]
+fn list_items<'t>(
+    alloc: Global,
+    reader: &mut Reader<'t>,
+    depth: usize,
+) -> Result<Vec<Value<'t>>, Unread>
+    ensures ok { IfOk result (λ v. items_in depth (length reader.old) reader.old ≡ Some (items_view v.items, reader.new)) }
+    ensures err { result ≡ Err Unread.NotJson → items_in depth (length reader.old) reader.old ≡ None }
+    ensures no_longer { length reader.new ≤ length reader.old }
 {
-    match serde_json::Value::from_str(alloc, text) {
-        Ok(_) => Ok(()),
-        Err(error) => {
-            if error.is_memory() {
-                Err(Unread::Memory)
-            } else {
-                Err(Unread::NotJson)
-            }
+    let mut items = Vec::new(alloc);
+    while let Some(token) = reader.next() {
+        if let Token::EndArray = token {
+            return Ok(items);
+        }
+        let item = value_from(alloc, token, reader, depth)?;
+        if items.push(item).is_err() {
+            return Err(Unread::Memory);
         }
     }
+    Err(Unread::NotJson)
+}
+
+// Where the members of an object go. An outermost one, of which there is one in a line, has room for a few at once.
+#[inline(always)]
+fn room<'t>(alloc: Global, depth: usize) -> Result<Vec<(&'t str, Value<'t>)>, Unread>
+    ensures ok { IfOk result (λ members. members.items ≡ []) }
+    ensures err { result ≢ Err Unread.NotJson }
+{
+    if depth < INSIDE {
+        return Ok(Vec::new(alloc));
+    }
+    match Vec::with_capacity(alloc, FEW) {
+        Ok(members) => Ok(members),
+        Err(_) => Err(Unread::Memory),
+    }
+}
+
+// The members up to the object's end.
+#[cycle(reading)]
+#[tactic(auto, using(crate::proofs::Turns::object_empty, crate::proofs::Turns::object_wrong))]
+#[inline(never)]
+fn object_members<'t>(
+    alloc: Global,
+    reader: &mut Reader<'t>,
+    depth: usize,
+) -> Result<Vec<(&'t str, Value<'t>)>, Unread>
+    ensures ok { IfOk result
+        (λ v. members_in depth (length reader.old) no_members reader.old ≡ Some (members_view v.items no_members, reader.new)) }
+    ensures err { result ≡ Err Unread.NotJson → members_in depth (length reader.old) no_members reader.old ≡ None }
+    ensures no_longer { length reader.new ≤ length reader.old }
+{
+    let mut members = room(alloc, depth)?;
+    while let Some(token) = reader.next() {
+        let key = match token {
+            Token::Key(key) => key,
+            Token::EndObject => return Ok(members),
+            _ => return Err(Unread::NotJson),
+        };
+        let Some(first) = reader.next() else {
+            return Err(Unread::NotJson);
+        };
+        let member = value_from(alloc, first, reader, depth)?;
+        if members.push((key, member)).is_err() {
+            return Err(Unread::Memory);
+        }
+    }
+    Err(Unread::NotJson)
 }

@@ -1,13 +1,14 @@
-use Rattle.std.proofs.Common.{rules, ◌≡◌, true, [], sym, ◌∙◌}
-use Rattle.std.specs.Prelude.{is_some}
+use Rattle.std.proofs.Common.{rules, ◌≡◌, [], None, sym, ap, ◌∙◌}
+use Rattle.std.specs.Prelude.{option_and_then}
+use Rattle.json.specs.Lex.{tokens}
+use Rattle.json.specs.Json.{if_last, value}
+use Rattle.json.proofs.Grammar.{value_is}
 use Rattle.serde_json.specs.Read.{of_json}
-use Rattle.json.specs.Reads.{token_of}
-use Rattle.json.specs.Value.{value_view}
-use Rattle.span_json.proofs.Readings.{none_left, text_read}
 use Rattle.span_json.proofs.reading.read_text.Goals as goal
 
-pub returns-then-are_in_range-clause-ok : goal.returns-then-are_in_range-clause-ok
-returns-then-are_in_range-clause-ok c =
-    let good : is_some (of_json (value_view c.in-Ok-read.value)) ≡ true = search rules in
-    let last : c.read.new.reader ≡ [] = none_left token_of _ _ _ c.next.ensures.value (sym c.is_some.ensures ∙ c.if-is_some.false) in
-    text_read _ _ _ _ c.in-Ok.ensures.ok c.in-Ok-read.ensures.ok last good
+-- a text of no tokens
+pub returns-in_default-clause-err : goal.returns-in_default-clause-err
+returns-in_default-clause-err c = λ _.
+    let are : c.in_ok-reader.reader ≡ tokens c.args.text.now = search rules in
+    let none : value 127 (tokens c.args.text.now) ≡ None = ap (value 127) (sym are ∙ c.in_default.ensures.value.0) ∙ value_is 127 [] in
+    ap (λ r. option_and_then of_json (option_and_then (λ p. if_last p.0 p.1) r)) none
