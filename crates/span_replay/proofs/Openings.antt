@@ -1,5 +1,5 @@
 -- The loop over the lines before the first call: the hooks are as many after each line.
-use Rattle.std.proofs.Common.{◌≡◌, ℕ, ◌+◌, List, ◌∷◌, ap, sym, ◌∙◌, subst, Option, Some, None, IfSome, IfNone, Result, Ok, Err}
+use Rattle.std.proofs.Common.{◌≡◌, ℕ, ◌+◌, List, ◌∷◌, ap, sym, ◌∙◌, subst, Option, Some, None, IfSome, IfNone, Result}
 use Rattle.std.specs.Io.KnownBytes.{Keeps}
 use Rattle.std.proofs.KnownBytes.{Appends-kept}
 use Rattle.serde_json.specs.Data.{Data}
@@ -7,8 +7,7 @@ use Rattle.span_id.specs.declared.limits.Limits.{Limits}
 use Rattle.span_layers.specs.Filter.{Filter}
 use Rattle.span_layers.specs.declared.form.Form.{Form}
 use Rattle.span_replay.specs.Meaning.{Transcript, line_turn, run, turn_then, value_turn}
-use Rattle.span_script.specs.Operation.{Stage, json_of}
-use Rattle.span_script.specs.declared.reason.Reason.{Reason}
+use Rattle.span_script.specs.Operation.{Stage}
 use Rattle.span_replay.specs.Replayed.{Fails, Runs}
 use Rattle.span_script.specs.Script.{lines_of}
 use Rattle.span_replay.specs.State.{State, first_state}
@@ -50,14 +49,6 @@ opened_at_call hooks hooks' number a b c whole state new rest line tail value e 
     let is = subst (λ h. line_turn h state line ≡ value_turn h state value) e is0 in
     subst (λ n. Sent a c whole (resumed_run hooks number n (Some value) tail)) (sym same)
     (sent_kept a b c whole _ (subst (Sent a b whole) (with_value hooks number state rest line tail value cut is) s) k)
-
--- the line has one value
-pub same_value : (line : List ℕ) (a b : Data) → json_of line ≡ Ok a → json_of line ≡ Ok b → a ≡ b
-same_value line a b is same = ap (pick a) (sym is ∙ same)
-  where
-    pick : Data → Result Data Reason → Data
-    pick d (Ok x) = x
-    pick d (Err reason) = d
 
 -- ---- a script from its first line
 

@@ -1,22 +1,19 @@
 //! The lines of a script before the first call.
-ghost use Rattle.std.specs.Prelude.{◌≡◌, ◌+◌, ◌^◌, ◌<◌, ◌≤◌, [], false, length, true, IfOk, IfErr, IfSome, IfNone, Ok, OnOk};
-ghost use Rattle.std.specs.Option.{option_map};
+ghost use Rattle.std.specs.Prelude.{◌≡◌, ◌^◌, ◌<◌, false, true, IfOk, IfErr, IfSome, IfNone, Ok, OnOk};
 ghost use Rattle.std.specs.Io.KnownBytes.{Keeps};
 ghost use Rattle.span_json.specs.Seen.{view};
 ghost use Rattle.span_run.specs.Counted.{inner_of, failed_of, flushes_of};
-ghost use Rattle.span_replay.specs.Meaning.{line_turn, run, value_turn};
+ghost use Rattle.span_replay.specs.Meaning.{line_turn, value_turn};
 ghost use Rattle.span_script.specs.Operation.{is_setup, json_of};
-ghost use Rattle.span_replay.specs.Replayed.{Fails};
 ghost use Rattle.span_run.specs.RunFault.{EndsAsCounted};
-ghost use Rattle.span_script.specs.Script.{lines_of, most_bytes};
 ghost use Rattle.span_replay.specs.inside.Setup.{hooks_in, setup_state};
-ghost use Rattle.span_replay.specs.inside.Turns.{HasTurned, Sent, TurnFails, resumed_run};
+ghost use Rattle.span_replay.specs.inside.Turns.{HasTurned, TurnFails};
 
 use crate::run::fault::at_line;
 use crate::run::setup::Setup;
 use span_json::{Scratch, Value};
 use span_run::{Counted, RunFault, write_text};
-use span_script::{cut_line, is_setup_line, is_skipped, json_line};
+use span_script::{is_setup_line, is_skipped, json_line};
 use std::alloc::Global;
 use std::io::Write;
 
@@ -31,63 +28,8 @@ pub struct Rest<'s> {
     pub lines: &'s [u8],
 }
 
-/// Runs the lines up to the first one whose op is neither `limits` nor `layer`. Its value is handed on; it is read
-/// again, with the scratch that outlives the call.
-pub fn open<'s, W: Write>(
-    alloc: Global,
-    script: &'s [u8],
-    scratch: &'s mut Scratch,
-    setup: &mut Setup,
-    text: &mut Vec<u8>,
-    output: &mut Counted<W>,
-) -> Result<Rest<'s>, RunFault>
-    requires failed { failed_of output.old < 2 ^ 63 }
-    requires fits { length script.now ≤ most_bytes }
-    ensures sent { IfOk result (λ rest. Sent (W.contents (inner_of output.old)) (W.contents (inner_of output.new))
-        (run (hooks_in setup.old) 1 (setup_state setup.old) (lines_of script.now))
-        (resumed_run (hooks_in setup.old) rest.number (setup_state setup.new) (option_map view rest.value)
-        rest.lines.now)) }
-    ensures call { IfOk result (λ rest. IfSome rest.value (λ value. is_setup (view value) ≡ false)) }
-    ensures done { IfOk result (λ rest. IfNone rest.value (rest.lines.now ≡ [])) }
-    ensures place { IfOk result (λ rest. rest.number + length rest.lines.now ≤ most_bytes + 1) }
-    ensures err { IfErr result (Fails (run (hooks_in setup.old) 1 (setup_state setup.old) (lines_of script.now))
-        (W.contents (inner_of output.old)) (W.contents (inner_of output.new))) }
-    ensures counts { EndsAsCounted 0 0 (failed_of output.old) (failed_of output.new) result }
-    ensures flushes { flushes_of output.new ≡ flushes_of output.old }
-{
-    let mut own = Scratch::new(alloc);
-    let mut lines = script;
-    let mut number = 1u64;
-    while !lines.is_empty() {
-        let (line, tail) = cut_line(lines);
-        match open_line(alloc, number, line, &mut own, setup, text, output) {
-            Ok(None) => {}
-            Ok(Some(value)) => {
-                // Its memory is freed before the line is read again.
-                drop(value);
-                let Ok(value) = json_line(alloc, line, scratch) else {
-                    return Err(RunFault::Memory);
-                };
-                return Ok(Rest {
-                    number,
-                    value: Some(value),
-                    lines: tail,
-                });
-            }
-            Err(fault) => return Err(fault),
-        }
-        lines = tail;
-        number += 1;
-    }
-    Ok(Rest {
-        number,
-        value: None,
-        lines,
-    })
-}
-
 /// Runs a line, or answers its value where its op is neither `limits` nor `layer`.
-fn open_line<'s, W: Write>(
+pub fn open_line<'s, W: Write>(
     alloc: Global,
     number: u64,
     line: &'s [u8],

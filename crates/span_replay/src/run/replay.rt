@@ -15,7 +15,7 @@ ghost use Rattle.span_replay.specs.inside.Setup.{hooks_in, setup_state};
 ghost use Rattle.span_replay.specs.inside.Turns.{resumed_run};
 
 use crate::run::lines::run_rest;
-use crate::run::opening::{Rest, open};
+use crate::run::opening::{Rest, open_line};
 use crate::run::setup::Setup;
 use crate::run::tidying::Remains;
 use span_core::Core;
@@ -23,6 +23,7 @@ use span_json::Scratch;
 use span_layers::{Admit, Admitters, Formatters, Hooks, Say, hooks_apart};
 use span_outlet::Latest;
 use span_run::{Counted, RunFault, flush, read_script};
+use span_script::cut_line;
 use std::alloc::Global;
 use std::io::{Read, Write};
 
@@ -162,11 +163,13 @@ where
 }
 
 /// Runs all lines of a script from this set-up on.
+///
+/// The rest is run from within the loop: the value of its first line, which may lie in the scratch, can't leave it.
 fn run_all<A: Drop, F: Drop, W: Write>(
     alloc: Global,
     script: &[u8],
     mut setup: Setup,
-    mut hooks: Vec<Hooks<A, F>>,
+    hooks: Vec<Hooks<A, F>>,
     remains: Remains,
     text: &mut Vec<u8>,
     output: &mut Counted<W>,
@@ -182,18 +185,61 @@ where
     ensures flushes { flushes_of output.new ≡ flushes_of output.old }
 {
     let mut scratch = Scratch::new(alloc);
-    match open(alloc, script, &mut scratch, &mut setup, text, output) {
-        Ok(rest) => {
-            // Hooks that no layer took are dropped before the first call.
-            hooks.truncate(setup.layers());
-            match hooks_apart(alloc, hooks) {
-                Ok((admitters, formatters)) => run_opened(
-                    alloc, setup, admitters, formatters, &rest, remains, text, output,
-                ),
-                Err(_) => Err(RunFault::Memory),
+    let mut lines = script;
+    let mut number = 1u64;
+    while !lines.is_empty() {
+        let (line, tail) = cut_line(lines);
+        lines = tail;
+        match open_line(alloc, number, line, &mut scratch, &mut setup, text, output) {
+            Ok(None) => number += 1,
+            Ok(Some(value)) => {
+                let rest = Rest {
+                    number,
+                    value: Some(value),
+                    lines,
+                };
+                return run_with_hooks(alloc, setup, hooks, &rest, remains, text, output);
             }
+            Err(fault) => return Err(fault),
         }
-        Err(fault) => Err(fault),
+    }
+    let rest = Rest {
+        number,
+        value: None,
+        lines,
+    };
+    run_with_hooks(alloc, setup, hooks, &rest, remains, text, output)
+}
+
+/// Runs what is left of a script. Hooks that no layer took are dropped before the first call.
+fn run_with_hooks<A: Drop, F: Drop, W: Write>(
+    alloc: Global,
+    setup: Setup,
+    mut hooks: Vec<Hooks<A, F>>,
+    rest: &Rest<'_>,
+    remains: Remains,
+    text: &mut Vec<u8>,
+    output: &mut Counted<W>,
+) -> Result<u64, RunFault>
+where
+    Admitters<A>: Admit,
+    Formatters<F>: Say,
+    requires failed { failed_of output.old < 2 ^ 63 }
+    requires call { IfSome rest.now.value (λ value. is_setup (view value) ≡ false) }
+    requires done { IfNone rest.now.value (rest.now.lines.now ≡ []) }
+    requires place { rest.now.number + length rest.now.lines.now ≤ most_bytes + 1 }
+    ensures runs { (layers : ℕ) →
+        Runs (resumed_run layers rest.now.number (setup_state setup) (option_map view rest.now.value) rest.now.lines.now)
+        (W.contents (inner_of output.old)) (W.contents (inner_of output.new)) result }
+    ensures counts { EndsAsCounted 0 0 (failed_of output.old) (failed_of output.new) result }
+    ensures flushes { flushes_of output.new ≡ flushes_of output.old }
+{
+    hooks.truncate(setup.layers());
+    match hooks_apart(alloc, hooks) {
+        Ok((admitters, formatters)) => run_opened(
+            alloc, setup, admitters, formatters, rest, remains, text, output,
+        ),
+        Err(_) => Err(RunFault::Memory),
     }
 }
 

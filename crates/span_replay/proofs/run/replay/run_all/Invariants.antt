@@ -4,11 +4,11 @@ use Rattle.span_replay.specs.Meaning.{run}
 use Rattle.span_script.specs.Script.{lines_of}
 use Rattle.span_replay.specs.inside.Setup.{hooks_in, setup_state}
 use Rattle.span_replay.specs.inside.Turns.{Sent}
-use Rattle.span_replay.proofs.run.opening.open.Given as goal
+use Rattle.span_replay.proofs.run.replay.run_all.Given as goal
 
 -- what is meant as a whole is what was written, before what is meant for the lines that are left
-abbrev pub invariant-loop-scratch : goal.invariant-loop-scratch
-invariant-loop-scratch g l = record {
+abbrev pub invariant-loop-lines : goal.invariant-loop-lines
+invariant-loop-lines g l = record {
   sent : Sent (g.W.Write.contents (inner_of l.initial.output)) (g.W.Write.contents (inner_of l.output))
       (run (hooks_in l.initial.setup) 1 (setup_state l.initial.setup) (lines_of l.script))
       (run (hooks_in l.initial.setup) l.number (setup_state l.setup) (lines_of l.lines));
@@ -18,5 +18,5 @@ invariant-loop-scratch g l = record {
   count : l.number + length l.lines ≤ length l.script + 1;
 }
 
-abbrev pub decreases-loop-scratch : goal.decreases-loop-scratch
-decreases-loop-scratch g l = length l.lines
+abbrev pub decreases-loop-lines : goal.decreases-loop-lines
+decreases-loop-lines g l = length l.lines
