@@ -1,9 +1,11 @@
 -- The first line of a script, and what follows its newline.
-use Rattle.std.proofs.Common.{◌≡◌, ℕ, ◌+◌, ◌<◌, ◌≤◌, List, [], ◌∷◌, length, Bool, true, false, refl, arith, take, drop, one-add, add-one, Some, None, cond, ◌-◌, drop_of_length-le}
+use Rattle.std.proofs.Common.{◌≡◌, ℕ, ◌+◌, ◌<◌, ◌≤◌, List, [], ◌∷◌, length, get_or, Bool, true, false, refl, arith, take, drop, one-add, add-one, Option, Some, None, cond, ◌-◌, sym, ap, drop_of_length-le}
 use Rattle.std.proofs.lemmas.List.{take_rest}
+use Rattle.std.proofs.lemmas.List.Sums.{position_or_len_is}
 use Rattle.std.proofs.lemmas.Bool.{ltb-true, ltb-false}
 use Rattle.std.specs.Prelude.{◌==◌, nat_lt}
 use Rattle.std.specs.List.{position, position_or_len}
+use Rattle.memchr.specs.Find.{IsFirstByte, is_byte}
 use Rattle.span_script.specs.Script.{lines_of}
 
 abbrev is_newline : ℕ → Bool
@@ -43,6 +45,30 @@ lines_last (x ∷ xs) h k = last_step x xs (x == 10) refl (lines_last xs) k
 pub lines_nil : lines_of [] ≡ []
 unfolding lines_of
 lines_nil = refl
+
+-- ---- where a search for a newline ends
+
+not_passed : (b : Bool) → ¬ (b ≡ true) → b ≡ false
+not_passed true h = absurd (h refl)
+not_passed false h = refl
+
+at_end : (xs : List ℕ) (b : Bool) → nat_lt (first xs) (length xs) ≡ b → first xs ≡ length xs → None ≡ cond b (Some (first xs)) None
+at_end xs true e at = let low = ltb-true (first xs) (length xs) e in absurd (omega arith)
+at_end xs false e at = refl
+
+at_place : (xs : List ℕ) (k : ℕ) (b : Bool) → nat_lt (first xs) (length xs) ≡ b → first xs ≡ k → k < length xs → Some k ≡ cond b (Some (first xs)) None
+at_place xs k true e at low = ap Some (sym at)
+at_place xs k false e at low = let high = ltb-false (first xs) (length xs) e in absurd (omega arith)
+
+pub first_newline : (xs : List ℕ) (r : Option ℕ) → IsFirstByte (is_byte 10) xs r → r ≡ position is_newline xs
+first_newline xs None none =
+    let at = position_or_len_is is_newline xs (length xs) 0 (omega arith) (λ k low. not_passed (is_newline (get_or xs k 0)) (none k (omega arith) low)) (λ low. absurd (omega arith)) in
+    at_end xs (nat_lt (first xs) (length xs)) refl at
+first_newline xs (Some k) found =
+    let before = found.0 in
+    let at =
+    position_or_len_is is_newline xs k 0 (omega (arith, before.high)) (λ j low. not_passed (is_newline (get_or xs j 0)) (before.before j (omega arith) low)) (λ low. found.1) in
+    at_place xs k (nat_lt (first xs) (length xs)) refl at before.high
 
 place_tells : (xs : List ℕ) (k : ℕ) (b : Bool) → nat_lt (first xs) (length xs) ≡ b → Some k ≡ cond b (Some (first xs)) None → (k ≡ first xs) × (first xs < length xs)
 place_tells xs k true e p = (cc, ltb-true (first xs) (length xs) e)

@@ -2,6 +2,8 @@
 ghost use Rattle.std.specs.Prelude.{◌≡◌, ◌==◌, ◌∷◌, ◌<◌, length, position};
 ghost use Rattle.span_script.specs.Script.{lines_of, is_skipped};
 
+use memchr::memchr;
+
 /// The first line without its newline, and what follows.
 pub fn cut_line(script: &[u8]) -> (&[u8], &[u8])
     requires { 0 < length script.now }
@@ -15,10 +17,11 @@ pub fn cut_line(script: &[u8]) -> (&[u8], &[u8])
 }
 
 /// Where the first newline stands.
+#[tactic(auto, using(crate::proofs::Cuts::first_newline))]
 fn newline(script: &[u8]) -> Option<usize>
     ensures { result ≡ position (λ byte. byte == 10) script.now }
 {
-    script.iter().position(|byte| *byte == b'\n')
+    memchr(b'\n', script)
 }
 
 /// Whether the line has blanks, tabs and carriage returns alone.
