@@ -17,8 +17,7 @@ enum Place {
 
 const PLACES: [Place; 3] = [Place::First, Place::Middle, Place::Last];
 
-/// The reader looks for the places of tokens in pieces of 4096, and the numbers of a line of more than 65,536 bytes are
-/// looked at before a value is made of it.
+/// The reader looks for the places of tokens in pieces of 4096 bytes: within one, on both sides of its end, and over many.
 const LENGTHS: [usize; 6] = [100, 4096, 4097, 65_536, 65_537, 80_000];
 
 /// A line of this length, or longer where the item takes more, with the item in a list of zeros.
