@@ -1,2 +1,3 @@
 -- What the crate's types keep: no public clause cites it.
 pub mod Fields
+pub mod NameBytes
