@@ -14,12 +14,12 @@ number_view (Whole n) = unsigned n
 number_view (Negative z) = negative z
 number_view (Float x) = float x
 
--- the members go in one after another, so the last value of a key stays
+-- what was found, with these members put in: where a key comes twice, its later value takes the place of the earlier one
 abbrev pub put_all : List (Bor (List ℕ) × Data) → Members → Members
 put_all [] found = found
 put_all (m ∷ ms) found = put_all ms (put m.0.now m.1 found)
 
--- one level, with each value inside already seen as its data
+-- what a value stands for, once the values inside it are data
 abbrev pub view_step : Value-F Data → Data
 view_step Value-F.Null = null
 view_step (Value-F.Bool b) = boolean b

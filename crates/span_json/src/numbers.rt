@@ -1,5 +1,5 @@
 //! The numbers of a text.
-ghost use Rattle.std.specs.Prelude.{◌≡◌, ◌==◌, slice_index, true, false};
+ghost use Rattle.std.specs.Prelude.{◌≡◌, ◌==◌, slice_index};
 ghost use Rattle.std.specs.Option.{option_map};
 ghost use Rattle.serde_json.specs.Find.{of_float};
 ghost use Rattle.serde_json.specs.Read.{number_of, number_from};
@@ -8,56 +8,44 @@ ghost use Rattle.span_json.specs.Seen.{number_view};
 use crate::value::Number;
 use fast_float::Numeral;
 
-/// The value of a number, where it is in the range of its type: an integer of 64 bits, or a finite float.
+/// The value of a number, if it is in range: an integer of 64 bits where it is written as one, else the nearest float,
+/// which has to be finite.
 #[inline(always)]
 pub(crate) fn read_number(text: &str) -> Option<Number>
     ensures { option_map number_view result ≡ number_of text.now }
 {
     let bytes = text.as_bytes();
-    if has_minus(bytes) {
-        negative(&Numeral::scan(&bytes[1..]))
-    } else {
-        unsigned(&Numeral::scan(bytes))
-    }
+    let is_below_zero = begins_with_minus(bytes);
+    let digits = &bytes[usize::from(is_below_zero)..];
+    value_of(&Numeral::scan(digits), is_below_zero)
 }
 
 #[inline(always)]
-fn has_minus(bytes: &[u8]) -> bool
+fn begins_with_minus(bytes: &[u8]) -> bool
     ensures { result ≡ (slice_index bytes.now 0 == 45) }
 {
-    match bytes.first() {
-        Some(byte) => *byte == b'-',
-        None => false,
-    }
+    !bytes.is_empty() && bytes[0] == b'-'
 }
 
+// The value of digits, below zero or not. Zero below zero is no integer.
 #[inline(always)]
-fn unsigned(numeral: &Numeral<'_>) -> Option<Number>
-    ensures { option_map number_view result ≡ number_from false numeral.now }
+fn value_of(digits: &Numeral<'_>, is_below_zero: bool) -> Option<Number>
+    ensures { option_map number_view result ≡ number_from is_below_zero digits.now }
 {
-    match numeral.to_u64() {
-        Some(whole) => Some(Number::Whole(whole)),
-        None => finite(numeral.to_float(false)),
+    if !is_below_zero {
+        return match digits.to_u64() {
+            Some(whole) => Some(Number::Whole(whole)),
+            None => if_finite(digits.to_float(false)),
+        };
+    }
+    match digits.to_i64(true) {
+        Some(integer) if integer != 0 => Some(Number::Negative(integer)),
+        _ => if_finite(digits.to_float(true)),
     }
 }
 
-fn negative(numeral: &Numeral<'_>) -> Option<Number>
-    ensures { option_map number_view result ≡ number_from true numeral.now }
+fn if_finite(nearest: f64) -> Option<Number>
+    ensures { option_map number_view result ≡ of_float nearest }
 {
-    if let Some(integer) = numeral.to_i64(true) {
-        if integer < 0 {
-            return Some(Number::Negative(integer));
-        }
-    }
-    finite(numeral.to_float(true))
-}
-
-fn finite(float: f64) -> Option<Number>
-    ensures { option_map number_view result ≡ of_float float }
-{
-    if float.is_finite() {
-        Some(Number::Float(float))
-    } else {
-        None
-    }
+    nearest.is_finite().then(|| Number::Float(nearest))
 }
