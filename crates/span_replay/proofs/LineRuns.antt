@@ -7,7 +7,6 @@ use Rattle.span_run.specs.Device.{AppendsFront}
 use Rattle.span_replay.specs.Meaning.{Turn, line_turn, value_turn}
 use Rattle.span_replay.specs.State.{State}
 use Rattle.span_replay.specs.inside.Turns.{HasTurned, TurnFails}
-use Rattle.span_script.specs.Operation.{json_of}
 use Rattle.span_script.specs.declared.reason.Reason.{Reason}
 use Rattle.span_run.specs.declared.fault.RunFault.{RunFault}
 use Rattle.span_run.specs.declared.fault.RunFault.TheVariants.{Device}
@@ -43,12 +42,6 @@ pub opened_value : {A : Type 0} (seen : A → Data) (hooks : ℕ) (state : State
 opened_value seen hooks state line value (Ok (Some left)) same p = same ∙ ap (value_turn hooks state) (sym p)
 opened_value seen hooks state line value (Ok None) same p = tt
 opened_value seen hooks state line value (Err fault) same p = tt
-
-pub opened_read : {A : Type 0} (seen : A → Data) (line : List ℕ) (value : Data) (r : Result (Option A) RunFault) → json_of line ≡ Ok value
-    → IfOk r (λ left. IfSome left (λ left. seen left ≡ value)) → IfOk r (λ left. IfSome left (λ left. json_of line ≡ Ok (seen left)))
-opened_read seen line value (Ok (Some left)) same p = same ∙ ap {B = Result Data Reason} (λ d. Ok d) (sym p)
-opened_read seen line value (Ok None) same p = tt
-opened_read seen line value (Err fault) same p = tt
 
 pub opened_fault : {A : Type 0} (meant meant' : Result Turn Reason) (number : ℕ) (a b : Known) (r : Result A RunFault) → meant ≡ meant' → IfErr r (TurnFails meant' number a b) → IfErr r (TurnFails meant number a b)
 opened_fault meant meant' number a b r same p = subst (λ m. IfErr r (TurnFails m number a b)) (sym same) p

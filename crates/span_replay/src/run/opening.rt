@@ -1,10 +1,10 @@
 //! The lines of a script before the first call.
-ghost use Rattle.std.specs.Prelude.{◌≡◌, ◌^◌, ◌<◌, false, true, IfOk, IfErr, IfSome, IfNone, Ok, OnOk};
+ghost use Rattle.std.specs.Prelude.{◌≡◌, ◌^◌, ◌<◌, false, true, IfOk, IfErr, IfSome, IfNone, OnOk};
 ghost use Rattle.std.specs.Io.KnownBytes.{Keeps};
 ghost use Rattle.span_json.specs.Seen.{view};
 ghost use Rattle.span_run.specs.Counted.{inner_of, failed_of, flushes_of};
 ghost use Rattle.span_replay.specs.Meaning.{line_turn, value_turn};
-ghost use Rattle.span_script.specs.Operation.{is_setup, json_of};
+ghost use Rattle.span_script.specs.Operation.{is_setup};
 ghost use Rattle.span_run.specs.RunFault.{EndsAsCounted};
 ghost use Rattle.span_replay.specs.inside.Setup.{hooks_in, setup_state};
 ghost use Rattle.span_replay.specs.inside.Turns.{HasTurned, TurnFails};
@@ -49,7 +49,6 @@ pub fn open_line<'s, W: Write>(
     ensures value { IfOk result
         (λ value. IfSome value (λ value. line_turn (hooks_in setup.old) (setup_state setup.old) line.now
         ≡ value_turn (hooks_in setup.old) (setup_state setup.old) (view value))) }
-    ensures read { IfOk result (λ value. IfSome value (λ value. json_of line.now ≡ Ok (view value))) }
     ensures call { IfOk result (λ value. IfSome value (λ value. is_setup (view value) ≡ false)) }
     ensures hooks { OnOk result (hooks_in setup.new ≡ hooks_in setup.old) }
     ensures err { IfErr result (TurnFails (line_turn (hooks_in setup.old) (setup_state setup.old) line.now) number
