@@ -21,6 +21,10 @@ pub fn cut_line(script: &[u8]) -> (&[u8], &[u8])
 fn newline(script: &[u8]) -> Option<usize>
     ensures { result ≡ position (λ byte. byte == 10) script.now }
 {
+    // A blank line isn't worth a search.
+    if !script.is_empty() && script[0] == b'\n' {
+        return Some(0);
+    }
     memchr(b'\n', script)
 }
 
