@@ -21,9 +21,9 @@ pub fn cut_line(script: &[u8]) -> (&[u8], &[u8])
 fn newline(script: &[u8]) -> Option<usize>
     ensures { result ≡ position (λ byte. byte == 10) script.now }
 {
-    // A blank line isn't worth a search.
-    if !script.is_empty() && script[0] == b'\n' {
-        return Some(0);
+    // Most lines that begin with a blank have nothing else: their end is too near for a search to pay.
+    if !script.is_empty() && script[0] <= b' ' {
+        return script.iter().position(|byte| *byte == b'\n');
     }
     memchr(b'\n', script)
 }
