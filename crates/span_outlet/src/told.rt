@@ -19,7 +19,7 @@ const MOST_SPARE: usize = 64;
 // A buffer with more room than this is freed with its text.
 const MOST_ROOM: usize = 4096;
 
-// A list with room for more lines than this is freed with them.
+// A list gives back the room that it has for more lines than this.
 const MOST_LINES: usize = 64;
 
 // A text keeps room for as many bytes more: fewer aren't worth that it is moved.
@@ -39,17 +39,14 @@ pub(crate) struct Told {
 }
 
 /// Lets go of the lines. The buffers of their texts are kept for texts to come, as long as they are few and small, and
-/// so is the list.
+/// the list keeps room for a few lines.
 pub(crate) fn recycle(lines: &mut Vec<Line>, spare: &mut Vec<Vec<u8>>)
     ensures { lines.new.items ≡ [] }
 {
     while let Some(line) = lines.pop() {
         keep_buffer(spare, line);
     }
-    if lines.capacity() > MOST_LINES {
-        let alloc = *lines.allocator();
-        *lines = Vec::new(alloc);
-    }
+    lines.shrink_to(MOST_LINES);
 }
 
 // Keeps the buffer of a line's text, unless it is too large, or there are enough, or memory is refused.
