@@ -105,20 +105,20 @@ impl<O: Outlet + Drop, F: Drop> Core<O, Admitters<F>> {
         ensures memory { IfErr result (λ fault. fault ≡ Fault.Memory) }
     {
         let Filters { rules, admitters } = filters;
-        Core::with_admitters(alloc, checked, rules, admitters, outlet)
+        Core::with_admitters(alloc, checked, outlet, rules, admitters)
     }
 }
 
 impl<O: Outlet + Drop, A: Drop> Core<O, A> {
     /// An empty registry as `new` makes it, in which `admitters` applies the rules, whatever it is.
     ///
-    /// The only error is `Memory`; the rules, the admitters and the outlet are dropped then.
+    /// The only error is `Memory`; the admitters, the rules and the outlet are dropped then, in this order.
     pub fn with_admitters(
         alloc: Global,
         checked: &Checked,
+        outlet: O,
         rules: Rules,
         admitters: A,
-        outlet: O,
     ) -> Result<Core<O, A>, Fault>
         requires { O.sent outlet ≡ [] }
         ensures empty { IfOk result (λ core. core ≡ record {

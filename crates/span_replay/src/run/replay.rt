@@ -1,6 +1,6 @@
 //! Running a whole script: reading it, its lines, the tidying and the last line, and writing out.
 ghost use Rattle.std.specs.Prelude.{◌≡◌, ◌+◌, ◌^◌, ◌<◌, ◌≤◌, ℕ, [], false, IfOk, IfErr, IfSome, IfNone, OnOk};
-ghost use Rattle.std.specs.Prelude.{length, vec_len};
+ghost use Rattle.std.specs.Prelude.{length, take, vec_len};
 ghost use Rattle.std.specs.Option.{option_map};
 ghost use Rattle.std.specs.Io.KnownBytes.{IsAtEnd};
 ghost use Rattle.span_json.specs.Seen.{view};
@@ -211,7 +211,7 @@ where
     run_with_hooks(alloc, setup, hooks, &rest, remains, text, output)
 }
 
-/// Runs what is left of a script. Hooks that no layer took are dropped before the first call.
+/// Runs what is left of a script. Hooks that no layer took are dropped before the first call, the last one first.
 fn run_with_hooks<A: Drop, F: Drop, W: Write>(
     alloc: Global,
     setup: Setup,
@@ -234,12 +234,21 @@ where
     ensures counts { EndsAsCounted 0 0 (failed_of output.old) (failed_of output.new) result }
     ensures flushes { flushes_of output.new ≡ flushes_of output.old }
 {
-    hooks.truncate(setup.layers());
+    drop_unused(&mut hooks, setup.layers());
     match hooks_apart(alloc, hooks) {
         Ok((admitters, formatters)) => run_opened(
             alloc, setup, admitters, formatters, rest, remains, text, output,
         ),
         Err(_) => Err(RunFault::Memory),
+    }
+}
+
+// Drops the hooks behind those that were taken, the last one first.
+fn drop_unused<H: Drop>(hooks: &mut Vec<H>, taken: usize)
+    ensures { hooks.new.items ≡ take taken hooks.old.items }
+{
+    while hooks.len() > taken {
+        drop(hooks.pop());
     }
 }
 
@@ -267,7 +276,7 @@ fn run_opened<V: Say, A: Admit, W: Write>(
     let (checked, rules, forms) = setup.split();
     let latest = Latest::with_formatters(alloc, forms, formatters);
     let workers = checked.limits().workers;
-    match Core::with_admitters(alloc, &checked, rules, admitters, latest) {
+    match Core::with_admitters(alloc, &checked, latest, rules, admitters) {
         Ok(core) => run_rest(alloc, workers, core, rest, remains, text, output),
         Err(_) => Err(RunFault::Memory),
     }

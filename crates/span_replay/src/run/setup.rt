@@ -51,7 +51,9 @@ impl Setup {
     }
 
     /// How many layers were added so far.
-    pub fn layers(&self) -> usize {
+    pub fn layers(&self) -> usize
+        ensures { result ≡ length (filters_in self.now.layers) }
+    {
         self.added
     }
 
