@@ -24,7 +24,8 @@ pub(crate) enum Refused {
     At(Kind),
 }
 
-fn is_refused(refused: Refused, kind: Kind) -> bool {
+/// Whether the text of a note of this kind is refused memory.
+pub(crate) fn is_refused(refused: Refused, kind: Kind) -> bool {
     match refused {
         Refused::None => false,
         Refused::At(other) => kind == other,

@@ -2,10 +2,10 @@
 ghost use Rattle.std.specs.Prelude.{◌≡◌, ◌+◌, ◌-◌, ◌^◌, ◌<◌, ◌≤◌, [], length};
 
 use crate::tests::compare::same;
-use crate::tests::layers::fixtures::{Refused, Wanted, add_plan};
+use crate::tests::layers::fixtures::{Refused, Wanted, add, add_plan, layer_with};
 use crate::tests::values::id;
 use span_id::{Fields, Level, Limits};
-use span_layers::{Form, Kind, Layers, Note, Tellers};
+use span_layers::{ByForm, ByRule, Form, Hooks, Kind, Layers, Note, Tellers};
 use span_outlet::{Batch, Call, Drain, Line, Outlet, Reply, Ring, Tap};
 use std::alloc::Global;
 use std::process::Abort;
@@ -18,6 +18,17 @@ pub(crate) fn tellers(rt: &impl Abort, alloc: Global, forms: &[Form]) -> Tellers
         let plan = (*form, Wanted::All, "", Level::Trace);
         let at_new = Refused::At(Kind::OnNew);
         add_plan(rt, alloc, &mut layers, &plan, at_new);
+    }
+    layers.split().1
+}
+
+/// Tellers of layers with these forms and no closures.
+pub(crate) fn plain_tellers(rt: &impl Abort, alloc: Global, forms: &[Form]) -> Tellers<ByForm> {
+    let mut layers: Layers<ByRule, ByForm> = Layers::new(alloc);
+    for form in forms {
+        let plan = (*form, Wanted::All, "", Level::Trace);
+        let layer = layer_with(rt, alloc, &plan, Hooks::by_rule_and_form());
+        add(rt, &mut layers, layer);
     }
     layers.split().1
 }
@@ -45,7 +56,7 @@ pub(crate) fn opened(rt: &impl Abort, alloc: Global, places: u32, forms: &[Form]
 }
 
 /// Sends a batch where there is room, and answers whether there was.
-fn send<O: Outlet>(rt: &impl Abort, outlet: &mut O, batch: Batch) -> bool
+pub(crate) fn send<O: Outlet>(rt: &impl Abort, outlet: &mut O, batch: Batch) -> bool
     requires { length (O.sent outlet.old) < 2 ^ 64 - 1 }
     ensures sent { length (O.sent outlet.new) ≤ length (O.sent outlet.old) + 1 }
     ensures name { O.name outlet.new ≡ O.name outlet.old }
@@ -81,6 +92,11 @@ fn batch(rt: &impl Abort, alloc: Global, kind: Kind, layers: &[u32]) -> Batch {
         let note = note(rt, alloc, kind, *layer);
         notes.push(note).expect(rt, "memory");
     }
+    batch_of(rt, notes)
+}
+
+/// A batch of these notes.
+pub(crate) fn batch_of(rt: &impl Abort, notes: Vec<Note>) -> Batch {
     Batch {
         call: Call::CloneSpan {
             worker: 0,
