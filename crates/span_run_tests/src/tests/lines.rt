@@ -193,6 +193,96 @@ fn a_line_asks_for_the_same_over_its_own_text(rt: HostRuntime) {
     }
 }
 
+/// A line, and what it asks for or the reason of its fault.
+type Row = (&'static str, &'static str);
+
+/// Lines of 9 members. The reader has room for 8 at first.
+static OF_NINE: [Row; 6] = [
+    (
+        "{\"op\":\"new\",\"name\":\"n\",\"target\":\"t\",\"level\":\"WARN\",\"w\":2,\
+         \"a\":0,\"b\":[[]],\"c\":{\"name\":\"x\"},\"d\":null}",
+        "New(NewSpan { meta: Meta { name: \"n\", target: \"t\", level: Warn }, fields: [], \
+         parent: Current, label: \"n\", worker: 2 })",
+    ),
+    (
+        "{\"a\":0,\"b\":[[\"k\",\"v\"]],\"c\":{\"op\":\"find\"},\"d\":null,\"e\":true,\
+         \"w\":3,\"fields\":[[\"k\",\"v\"]],\"span\":\"s\",\"op\":\"record\"}",
+        "Record { span: Label(\"s\"), fields: [Field { key: \"k\", value: \"v\" }], worker: 3 }",
+    ),
+    (
+        "{\"op\":\"close\",\"span\":\"s\",\"w\":1,\"a\":0,\"b\":0,\"c\":0,\"d\":0,\"e\":0,\"span\":7}",
+        "OnSpan { call: Close, span: Id(Id { number: 7 }), worker: 1 }",
+    ),
+    (
+        "{\"op\":\"event\",\"message\":\"m\",\"a\":0,\"b\":0,\"c\":0,\"d\":0,\"e\":0,\"f\":0,\"w\":4}",
+        "bad key w",
+    ),
+    (
+        "{\"op\":\"event\",\"message\":\"m\",\"a\":0,\"b\":0,\"c\":0,\"d\":0,\"e\":0,\"f\":0,\"message\":1}",
+        "bad key message",
+    ),
+    (
+        "{\"op\":\"find\",\"span\":1,\"a\":0,\"b\":0,\"c\":0,\"d\":0,\"e\":0,\"f\":0,\"g\":}",
+        "not JSON",
+    ),
+];
+
+/// Lines of 20 members.
+static OF_TWENTY: [Row; 6] = [
+    (
+        "{\"op\":\"event\",\"message\":\"m\",\"target\":\"t\",\"level\":\"DEBUG\",\"fields\":[[\"k\",\"v\"]],\"w\":3,\
+         \"a\":0,\"b\":0,\"c\":0,\"d\":0,\"e\":0,\"f\":0,\"g\":0,\"h\":0,\"i\":0,\"j\":0,\"k\":0,\"l\":0,\"m\":0,\
+         \"n\":{\"a\":0,\"b\":0,\"c\":0,\"d\":0,\"e\":0,\"f\":0,\"g\":0,\"h\":0,\"w\":4}}",
+        "Event(NewEvent { meta: Meta { name: \"event\", target: \"t\", level: Debug }, \
+         message: \"m\", fields: [Field { key: \"k\", value: \"v\" }], worker: 3 })",
+    ),
+    (
+        "{\"a\":0,\"b\":0,\"c\":0,\"d\":0,\"e\":0,\"f\":0,\"g\":0,\"h\":0,\"i\":0,\"j\":0,\"k\":0,\"l\":0,\"m\":0,\"n\":0,\
+         \"o\":0,\"w\":1,\"label\":\"l\",\"parent\":null,\"name\":\"n\",\"op\":\"new\"}",
+        "New(NewSpan { meta: Meta { name: \"n\", target: \"app\", level: Info }, fields: [], \
+         parent: Root, label: \"l\", worker: 1 })",
+    ),
+    (
+        "{\"op\":\"limits\",\"spans\":3,\"a\":0,\"b\":0,\"c\":0,\"d\":0,\"e\":0,\"f\":0,\"g\":0,\"h\":0,\"i\":0,\"j\":0,\
+         \"k\":0,\"l\":0,\"m\":0,\"n\":0,\"o\":0,\"form\":\"json\",\"spans\":4,\"op\":\"layer\"}",
+        "Layer(NewLayer { style: Style { form: Json, spans: FmtSpan(4) }, \
+         rule: Rule { pairs: [(\"\", Trace)] } })",
+    ),
+    (
+        "{\"op\":\"new\",\"a\":0,\"b\":0,\"c\":0,\"d\":0,\"e\":0,\"f\":0,\"g\":0,\"h\":0,\"i\":0,\"j\":0,\"k\":0,\"l\":0,\
+         \"m\":0,\"n\":0,\"o\":0,\"p\":0,\"q\":0,\"r\":0,\"s\":{\"name\":\"n\"}}",
+        "bad key name",
+    ),
+    (
+        "{\"op\":\"limits\",\"slots\":1,\"a\":0,\"b\":0,\"c\":0,\"d\":0,\"e\":0,\"f\":0,\"g\":0,\"h\":0,\"i\":0,\"j\":0,\
+         \"k\":0,\"l\":0,\"m\":0,\"n\":0,\"o\":0,\"p\":0,\"q\":0,\"workers\":\"4\"}",
+        "bad key workers",
+    ),
+    (
+        "{\"op\":\"find\",\"span\":\"s\",\"a\":0,\"b\":0,\"c\":0,\"d\":0,\"e\":0,\"f\":0,\"g\":0,\"h\":0,\"i\":0,\"j\":0,\
+         \"k\":0,\"l\":0,\"m\":0,\"n\":0,\"o\":0,\"p\":0,\"q\":0,\"op\":\"jump\"}",
+        "no such op",
+    ),
+];
+
+/// Whether a line asks for what its row says, however it is read.
+fn asks(rt: &impl Abort, alloc: Global, row: &Row, scratch: &mut Scratch, number: usize) {
+    let (line, wanted) = *row;
+    let asked = read_over_text(alloc, line.as_bytes(), scratch, Stage::AtStart);
+    same(rt, asked.expect(rt, "memory").as_str(), wanted, line);
+    is_the_same(rt, alloc, line.as_bytes(), scratch, number);
+}
+
+#[test]
+fn a_line_of_many_members_asks_for_what_its_row_says(rt: HostRuntime) {
+    let mut scratch = Scratch::new(rt.alloc());
+    for rows in [OF_NINE.as_slice(), OF_TWENTY.as_slice()] {
+        for (number, row) in rows.iter().enumerate() {
+            asks(&rt, rt.alloc(), row, &mut scratch, number);
+        }
+    }
+}
+
 /// A line that ends with this byte in a text, where it is no UTF-8.
 fn line_with(alloc: Global, byte: u8) -> Result<Vec<u8>, AllocError> {
     let mut line = Vec::new(alloc);

@@ -1,4 +1,5 @@
 //! Whole runs of scripts, devices that fail, and which hooks a layer takes.
+mod dropped_hooks;
 mod fixtures;
 mod flushes;
 mod hooks;
