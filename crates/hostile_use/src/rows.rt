@@ -1,6 +1,7 @@
 //! The rows: each a few calls on one part, by name.
 
 mod acts;
+mod apart;
 mod caller;
 mod copies;
 mod ending;
@@ -9,6 +10,7 @@ mod held;
 mod kept;
 mod layers;
 mod on_core;
+mod on_latest;
 mod on_registry;
 mod outlets;
 mod plain;
@@ -39,10 +41,14 @@ pub(crate) enum Row {
     GivenUp,
     FullRing,
     Ring,
+    Over,
+    Apart,
+    LatestAlone,
+    Latest,
 }
 
 impl Row {
-    /// All rows.
+    /// The rows that are run together.
     pub(crate) const ALL: [Row; 13] = [
         Row::Meta,
         Row::Field,
@@ -58,6 +64,9 @@ impl Row {
         Row::FullRing,
         Row::Ring,
     ];
+
+    /// The rows that are run by their names alone.
+    const BY_NAME: [Row; 4] = [Row::Over, Row::Apart, Row::LatestAlone, Row::Latest];
 
     /// The word for it.
     pub(crate) fn name(self) -> &'static str {
@@ -75,12 +84,19 @@ impl Row {
             Row::GivenUp => "given_up",
             Row::FullRing => "full_ring",
             Row::Ring => "ring",
+            Row::Over => "over",
+            Row::Apart => "apart",
+            Row::LatestAlone => "latest_alone",
+            Row::Latest => "latest",
         }
     }
 
     /// The row of this name.
     pub(crate) fn named(name: &str) -> Option<Row> {
-        Row::ALL.iter().copied().find(|row| row.name() == name)
+        match Row::ALL.iter().copied().find(|row| row.name() == name) {
+            Some(row) => Some(row),
+            None => Row::BY_NAME.iter().copied().find(|row| row.name() == name),
+        }
     }
 
     /// Makes its calls, and tells what they answer.
@@ -93,7 +109,11 @@ impl Row {
             Row::Slots => slots::run(stage, alloc),
             Row::Stack => stack::run(stage, alloc),
             Row::Forest => forest::run(stage, alloc),
+            Row::Over => copies::run_over(stage, alloc),
+            Row::LatestAlone => outlets::run_latest(stage, alloc),
             Row::Layers => self.with_layers(stage, alloc, 65),
+            Row::Apart => self.with_layers(stage, alloc, 5),
+            Row::Latest => self.with_layers(stage, alloc, 2),
             Row::FullRing => self.with_layers(stage, alloc, 0),
             Row::Outlets | Row::Core | Row::Kept | Row::GivenUp | Row::Ring => {
                 self.with_layers(stage, alloc, 1)

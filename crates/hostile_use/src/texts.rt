@@ -2,7 +2,9 @@
 
 use span_forest::Span;
 use span_id::{Field, Fields, Id, Level, Meta, SharedMeta};
-use span_layers::{Kind, Note, Rule};
+use span_layers::{
+    ByForm, ByRule, FmtSpan, Form, Hooks, Kind, Layer, Layers, Note, Rule, Style, Tellers,
+};
 use span_outlet::Line;
 use span_stack::SpanStack;
 use std::alloc::{AllocError, Global};
@@ -54,6 +56,24 @@ pub(crate) fn everything(alloc: Global) -> Result<Rule, AllocError> {
     let mut pairs = Vec::with_capacity(alloc, 1)?;
     pairs.push_reserved((String::from_str(alloc, "")?, Level::Trace));
     Ok(Rule { pairs })
+}
+
+/// The tellers of one layer that has no closures and writes plain text.
+pub(crate) fn plain_tellers(alloc: Global) -> Result<Tellers<ByForm>, AllocError> {
+    let mut layers = Layers::<ByRule, ByForm>::new(alloc);
+    let style = Style {
+        form: Form::Compact,
+        spans: FmtSpan::FULL,
+    };
+    let layer = Layer {
+        style,
+        rule: everything(alloc)?,
+        hooks: Hooks::by_rule_and_form(),
+    };
+    match layers.add(layer) {
+        Ok(_) => Ok(layers.split().1),
+        Err(_) => Err(AllocError),
+    }
 }
 
 /// A note of the span `a`, which is open under the id 1; where it is of an event, of none.

@@ -43,8 +43,8 @@ pub(crate) fn perform<A, S: Subject<A>, R: Print>(
     Ok(())
 }
 
-// Makes a call, and makes it again where it was refused memory.
-fn attempt<A, S: Subject<A>, R: Print>(
+/// Makes a call, tells its answer, and makes it again where it was refused memory.
+pub(crate) fn attempt<A, S: Subject<A>, R: Print>(
     stage: &Stage<R>,
     alloc: Global,
     subject: &mut S,
@@ -141,9 +141,21 @@ pub(crate) fn made<T: Drop, F: Fn() -> Result<T, Fault>, R: Print>(
         stage.over();
         match value {
             Ok(value) => return Ok(value),
-            Err(Fault::Memory) => {}
-            Err(_) => return Err(stage.refused(name)),
+            Err(fault) => again(stage, name, Memory::Taken, fault)?,
         }
     }
     Err(stage.refused_too_often(name))
+}
+
+/// What a refusal means: a call that takes memory and was refused it is made again, any other ends the row.
+pub(crate) fn again<R: Print>(
+    stage: &Stage<R>,
+    name: &str,
+    memory: Memory,
+    fault: Fault,
+) -> Result<(), Stop> {
+    match (memory, fault) {
+        (Memory::Taken, Fault::Memory) => Ok(()),
+        _ => Err(stage.refused(name)),
+    }
 }

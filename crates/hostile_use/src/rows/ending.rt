@@ -80,7 +80,8 @@ pub(crate) fn tell_end<R: Print>(stage: &Stage<R>, report: &Report, is_told: boo
     tell_lines(stage, lines.as_slice());
 }
 
-fn tell_lines<R: Print>(stage: &Stage<R>, lines: &[Line]) {
+/// Tells lines, of which some may be missed where memory was refused.
+pub(crate) fn tell_lines<R: Print>(stage: &Stage<R>, lines: &[Line]) {
     for line in lines {
         let text = shown(line.text.as_slice());
         stage.wrote(println!(stage.rt; "+ {} {} {} {text}", line.batch, line.place, line.layer));

@@ -12,8 +12,8 @@ use crate::texts::{add_lines, add_numbers, add_span, add_stack};
 use crate::trial::{Planned, Subject, perform};
 use span_core::Core;
 use span_id::{Checked, Fault, Limits, Meta};
-use span_layers::{Filters, Say, Tellers};
-use span_outlet::{Kept, ParentOf};
+use span_layers::{Admit, Filters, Say, Tellers};
+use span_outlet::{Kept, Outlet, ParentOf};
 use std::alloc::{AllocError, Global};
 
 #[derive(Clone, Copy)]
@@ -107,8 +107,8 @@ fn on_outlet<V: Say, R: Print>(
     }
 }
 
-// The limits of a core that has a worker.
-fn limits() -> Result<Checked, Fault>
+/// The limits of a core that has a worker.
+pub(crate) fn limits() -> Result<Checked, Fault>
     ensures { IfOk result (λ checked. 0 < checked.workers) }
 {
     Limits::default().check()
@@ -168,7 +168,11 @@ fn add_counts<V: Say>(text: &mut String, core: &Core<Kept<V>>) -> Result<(), All
     )
 }
 
-fn add_spans<V: Say>(text: &mut String, core: &Core<Kept<V>>) -> Result<(), AllocError> {
+/// Adds the spans that rows name and that are open to a text.
+pub(crate) fn add_spans<O: Outlet, A: Admit>(
+    text: &mut String,
+    core: &Core<O, A>,
+) -> Result<(), AllocError> {
     for named in Named::ALL {
         if let Some(span) = core.find(named.id()) {
             add_span(text, span)?;
@@ -177,8 +181,12 @@ fn add_spans<V: Say>(text: &mut String, core: &Core<Kept<V>>) -> Result<(), Allo
     Ok(())
 }
 
-// A call that may change the core, or a look at a span.
-fn make<V: Say>(core: &mut Core<Kept<V>>, names: &Names, act: Act) -> Result<Answer, Fault>
+/// A call that may change the core, or a look at a span.
+pub(crate) fn make<O: Outlet, A: Admit>(
+    core: &mut Core<O, A>,
+    names: &Names,
+    act: Act,
+) -> Result<Answer, Fault>
     requires { 0 < core.old.limits.workers }
     ensures { core.new.limits ≡ core.old.limits }
 {
@@ -194,8 +202,8 @@ fn make<V: Say>(core: &mut Core<Kept<V>>, names: &Names, act: Act) -> Result<Ans
     }
 }
 
-fn new_span<V: Say>(
-    core: &mut Core<Kept<V>>,
+fn new_span<O: Outlet, A: Admit>(
+    core: &mut Core<O, A>,
     meta: &Meta,
     parent: ParentOf,
 ) -> Result<Answer, Fault>

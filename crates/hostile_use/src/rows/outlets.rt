@@ -1,15 +1,33 @@
-//! The two outlets by themselves: each takes a batch with no memory at all, once it had room for it.
-ghost use Rattle.std.specs.Prelude.{◌≡◌, [], true, OnOk};
+//! The outlets by themselves: each takes a batch with no memory at all, once it had room for it.
+ghost use Rattle.std.specs.Prelude.{◌≡◌, ◌≤◌, ◌+◌, [], true, OnOk, length};
 
+use crate::rows::ending::tell_lines;
 use crate::stage::{Memory, Stage, TRIES};
 use crate::stop::Stop;
-use crate::texts::note_of;
-use span_id::{Id, Limits};
-use span_layers::{Kind, Say, Tellers};
-use span_outlet::{Batch, Call, Kept, Outlet, Reply, Ring};
+use crate::texts::{meta_of, note_of, plain_tellers};
+use span_id::{Id, Level, Limits};
+use span_layers::{Kind, Note, Say, Tellers};
+use span_outlet::{Batch, Call, Kept, KnownEvent, Latest, Outlet, Reply, Ring};
 use std::alloc::{AllocError, Global};
 
-/// Puts a batch with one note into each outlet, and tells what they show.
+/// How many batches were sent to a `Latest`, and how many notes were missed.
+#[derive(Clone, Copy)]
+pub(crate) struct Sent {
+    batches: u64,
+    missed: u64,
+}
+
+impl Sent {
+    /// To this one so far.
+    pub(crate) fn to<V>(latest: &Latest<V>) -> Sent {
+        Sent {
+            batches: latest.sent(),
+            missed: latest.refused(),
+        }
+    }
+}
+
+/// Puts a batch with one note into each of two outlets, and tells what they show.
 pub(crate) fn run<R: Print>(stage: &Stage<R>, alloc: Global, tellers: Tellers) -> Result<(), Stop> {
     put_in_ring(stage, alloc)?;
     stage.begin(Memory::Untouched);
@@ -55,17 +73,96 @@ fn put_in_kept<V: Say, R: Print>(
     Ok(())
 }
 
+/// Puts a batch with one note and two events into a `Latest`, and tells what it shows.
+pub(crate) fn run_latest<R: Print>(stage: &Stage<R>, alloc: Global) -> Result<(), Stop> {
+    let tellers = plain_tellers(alloc)?;
+    stage.begin(Memory::Untouched);
+    let mut latest = Latest::new(alloc, tellers);
+    stage.over();
+    let before = Sent::to(&latest);
+    put(stage, alloc, Memory::Untouched, &mut latest)?;
+    tell_last(stage, &latest, before);
+    tell_event(stage, alloc, &mut latest)?;
+    tell_event(stage, alloc, &mut latest)?;
+    tell_spare(stage, &mut latest);
+    Ok(())
+}
+
+// Tells an event to a `Latest`, which always has room.
+fn tell_event<V: Say, R: Print>(
+    stage: &Stage<R>,
+    alloc: Global,
+    latest: &mut Latest<V>,
+) -> Result<(), Stop>
+    requires { length latest.old.sent ≤ 2 }
+    ensures { length latest.new.sent ≤ length latest.old.sent + 1 }
+{
+    let before = Sent::to(latest);
+    room(stage, Memory::Untouched, latest)?;
+    put_event(stage, alloc, latest)?;
+    tell_last(stage, latest, before);
+    Ok(())
+}
+
+// Puts an event of one note, where there is room. It may be refused memory, and its note is missed then.
+fn put_event<V: Say, R: Print>(
+    stage: &Stage<R>,
+    alloc: Global,
+    latest: &mut Latest<V>,
+) -> Result<(), Stop>
+    requires ready { latest.old.ready ≡ true }
+    requires few { length latest.old.sent ≤ 2 }
+    ensures { length latest.new.sent ≤ length latest.old.sent + 1 }
+{
+    let meta = meta_of(alloc, "event", Level::Warn)?;
+    let notes = notes(alloc, Kind::OnEvent)?;
+    stage.begin(Memory::Taken);
+    let event = KnownEvent::new(0, &meta, "x\ny", &[]);
+    let put = latest.put_event(event, notes);
+    stage.over();
+    match put {
+        Ok(()) => Ok(()),
+        Err(_) => Err(stage.refused("put event")),
+    }
+}
+
+// Tells the list for notes to come, which is there once: both looks take no memory.
+fn tell_spare<V: Say, R: Print>(stage: &Stage<R>, latest: &mut Latest<V>) {
+    stage.begin(Memory::Untouched);
+    let first = latest.spare_notes().is_some();
+    let second = latest.spare_notes().is_some();
+    stage.over();
+    stage.wrote(println!(stage.rt; "spare notes: {first}, {second}"));
+}
+
+/// Tells the batch that was sent since, if there was one: how many notes it has, and the lines of those that were not
+/// missed.
+pub(crate) fn tell_last<V, R: Print>(stage: &Stage<R>, latest: &Latest<V>, before: Sent) {
+    if latest.sent() == before.batches {
+        return;
+    }
+    let missed = latest.refused().saturating_sub(before.missed);
+    let told = latest.lines().len() as u64;
+    stage.wrote(println!(stage.rt; "lines and missed: {}", missed.saturating_add(told)));
+    tell_lines(stage, latest.lines());
+}
+
+// One note.
+fn notes(alloc: Global, kind: Kind) -> Result<Vec<Note>, AllocError> {
+    let mut notes = Vec::new(alloc);
+    notes.push(note_of(alloc, 0, kind, &[("k", "1")])?)?;
+    Ok(notes)
+}
+
 // A batch with one note.
 fn batch(alloc: Global) -> Result<Batch, AllocError> {
-    let mut notes = Vec::new(alloc);
-    notes.push(note_of(alloc, 0, Kind::OnNew, &[("k", "1")])?)?;
     Ok(Batch {
         call: Call::CloneSpan {
             worker: 0,
             id: Id::pack(0, 0),
         },
         reply: Reply::Cloned,
-        notes,
+        notes: notes(alloc, Kind::OnNew)?,
     })
 }
 
@@ -76,7 +173,8 @@ fn put<O: Outlet, R: Print>(
     memory: Memory,
     outlet: &mut O,
 ) -> Result<(), Stop>
-    requires { O.sent outlet.old ≡ [] }
+    requires { length (O.sent outlet.old) ≤ 2 }
+    ensures { length (O.sent outlet.new) ≤ length (O.sent outlet.old) + 1 }
 {
     room(stage, memory, outlet)?;
     match batch(alloc) {
@@ -92,8 +190,7 @@ fn put<O: Outlet, R: Print>(
 
 // Asks for room until there is some.
 fn room<O: Outlet, R: Print>(stage: &Stage<R>, memory: Memory, outlet: &mut O) -> Result<(), Stop>
-    requires { O.sent outlet.old ≡ [] }
-    ensures sent { O.sent outlet.new ≡ [] }
+    ensures sent { O.sent outlet.new ≡ O.sent outlet.old }
     ensures ready { OnOk result (O.ready outlet.new ≡ true) }
 {
     for _ in 0..TRIES {
