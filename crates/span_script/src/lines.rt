@@ -17,7 +17,6 @@ pub fn cut_line(script: &[u8]) -> (&[u8], &[u8])
 }
 
 /// Where the first newline stands.
-#[tactic(auto, using(crate::proofs::Cuts::first_newline))]
 fn newline(script: &[u8]) -> Option<usize>
     ensures { result ≡ position (λ byte. byte == 10) script.now }
 {
@@ -25,6 +24,15 @@ fn newline(script: &[u8]) -> Option<usize>
     if !script.is_empty() && script[0] <= b' ' {
         return script.iter().position(|byte| *byte == b'\n');
     }
+    search(script)
+}
+
+// Not inlined, so that the cutting of a line is short enough to be.
+#[inline(never)]
+#[tactic(auto, using(crate::proofs::Cuts::first_newline))]
+fn search(script: &[u8]) -> Option<usize>
+    ensures { result ≡ position (λ byte. byte == 10) script.now }
+{
     memchr(b'\n', script)
 }
 
