@@ -15,7 +15,7 @@ import tempfile
 
 from refused_memory import HERE, HOSTILE_USE, MODES, answers, compiler, in_turn, run, used
 
-ROWS = ["over", "apart", "latest_alone", "latest"]
+ROWS = ["over", "texts", "latest_alone", "latest"]
 
 # How many growths a row makes only to remember something: one each for the places of metas, of paths and of fields, and
 # two for the list of the buffers of texts.

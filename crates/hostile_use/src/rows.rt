@@ -1,7 +1,7 @@
 //! The rows: each a few calls on one part, by name.
 
 mod acts;
-mod apart;
+mod appended;
 mod caller;
 mod copies;
 mod ending;
@@ -42,7 +42,7 @@ pub(crate) enum Row {
     FullRing,
     Ring,
     Over,
-    Apart,
+    Texts,
     LatestAlone,
     Latest,
 }
@@ -66,7 +66,7 @@ impl Row {
     ];
 
     /// The rows that are run by their names alone.
-    const BY_NAME: [Row; 4] = [Row::Over, Row::Apart, Row::LatestAlone, Row::Latest];
+    const BY_NAME: [Row; 4] = [Row::Over, Row::Texts, Row::LatestAlone, Row::Latest];
 
     /// The word for it.
     pub(crate) fn name(self) -> &'static str {
@@ -85,7 +85,7 @@ impl Row {
             Row::FullRing => "full_ring",
             Row::Ring => "ring",
             Row::Over => "over",
-            Row::Apart => "apart",
+            Row::Texts => "texts",
             Row::LatestAlone => "latest_alone",
             Row::Latest => "latest",
         }
@@ -112,12 +112,10 @@ impl Row {
             Row::Over => copies::run_over(stage, alloc),
             Row::LatestAlone => outlets::run_latest(stage, alloc),
             Row::Layers => self.with_layers(stage, alloc, 65),
-            Row::Apart => self.with_layers(stage, alloc, 5),
             Row::Latest => self.with_layers(stage, alloc, 2),
             Row::FullRing => self.with_layers(stage, alloc, 0),
-            Row::Outlets | Row::Core | Row::Kept | Row::GivenUp | Row::Ring => {
-                self.with_layers(stage, alloc, 1)
-            }
+            Row::Outlets | Row::Core | Row::Kept | Row::GivenUp | Row::Ring | Row::Texts =>
+                self.with_layers(stage, alloc, 1),
         }
     }
 

@@ -1,4 +1,3 @@
-pub mod Apart
 pub mod Filter
 pub mod FmtSpan
 pub mod Hooks

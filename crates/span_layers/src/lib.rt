@@ -20,7 +20,7 @@ mod wanting;
 pub use filters::{Admit, Admitters, Filters, MAX_LAYERS, Rules};
 pub use form::{Form, text, text_onto};
 pub use hooks::{AdmitHook, Admitter, Formatter, Hooks, SayHook};
-pub use layers::{Layer, Layers, hooks_apart};
+pub use layers::{Layer, Layers};
 pub use note::{Kind, Note};
 pub use plain_hooks::{ByForm, ByRule};
 pub use rule::{Rule, admits};

@@ -21,3 +21,4 @@ pub mod Resumed
 pub mod RestRuns
 pub mod Examples
 pub mod Scripts
+pub mod MostLayers

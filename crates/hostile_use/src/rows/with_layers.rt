@@ -6,7 +6,7 @@ ghost use Rattle.span_layers.specs.Rule.{pairs_of, is_admitted};
 ghost use Rattle.span_layers.specs.Text.{text_of};
 
 use crate::rows::acts::Names;
-use crate::rows::{Row, apart, kept, layers, on_core, on_latest, outlets, ring};
+use crate::rows::{Row, appended, kept, layers, on_core, on_latest, outlets, ring};
 use crate::stage::Stage;
 use crate::stop::Stop;
 use crate::texts::everything;
@@ -15,15 +15,7 @@ use span_layers::{FmtSpan, Form, Hooks, Layer, Layers, Note, Rule, Style, admits
 use std::alloc::{AllocError, Global};
 use std::sync::Wait;
 
-/// What hooks are made for: layers, or to be taken apart.
-#[derive(Drop)]
-struct Gathered {
-    layers: Layers,
-    hooks: Vec<Hooks>,
-}
-
-/// Makes so many hooks, adds a layer with each where layers are wanted, and goes on with the row. `Memory` where it has
-/// to begin anew.
+/// Adds so many layers, and goes on with the row. `Memory` where it has to begin anew.
 ///
 /// The closures are made here, and not handed out before they lie in hooks.
 pub(crate) fn run<R: Print + Wait>(
@@ -33,10 +25,7 @@ pub(crate) fn run<R: Print + Wait>(
     count: usize,
     names: &Names,
 ) -> Result<(), Stop> {
-    let mut gathered = Gathered {
-        layers: Layers::new(alloc),
-        hooks: Vec::new(alloc),
-    };
+    let mut layers = Layers::new(alloc);
     for number in 0..count {
         let Ok(admit) = Box::new(
             alloc,
@@ -56,26 +45,22 @@ pub(crate) fn run<R: Print + Wait>(
             return Err(Stop::Memory);
         };
         let hooks = Hooks::new(admit, say);
-        if let Err(stop) = add(stage, alloc, row, number, &mut gathered, hooks) {
+        if let Err(stop) = add(stage, alloc, row, number, &mut layers, hooks) {
             return Err(stop);
         }
     }
-    go_on(stage, alloc, row, names, gathered)
+    go_on(stage, alloc, row, names, layers)
 }
 
-// Adds the layer of this number, and tells what is answered where layers are what the row is about. Hooks that are to be
-// taken apart get no layer.
+// Adds the layer of this number, and tells what is answered where layers are what the row is about.
 fn add<R: Print>(
     stage: &Stage<R>,
     alloc: Global,
     row: Row,
     number: usize,
-    gathered: &mut Gathered,
+    layers: &mut Layers,
     hooks: Hooks,
 ) -> Result<(), Stop> {
-    if row == Row::Apart {
-        return gathered.hooks.push(hooks).map_err(|_| Stop::Memory);
-    }
     match everything(alloc) {
         Ok(rule) => {
             let layer = Layer {
@@ -83,7 +68,7 @@ fn add<R: Print>(
                 rule,
                 hooks,
             };
-            layers::add(stage, &mut gathered.layers, layer, row == Row::Layers)
+            layers::add(stage, layers, layer, row == Row::Layers)
         }
         Err(_) => Err(Stop::Memory),
     }
@@ -102,25 +87,22 @@ fn style(row: Row, number: usize) -> Style {
     }
 }
 
-// Makes the row's calls with these layers or hooks.
+// Makes the row's calls with these layers.
 fn go_on<R: Print + Wait>(
     stage: &Stage<R>,
     alloc: Global,
     row: Row,
     names: &Names,
-    gathered: Gathered,
+    layers: Layers,
 ) -> Result<(), Stop> {
-    let Gathered { layers, hooks } = gathered;
     if row == Row::Layers {
         return layers::tell(stage, alloc, layers);
-    }
-    if row == Row::Apart {
-        return apart::run(stage, alloc, hooks);
     }
     let (filters, tellers) = layers.split();
     match row {
         Row::Outlets => outlets::run(stage, alloc, tellers),
         Row::Core => on_core::run(stage, alloc, names, filters, tellers),
+        Row::Texts => appended::run(stage, alloc, &tellers.formatters),
         Row::Latest => on_latest::run(stage, alloc, names, filters, tellers),
         Row::FullRing | Row::Ring => ring::run(stage, alloc, row, names, filters, tellers),
         _ => kept::run(stage, alloc, row, names, filters, tellers),

@@ -1,5 +1,5 @@
 //! The hooks that the layers of a run call.
-ghost use Rattle.std.specs.Prelude.{◌≡◌, ◌+◌, ◌^◌, ◌<◌, ◌≤◌, IfOk, IfErr, IfSome, OnOk};
+ghost use Rattle.std.specs.Prelude.{◌≡◌, ◌+◌, ◌^◌, ◌<◌, ◌≤◌, IfOk, IfErr, IfSome, OnOk, vec_len};
 ghost use Rattle.std.specs.Io.KnownBytes.{IsAtEnd};
 ghost use Rattle.span_run.specs.Counted.{inner_of, calls_of, failed_of, flushes_of, flushed_of};
 ghost use Rattle.span_replay.specs.Replayed.{FlushesOnce, IsReplayed, IsWhole, KeepsUnread};
@@ -7,9 +7,9 @@ ghost use Rattle.span_run.specs.RunFault.{EndsAsCounted};
 
 use crate::run::replay::replay_with;
 use crate::run::tidying::Remains;
-use span_layers::{ByForm, ByRule, Hooks};
+use span_layers::{ByForm, ByRule, Hooks, MAX_LAYERS};
 use span_run::{Counted, RunFault};
-use std::alloc::Global;
+use std::alloc::{AllocError, Global};
 use std::io::{Read, Write};
 
 /// Runs a script that may have so many layers, as `replay` does. Each layer applies its rule by `admits` and writes its
@@ -37,7 +37,20 @@ pub fn replay_with_layers<R: Read, W: Write>(
         (failed_of input.old) (failed_of input.new) (failed_of output.old) (failed_of output.new) result }
     ensures reads { calls_of input.new ≤ calls_of input.old + 16777217 }
 {
-    // Whatever the layers are, their rules are applied and their notes are written alike, so no hooks are kept.
-    let hooks = Vec::<Hooks<ByRule, ByForm>>::new(alloc);
-    replay_with(alloc, input, output, layers, hooks, remains)
+    // A script has no more layers than these, and what they call is alike and takes no memory.
+    match plain_hooks(alloc, layers.min(MAX_LAYERS)) {
+        Ok(hooks) => replay_with(alloc, input, output, hooks, remains),
+        Err(_) => Err(RunFault::Memory),
+    }
+}
+
+/// So many hooks that apply a rule by `admits` and write a note by `text`.
+fn plain_hooks(alloc: Global, count: usize) -> Result<Vec<Hooks<ByRule, ByForm>>, AllocError>
+    ensures { IfOk result (λ hooks. vec_len hooks ≡ count) }
+{
+    let mut hooks = Vec::new(alloc);
+    for _ in 0..count {
+        hooks.push(Hooks::by_rule_and_form())?;
+    }
+    Ok(hooks)
 }

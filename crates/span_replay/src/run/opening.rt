@@ -29,12 +29,12 @@ pub struct Rest<'s> {
 }
 
 /// Runs a line, or answers its value where its op is neither `limits` nor `layer`.
-pub fn open_line<'s, W: Write>(
+pub fn open_line<'s, A: Drop, F: Drop, W: Write>(
     alloc: Global,
     number: u64,
     line: &'s [u8],
     scratch: &'s mut Scratch,
-    setup: &mut Setup,
+    setup: &mut Setup<A, F>,
     text: &mut Vec<u8>,
     output: &mut Counted<W>,
 ) -> Result<Option<Value<'s>>, RunFault>
@@ -66,11 +66,11 @@ pub fn open_line<'s, W: Write>(
 }
 
 /// Runs the line of a JSON value, or answers the value where its op is neither `limits` nor `layer`.
-fn open_value<'s, W: Write>(
+fn open_value<'s, A: Drop, F: Drop, W: Write>(
     alloc: Global,
     number: u64,
     value: Value<'s>,
-    setup: &mut Setup,
+    setup: &mut Setup<A, F>,
     text: &mut Vec<u8>,
     output: &mut Counted<W>,
 ) -> Result<Option<Value<'s>>, RunFault>
@@ -100,11 +100,11 @@ fn open_value<'s, W: Write>(
 }
 
 /// Runs the line of `limits` or `layer` that has this JSON value, and writes its answer.
-fn set_up<W: Write>(
+fn set_up<A: Drop, F: Drop, W: Write>(
     alloc: Global,
     number: u64,
     value: &Value<'_>,
-    setup: &mut Setup,
+    setup: &mut Setup<A, F>,
     text: &mut Vec<u8>,
     output: &mut Counted<W>,
 ) -> Result<(), RunFault>

@@ -1,6 +1,6 @@
 //! Running a whole script: reading it, its lines, the tidying and the last line, and writing out.
 ghost use Rattle.std.specs.Prelude.{◌≡◌, ◌+◌, ◌^◌, ◌<◌, ◌≤◌, ℕ, [], false, IfOk, IfErr, IfSome, IfNone, OnOk};
-ghost use Rattle.std.specs.Prelude.{length, take, vec_len};
+ghost use Rattle.std.specs.Prelude.{length, vec_len};
 ghost use Rattle.std.specs.Option.{option_map};
 ghost use Rattle.std.specs.Io.KnownBytes.{IsAtEnd};
 ghost use Rattle.span_json.specs.Seen.{view};
@@ -11,16 +11,16 @@ ghost use Rattle.span_run.specs.RunFault.{EndsAsCounted};
 ghost use Rattle.span_script.specs.Operation.{is_setup};
 ghost use Rattle.span_script.specs.Script.{lines_of, most_bytes};
 ghost use Rattle.span_replay.specs.State.{first_state};
-ghost use Rattle.span_replay.specs.inside.Setup.{hooks_in, setup_state};
+ghost use Rattle.span_replay.specs.inside.Setup.{hooks_in, opened_in, setup_state};
 ghost use Rattle.span_replay.specs.inside.Turns.{resumed_run};
 
 use crate::run::lines::run_rest;
 use crate::run::opening::{Rest, open_line};
-use crate::run::setup::Setup;
+use crate::run::setup::{Opened, Setup};
 use crate::run::tidying::Remains;
 use span_core::Core;
 use span_json::Scratch;
-use span_layers::{Admit, Admitters, Formatters, Hooks, Say, hooks_apart};
+use span_layers::{Admit, Admitters, Formatters, Hooks, Say};
 use span_outlet::Latest;
 use span_run::{Counted, RunFault, flush, read_script};
 use span_script::cut_line;
@@ -59,15 +59,14 @@ pub fn replay<R: Read, W: Write>(
         (failed_of input.old) (failed_of input.new) (failed_of output.old) (failed_of output.new) result }
     ensures reads { calls_of input.new ≤ calls_of input.old + 16777217 }
 {
-    replay_with(alloc, input, output, hooks.len(), hooks, remains)
+    replay_with(alloc, input, output, hooks, remains)
 }
 
-/// The same with so many layers, which call these hooks, of whatever kind.
+/// The same with hooks of whatever kind.
 pub fn replay_with<A: Drop, F: Drop, R: Read, W: Write>(
     alloc: Global,
     input: &mut Counted<R>,
     output: &mut Counted<W>,
-    layers: usize,
     hooks: Vec<Hooks<A, F>>,
     remains: Remains,
 ) -> Result<u64, RunFault>
@@ -78,12 +77,12 @@ where
     requires reads_failed { failed_of input.old < 2 ^ 63 }
     requires failed { failed_of output.old < 2 ^ 63 }
     ensures replayed { IfSome (R.remaining (inner_of input.old)) (λ bytes.
-        IsReplayed layers bytes
+        IsReplayed (vec_len hooks) bytes
         (W.contents (inner_of output.old)) (W.contents (inner_of output.new)) result) }
     ensures whole { OnOk result (IsAtEnd (R.remaining (inner_of input.new))) }
     ensures unread { IfErr result (KeepsUnread (W.contents (inner_of output.old)) (W.contents (inner_of output.new))) }
     ensures flushed { FlushesOnce
-        (IsWhole layers (R.remaining (inner_of input.old))
+        (IsWhole (vec_len hooks) (R.remaining (inner_of input.old))
         (W.contents (inner_of output.old)) (W.contents (inner_of output.new)))
         (flushes_of output.old) (flushes_of output.new) (flushed_of output.new) result }
     ensures left { IfSome (R.remaining (inner_of input.old)) (λ bytes. IfOk result (λ left. left ≡ 0)) }
@@ -91,7 +90,7 @@ where
         (failed_of input.old) (failed_of input.new) (failed_of output.old) (failed_of output.new) result }
     ensures reads { calls_of input.new ≤ calls_of input.old + 16777217 }
 {
-    match perform(alloc, input, output, layers, hooks, remains) {
+    match perform(alloc, input, output, hooks, remains) {
         Ok(left) => match flush(output) {
             Ok(()) => Ok(left),
             Err(fault) => Err(fault),
@@ -112,7 +111,6 @@ fn perform<A: Drop, F: Drop, R: Read, W: Write>(
     alloc: Global,
     input: &mut Counted<R>,
     output: &mut Counted<W>,
-    layers: usize,
     hooks: Vec<Hooks<A, F>>,
     remains: Remains,
 ) -> Result<u64, RunFault>
@@ -123,7 +121,7 @@ where
     requires reads_failed { failed_of input.old < 2 ^ 63 }
     requires failed { failed_of output.old < 2 ^ 63 }
     ensures replayed { IfSome (R.remaining (inner_of input.old)) (λ bytes.
-        IsReplayed layers bytes
+        IsReplayed (vec_len hooks) bytes
         (W.contents (inner_of output.old)) (W.contents (inner_of output.new)) result) }
     ensures whole { OnOk result (IsAtEnd (R.remaining (inner_of input.new))) }
     ensures unread { IfErr result (KeepsUnread (W.contents (inner_of output.old)) (W.contents (inner_of output.new))) }
@@ -133,7 +131,7 @@ where
     ensures reads { calls_of input.new ≤ calls_of input.old + 16777217 }
 {
     match read_script(alloc, input) {
-        Ok(script) => run_script(alloc, &script, output, layers, hooks, remains),
+        Ok(script) => run_script(alloc, &script, output, hooks, remains),
         Err(fault) => Err(fault),
     }
 }
@@ -143,7 +141,6 @@ fn run_script<A: Drop, F: Drop, W: Write>(
     alloc: Global,
     script: &[u8],
     output: &mut Counted<W>,
-    layers: usize,
     hooks: Vec<Hooks<A, F>>,
     remains: Remains,
 ) -> Result<u64, RunFault>
@@ -152,14 +149,14 @@ where
     Formatters<F>: Say,
     requires failed { failed_of output.old < 2 ^ 63 }
     requires fits { length script.now ≤ most_bytes }
-    ensures runs { Runs (run layers 1 first_state (lines_of script.now))
+    ensures runs { Runs (run (vec_len hooks) 1 first_state (lines_of script.now))
         (W.contents (inner_of output.old)) (W.contents (inner_of output.new)) result }
     ensures counts { EndsAsCounted 0 0 (failed_of output.old) (failed_of output.new) result }
     ensures flushes { flushes_of output.new ≡ flushes_of output.old }
 {
-    let setup = Setup::new(alloc, layers);
+    let setup = Setup::new(alloc, hooks);
     let mut text = Vec::new(alloc);
-    run_all(alloc, script, setup, hooks, remains, &mut text, output)
+    run_all(alloc, script, setup, remains, &mut text, output)
 }
 
 /// Runs all lines of a script from this set-up on.
@@ -168,8 +165,7 @@ where
 fn run_all<A: Drop, F: Drop, W: Write>(
     alloc: Global,
     script: &[u8],
-    mut setup: Setup,
-    hooks: Vec<Hooks<A, F>>,
+    mut setup: Setup<A, F>,
     remains: Remains,
     text: &mut Vec<u8>,
     output: &mut Counted<W>,
@@ -198,7 +194,7 @@ where
                     value: Some(value),
                     lines,
                 };
-                return run_with_hooks(alloc, setup, hooks, &rest, remains, text, output);
+                return run_set_up(alloc, setup, &rest, remains, text, output);
             }
             Err(fault) => return Err(fault),
         }
@@ -208,14 +204,13 @@ where
         value: None,
         lines,
     };
-    run_with_hooks(alloc, setup, hooks, &rest, remains, text, output)
+    run_set_up(alloc, setup, &rest, remains, text, output)
 }
 
-/// Runs what is left of a script. Hooks that no layer took are dropped before the first call, the last one first.
-fn run_with_hooks<A: Drop, F: Drop, W: Write>(
+/// Runs what is left of a script, with the limits and the layers that its first lines gave.
+fn run_set_up<A: Drop, F: Drop, W: Write>(
     alloc: Global,
-    setup: Setup,
-    mut hooks: Vec<Hooks<A, F>>,
+    setup: Setup<A, F>,
     rest: &Rest<'_>,
     remains: Remains,
     text: &mut Vec<u8>,
@@ -228,34 +223,22 @@ where
     requires call { IfSome rest.now.value (λ value. is_setup (view value) ≡ false) }
     requires done { IfNone rest.now.value (rest.now.lines.now ≡ []) }
     requires place { rest.now.number + length rest.now.lines.now ≤ most_bytes + 1 }
-    ensures runs { (layers : ℕ) →
-        Runs (resumed_run layers rest.now.number (setup_state setup) (option_map view rest.now.value) rest.now.lines.now)
+    ensures runs { (hooks : ℕ) →
+        Runs (resumed_run hooks rest.now.number (setup_state setup) (option_map view rest.now.value) rest.now.lines.now)
         (W.contents (inner_of output.old)) (W.contents (inner_of output.new)) result }
     ensures counts { EndsAsCounted 0 0 (failed_of output.old) (failed_of output.new) result }
     ensures flushes { flushes_of output.new ≡ flushes_of output.old }
 {
-    drop_unused(&mut hooks, setup.layers());
-    match hooks_apart(alloc, hooks) {
-        Ok((admitters, formatters)) => run_opened(
-            alloc, setup, admitters, formatters, rest, remains, text, output,
-        ),
-        Err(_) => Err(RunFault::Memory),
-    }
+    let (opened, admitters, formatters) = setup.split();
+    run_opened(
+        alloc, opened, admitters, formatters, rest, remains, text, output,
+    )
 }
 
-// Drops the hooks behind those that were taken, the last one first.
-fn drop_unused<H: Drop>(hooks: &mut Vec<H>, taken: usize)
-    ensures { hooks.new.items ≡ take taken hooks.old.items }
-{
-    while hooks.len() > taken {
-        drop(hooks.pop());
-    }
-}
-
-/// Runs what is left of a script, with the limits and the layers that its first lines gave.
+/// The same, of what the first lines gave.
 fn run_opened<V: Say, A: Admit, W: Write>(
     alloc: Global,
-    setup: Setup,
+    opened: Opened,
     admitters: A,
     formatters: V,
     rest: &Rest<'_>,
@@ -268,12 +251,17 @@ fn run_opened<V: Say, A: Admit, W: Write>(
     requires done { IfNone rest.now.value (rest.now.lines.now ≡ []) }
     requires place { rest.now.number + length rest.now.lines.now ≤ most_bytes + 1 }
     ensures runs { (hooks : ℕ) →
-        Runs (resumed_run hooks rest.now.number (setup_state setup) (option_map view rest.now.value) rest.now.lines.now)
+        Runs (resumed_run hooks rest.now.number (opened_in opened) (option_map view rest.now.value) rest.now.lines.now)
         (W.contents (inner_of output.old)) (W.contents (inner_of output.new)) result }
     ensures counts { EndsAsCounted 0 0 (failed_of output.old) (failed_of output.new) result }
     ensures flushes { flushes_of output.new ≡ flushes_of output.old }
 {
-    let (checked, rules, forms) = setup.split();
+    let Opened {
+        checked,
+        rules,
+        forms,
+        stage: _,
+    } = opened;
     let latest = Latest::with_formatters(alloc, forms, formatters);
     let workers = checked.limits().workers;
     match Core::with_admitters(alloc, &checked, latest, rules, admitters) {

@@ -1,5 +1,5 @@
 //! The lines before the first call: the limits and the layers.
-ghost use Rattle.std.specs.Prelude.{◌≡◌, ◌+◌, true, length, IfOk, IfErr, OnOk, Ok};
+ghost use Rattle.std.specs.Prelude.{◌≡◌, ◌+◌, true, length, vec_len, IfOk, IfErr, OnOk, Ok};
 ghost use Rattle.span_json.specs.Seen.{view};
 ghost use Rattle.span_layers.specs.Layers.{filters_in};
 ghost use Rattle.span_replay.specs.Answer.{answer_text};
@@ -13,48 +13,49 @@ ghost use Rattle.span_script.specs.Views.{layer_seen, operation_seen};
 use crate::run::answer::{Answer, write_answer};
 use span_id::{Checked, Fault, Limits};
 use span_json::Value;
-use span_layers::{ByForm, ByRule, Forms, Hooks, Layer, Layers, MAX_LAYERS, Rules};
+use span_layers::{Admitters, Formatters, Forms, Hooks, Layer, Layers, MAX_LAYERS, Rules};
 use span_script::{NewLayer, Operation, Stage, Stop, operation_in_line};
 use std::alloc::Global;
 
-/// The limits that stand, the layers that were added, and how many layers there may be.
-///
-/// What applies the layers' rules and writes their notes is the caller's, so no layer has a closure here.
+/// The limits that stand, the layers that were added, and the hooks for further layers, the next ones last.
 #[derive(Drop)]
-pub struct Setup {
+pub struct Setup<A, F> {
     checked: Checked,
-    layers: Layers<ByRule, ByForm>,
+    layers: Layers<A, F>,
     added: usize,
-    most: usize,
+    hooks: Vec<Hooks<A, F>>,
     stage: Stage,
     ghost numbered: { added ≡ length (filters_in layers) },
 }
 
-impl Setup {
-    ghost use Rattle.span_replay.specs.inside.Setup.{setup_state, hooks_in};
+/// What the lines before the first call gave, as plain data.
+#[derive(Drop)]
+pub struct Opened {
+    pub checked: Checked,
+    pub rules: Rules,
+    pub forms: Forms,
+    pub stage: Stage,
+}
 
-    /// The limits of a script that gives none, and no layers, of which there may be so many.
-    pub fn new(alloc: Global, most: usize) -> Setup
+impl<A: Drop, F: Drop> Setup<A, F> {
+    ghost use Rattle.span_replay.specs.inside.Setup.{opened_in, setup_state, hooks_in};
+
+    /// The limits of a script that gives none, and no layers. Each layer takes one of the hooks, in their order.
+    pub fn new(alloc: Global, mut hooks: Vec<Hooks<A, F>>) -> Setup<A, F>
         ensures state { setup_state result ≡ first_state }
-        ensures hooks { hooks_in result ≡ most }
+        ensures hooks { hooks_in result ≡ vec_len hooks }
     {
         let Ok(checked) = Limits::default().check() else {
             unreachable!()
         };
+        hooks.reverse();
         Setup {
             checked,
             layers: Layers::new(alloc),
             added: 0,
-            most,
+            hooks,
             stage: Stage::AtStart,
         }
-    }
-
-    /// How many layers were added so far.
-    pub fn layers(&self) -> usize
-        ensures { result ≡ length (filters_in self.now.layers) }
-    {
-        self.added
     }
 
     /// Runs a line of `limits` or `layer`. The text is its answer.
@@ -111,18 +112,20 @@ impl Setup {
         }
     }
 
-    /// Adds a layer, where there may be one more and the layers are fewer than 64.
+    /// Adds a layer with the next hooks, where there are some left and the layers are fewer than 64.
     fn add_layer(&mut self, layer: NewLayer) -> Result<Answer, Stop>
         ensures ok { IfOk result (λ answer. layer_turn (hooks_in self.old) (setup_state self.old) (layer_seen layer)
             ≡ record { text = answer_text answer; state = setup_state self.new }) }
         ensures memory { IfErr result (λ stop. stop ≡ Stop.Memory) }
         ensures hooks { OnOk result (hooks_in self.new ≡ hooks_in self.old) }
     {
-        if self.added >= MAX_LAYERS || self.added >= self.most {
+        if self.added >= MAX_LAYERS {
             return Ok(Answer::Refused(Fault::TooManyLayers));
         }
+        let Some(hooks) = self.hooks.pop() else {
+            return Ok(Answer::Refused(Fault::TooManyLayers));
+        };
         let NewLayer { style, rule } = layer;
-        let hooks = Hooks::by_rule_and_form();
         match self.layers.add(Layer { style, rule, hooks }) {
             Ok(number) => {
                 self.added += 1;
@@ -132,13 +135,17 @@ impl Setup {
         }
     }
 
-    /// The limits, and what the layers admit, want and write.
-    pub fn split(self) -> (Checked, Rules, Forms)
-        ensures limits { result.0 ≡ (setup_state self).core.limits }
-        ensures rules { result.1 ≡ (setup_state self).core.rules }
-        ensures forms { result.2 ≡ (setup_state self).core.forms }
+    /// What the lines gave, and what applies the layers' rules and writes their notes.
+    pub fn split(self) -> (Opened, Admitters<A>, Formatters<F>)
+        ensures { opened_in result.0 ≡ setup_state self }
     {
         let (filters, tellers) = self.layers.split();
-        (self.checked, filters.rules, tellers.forms)
+        let opened = Opened {
+            checked: self.checked,
+            rules: filters.rules,
+            forms: tellers.forms,
+            stage: self.stage,
+        };
+        (opened, filters.admitters, tellers.formatters)
     }
 }

@@ -1,4 +1,5 @@
-//! When hooks are dropped that no layer took: before the first call of the script, the last one first.
+//! When hooks are dropped. Those that no layer took go before the first call of the script, or at a fault before it, the
+//! last one first. After a fault those of the layers go next: what writes their notes, then what applies their rules.
 ghost use Rattle.std.specs.Prelude.{◌≡◌, string_bytes};
 ghost use Rattle.std.specs.Result.{ForOk};
 ghost use Rattle.span_layers.specs.Note.{plain_note};
@@ -110,29 +111,52 @@ const TWO_LAYERS: &str = r#"{"op":"layer"}
 {"op":"close","span":"a"}
 "#;
 
-/// A script, how many hooks there are, and what is written down of them.
-type Row = (&'static str, usize, u64);
+const FAULT: &str = "{}\n";
 
-static ROWS: [Row; 3] = [
-    (NO_LAYER, 2, 3412),
-    (ONE_LAYER, 3, 56349),
-    (TWO_LAYERS, 2, 9),
+const ONE_LAYER_THEN_FAULT: &str = r#"{"op":"layer"}
+{}
+"#;
+
+const TWO_LAYERS_THEN_FAULT: &str = r#"{"op":"layer"}
+{"op":"layer"}
+{}
+"#;
+
+const FAULT_AFTER_A_CALL: &str = r#"{"op":"layer"}
+{"op":"layer"}
+{"op":"new","name":"a"}
+{}
+"#;
+
+/// A script, how many hooks there are, how many spans it leaves open where it has no fault, and what is written down of
+/// the hooks.
+type Row = (&'static str, usize, Option<u64>, u64);
+
+// Where a script has no fault the hooks that layers took are left at the end, so none of them is dropped.
+static ROWS: [Row; 8] = [
+    (NO_LAYER, 2, Some(0), 3412),
+    (ONE_LAYER, 3, Some(0), 56349),
+    (TWO_LAYERS, 2, Some(0), 9),
+    (FAULT, 2, None, 3412),
+    (ONE_LAYER_THEN_FAULT, 3, None, 563421),
+    (TWO_LAYERS_THEN_FAULT, 2, None, 2413),
+    (TWO_LAYERS_THEN_FAULT, 4, None, 78562413),
+    (FAULT_AFTER_A_CALL, 3, None, 5692413),
 ];
 
-// The hooks that layers took are left at the end, so none of them is dropped.
 fn drops(rt: &impl Abort, alloc: Global, row: &Row) {
-    let (script, count, want) = *row;
+    let (script, count, left, want) = *row;
     let log = Arc::new(alloc, AtomicU64::new(0)).expect(rt, "memory");
     let hooks = all_hooks(rt, alloc, &log, count);
     let mut input = Counted::new(script.as_bytes());
     let mut output = Counted::new(Vec::<u8>::new(alloc));
     let ended = replay(alloc, &mut input, &mut output, hooks, Remains::Left);
-    same(rt, ended.ok(), Some(0), script);
+    same(rt, ended.ok(), left, script);
     same(rt, log.load(Ordering::SeqCst), want, script);
 }
 
 #[test]
-fn hooks_that_no_layer_took_are_dropped_first(rt: HostRuntime) {
+fn hooks_are_dropped_in_this_order(rt: HostRuntime) {
     for row in &ROWS {
         drops(&rt, rt.alloc(), row);
     }

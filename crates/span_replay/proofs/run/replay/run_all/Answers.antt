@@ -34,9 +34,9 @@ returns-in-Ok-Some-clause-runs g c =
     runs_after _ _ _ _ _ _
     (opened_at_call _ _ _ _ _ _ _ _ _ _ _ _ _ before.hooks (when_some _ _ _ some c.in-Ok-Some.ensures.same) (when_some _ _ _ some c.in-Ok-Some.ensures.kept)
     before.sent c.cut_line.ensures.line (when_some _ _ _ some c.in-Ok-Some.ensures.value))
-    (c.run_with_hooks.ensures.runs _)
+    (c.run_set_up.ensures.runs _)
 
 -- ---- no call came
 
 pub returns-clause-runs : goal.returns-clause-runs
-returns-clause-runs g c = runs_after _ _ _ _ _ _ c.loop-lines.invariant.sent (c.run_with_hooks-2.ensures.runs _)
+returns-clause-runs g c = runs_after _ _ _ _ _ _ c.loop-lines.invariant.sent (c.run_set_up-2.ensures.runs _)

@@ -1,11 +1,11 @@
-//! Hooks that are taken apart, and texts that are appended to buffers.
+//! Texts that are appended to buffers.
 
 use crate::stage::{Memory, Stage, TRIES};
 use crate::stop::Stop;
-use crate::texts::{everything, meta_of, note_of, shown};
+use crate::texts::{note_of, shown};
 use crate::trial::again;
-use span_id::{Fault, Level, Meta};
-use span_layers::{Admit, Form, Hooks, Kind, Note, Rule, Say, hooks_apart, text_onto};
+use span_id::Fault;
+use span_layers::{Form, Kind, Note, Say, text_onto};
 use std::alloc::{AllocError, Global};
 
 /// What appends the text of a note.
@@ -90,45 +90,8 @@ static APPENDED: [Appending; 7] = [
     },
 ];
 
-/// Takes hooks apart, and calls both parts. `Memory` where that was refused: the hooks are gone then.
-pub(crate) fn run<R: Print>(
-    stage: &Stage<R>,
-    alloc: Global,
-    hooks: Vec<Hooks>,
-) -> Result<(), Stop> {
-    stage.begin(Memory::Taken);
-    let apart = hooks_apart(alloc, hooks);
-    stage.over();
-    match apart {
-        Ok((admitters, formatters)) => {
-            ask(stage, alloc, &admitters)?;
-            append_all(stage, alloc, &formatters)
-        }
-        Err(_) => Err(Stop::Memory),
-    }
-}
-
-// Asks what applies the rules, which takes no memory.
-fn ask<A: Admit, R: Print>(stage: &Stage<R>, alloc: Global, admitters: &A) -> Result<(), Stop> {
-    let meta = meta_of(alloc, "a", Level::Info)?;
-    match everything(alloc) {
-        Ok(rule) => {
-            ask_of(stage, admitters, &meta, &rule);
-            Ok(())
-        }
-        Err(_) => Err(Stop::Memory),
-    }
-}
-
-fn ask_of<A: Admit, R: Print>(stage: &Stage<R>, admitters: &A, meta: &Meta, rule: &Rule) {
-    stage.begin(Memory::Untouched);
-    let is_admitted = admitters.admits(0, rule, meta);
-    stage.over();
-    stage.wrote(println!(stage.rt; "admits: {is_admitted}"));
-}
-
-// Appends the text of a note in each way.
-fn append_all<S: Say, R: Print>(
+/// Appends the text of a note in each way.
+pub(crate) fn run<S: Say, R: Print>(
     stage: &Stage<R>,
     alloc: Global,
     formatters: &S,
