@@ -114,8 +114,9 @@ impl Row {
             Row::Layers => self.with_layers(stage, alloc, 65),
             Row::Latest => self.with_layers(stage, alloc, 2),
             Row::FullRing => self.with_layers(stage, alloc, 0),
-            Row::Outlets | Row::Core | Row::Kept | Row::GivenUp | Row::Ring | Row::Texts =>
-                self.with_layers(stage, alloc, 1),
+            Row::Outlets | Row::Core | Row::Kept | Row::GivenUp | Row::Ring | Row::Texts => {
+                self.with_layers(stage, alloc, 1)
+            }
         }
     }
 

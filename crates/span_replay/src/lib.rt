@@ -2,7 +2,7 @@
 //!
 //! A script is read to its end, its lines run one after another on the registry's core, and after them comes the
 //! tidying. What the calls answer and what the layers are told is written as it arises (`replay`;
-//! `replay_with_layers` for layers with no hooks).
+//! `replay_with_layers` for layers with no closures).
 #![tactic(auto)]
 
 mod run;

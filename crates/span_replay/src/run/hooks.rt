@@ -37,7 +37,7 @@ pub fn replay_with_layers<R: Read, W: Write>(
         (failed_of input.old) (failed_of input.new) (failed_of output.old) (failed_of output.new) result }
     ensures reads { calls_of input.new ≤ calls_of input.old + 16777217 }
 {
-    // A script has no more layers than these, and what they call is alike and takes no memory.
+    // No script has more than MAX_LAYERS layers. What they call is alike, and takes one block for the list.
     match plain_hooks(alloc, layers.min(MAX_LAYERS)) {
         Ok(hooks) => replay_with(alloc, input, output, hooks, remains),
         Err(_) => Err(RunFault::Memory),
@@ -48,9 +48,9 @@ pub fn replay_with_layers<R: Read, W: Write>(
 fn plain_hooks(alloc: Global, count: usize) -> Result<Vec<Hooks<ByRule, ByForm>>, AllocError>
     ensures { IfOk result (λ hooks. vec_len hooks ≡ count) }
 {
-    let mut hooks = Vec::new(alloc);
+    let mut hooks = Vec::with_capacity(alloc, count)?;
     for _ in 0..count {
-        hooks.push(Hooks::by_rule_and_form())?;
+        hooks.push_reserved(Hooks::by_rule_and_form());
     }
     Ok(hooks)
 }

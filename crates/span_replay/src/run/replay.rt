@@ -8,7 +8,7 @@ ghost use Rattle.span_run.specs.Counted.{inner_of, calls_of, failed_of, flushes_
 ghost use Rattle.span_replay.specs.Meaning.{run};
 ghost use Rattle.span_replay.specs.Replayed.{FlushesOnce, IsReplayed, IsWhole, KeepsUnread, Runs};
 ghost use Rattle.span_run.specs.RunFault.{EndsAsCounted};
-ghost use Rattle.span_script.specs.Operation.{is_setup};
+ghost use Rattle.span_script.specs.Operation.{Stage, is_setup};
 ghost use Rattle.span_script.specs.Script.{lines_of, most_bytes};
 ghost use Rattle.span_replay.specs.State.{first_state};
 ghost use Rattle.span_replay.specs.inside.Setup.{hooks_in, opened_in, setup_state};
@@ -250,8 +250,8 @@ fn run_opened<V: Say, A: Admit, W: Write>(
     requires call { IfSome rest.now.value (λ value. is_setup (view value) ≡ false) }
     requires done { IfNone rest.now.value (rest.now.lines.now ≡ []) }
     requires place { rest.now.number + length rest.now.lines.now ≤ most_bytes + 1 }
-    ensures runs { (hooks : ℕ) →
-        Runs (resumed_run hooks rest.now.number (opened_in opened) (option_map view rest.now.value) rest.now.lines.now)
+    ensures runs { (hooks : ℕ) (stage : Stage) →
+        Runs (resumed_run hooks rest.now.number (opened_in opened stage) (option_map view rest.now.value) rest.now.lines.now)
         (W.contents (inner_of output.old)) (W.contents (inner_of output.new)) result }
     ensures counts { EndsAsCounted 0 0 (failed_of output.old) (failed_of output.new) result }
     ensures flushes { flushes_of output.new ≡ flushes_of output.old }
@@ -260,7 +260,6 @@ fn run_opened<V: Say, A: Admit, W: Write>(
         checked,
         rules,
         forms,
-        stage: _,
     } = opened;
     let latest = Latest::with_formatters(alloc, forms, formatters);
     let workers = checked.limits().workers;

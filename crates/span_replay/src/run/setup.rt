@@ -31,10 +31,12 @@ pub struct Setup<A, F> {
 /// What the lines before the first call gave, as plain data.
 #[derive(Drop)]
 pub struct Opened {
+    /// The limits that stand.
     pub checked: Checked,
+    /// What the layers admit and want.
     pub rules: Rules,
+    /// In which forms they write.
     pub forms: Forms,
-    pub stage: Stage,
 }
 
 impl<A: Drop, F: Drop> Setup<A, F> {
@@ -137,14 +139,13 @@ impl<A: Drop, F: Drop> Setup<A, F> {
 
     /// What the lines gave, and what applies the layers' rules and writes their notes.
     pub fn split(self) -> (Opened, Admitters<A>, Formatters<F>)
-        ensures { opened_in result.0 ≡ setup_state self }
+        ensures { opened_in result.0 (setup_state self).stage ≡ setup_state self }
     {
         let (filters, tellers) = self.layers.split();
         let opened = Opened {
             checked: self.checked,
             rules: filters.rules,
             forms: tellers.forms,
-            stage: self.stage,
         };
         (opened, filters.admitters, tellers.formatters)
     }

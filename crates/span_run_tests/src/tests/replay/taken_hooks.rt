@@ -1,4 +1,4 @@
-//! Which hooks are called, and when: those that a layer would take where each takes the next ones once its line comes.
+//! Which hooks are called, and when: each layer takes the next ones once its line comes.
 ghost use Rattle.std.specs.Prelude.{◌≡◌, [], string_bytes};
 ghost use Rattle.std.specs.Result.{ForOk};
 ghost use Rattle.span_layers.specs.Note.{plain_note};
@@ -225,7 +225,7 @@ fn ran(rt: &impl Abort, alloc: Global, calls: &Calls, count: usize, lines: usize
 static COUNTS: [usize; 8] = [0, 1, 2, 3, 63, 64, 65, 70];
 
 #[test]
-fn each_layer_calls_the_hooks_that_it_would_take(rt: HostRuntime) {
+fn each_layer_calls_the_hooks_that_it_takes(rt: HostRuntime) {
     for count in COUNTS {
         compare(&rt, rt.alloc(), count, count);
         compare(&rt, rt.alloc(), count, count.saturating_add(1));
