@@ -1,7 +1,7 @@
 -- From a line's JSON value to what the line does, and to what was written.
-use Rattle.std.proofs.Common.{◌≡◌, ℕ, List, false, refl, sym, ◌∙◌, subst, Result, Ok, Err}
+use Rattle.std.proofs.Common.{◌≡◌, ℕ, List, [], true, false, refl, sym, ◌∙◌, subst, Result, Ok, Err}
 use Rattle.std.specs.Io.KnownBytes.{Appends}
-use Rattle.std.proofs.KnownBytes.{Keeps-refl}
+use Rattle.std.proofs.KnownBytes.{Appends-nil, Keeps-refl}
 use Rattle.serde_json.specs.Data.{Data}
 use Rattle.span_run.specs.Device.{AppendsFront}
 use Rattle.span_replay.specs.inside.Ended.{fault_at}
@@ -18,6 +18,9 @@ use Rattle.span_run.specs.declared.fault.Side.{Side}
 use Rattle.span_script.specs.declared.stop.Stop.{Stop}
 use Rattle.span_script.specs.declared.stop.Stop.TheVariants.{Memory, Refused}
 use Rattle.span_run.proofs.Fronts.{Known}
+
+pub skipped_line : (hooks : ℕ) (state : State) (line : List ℕ) (a : Known) → is_skipped line ≡ true → HasTurned (line_turn hooks state line) state a a
+skipped_line hooks state line a k = record { text = []; is = rw k refl; written = Appends-nil a }
 
 pub read_line : (hooks : ℕ) (state : State) (line : List ℕ) (value : Data) → is_skipped line ≡ false → json_of line ≡ Ok value → line_turn hooks state line ≡ value_turn hooks state value
 unfolding read_turn

@@ -10,7 +10,7 @@ ghost use Rattle.span_script.specs.Reason.{StopsFor};
 ghost use Rattle.span_replay.specs.Replayed.{Fails, Runs};
 ghost use Rattle.span_run.specs.RunFault.{EndsAsCounted};
 ghost use Rattle.span_replay.specs.inside.Running.{IsWritten, state_at};
-ghost use Rattle.span_script.specs.Script.{lines_of, most_bytes};
+ghost use Rattle.span_script.specs.Script.{is_skipped, lines_of, most_bytes};
 ghost use Rattle.span_replay.specs.inside.Turns.{HasTurned, Sent, TurnFails, resumed_run};
 
 use crate::run::fault::at_line;
@@ -167,6 +167,11 @@ fn run_lines<V: Say, A: Admit, W: Write>(
     while !rest.is_empty() {
         let (line, tail) = cut_line(rest);
         rest = tail;
+        // Asked here, so that nothing is made ready for a line that is skipped.
+        if is_skipped(line) {
+            number += 1;
+            continue;
+        }
         if let Err(fault) = run_line(alloc, number, line, &mut scratch, script, text, output) {
             return Err(fault);
         }
@@ -175,7 +180,7 @@ fn run_lines<V: Say, A: Admit, W: Write>(
     Ok(())
 }
 
-/// Runs one line, and writes its notes and its answer. A skipped line has none.
+/// Runs one line that isn't skipped, and writes its notes and its answer.
 fn run_line<V: Say, A: Admit, W: Write>(
     alloc: Global,
     number: u64,
@@ -187,6 +192,7 @@ fn run_line<V: Say, A: Admit, W: Write>(
 ) -> Result<(), RunFault>
     requires failed { failed_of output.old < 2 ^ 63 }
     requires written { IsWritten script.old }
+    requires read { is_skipped line.now ≡ false }
     ensures turned { OnOk result
         ((hooks : ℕ) → HasTurned (line_turn hooks (state_at script.old running) line.now) (state_at script.new running)
         (W.contents (inner_of output.old)) (W.contents (inner_of output.new))) }
@@ -197,9 +203,6 @@ fn run_line<V: Say, A: Admit, W: Write>(
     ensures counts { EndsAsCounted 0 0 (failed_of output.old) (failed_of output.new) result }
     ensures flushes { flushes_of output.new ≡ flushes_of output.old }
 {
-    if is_skipped(line) {
-        return Ok(());
-    }
     match json_line(alloc, line, scratch) {
         Ok(value) => run_value(alloc, number, &value, script, text, output),
         Err(stop) => Err(at_line(number, stop)),

@@ -5,6 +5,7 @@ ghost use Rattle.span_json.specs.Seen.{view};
 ghost use Rattle.span_run.specs.Counted.{inner_of, failed_of, flushes_of};
 ghost use Rattle.span_replay.specs.Meaning.{line_turn, value_turn};
 ghost use Rattle.span_script.specs.Operation.{is_setup};
+ghost use Rattle.span_script.specs.Script.{is_skipped};
 ghost use Rattle.span_run.specs.RunFault.{EndsAsCounted};
 ghost use Rattle.span_replay.specs.inside.Setup.{hooks_in, setup_state};
 ghost use Rattle.span_replay.specs.inside.Turns.{HasTurned, TurnFails};
@@ -13,7 +14,7 @@ use crate::run::fault::at_line;
 use crate::run::setup::Setup;
 use span_json::{Scratch, Value};
 use span_run::{Counted, RunFault, write_text};
-use span_script::{is_setup_line, is_skipped, json_line};
+use span_script::{is_setup_line, json_line};
 use std::alloc::Global;
 use std::io::Write;
 
@@ -28,7 +29,7 @@ pub struct Rest<'s> {
     pub lines: &'s [u8],
 }
 
-/// Runs a line, or answers its value where its op is neither `limits` nor `layer`.
+/// Runs a line that isn't skipped, or answers its value where its op is neither `limits` nor `layer`.
 pub fn open_line<'s, A: Drop, F: Drop, W: Write>(
     alloc: Global,
     number: u64,
@@ -38,7 +39,8 @@ pub fn open_line<'s, A: Drop, F: Drop, W: Write>(
     text: &mut Vec<u8>,
     output: &mut Counted<W>,
 ) -> Result<Option<Value<'s>>, RunFault>
-    requires { failed_of output.old < 2 ^ 63 }
+    requires failed { failed_of output.old < 2 ^ 63 }
+    requires read { is_skipped line.now ≡ false }
     ensures turned { IfOk result
         (λ value. IfNone value (HasTurned (line_turn (hooks_in setup.old) (setup_state setup.old) line.now)
         (setup_state setup.new)
@@ -56,9 +58,6 @@ pub fn open_line<'s, A: Drop, F: Drop, W: Write>(
     ensures counts { EndsAsCounted 0 0 (failed_of output.old) (failed_of output.new) result }
     ensures flushes { flushes_of output.new ≡ flushes_of output.old }
 {
-    if is_skipped(line) {
-        return Ok(None);
-    }
     match json_line(alloc, line, scratch) {
         Ok(value) => open_value(alloc, number, value, setup, text, output),
         Err(stop) => Err(at_line(number, stop)),

@@ -23,7 +23,7 @@ use span_json::Scratch;
 use span_layers::{Admit, Admitters, Formatters, Hooks, Say};
 use span_outlet::Latest;
 use span_run::{Counted, RunFault, flush, read_script};
-use span_script::cut_line;
+use span_script::{cut_line, is_skipped};
 use std::alloc::Global;
 use std::io::{Read, Write};
 
@@ -186,6 +186,11 @@ where
     while !lines.is_empty() {
         let (line, tail) = cut_line(lines);
         lines = tail;
+        // Asked here, so that nothing is made ready for a line that is skipped.
+        if is_skipped(line) {
+            number += 1;
+            continue;
+        }
         match open_line(alloc, number, line, &mut scratch, &mut setup, text, output) {
             Ok(None) => number += 1,
             Ok(Some(value)) => {

@@ -1,4 +1,5 @@
-use Rattle.std.proofs.Common.{rules, arith, refl, ◌∙◌, drop_of_length-le}
+use Rattle.std.proofs.Common.{rules, arith, refl, sym, ◌∙◌, drop_of_length-le}
+use Rattle.span_replay.proofs.LineTurns.{skipped_line}
 use Rattle.span_replay.proofs.Written.{sent_none, loop_more, loop_fails, loop_ends}
 use Rattle.span_replay.proofs.Flushes.{fails_from}
 use Rattle.span_replay.proofs.run.lines.run_lines.Goals as goal
@@ -9,6 +10,19 @@ loop-rest-init g c = record { sent = λ hooks. sent_none _ _; written = c.requir
 pub returns-in-Err-clause-err : goal.returns-in-Err-clause-err
 returns-in-Err-clause-err g c = λ hooks.
     loop_fails hooks _ _ _ _ _ _ _ c.cut_line.result.0.now c.cut_line.result.1.now _ (c.loop-rest.invariant.sent hooks) c.cut_line.ensures.line (c.in-Err.ensures.err hooks)
+
+pub loop-rest-preserved-then-is_skipped : goal.loop-rest-preserved-then-is_skipped
+loop-rest-preserved-then-is_skipped g c =
+    let before = c.loop-rest.invariant in
+    let shorter = c.cut_line.ensures.shorter in
+    record {
+      sent = λ hooks. loop_more hooks _ _ _ _ _ _ _ _ c.cut_line.result.0.now c.cut_line.result.1.now (before.sent hooks) c.cut_line.ensures.line
+          (skipped_line hooks _ c.cut_line.result.0.now _ (sym c.if-is_skipped.ensures));
+      written = before.written;
+      failed = before.failed;
+      flushes = before.flushes;
+      place = let place = before.place in omega (arith, place, shorter);
+    }
 
 pub loop-rest-preserved : goal.loop-rest-preserved
 loop-rest-preserved g c =

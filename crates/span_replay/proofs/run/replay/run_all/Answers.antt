@@ -1,10 +1,24 @@
-use Rattle.std.proofs.Common.{arith, refl, ◌∙◌}
+use Rattle.std.proofs.Common.{arith, refl, sym, ◌∙◌}
+use Rattle.span_replay.specs.inside.Setup.{hooks_in}
+use Rattle.span_replay.proofs.LineTurns.{skipped_line}
 use Rattle.span_replay.proofs.Written.{runs_after, sent_none}
 use Rattle.span_replay.proofs.Openings.{when_some, when_none, opened_more, opened_fails, opened_at_call}
 use Rattle.span_replay.proofs.run.replay.run_all.Goals as goal
 
 pub loop-lines-init : goal.loop-lines-init
 loop-lines-init g c = record { sent = sent_none _ _; hooks = refl; failed = refl; flushes = refl; count = omega arith }
+
+pub loop-lines-preserved-then-is_skipped : goal.loop-lines-preserved-then-is_skipped
+loop-lines-preserved-then-is_skipped g c =
+    let before = c.loop-lines.invariant in
+    let shorter = c.cut_line.ensures.shorter in
+    record {
+      sent = opened_more _ _ _ _ _ _ _ _ _ _ _ _ before.hooks before.sent c.cut_line.ensures.line (skipped_line (hooks_in c.loop-lines.setup) _ c.cut_line.result.0.now _ (sym c.if-is_skipped.ensures));
+      hooks = before.hooks;
+      failed = before.failed;
+      flushes = before.flushes;
+      count = let count = before.count in omega (arith, count, shorter);
+    }
 
 pub loop-lines-preserved : goal.loop-lines-preserved
 loop-lines-preserved g c =
