@@ -1,3 +1,2 @@
 -- What the crate's types keep: no public clause cites it.
 pub mod Fields
-pub mod NameBytes
