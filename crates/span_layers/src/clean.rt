@@ -9,21 +9,12 @@ use std::simd::prelude::*;
 // The newline and the carriage return are below this.
 const COMPACT_BOUND: u8 = 14;
 
-/// The control characters are below this.
-pub(crate) const JSON_BOUND: u8 = 32;
-
 /// Whether the compact form writes the text as it is. It may say no of a text with a tab or another control character.
 #[inline]
 pub(crate) fn is_clean_compact(text: &[u8]) -> bool
     ensures { OnTrue result (escaped text.now ≡ text.now) }
 {
     is_clean(text, b'\\', COMPACT_BOUND)
-}
-
-/// Whether JSON writes the text as it is.
-#[inline]
-pub(crate) fn is_clean_json(text: &[u8]) -> bool {
-    is_clean(text, b'"', JSON_BOUND)
 }
 
 // Whether no byte is a backslash, the other byte or below the bound. Where the length is no multiple of a block's, the

@@ -7,15 +7,12 @@ use std::alloc::Global;
 use std::process::Abort;
 use std::sync::ArcStr;
 
-const MOST_SPARE: usize = 8;
+/// How many bytes longer the buffer is at most where little is escaped.
+pub(crate) const MOST_SPARE: usize = 64;
 
-/// Whether a text's buffer is at most a few bytes longer than the text; `of` tells the case.
-pub(crate) fn has_no_more_room(rt: &impl Abort, text: &Vec<u8>, of: &str) {
-    holds(
-        rt,
-        text.capacity().saturating_sub(text.len()) <= MOST_SPARE,
-        of,
-    );
+/// Whether a text's buffer is at most so many bytes longer than the text; `of` tells the case.
+pub(crate) fn has_no_more_room(rt: &impl Abort, text: &Vec<u8>, most: usize, of: &str) {
+    holds(rt, text.capacity().saturating_sub(text.len()) <= most, of);
 }
 
 // An event whose message has this byte behind so many letters and before so many.
@@ -47,7 +44,7 @@ fn an_escape_at_each_place(rt: HostRuntime) {
                 let note = event(&rt, alloc, before, byte, length - before - 1);
                 for form in [Form::Compact, Form::Json] {
                     let text = text(alloc, form, &note).expect(&rt, "memory");
-                    has_no_more_room(&rt, &text, byte);
+                    has_no_more_room(&rt, &text, MOST_SPARE, byte);
                 }
             }
         }

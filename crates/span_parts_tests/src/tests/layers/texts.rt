@@ -2,7 +2,7 @@
 
 use crate::tests::compare::same;
 use crate::tests::layers::fixtures::fields;
-use crate::tests::layers::rooms::has_no_more_room;
+use crate::tests::layers::rooms::{MOST_SPARE, has_no_more_room};
 use span_id::Level;
 use span_layers::{Form, Kind, Note, text, text_onto};
 use std::alloc::Global;
@@ -60,7 +60,8 @@ fn is_written(rt: &impl Abort, alloc: Global, note: &Note, compact: &str, json: 
     for (form, want) in [(Form::Compact, compact), (Form::Json, json)] {
         let text = text(alloc, form, note).expect(rt, "memory");
         same(rt, text.as_slice(), want.as_bytes(), want);
-        has_no_more_room(rt, &text, want);
+        // (Where much is escaped, the buffer was doubled.)
+        has_no_more_room(rt, &text, MOST_SPARE.saturating_add(text.len()), want);
         is_appended(rt, alloc, form, note, want);
     }
 }

@@ -1,5 +1,5 @@
 use Rattle.std.proofs.Common.{◌-◌, ◌≤◌, length}
-use Rattle.span_layers.proofs.room.compact_escapes.Given as goal
+use Rattle.span_layers.proofs.room.compact_len.Given as goal
 
 abbrev pub invariant-loop-at : goal.invariant-loop-at
 invariant-loop-at l = l.at ≤ length l.text
