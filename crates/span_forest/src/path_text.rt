@@ -7,7 +7,6 @@ ghost use Rattle.span_forest.specs.Path.{name_for, names_for, path, path_text};
 ghost use Rattle.span_forest.specs.Forest.{IsForest};
 
 use crate::span::Span;
-use smallvec::SmallVec;
 use span_id::{Bits, Id};
 use span_slots::Slots;
 use std::alloc::{AllocError, Global};
@@ -21,13 +20,10 @@ pub struct PathText {
     pub same: Bits,
 }
 
-// How many names of a walk take no memory.
-const IN_PLACE: usize = 8;
-
 // What a layer sees on a walk.
 #[derive(Drop)]
 struct Seen<'a> {
-    names: SmallVec<&'a str, IN_PLACE>,
+    names: Vec<&'a str>,
     // The layers that admit the same spans.
     same: Bits,
 }
@@ -88,7 +84,7 @@ fn path_seen<'a>(
     ensures own { IfOk result (λ seen. layer < 64 → IsTrue (has_bit seen.same.0 layer)) }
 {
     let mut seen = seen_on_walk(slots, alloc, layer, id)?;
-    seen.names.as_mut_slice().reverse();
+    seen.names.reverse();
     Ok(seen)
 }
 
@@ -109,7 +105,7 @@ fn seen_on_walk<'a>(
     ensures own { IfOk result (λ seen. layer < 64 → IsTrue (has_bit seen.same.0 layer)) }
 {
     let mut seen = Seen {
-        names: SmallVec::new(alloc),
+        names: Vec::new(alloc),
         same: Bits::all(),
     };
     let mut next = Some(id);
