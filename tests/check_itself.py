@@ -1,0 +1,167 @@
+#!/usr/bin/env python3
+"""Runs `./check` in a small clone, with a command rt that proves nothing, and parts that only say that they passed.
+
+usage: check_itself.py
+Each row compares how a run ends, and what it says. The last line is 'N passed, M failed'.
+"""
+import os
+import re
+import shutil
+import signal
+import subprocess
+import sys
+import tempfile
+
+from parts import PARTS, TOP
+
+CRATES = "low: # the lowest\ntracerun may_wait=2: low\nhostile_use may_wait=29: low\nspan_ffi staticlib: low\n"
+LISTED = {"low": 0, "tracerun": 2, "hostile_use": 29, "span_ffi": 0}
+# What it prints as rt ci is in a file; the programs that it makes are in the variable MAKES.
+FAKE_RT = """#!/bin/sh
+echo "$1 in ${PWD##*/}" >> "$FAKE/calls"
+case $1 in
+    ci) cat "$FAKE/ci"
+        for name in $MAKES; do mkdir -p crates/$name/out && touch crates/$name/out/$name; done
+        [ -z "$HANGS" ] || sleep 600
+        exit $STATUS ;;
+    lib) mkdir -p out; touch out/libspan_ffi.a; [ -n "$MAKES" ] ;;
+esac
+"""
+PASSES = "print('3 passed, 1 failed')\nprint('4 passed, 0 failed')\n"
+ALL = "tracerun hostile_use"
+
+
+def ci(waits=(), kept=(), more="", last="5 passed, 0 failed"):
+    """What rt ci prints."""
+    said = []
+    for name, number in {**LISTED, **dict(waits)}.items():
+        proof = f"logic=proved functions=1{f' may-wait={number}' if number else ''} sum=1\nrt: {name} proved\n"
+        said.append(f"rt: {name} is kept: an earlier run proved it\n" if name in kept else f"== {name}\n{proof}")
+        said.append(f"== {name}: its tests\nlogic=proved may-wait=77\nrt: {name}: its tests are proved\n")
+    return "".join(said) + f"{more}{last}\n"
+
+
+class Clone:
+    def __init__(self, folder):
+        self.at, self.fake, self.room = f"{folder}/clone", f"{folder}/fake", f"{folder}/room"
+        for name in (self.at, self.fake, self.room, f"{self.at}/tests", f"{self.at}/rust", f"{folder}/bin"):
+            os.mkdir(name)
+        for name in ("check", "tests/parts.py"):
+            shutil.copy(f"{TOP}/{name}", f"{self.at}/{name}")
+        for script in re.findall(r"tests/\w+\.py", "".join(it.command for it in PARTS)):
+            self.write(f"{self.at}/{script}", PASSES)
+        self.write(f"{self.at}/crates.txt", CRATES)
+        for name in LISTED:
+            os.makedirs(f"{self.at}/crates/{name}")
+        self.write(f"{self.at}/rust/test", "#!/bin/sh\necho 4 passed, 0 failed\n")
+        for name, text in (("rt", FAKE_RT), ("valgrind", ""), ("cargo", "")):
+            self.write(f"{folder}/bin/{name}", text or "#!/bin/sh\n")
+        self.path = f"{folder}/bin:{os.environ['PATH']}"
+
+    def write(self, path, text):
+        with open(path, "w", encoding="utf-8") as file:
+            file.write(text)
+        os.chmod(path, 0o755)
+
+    def start(self, *words, said=None, makes=ALL, status=0, hangs="", path=None):
+        for name in LISTED:
+            shutil.rmtree(f"{self.at}/crates/{name}/out", ignore_errors=True)
+        self.write(f"{self.fake}/ci", said or ci())
+        self.write(f"{self.fake}/calls", "")
+        env = {**os.environ, "PATH": path or self.path, "FAKE": self.fake, "TMPDIR": self.room, "MAKES": makes,
+               "STATUS": str(status), "HANGS": hangs}
+        return subprocess.Popen([f"{self.at}/check", *words], env=env, stdout=subprocess.PIPE, stderr=subprocess.STDOUT,
+                                encoding="utf-8")
+
+    def run(self, *words, **how):
+        """The status, the last line and all that was said."""
+        run = self.start(*words, **how)
+        said = run.communicate(timeout=120)[0]
+        return run.returncode, said.splitlines()[-1], said
+
+    def calls(self):
+        with open(f"{self.fake}/calls", encoding="utf-8") as file:
+            return file.read().splitlines()
+
+
+class Rows:
+    def __init__(self):
+        self.passed = self.failed = 0
+
+    def wants(self, name, found, *wanted):
+        """What a run has to end with, and texts that it has to say."""
+        status, last, *texts = wanted
+        is_so = found[:2] == (status, last) and all(it in found[2] for it in texts)
+        self.passed, self.failed = self.passed + is_so, self.failed + (not is_so)
+        if not is_so:
+            print(f"FAILED {name}: wanted {wanted!r}, found {found[:2]!r}, of\n{found[2]}")
+
+
+def wholes(rows, clone):
+    # (5 by rt ci, 4 crates compared, 1 library, 4 by each part)
+    good = 5 + len(LISTED) + 1 + 4 * len(PARTS)
+    found = clone.run()
+    rows.wants("all is well", found, 0, f"{good} passed, 0 failed", "the C interface: 4 passed, 0 failed")
+    rows.wants("the calls of rt", (0, "", str(clone.calls())), 0, "", "['ci in clone', 'lib in span_ffi']")
+    found = clone.run(said=ci({"low": 1, "tracerun": 3}))
+    told = "low: crates.txt says that 0 functions may wait, the checker counted 1"
+    rows.wants("others may wait", found, 1, f"{good - 2} passed, 2 failed", told, "2 functions may wait, the checker counted 3")
+    found = clone.run(said=ci(kept=["low", "tracerun"]))
+    told = "not compared in this run, since rt ci kept their proofs: low tracerun"
+    rows.wants("kept proofs", found, 0, f"{good - 2} passed, 0 failed", told)
+    found = clone.run(said=ci(more="rt: must-fail low/x.edit: BAD EDIT: its old text is gone\n"))
+    rows.wants("an edit that can't be made", found, 1, f"{good} passed, 1 failed")
+    found = clone.run(said=ci(last="5 passed, 2 failed"), status=1)
+    rows.wants("rt ci counts failures", found, 1, f"{good} passed, 2 failed")
+    found = clone.run(said=ci(last="rt: stopped"), status=2)
+    rows.wants("rt ci counts nothing", found, 1, f"{good - 5} passed, 1 failed")
+    clone.write(f"{clone.at}/tests/storms.py", "import sys\nprint('4 passed, 0 failed')\nsys.exit(1)\n")
+    rows.wants("a part with a wrong status", clone.run(), 1, f"{good} passed, 1 failed")
+    clone.write(f"{clone.at}/tests/storms.py", "")
+    rows.wants("a part that counts nothing", clone.run(), 1, f"{good - 4} passed, 1 failed")
+    clone.write(f"{clone.at}/tests/storms.py", PASSES)
+
+
+def parts_left_out(rows, clone):
+    alone = 4 * sum(not it.needs for it in PARTS)
+    on_programs = sum("tracerun" in it.needs or "hostile_use" in it.needs for it in PARTS)
+    found = clone.run(makes="")
+    wanted = f"{5 + len(LISTED) + alone} passed, {on_programs + 3} failed"
+    rows.wants("nothing is made", found, 1, wanted, "not run, as span_ffi was not made", "not run, as tracerun was not made")
+    os.remove(clone.path.split(":")[0] + "/valgrind")
+    commands = f"{os.path.dirname(clone.fake)}/commands"
+    os.mkdir(commands)
+    for name in ("bash", "sh", "python3", "readlink", "dirname", "cat", "mkdir", "touch", "env", "sleep"):
+        os.symlink(shutil.which(name), f"{commands}/{name}")
+    found = clone.run(path=f"{clone.path.split(':')[0]}:{commands}")
+    rows.wants("a tool isn't there", found, 0, f"{6 + len(LISTED) + 4 * len(PARTS) - 4} passed, 0 failed",
+               "not run: valgrind is not on the PATH")
+    found = clone.run(path=commands)
+    rows.wants("no rt", found, 2, "check: the command rt is not on the PATH")
+
+
+def others(rows, clone):
+    rows.wants("named crates", clone.run("low", "tracerun"), 0, "2 passed, 0 failed")
+    wanted = "['check in low', 'test in low', 'check in tracerun', 'test in tracerun']"
+    rows.wants("named crates: the calls", (0, "", str(clone.calls())), 0, "", wanted)
+    rows.wants("no such crate", clone.run("high"), 2, "check: there is no crate high")
+    run = clone.start(hangs="1")
+    while "passed" not in run.stdout.readline():
+        pass
+    run.send_signal(signal.SIGTERM)
+    run.communicate(timeout=60)
+    found = run.returncode, str(os.listdir(clone.room)), ""
+    rows.wants("broken off: nothing is left", found, 143, "[]")
+
+
+def main():
+    rows = Rows()
+    for part in (wholes, parts_left_out, others):
+        with tempfile.TemporaryDirectory() as folder:
+            part(rows, Clone(folder))
+    print(f"{rows.passed} passed, {rows.failed} failed")
+    return 1 if rows.failed else 0
+
+
+if __name__ == "__main__":
+    sys.exit(main())

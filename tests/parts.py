@@ -1,0 +1,237 @@
+#!/usr/bin/env python3
+"""Runs all that `./check` is: `rt ci`, then `rt lib` of the static library, then the other parts that PARTS lists.
+
+usage: parts.py
+
+A part that needs nothing begins beside `rt ci`. The others come after it, one after the other, on the programs that it
+leaves in crates/NAME/out/. A part whose program or library wasn't made failed; one whose tool isn't on the PATH isn't
+run, and says so. The last line is 'N passed, M failed', the sums of what the parts say in such a line.
+"""
+import os
+import re
+import resource
+import shlex
+import shutil
+import signal
+import subprocess
+import sys
+import tempfile
+import threading
+import time
+from pathlib import Path
+from typing import NamedTuple
+
+TOP = Path(__file__).resolve().parent.parent
+COUNTS = re.compile(r"(\d+) passed, (\d+) failed\b")
+# rt ci starts a check only where what it guesses of its memory is free, two to three times what the check takes. No check
+# of this repository takes more bytes than these; where each processor has as many, there is a lane for each.
+MEMORY = 5_000_000_000
+
+
+class Part(NamedTuple):
+    """A part, the programs, the library and the tools that it needs, its command, and the folder where that runs."""
+
+    name: str
+    needs: str
+    command: str
+    folder: str = ""
+
+
+GATE = Part("the gate", "", "rt ci")
+LIBRARY = Part("the static library", "", "rt lib", "crates/span_ffi")
+PARTS = [
+    Part("the model on the worked cases", "", "python3 tests/test_model.py"),
+    Part("the runner of the parts", "", "python3 tests/check_itself.py"),
+    Part("the model on a script of 16 MiB", "", "python3 tests/long_script.py --make {room}/long --seed 1"),
+    Part("the worked cases", "tracerun", "python3 tests/run_cases.py --program {tracerun}"),
+    Part("the command line", "tracerun", "python3 tests/command_line.py --program {tracerun}"),
+    Part("the fronts of the worked scripts against the model", "tracerun", "python3 tests/fronts.py --program {tracerun}"),
+    Part("random scripts against the model", "tracerun",
+         "python3 tests/random_scripts.py --program {tracerun} --seed 1 --seconds 30"),
+    Part("storms of 16 workers", "tracerun", "python3 tests/storms.py --program {tracerun}"),
+    Part("devices that fail", "tracerun", "python3 tests/failing_devices.py --program {tracerun}"),
+    Part("a script of 16 MiB against the model", "tracerun",
+         "python3 tests/long_script.py --program {tracerun} --made {room}/long"),
+    Part("each growth refused", "tracerun hostile_use",
+         "python3 tests/refused_memory.py --program {tracerun} --hostile-use {hostile_use}"),
+    Part("each growth of further calls refused", "hostile_use",
+         "python3 tests/refused_calls.py --hostile-use {hostile_use}"),
+    Part("the C interface", "span_ffi valgrind", "python3 tests/c_interface.py --library {span_ffi}"),
+    Part("the Rust package", "span_ffi cargo",
+         "env SPAN_REGISTRY_LIB={library} CARGO_TARGET_DIR={room}/target rust/test"),
+]
+# What parts need of crates.
+BUILT = {it: TOP / f"crates/{it}/out/{it}" for it in ("tracerun", "hostile_use")}
+BUILT["span_ffi"] = TOP / "crates/span_ffi/out/libspan_ffi.a"
+
+
+class Ended(NamedTuple):
+    """A part that ended: what it said, what it counted, and its seconds on the clock."""
+
+    name: str
+    lines: list
+    passed: int
+    failed: int
+    seconds: float = 0
+
+
+def counted(lines, status):
+    """What the last line that counts says. A part with no such line, or that failed and counts no failure, is a failure."""
+    found = [it for it in map(COUNTS.match, lines) if it]
+    passed, failed = map(int, found[-1].groups()) if found else (0, 0)
+    return passed, failed or int(status != 0 or not found)
+
+
+class Runs:
+    """Runs parts, and ends those that run when it ends itself."""
+
+    def __init__(self, room):
+        self.room, self.running, self.is_over = room, [], False
+
+    def run(self, part, shows=True, env=()):
+        """Runs a part in a group of processes of its own, and shows its lines as they come."""
+        start, lines = time.monotonic(), []
+        words = shlex.split(part.command.format(room=self.room, library=BUILT["span_ffi"].parent, **BUILT))
+        process = subprocess.Popen(
+            words, cwd=TOP / part.folder, env={**os.environ, **dict(env)}, start_new_session=True, encoding="utf-8",
+            errors="replace", stdin=subprocess.DEVNULL, stdout=subprocess.PIPE, stderr=subprocess.STDOUT)
+        self.running.append(process)
+        for line in process.stdout:
+            lines.append(line)
+            if shows:
+                print(line, end="", flush=True)
+        status = process.wait()
+        self.running.remove(process)
+        counts = counted(lines, status) if part is not LIBRARY else (int(status == 0), int(status != 0))
+        return Ended(part.name, lines, *counts, time.monotonic() - start)
+
+    def beside(self, parts):
+        """Runs parts one after the other beside what else runs, and answers where they will be, and what to wait for."""
+        ended = []
+
+        def run_all():
+            for part in parts:
+                if not self.is_over:
+                    ended.append(self.run(part, shows=False))
+
+        thread = threading.Thread(target=run_all, daemon=True)
+        thread.start()
+        return ended, thread
+
+    def end(self):
+        self.is_over = True
+        for process in list(self.running):
+            os.killpg(process.pid, signal.SIGTERM)
+            process.wait()
+
+
+def lanes():
+    """The number of checks that rt ci runs side by side, where that is better not left to it."""
+    processors = len(os.sched_getaffinity(0))
+    free = re.search(r"^MemAvailable: *(\d+) kB", Path("/proc/meminfo").read_text(), re.M)
+    is_ample = free and int(free[1]) * 1024 >= processors * MEMORY
+    return {"RT_JOBS": str(processors)} if is_ample and "RT_JOBS" not in os.environ else {}
+
+
+def stand_after(lines):
+    """The crates that rt ci proved, each with how many of its functions may wait, and those that it kept."""
+    proved, kept, waits = {}, [], 0
+    for line in lines:
+        ended = re.match(r"rt: (\w+) (?:(proved)$|is kept:)", line)
+        if line.startswith("logic="):
+            found = re.search(r" may-wait=(\d+)", line)
+            waits = int(found[1]) if found else 0
+        elif ended and ended[2]:
+            proved[ended[1]] = waits
+        elif ended:
+            kept.append(ended[1])
+    return proved, kept
+
+
+def who_may_wait(proved, kept):
+    """Compares the crates whose functions may wait for a lock, as the checker counted them, with what crates.txt says."""
+    lines, passed = [], 0
+    for line in (TOP / "crates.txt").read_text(encoding="utf-8").splitlines():
+        name, *words = line.split("#")[0].split(":")[0].split() or [""]
+        said = sum(int(word[len("may_wait="):]) for word in words if word.startswith("may_wait="))
+        found = proved.get(name, "none, as it is not proved")
+        if found == said:
+            passed += 1
+        elif name and name not in kept:
+            lines.append(f"FAILED {name}: crates.txt says that {said} functions may wait, the checker counted {found}\n")
+    failed = len(lines)
+    if kept:
+        lines.append(f"not compared in this run, since rt ci kept their proofs: {' '.join(kept)}\n")
+    return Ended("who may wait for a lock", lines, passed, failed)
+
+
+def edits_made(lines):
+    """An edit that can't be made counts for nothing in rt ci."""
+    bad = [line for line in lines if "BAD EDIT" in line]
+    return Ended("edits that can't be made", bad, 0, len(bad))
+
+
+def why_not(part, built):
+    """Why a part can't run, and how many failures that is."""
+    for need in part.needs.split():
+        if need in BUILT and not (need in built and BUILT[need].exists()):
+            return f"FAILED: it was not run, as {need} was not made\n", 1
+        if need not in BUILT and not shutil.which(need):
+            return f"not run: {need} is not on the PATH\n", 0
+    return "", 0
+
+
+def all_parts(runs):
+    """Runs each part, and gives it when it has ended and been shown."""
+    beside, thread = runs.beside([it for it in PARTS if not it.needs])
+    print(f"== {GATE.name}", flush=True)
+    gate = runs.run(GATE, env=lanes())
+    proved, kept = stand_after(gate.lines)
+    yield gate
+    yield from map(shown, (edits_made(gate.lines), who_may_wait(proved, kept)))
+    print(f"== {LIBRARY.name}", flush=True)
+    library = runs.run(LIBRARY)
+    yield library
+    thread.join()
+    yield from map(shown, beside)
+    built = {*proved, *kept} - ({"span_ffi"} if library.failed else set())
+    for part in (it for it in PARTS if it.needs):
+        why, failed = why_not(part, built)
+        if why:
+            yield shown(Ended(part.name, [why], 0, failed))
+            continue
+        print(f"== {part.name}", flush=True)
+        yield runs.run(part)
+
+
+def shown(ended):
+    print(f"== {ended.name}\n{''.join(ended.lines)}", end="", flush=True)
+    return ended
+
+
+def clock(seconds):
+    return f"{int(seconds) // 60} min {int(seconds) % 60:02} s"
+
+
+def main():
+    sys.stdout.reconfigure(encoding="utf-8", errors="replace")
+    for number in (signal.SIGINT, signal.SIGTERM, signal.SIGHUP):
+        signal.signal(number, lambda number, _: sys.exit(128 + number))
+    start = time.monotonic()
+    with tempfile.TemporaryDirectory(prefix="check-") as room:
+        runs = Runs(room)
+        try:
+            ended = list(all_parts(runs))
+        finally:
+            runs.end()
+    for it in ended:
+        print(f"{it.name}: {it.passed} passed, {it.failed} failed, {clock(it.seconds)}")
+    used = resource.getrusage(resource.RUSAGE_CHILDREN)
+    print(f"in all {clock(time.monotonic() - start)}, and {clock(used.ru_utime + used.ru_stime)} of processors")
+    passed, failed = sum(it.passed for it in ended), sum(it.failed for it in ended)
+    print(f"{passed} passed, {failed} failed")
+    return 1 if failed else 0
+
+
+if __name__ == "__main__":
+    sys.exit(main())
