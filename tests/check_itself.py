@@ -104,8 +104,9 @@ def wholes(rows, clone):
     rows.wants("all is well", found, 0, f"{good} passed, 0 failed", "the C interface: 4 passed, 0 failed")
     rows.wants("the calls of rt", (0, "", str(clone.calls())), 0, "", "['ci in clone', 'lib in span_ffi']")
     found = clone.run(said=ci({"low": 1, "tracerun": 3}))
-    told = "low: crates.txt says that 0 functions may wait, the checker counted 1"
-    rows.wants("others may wait", found, 1, f"{good - 2} passed, 2 failed", told, "2 functions may wait, the checker counted 3")
+    told = "low: crates.txt says that 0 may wait, the checker counted 1"
+    other = "tracerun: crates.txt says that 2 may wait, the checker counted 3"
+    rows.wants("others may wait", found, 1, f"{good - 2} passed, 2 failed", told, other)
     found = clone.run(said=ci(kept=["low", "tracerun"]))
     told = "not compared in this run, since rt ci kept their proofs: low tracerun"
     rows.wants("kept proofs", found, 0, f"{good - 2} passed, 0 failed", told)
@@ -127,7 +128,8 @@ def parts_left_out(rows, clone):
     on_programs = sum("tracerun" in it.needs or "hostile_use" in it.needs for it in PARTS)
     found = clone.run(makes="")
     wanted = f"{5 + len(LISTED) + alone} passed, {on_programs + 3} failed"
-    rows.wants("nothing is made", found, 1, wanted, "not run, as span_ffi was not made", "not run, as tracerun was not made")
+    told = "not run, as span_ffi was not made", "not run, as tracerun was not made"
+    rows.wants("nothing is made", found, 1, wanted, *told)
     os.remove(clone.path.split(":")[0] + "/valgrind")
     commands = f"{os.path.dirname(clone.fake)}/commands"
     os.mkdir(commands)

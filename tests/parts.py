@@ -23,9 +23,6 @@ from typing import NamedTuple
 
 TOP = Path(__file__).resolve().parent.parent
 COUNTS = re.compile(r"(\d+) passed, (\d+) failed\b")
-# rt ci starts a check only where what it guesses of its memory is free, two to three times what the check takes. No check
-# of this repository takes more bytes than these; where each processor has as many, there is a lane for each.
-MEMORY = 5_000_000_000
 
 
 class Part(NamedTuple):
@@ -45,7 +42,8 @@ PARTS = [
     Part("the model on a script of 16 MiB", "", "python3 tests/long_script.py --make {room}/long --seed 1"),
     Part("the worked cases", "tracerun", "python3 tests/run_cases.py --program {tracerun}"),
     Part("the command line", "tracerun", "python3 tests/command_line.py --program {tracerun}"),
-    Part("the fronts of the worked scripts against the model", "tracerun", "python3 tests/fronts.py --program {tracerun}"),
+    Part("the fronts of the worked scripts against the model", "tracerun",
+         "python3 tests/fronts.py --program {tracerun}"),
     Part("random scripts against the model", "tracerun",
          "python3 tests/random_scripts.py --program {tracerun} --seed 1 --seconds 30"),
     Part("storms of 16 workers", "tracerun", "python3 tests/storms.py --program {tracerun}"),
@@ -76,7 +74,7 @@ class Ended(NamedTuple):
 
 
 def counted(lines, status):
-    """What the last line that counts says. A part with no such line, or that failed and counts no failure, is a failure."""
+    """What the last line that counts says. No such line, or a wrong status with no failure, is one failure."""
     found = [it for it in map(COUNTS.match, lines) if it]
     passed, failed = map(int, found[-1].groups()) if found else (0, 0)
     return passed, failed or int(status != 0 or not found)
@@ -88,13 +86,14 @@ class Runs:
     def __init__(self, room):
         self.room, self.running, self.is_over = room, [], False
 
-    def run(self, part, shows=True, env=()):
+    def run(self, part, shows=True):
         """Runs a part in a group of processes of its own, and shows its lines as they come."""
         start, lines = time.monotonic(), []
-        words = shlex.split(part.command.format(room=self.room, library=BUILT["span_ffi"].parent, **BUILT))
+        places = {"room": self.room, "library": BUILT["span_ffi"].parent, **BUILT}
+        words = shlex.split(part.command.format(**places))
         process = subprocess.Popen(
-            words, cwd=TOP / part.folder, env={**os.environ, **dict(env)}, start_new_session=True, encoding="utf-8",
-            errors="replace", stdin=subprocess.DEVNULL, stdout=subprocess.PIPE, stderr=subprocess.STDOUT)
+            words, cwd=TOP / part.folder, start_new_session=True, encoding="utf-8", errors="replace",
+            stdin=subprocess.DEVNULL, stdout=subprocess.PIPE, stderr=subprocess.STDOUT)
         self.running.append(process)
         for line in process.stdout:
             lines.append(line)
@@ -106,7 +105,7 @@ class Runs:
         return Ended(part.name, lines, *counts, time.monotonic() - start)
 
     def beside(self, parts):
-        """Runs parts one after the other beside what else runs, and answers where they will be, and what to wait for."""
+        """Runs parts one after the other beside what else runs, and answers where they come, and what to wait for."""
         ended = []
 
         def run_all():
@@ -125,14 +124,6 @@ class Runs:
             process.wait()
 
 
-def lanes():
-    """The number of checks that rt ci runs side by side, where that is better not left to it."""
-    processors = len(os.sched_getaffinity(0))
-    free = re.search(r"^MemAvailable: *(\d+) kB", Path("/proc/meminfo").read_text(), re.M)
-    is_ample = free and int(free[1]) * 1024 >= processors * MEMORY
-    return {"RT_JOBS": str(processors)} if is_ample and "RT_JOBS" not in os.environ else {}
-
-
 def stand_after(lines):
     """The crates that rt ci proved, each with how many of its functions may wait, and those that it kept."""
     proved, kept, waits = {}, [], 0
@@ -149,7 +140,7 @@ def stand_after(lines):
 
 
 def who_may_wait(proved, kept):
-    """Compares the crates whose functions may wait for a lock, as the checker counted them, with what crates.txt says."""
+    """Compares how many functions may wait for a lock, as the checker counted them, with what crates.txt says."""
     lines, passed = [], 0
     for line in (TOP / "crates.txt").read_text(encoding="utf-8").splitlines():
         name, *words = line.split("#")[0].split(":")[0].split() or [""]
@@ -158,7 +149,7 @@ def who_may_wait(proved, kept):
         if found == said:
             passed += 1
         elif name and name not in kept:
-            lines.append(f"FAILED {name}: crates.txt says that {said} functions may wait, the checker counted {found}\n")
+            lines.append(f"FAILED {name}: crates.txt says that {said} may wait, the checker counted {found}\n")
     failed = len(lines)
     if kept:
         lines.append(f"not compared in this run, since rt ci kept their proofs: {' '.join(kept)}\n")
@@ -185,7 +176,7 @@ def all_parts(runs):
     """Runs each part, and gives it when it has ended and been shown."""
     beside, thread = runs.beside([it for it in PARTS if not it.needs])
     print(f"== {GATE.name}", flush=True)
-    gate = runs.run(GATE, env=lanes())
+    gate = runs.run(GATE)
     proved, kept = stand_after(gate.lines)
     yield gate
     yield from map(shown, (edits_made(gate.lines), who_may_wait(proved, kept)))
