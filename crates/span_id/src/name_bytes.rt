@@ -3,10 +3,28 @@ ghost use Rattle.std.specs.Prelude.{◌≡◌};
 ghost use Rattle.std.specs.List.{list_all};
 ghost use Rattle.span_id.specs.Name.{is_name_byte};
 
+// So many bytes are looked at before a wrong one among them ends the search.
+const BLOCK: usize = 8;
+
 /// Whether each byte may stand in a name.
 #[inline]
-#[tactic(auto, using(std::proofs::lemmas::List::Folds::list_all_more))]
 pub(crate) fn are_name_bytes(bytes: &[u8]) -> bool
+    ensures { result ≡ list_all is_name_byte bytes.now }
+{
+    let mut rest = bytes;
+    while rest.len() >= BLOCK {
+        let (block, behind) = rest.split_at(BLOCK);
+        if !are_all_name_bytes(block) {
+            return false;
+        }
+        rest = behind;
+    }
+    are_all_name_bytes(rest)
+}
+
+#[inline(always)]
+#[tactic(auto, using(std::proofs::lemmas::List::Folds::list_all_more))]
+fn are_all_name_bytes(bytes: &[u8]) -> bool
     ensures { result ≡ list_all is_name_byte bytes.now }
 {
     // Not left at the first wrong byte, so that the compiler may look at several at once.
