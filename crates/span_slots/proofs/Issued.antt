@@ -164,7 +164,7 @@ module _ {T : Type 0} where
             issued = AreIssued-without_entry t.given t.entries id k.issued;
           })
 
-  IsKept-after : (t : Table T) (change : Change T) → IsKept t → IsKept (after t change)
+  pub IsKept-after : (t : Table T) (change : Change T) → IsKept t → IsKept (after t change)
   IsKept-after t (Insert v) k = go (next_slot t) refl
     where
       go : (o : Option ℕ) → next_slot t ≡ o → IsKept (after t (Insert v))

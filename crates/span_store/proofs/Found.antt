@@ -1,0 +1,17 @@
+-- What `find` answers.
+use Rattle.std.proofs.Common.{◌≡◌, ℕ, List, Option, Some, None, IfSome, IfNone, sym}
+use Rattle.std.specs.Option.{option_copied}
+use Rattle.std.specs.Borrow.{Bor}
+use Rattle.span_slots.specs.Table.{value_at}
+use Rattle.span_store.specs.declared.entry.Entry.{Entry}
+use Rattle.span_store.specs.Node.{node_of}
+use Rattle.span_store.specs.inside.Invariant.{nodes_of}
+use Rattle.span_store.proofs.Nodes.{node_at, no_node_at}
+
+pub found_none : (es : List (ℕ × Entry)) (id : ℕ) (r : Option (Bor Entry)) → option_copied r ≡ value_at es id → IfNone r (value_at (nodes_of es) id ≡ None)
+found_none es id None e = no_node_at es id (sym e)
+found_none es id (Some b) e = tt
+
+pub found_some : (es : List (ℕ × Entry)) (id : ℕ) (r : Option (Bor Entry)) → option_copied r ≡ value_at es id → IfSome r (λ entry. value_at (nodes_of es) id ≡ Some (node_of entry.now))
+found_some es id None e = tt
+found_some es id (Some b) e = node_at es id b.now (sym e)

@@ -1,0 +1,5 @@
+pub mod Node
+pub mod Spans
+pub mod Store
+pub mod Calls
+pub mod inside

@@ -1,0 +1,4 @@
+-- What only the proofs of this crate need: no public clause cites it.
+pub mod Invariant
+pub mod Reading
+pub mod Adding

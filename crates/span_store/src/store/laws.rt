@@ -1,0 +1,136 @@
+//! What every store promises over its calls: each function does nothing, and its contract is the promise.
+//!
+//! `Add`, `Keep`, `Release` and `Ended` stand for the calls; `after` is the store after one of them, `after_all` after any
+//! number, and `told` the span that a call tells to be closing now.
+ghost use Rattle.std.specs.Prelude.{◌≡◌, ◌≢◌, ℕ, ◌<◌, ◌≤◌, ◌↔◌, List, [], Option, Some, None, length};
+ghost use Rattle.span_id.specs.Id.{IsId, slot_of};
+ghost use Rattle.span_slots.specs.Table.{value_at, next_id, IsIssued};
+ghost use Rattle.span_store.specs.Node.{Node, new_node};
+ghost use Rattle.span_store.specs.Spans.{IsThere, IsOpen, IsClosing, parent_of, count, total_handles};
+ghost use Rattle.span_store.specs.Calls.{Call, Add, Keep, Release, Ended, refusal, after, told, after_all, NeverEnds, times_told, handles_then, spans_then};
+
+use super::Store;
+use span_slots::laws::each_slot_has_one_id;
+
+/// A call tells a span to be closing exactly where the span becomes closing by it: so it tells at most one.
+pub fn what_becomes_closing_is_told(store: &Store)
+    ensures { (call : Call) (id : ℕ) → (told store.now call ≡ Some id)
+        ↔ ((IsClosing store.now.table.entries id → ⊥) × IsClosing (after store.now call).table.entries id) }
+{
+    let _opened = &store.slots;
+}
+
+/// Each span is told to be closing at most once, however many calls are made; and once where it wasn't closing before them
+/// and is after them.
+pub fn each_span_is_told_once(store: &Store)
+    ensures at_most { (id : ℕ) (calls : List Call) → times_told id store.now calls ≤ 1 }
+    ensures once { (id : ℕ) (calls : List Call) → (IsClosing store.now.table.entries id → ⊥) →
+        IsClosing (after_all store.now calls).table.entries id → times_told id store.now calls ≡ 1 }
+    ensures not_again { (id : ℕ) (calls : List Call) → IsClosing store.now.table.entries id →
+        times_told id store.now calls ≡ 0 }
+{
+    let _opened = &store.slots;
+}
+
+/// A closing span stays there as it is, and closing, however many calls later, until `ended` is called for it.
+pub fn closing_spans_stay_until_their_end(store: &Store)
+    ensures same { (id : ℕ) (calls : List Call) → IsClosing store.now.table.entries id → NeverEnds id calls →
+        value_at (after_all store.now calls).table.entries id ≡ value_at store.now.table.entries id }
+    ensures closing { (id : ℕ) (calls : List Call) → IsClosing store.now.table.entries id → NeverEnds id calls →
+        IsClosing (after_all store.now calls).table.entries id }
+{
+    let _opened = &store.slots;
+}
+
+/// An id that ended finds nothing ever again, however many calls later, and no call gives it again.
+pub fn ended_ids_never_come_back(store: &Store)
+    ensures gone { (id : ℕ) (calls : List Call) → IsClosing store.now.table.entries id →
+        value_at (after_all (after store.now (Ended id)) calls).table.entries id ≡ None }
+    ensures never_given { (id : ℕ) (calls : List Call) → IsClosing store.now.table.entries id →
+        next_id (after_all (after store.now (Ended id)) calls).table ≢ Some id }
+{
+    let _opened = &store.slots;
+}
+
+/// No span is closing while a child of it is there, and none is told to be closing by a call that leaves a child of it.
+pub fn no_span_closes_before_its_children_ended(store: &Store)
+    ensures closing { (id child : ℕ) → IsClosing store.now.table.entries id →
+        parent_of store.now.table.entries child ≢ Some id }
+    ensures told { (call : Call) (id child : ℕ) → told store.now call ≡ Some id →
+        parent_of (after store.now call).table.entries child ≢ Some id }
+{
+    let _opened = &store.slots;
+}
+
+/// Each parent is there and isn't closing. No count is above the greatest one.
+pub fn parents_are_open(store: &Store)
+    ensures parent { (id parent : ℕ) → parent_of store.now.table.entries id ≡ Some parent →
+        IsOpen store.now.table.entries parent }
+    ensures bounded { (id : ℕ) → count store.now.table.entries id ≤ store.now.max_count }
+{
+    let _opened = &store.slots;
+}
+
+/// Where no span has a handle and none is closing, no span is there.
+pub fn empty_where_nothing_is_held(store: &Store)
+    ensures { total_handles store.now.table.entries ≡ 0 → ((id : ℕ) → IsClosing store.now.table.entries id → ⊥) →
+        store.now.table.entries ≡ [] }
+{
+    let _opened = &store.slots;
+}
+
+/// An accepted `add` and `keep` make the handles of all spans one more, `release` one less, and `ended` leaves them; and as
+/// many spans are there as were added and didn't end.
+pub fn numbers_follow_the_calls(store: &Store)
+    ensures handles { (call : Call) → refusal store.now call ≡ None →
+        total_handles (after store.now call).table.entries ≡ handles_then (total_handles store.now.table.entries) call }
+    ensures spans { (call : Call) → refusal store.now call ≡ None →
+        length (after store.now call).table.entries ≡ spans_then (length store.now.table.entries) call }
+{
+    let _opened = &store.slots;
+}
+
+/// What a span was made with stays: as long as it is there, its parent, its bits and its word are those of its start,
+/// however many calls later.
+pub fn a_span_keeps_what_it_was_made_with(store: &Store)
+    ensures parent { (id : ℕ) (calls : List Call) (first last : Node) →
+        value_at store.now.table.entries id ≡ Some first →
+        value_at (after_all store.now calls).table.entries id ≡ Some last → last.parent ≡ first.parent }
+    ensures bits { (id : ℕ) (calls : List Call) (first last : Node) →
+        value_at store.now.table.entries id ≡ Some first →
+        value_at (after_all store.now calls).table.entries id ≡ Some last → last.bits ≡ first.bits }
+    ensures word { (id : ℕ) (calls : List Call) (first last : Node) →
+        value_at store.now.table.entries id ≡ Some first →
+        value_at (after_all store.now calls).table.entries id ≡ Some last → last.word ≡ first.word }
+{
+    let _opened = &store.slots;
+}
+
+/// The new id finds the new span, and each other id finds what it found before. The other calls change the span of their
+/// id alone.
+pub fn calls_change_their_span_alone(store: &Store)
+    ensures added { (parent : Option ℕ) (bits word id : ℕ) → refusal store.now (Add parent bits word) ≡ None →
+        next_id store.now.table ≡ Some id →
+        value_at (after store.now (Add parent bits word)).table.entries id ≡ Some (new_node parent bits word) }
+    ensures others { (parent : Option ℕ) (bits word other : ℕ) → next_id store.now.table ≢ Some other →
+        value_at (after store.now (Add parent bits word)).table.entries other
+        ≡ value_at store.now.table.entries other }
+    ensures keep { (id other : ℕ) → other ≢ id →
+        value_at (after store.now (Keep id)).table.entries other ≡ value_at store.now.table.entries other }
+    ensures release { (id other : ℕ) → other ≢ id →
+        value_at (after store.now (Release id)).table.entries other ≡ value_at store.now.table.entries other }
+    ensures ended { (id other : ℕ) → other ≢ id →
+        value_at (after store.now (Ended id)).table.entries other ≡ value_at store.now.table.entries other }
+{
+    let _opened = &store.slots;
+}
+
+/// No two ids that are there have one slot. Each is in the layout of ids, and was issued.
+pub fn each_slot_has_one_id_there(store: &Store)
+    ensures one_slot { (id other : ℕ) → IsThere store.now.table.entries id → IsThere store.now.table.entries other →
+        slot_of id ≡ slot_of other → id ≡ other }
+    ensures in_layout { (id : ℕ) → IsThere store.now.table.entries id → IsId id }
+    ensures issued { (id : ℕ) → IsThere store.now.table.entries id → IsIssued store.now.table id }
+{
+    each_slot_has_one_id(&store.slots);
+}
