@@ -1,0 +1,108 @@
+-- What the calls on a store do, by their status.
+use Rattle.std.specs.Prelude.{◌≡◌, ℕ, ◌==◌, cond, [], length, Option, Some, None, IsSomeAnd}
+use Rattle.span_id.specs.declared.fault.Fault.{Fault}
+use Rattle.span_id.specs.declared.fault.Fault.TheVariants.{Unknown, BadLimits, Memory}
+use Rattle.span_id.specs.declared.limits.Limits.{Limits}
+use Rattle.span_id.specs.Limits.{AreInRange}
+use Rattle.span_slots.specs.Table.{value_at, next_id}
+use Rattle.span_store.specs.Node.{Node}
+use Rattle.span_store.specs.Spans.{children, is_closing, total_handles}
+use Rattle.span_store.specs.Store.{StoreView}
+use Rattle.span_store.specs.Calls.{Call, Add, Keep, Release, Ended, refusal, after, told}
+use Rattle.span_store_ffi.specs.declared.data.SpanStoreFound.{SpanStoreFound}
+use Rattle.span_store_ffi.specs.declared.data.SpanStoreCounts.{SpanStoreCounts}
+use Rattle.span_store_ffi.specs.declared.status.Status.{Status}
+use Rattle.span_store_ffi.specs.declared.status.Status.TheVariants.{Done, Refused, HandleInUse}
+use Rattle.span_store_ffi.specs.Ends.{IfDone, flag}
+
+-- A call was accepted, and the store is as it is after it; or it was refused with this fault, and nothing changed.
+abbrev pub Makes : Call → StoreView → Status → StoreView → Type 0
+Makes call old Done new = (refusal old call ≡ None) × (new ≡ after old call)
+Makes call old (Refused fault) new = (refusal old call ≡ Some fault) × (new ≡ old)
+Makes call old _ new = ⊥
+
+-- the parent that a number means: 0 none
+abbrev pub said_parent : ℕ → Option ℕ
+said_parent number = cond (number == 0) None (Some number)
+
+-- an id as a number, 0 where there is none
+abbrev pub id_number : Option ℕ → ℕ
+id_number None = 0
+id_number (Some id) = id
+
+-- a new span, whose id is told
+abbrev pub Adds : ℕ → ℕ → ℕ → ℕ → StoreView → Status → StoreView → Type 0
+Adds parent bits word id old status new =
+    Makes (Add (said_parent parent) bits word) old status new × IfDone status (next_id old.table ≡ Some id)
+
+-- one more handle
+abbrev pub KeepsSpan : ℕ → StoreView → Status → StoreView → Type 0
+KeepsSpan id = Makes (Keep id)
+
+-- a handle is given back; 1 is told where the span is closing now, else 0
+abbrev pub Releases : ℕ → ℕ → StoreView → Status → StoreView → Type 0
+Releases id closing old status new =
+    Makes (Release id) old status new × IfDone status (closing ≡ flag (is_closing new.table.entries id))
+
+-- a closing span ends; its parent is told where that is closing now, else 0
+abbrev pub EndsSpan : ℕ → ℕ → StoreView → Status → StoreView → Type 0
+EndsSpan id parent old status new =
+    Makes (Ended id) old status new × IfDone status (parent ≡ id_number (told old (Ended id)))
+
+-- what is told of a span that is there
+abbrev pub found_as : StoreView → ℕ → Node → SpanStoreFound
+found_as store id node = record {
+  parent = id_number node.parent;
+  bits = node.bits;
+  word = node.word;
+  handles = node.handles;
+  children = children store.table.entries id;
+}
+
+abbrev pub Finds : ℕ → SpanStoreFound → StoreView → Status → StoreView → Type 0
+Finds id found old Done new =
+    IsSomeAnd (value_at old.table.entries id) (λ node. found ≡ found_as old id node) × (new ≡ old)
+Finds id found old (Refused Unknown) new = (value_at old.table.entries id ≡ None) × (new ≡ old)
+Finds id found old _ new = ⊥
+
+-- how many handles and how many spans there are
+abbrev pub Counts : SpanStoreCounts → StoreView → Status → StoreView → Type 0
+Counts counts old Done new =
+    (counts ≡ record { handles = total_handles old.table.entries; spans = length old.table.entries }) × (new ≡ old)
+Counts counts old _ new = ⊥
+
+-- the limits of a store
+abbrev pub limits_of : ℕ → ℕ → ℕ → Limits
+limits_of slots last_generation max_count = record {
+  slots = slots;
+  last_generation = last_generation;
+  max_count = max_count;
+  workers = 1;
+  ring = 1;
+}
+
+-- a store with no span
+abbrev pub empty_store : Limits → StoreView
+empty_store limits = record {
+  table = record {
+    slots = limits.slots;
+    last_generation = limits.last_generation;
+    entries = [];
+    given = [];
+    freed = [];
+  };
+  max_count = limits.max_count;
+}
+
+-- why no store is made: a limit is out of its range, else there was no memory
+abbrev pub WhyNotOpened : Limits → Fault → Type 0
+WhyNotOpened limits BadLimits = AreInRange limits → ⊥
+WhyNotOpened limits Memory = AreInRange limits
+WhyNotOpened limits _ = ⊥
+
+-- an empty handle is filled with a new store; or why it isn't
+abbrev pub Opens : Limits → Option StoreView → Option Status → Option StoreView → Type 0
+Opens limits (Some old) (Some HandleInUse) new = new ≡ Some old
+Opens limits None (Some Done) new = new ≡ Some (empty_store limits)
+Opens limits None (Some (Refused fault)) new = WhyNotOpened limits fault × (new ≡ None)
+Opens limits _ _ new = ⊥

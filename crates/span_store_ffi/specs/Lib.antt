@@ -1,0 +1,4 @@
+pub mod Status
+pub mod Ends
+pub mod Calls
+pub mod inside

@@ -1,0 +1,291 @@
+//! What C calls. Each function takes whatever C passes, tests it, and answers the number of a status.
+ghost use Rattle.std.specs.Prelude.{◌≡◌, Some, None, Option, is_some, if◌then◌else◌, IfSome, IfNone, IfOk, IfErr};
+ghost use Rattle.span_slots.specs.Table.{value_at};
+ghost use Rattle.span_store.specs.Spans.{is_closing};
+ghost use Rattle.span_store_ffi.specs.Status.{meaning};
+ghost use Rattle.span_store_ffi.specs.Ends.{Ends, Keeps};
+ghost use Rattle.span_store_ffi.specs.Calls.{Adds, KeepsSpan, Releases, EndsSpan, Finds, Counts, Opens, said_parent, id_number, limits_of, empty_store, WhyNotOpened};
+
+use crate::data::{SpanStoreCounts, SpanStoreFound};
+use crate::handle::SpanStore;
+use crate::held::Held;
+use crate::status::Status;
+use span_id::{Bits, Fault, Id, Limits};
+use span_store::Store;
+use span_store::laws::each_slot_has_one_id_there;
+use std::alloc::Global;
+
+// The id of a number, where it is one. A number that is none names no span.
+fn id_of(store: &Store, number: u64) -> Option<Id>
+    ensures id { IfSome result (λ id. id ≡ number) }
+    ensures absent { IfNone result (value_at store.now.table.entries number ≡ None) }
+{
+    each_slot_has_one_id_there(store);
+    Id::from_u64(number)
+}
+
+// An id as a number, 0 where there is none.
+fn id_number(id: Option<Id>) -> u64
+    ensures { result ≡ id_number id }
+{
+    match id {
+        Some(id) => id.get(),
+        None => 0,
+    }
+}
+
+// A new store in a box.
+fn open(alloc: Global, slots: u32, last_generation: u32, max_count: u32) -> Result<Box<Held>, Fault>
+    ensures new { IfOk result (λ held. held.value ≡ empty_store (limits_of slots last_generation max_count)) }
+    ensures why { IfErr result (λ fault. WhyNotOpened (limits_of slots last_generation max_count) fault) }
+{
+    let limits = Limits {
+        slots,
+        last_generation,
+        max_count,
+        workers: 1,
+        ring: 1,
+    };
+    let checked = limits.check()?;
+    let store = Store::new(alloc, &checked)?;
+    Ok(Box::new(alloc, Held { store })?)
+}
+
+/// Fills an empty handle with a new store.
+#[unsafe(no_mangle)]
+pub extern "C" fn span_store_new(
+    alloc: Global,
+    store: &mut SpanStore,
+    slots: u32,
+    last_generation: u32,
+    max_count: u32,
+) -> u32
+    ensures { Opens (limits_of slots last_generation max_count) store.old.held (meaning result) store.new.held }
+{
+    if !store.is_empty(alloc) {
+        return Status::HandleInUse.number();
+    }
+    match open(alloc, slots, last_generation, max_count) {
+        Ok(held) => {
+            store.put(held);
+            Status::Done.number()
+        }
+        Err(fault) => Status::Refused(fault).number(),
+    }
+}
+
+/// Gives a store and its memory up: the handle is empty then.
+#[unsafe(no_mangle)]
+pub extern "C" fn span_store_free(alloc: Global, store: &mut SpanStore) -> u32
+    ensures status { meaning result ≡ Some (if is_some store.old.held then Status.Done else Status.EmptyHandle) }
+    ensures empty { store.new.held ≡ None }
+{
+    let Some(held) = store.take(alloc) else {
+        return Status::EmptyHandle.number();
+    };
+    drop(held);
+    Status::Done.number()
+}
+
+fn add(store: &mut Store, parent: u64, bits: u64, word: u64, id: &mut u64) -> Status
+    ensures added { Adds parent bits word id.new store.old result store.new }
+    ensures kept { Keeps (Some result) id.old id.new }
+{
+    let above = if parent == 0 {
+        None
+    } else {
+        let Some(above) = id_of(store, parent) else {
+            return Status::Refused(Fault::Unknown);
+        };
+        Some(above)
+    };
+    match store.add(above, Bits(bits), word) {
+        Ok(new) => {
+            *id = new.get();
+            Status::Done
+        }
+        Err(fault) => Status::Refused(fault),
+    }
+}
+
+/// Makes a span with one handle, under a parent that is open, or under none where that is 0. Its id is told.
+#[unsafe(no_mangle)]
+pub extern "C" fn span_store_add(
+    alloc: Global,
+    store: &mut SpanStore,
+    parent: u64,
+    bits: u64,
+    word: u64,
+    id: &mut u64,
+) -> u32
+    ensures added { Ends store.old.held (Adds parent bits word id.new) (meaning result) store.new.held }
+    ensures kept { Keeps (meaning result) id.old id.new }
+{
+    let Some(mut held) = store.take(alloc) else {
+        return Status::EmptyHandle.number();
+    };
+    let status = add(&mut held.store, parent, bits, word, id);
+    store.put(held);
+    status.number()
+}
+
+fn keep(store: &mut Store, id: u64) -> Status
+    ensures { KeepsSpan id store.old result store.new }
+{
+    let Some(id) = id_of(store, id) else {
+        return Status::Refused(Fault::Unknown);
+    };
+    match store.keep(id) {
+        Ok(()) => Status::Done,
+        Err(fault) => Status::Refused(fault),
+    }
+}
+
+/// One more handle of a span that is open.
+#[unsafe(no_mangle)]
+pub extern "C" fn span_store_keep(alloc: Global, store: &mut SpanStore, id: u64) -> u32
+    ensures { Ends store.old.held (KeepsSpan id) (meaning result) store.new.held }
+{
+    let Some(mut held) = store.take(alloc) else {
+        return Status::EmptyHandle.number();
+    };
+    let status = keep(&mut held.store, id);
+    store.put(held);
+    status.number()
+}
+
+fn release(store: &mut Store, id: u64, closing: &mut u32) -> Status
+    ensures released { Releases id closing.new store.old result store.new }
+    ensures kept { Keeps (Some result) closing.old closing.new }
+{
+    let Some(id) = id_of(store, id) else {
+        return Status::Refused(Fault::Unknown);
+    };
+    match store.release(id) {
+        Ok(yes) => {
+            *closing = u32::from(yes);
+            Status::Done
+        }
+        Err(fault) => Status::Refused(fault),
+    }
+}
+
+/// Gives a handle of a span back, and tells 1 where the span is closing now, else 0.
+#[unsafe(no_mangle)]
+pub extern "C" fn span_store_release(
+    alloc: Global,
+    store: &mut SpanStore,
+    id: u64,
+    closing: &mut u32,
+) -> u32
+    ensures released { Ends store.old.held (Releases id closing.new) (meaning result) store.new.held }
+    ensures kept { Keeps (meaning result) closing.old closing.new }
+{
+    let Some(mut held) = store.take(alloc) else {
+        return Status::EmptyHandle.number();
+    };
+    let status = release(&mut held.store, id, closing);
+    store.put(held);
+    status.number()
+}
+
+fn ended(store: &mut Store, id: u64, parent: &mut u64) -> Status
+    ensures ended { EndsSpan id parent.new store.old result store.new }
+    ensures kept { Keeps (Some result) parent.old parent.new }
+{
+    let Some(id) = id_of(store, id) else {
+        return Status::Refused(Fault::Unknown);
+    };
+    match store.ended(id) {
+        Ok(above) => {
+            *parent = id_number(above);
+            Status::Done
+        }
+        Err(fault) => Status::Refused(fault),
+    }
+}
+
+/// Ends a span that is closing, and tells its parent where that is closing now, else 0.
+#[unsafe(no_mangle)]
+pub extern "C" fn span_store_ended(
+    alloc: Global,
+    store: &mut SpanStore,
+    id: u64,
+    parent: &mut u64,
+) -> u32
+    ensures ended { Ends store.old.held (EndsSpan id parent.new) (meaning result) store.new.held }
+    ensures kept { Keeps (meaning result) parent.old parent.new }
+{
+    let Some(mut held) = store.take(alloc) else {
+        return Status::EmptyHandle.number();
+    };
+    let status = ended(&mut held.store, id, parent);
+    store.put(held);
+    status.number()
+}
+
+fn find(store: &Store, id: u64, found: &mut SpanStoreFound) -> Status
+    ensures found { Finds id found.new store.now result store.now }
+    ensures kept { Keeps (Some result) found.old found.new }
+{
+    let Some(id) = id_of(store, id) else {
+        return Status::Refused(Fault::Unknown);
+    };
+    let Some(entry) = store.find(id) else {
+        return Status::Refused(Fault::Unknown);
+    };
+    *found = SpanStoreFound {
+        parent: id_number(entry.parent),
+        bits: entry.bits.0,
+        word: entry.word,
+        handles: entry.handles,
+        children: entry.children,
+    };
+    Status::Done
+}
+
+/// What is known of a span that is there: an open or a closing one.
+#[unsafe(no_mangle)]
+pub extern "C" fn span_store_find(
+    alloc: Global,
+    store: &mut SpanStore,
+    id: u64,
+    found: &mut SpanStoreFound,
+) -> u32
+    ensures found { Ends store.old.held (Finds id found.new) (meaning result) store.new.held }
+    ensures kept { Keeps (meaning result) found.old found.new }
+{
+    let Some(held) = store.take(alloc) else {
+        return Status::EmptyHandle.number();
+    };
+    let status = find(&held.store, id, found);
+    store.put(held);
+    status.number()
+}
+
+fn counts_of(store: &Store) -> SpanStoreCounts
+    ensures { Counts result store.now Status.Done store.now }
+{
+    SpanStoreCounts {
+        handles: store.handles(),
+        spans: store.len(),
+    }
+}
+
+/// How many handles and how many spans there are.
+#[unsafe(no_mangle)]
+pub extern "C" fn span_store_counts(
+    alloc: Global,
+    store: &mut SpanStore,
+    counts: &mut SpanStoreCounts,
+) -> u32
+    ensures counts { Ends store.old.held (Counts counts.new) (meaning result) store.new.held }
+    ensures kept { Keeps (meaning result) counts.old counts.new }
+{
+    let Some(held) = store.take(alloc) else {
+        return Status::EmptyHandle.number();
+    };
+    *counts = counts_of(&held.store);
+    store.put(held);
+    Status::Done.number()
+}

@@ -1,0 +1,13 @@
+//! The store of spans that close in two steps, behind a C interface.
+#![tactic(auto)]
+
+mod data;
+mod exports;
+mod handle;
+mod held;
+mod parts;
+mod status;
+
+pub use data::{SpanStoreCounts, SpanStoreFound};
+pub use handle::SpanStore;
+pub use status::Status;
