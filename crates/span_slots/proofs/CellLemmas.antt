@@ -28,10 +28,10 @@ pub not_there : {A : Type 0} (o : Option A) → IsSome o → o ≡ None → ⊥
 not_there None h e = cc
 not_there (Some x) h e = cc
 
-le-leb : (a b : ℕ) → a ≤ b → leb a b ≡ true
+pub le-leb : (a b : ℕ) → a ≤ b → leb a b ≡ true
 le-leb a b h = grind (arith, nat_tests)
 
-lt-leb_false : (a b : ℕ) → a < b → leb b a ≡ false
+pub lt-leb_false : (a b : ℕ) → a < b → leb b a ≡ false
 lt-leb_false a b h = grind (arith, nat_tests)
 
 module _ {T : Type 0} where

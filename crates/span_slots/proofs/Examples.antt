@@ -1,6 +1,6 @@
 -- Worked cases, computed from the definitions alone.
 use Rattle.std.proofs.Common.{◌≡◌, ℕ, true, false, List, [], ◌∷◌, Some, None, refl}
-use Rattle.span_slots.specs.Table.{Table, value_at, next_id, free_count, is_issued, is_occupied, is_retired, is_free}
+use Rattle.span_slots.specs.Table.{Table, value_at, id_from, ids_from, next_id, free_count, is_issued, is_occupied, is_retired, is_free}
 use Rattle.span_slots.specs.Change.{Change, Insert, Remove, Write, after_all}
 
 -- a table with this many slots and this last generation, after these calls
@@ -90,6 +90,19 @@ three_free_slots = refl
 
 by_ascending_slot : four_full.entries ≡ (16777217, 5) ∷ (16777218, 6) ∷ (3, 3) ∷ (4, 7) ∷ []
 by_ascending_slot = refl
+
+-- a walk goes by the slots, whatever the generations
+walk_begins_past_the_empty_slot : id_from two_retired.entries 0 ≡ Some 2
+walk_begins_past_the_empty_slot = refl
+
+walk_meets_the_slot_itself : id_from two_retired.entries 1 ≡ Some 2
+walk_meets_the_slot_itself = refl
+
+walk_ends : id_from two_retired.entries 2 ≡ None
+walk_ends = refl
+
+walk_goes_by_slots : ids_from four_full.entries 1 ≡ 16777218 ∷ 3 ∷ 4 ∷ []
+walk_goes_by_slots = refl
 
 -- a write changes one value, and one under an absent id none
 write_present : (table_after 2 0 (Insert 7 ∷ Insert 8 ∷ Write 2 9 ∷ [])).entries ≡ (1, 7) ∷ (2, 9) ∷ []

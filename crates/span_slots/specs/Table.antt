@@ -60,6 +60,16 @@ module _ {T : Type 0} where
   abbrev pub with_value : List (ℕ × T) → ℕ → T → List (ℕ × T)
   with_value es id value = map (λ e. (e.0, cond (e.0 == id) value e.1)) es
 
+  -- the first id of the entries, by their slots, from this slot on
+  abbrev pub id_from : List (ℕ × T) → ℕ → Option ℕ
+  id_from [] slot = None
+  id_from (e ∷ es) slot = cond (nat_le slot (slot_of e.0)) (Some e.0) (id_from es slot)
+
+  -- all ids of the entries from this slot on
+  abbrev pub ids_from : List (ℕ × T) → ℕ → List ℕ
+  ids_from [] slot = []
+  ids_from (e ∷ es) slot = cond (nat_le slot (slot_of e.0)) (e.0 ∷ ids_from es slot) (ids_from es slot)
+
   -- the id was issued: its slot has given its id of that generation
   abbrev pub IsIssued : Table T → ℕ → Type 0
   IsIssued t id = generation_of id < slice_index t.given (slot_of id)

@@ -2,10 +2,10 @@
 //!
 //! `Insert`, `Remove` and `Write` stand for the calls `insert` and `remove` and for a write through
 //! what `get_mut` gave; `after` is the table after one of them, `after_all` after any number.
-ghost use Rattle.std.specs.Prelude.{◌≡◌, ◌≢◌, ℕ, ◌+◌, ◌<◌, ◌≤◌, ◌↔◌, ◌⊎◌, List, [], length, map, All, AllPairs, Contains, Some, None, IsSome, IfSome, IsTrue};
+ghost use Rattle.std.specs.Prelude.{◌≡◌, ◌≢◌, ℕ, ◌+◌, ◌<◌, ◌≤◌, ◌↔◌, ◌⊎◌, List, [], ◌∷◌, length, map, All, AllPairs, Contains, Some, None, IsSome, IfSome, IsTrue};
 ghost use Rattle.std.specs.List.Sorted.{IsStrictlyIncreasing};
 ghost use Rattle.span_id.specs.Id.{id_of, slot_of, generation_of, IsId};
-ghost use Rattle.span_slots.specs.Table.{value_at, next_id, IsIssued, IsUsed, IsFull, is_free, is_retired};
+ghost use Rattle.span_slots.specs.Table.{value_at, id_from, ids_from, next_id, IsIssued, IsUsed, IsFull, is_free, is_retired};
 ghost use Rattle.span_slots.specs.Change.{Change, Insert, Remove, Write, after, after_all};
 
 use super::Slots;
@@ -123,6 +123,17 @@ pub fn each_slot_has_one_id<T>(slots: &Slots<T>)
         slot_of id ≡ slot_of other → id ≡ other }
     ensures ascending { IsStrictlyIncreasing (map (λ e. slot_of e.0) slots.now.entries) }
     ensures found { All (λ e. value_at slots.now.entries e.0 ≡ Some e.1) slots.now.entries }
+{
+    let _opened = &slots.cells;
+}
+
+/// A walk by `id_from`, which begins at slot 0 and goes on at the slot after the one that was told, meets each id of the
+/// map once, and no other: by ascending slot.
+pub fn a_walk_meets_each_id_once<T>(slots: &Slots<T>)
+    ensures all { ids_from slots.now.entries 0 ≡ map (λ e. e.0) slots.now.entries }
+    ensures next { (slot id : ℕ) → id_from slots.now.entries slot ≡ Some id →
+        ids_from slots.now.entries slot ≡ id ∷ ids_from slots.now.entries (slot_of id + 1) }
+    ensures end { (slot : ℕ) → id_from slots.now.entries slot ≡ None → ids_from slots.now.entries slot ≡ [] }
 {
     let _opened = &slots.cells;
 }

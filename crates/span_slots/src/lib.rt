@@ -9,7 +9,7 @@ ghost use Rattle.std.specs.Prelude.{◌≡◌, ℕ, ◌+◌, ◌-◌, ◌<◌, �
 ghost use Rattle.std.specs.Option.{option_copied_mut};
 ghost use Rattle.std.specs.Borrow.{sem};
 ghost use Rattle.span_id.specs.Id.{IsId, slot_of};
-ghost use Rattle.span_slots.specs.Table.{Table, value_at, next_id, next_slot, table_inserted, table_removed, IsIssued, free_count};
+ghost use Rattle.span_slots.specs.Table.{Table, value_at, id_from, next_id, next_slot, table_inserted, table_removed, IsIssued, free_count};
 ghost use Rattle.span_slots.specs.Change.{Insert, Remove, after};
 
 mod cells;
@@ -23,7 +23,7 @@ use std::marker::Model;
 /// Values under ids, in a fixed number of slots.
 ///
 /// No call but `new` and `ids` takes memory, and each other call costs the same however many
-/// slots there are.
+/// slots there are, but for `id_from`.
 #[derive(Debug, Drop)]
 pub struct Slots<T> {
     // The slots that were used. The others have never given an id.
@@ -126,6 +126,23 @@ impl<T: Drop> Slots<T> {
             }
         }
         Ok(ids)
+    }
+
+    /// The lowest id that has a value, by slots, from this slot on.
+    ///
+    /// It looks at each slot that was ever used from there on, up to the one that it tells. So who asks for the slot after
+    /// the one that was told, again and again, meets each id once, and looks at each such slot once.
+    pub fn id_from(&self, slot: u32) -> Option<Id>
+        ensures { result ≡ id_from self.now.entries slot }
+    {
+        for place in slot as usize..self.cells.len() {
+            let cell = &self.cells[place];
+            let occupied = cell.value.is_some();
+            if occupied {
+                return Some(Id::pack(place as u32, (cell.given - 1) as u32));
+            }
+        }
+        None
     }
 
     /// The value under an id.
