@@ -12,7 +12,7 @@ import subprocess
 import sys
 
 from random_scripts import is_built
-from run_cases import PROGRAM, TOP, shown
+from run_cases import TOP, current_program, shown
 from storms import written
 
 SECONDS = 120
@@ -180,7 +180,7 @@ def names_what_is_there():
 
 def main():
     parser = argparse.ArgumentParser(description="Runs the built program on command lines.")
-    parser.add_argument("--program", default=PROGRAM)
+    parser.add_argument("--program", default="", type=current_program)
     given = parser.parse_args()
     if not is_built(given.program):
         print("the program is not built")

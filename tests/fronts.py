@@ -11,7 +11,7 @@ import sys
 
 import model
 from random_scripts import differs, is_built, show, shown, run_program
-from run_cases import HERE, PROGRAM, file_cases
+from run_cases import HERE, current_program, file_cases
 
 MOST_SHOWN = 3  # so many differences are shown; later ones are counted
 
@@ -30,7 +30,7 @@ def report(program, name, front):
 
 def main():
     parser = argparse.ArgumentParser(description="Compares the built program with the model on the fronts of scripts.")
-    parser.add_argument("--program", default=PROGRAM)
+    parser.add_argument("--program", default="", type=current_program)
     parser.add_argument("names", nargs="*", help="worked cases; none means all")
     given = parser.parse_args()
     if not is_built(given.program):

@@ -24,7 +24,7 @@ from pathlib import Path
 import model
 from dice import Dice
 from random_scripts import is_built, shown
-from run_cases import PROGRAM
+from run_cases import current_program
 from script_lines import Lines
 from script_texts import GOOD_NAMES, LABELS
 
@@ -169,7 +169,7 @@ def compare(program, made):
 
 def main():
     parser = argparse.ArgumentParser(description="Compares the built program with the model on a script of 16 MiB.")
-    parser.add_argument("--program", default=PROGRAM)
+    parser.add_argument("--program", default="", type=current_program)
     parser.add_argument("--seed", type=int, default=1)
     parser.add_argument("--mib", type=float, default=16, help="size of the script in MiB, at most 16")
     parser.add_argument("--make", type=Path, metavar="FOLDER", help="make the script alone, and leave it there")

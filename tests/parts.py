@@ -39,6 +39,7 @@ LIBRARY = Part("the static library", "", "rt lib", "crates/span_ffi")
 PARTS = [
     Part("the model on the worked cases", "", "python3 tests/test_model.py"),
     Part("the runner of the parts", "", "python3 tests/check_itself.py"),
+    Part("the launcher", "", "python3 tests/launcher.py"),
     Part("the model on a script of 16 MiB", "", "python3 tests/long_script.py --make {room}/long --seed 1"),
     Part("the worked cases", "tracerun", "python3 tests/run_cases.py --program {tracerun}"),
     Part("the command line", "tracerun", "python3 tests/command_line.py --program {tracerun}"),

@@ -17,7 +17,7 @@ import time
 import model
 import script_maker
 import shrink
-from run_cases import PROGRAM, TOP
+from run_cases import current_program
 
 SECONDS = 20  # after so many the program is stopped
 MOST_SHOWN = 3  # so many differences are shown; later ones are counted
@@ -60,16 +60,12 @@ def report(program, script, name):
 
 
 def is_built(program):
-    """The launcher builds the program where it isn't built."""
-    if program == PROGRAM:
-        launcher = [os.path.join(TOP, "tracerun"), "replay"]
-        return subprocess.run(launcher, stdin=subprocess.DEVNULL, stdout=subprocess.DEVNULL).returncode == 0
     return os.access(program, os.X_OK)
 
 
 def options():
     parser = argparse.ArgumentParser(description="Compares the built program with the model on random scripts.")
-    parser.add_argument("--program", default=PROGRAM)
+    parser.add_argument("--program", default="", type=current_program)
     parser.add_argument("--seed", type=int, default=1)
     parser.add_argument("--scripts", type=int, help="1000 where no --seconds are given, else no bound")
     parser.add_argument("--seconds", type=float, help="no script is begun after so many")

@@ -22,8 +22,14 @@ from worked_case import Case
 
 HERE = os.path.dirname(os.path.abspath(__file__))
 TOP = os.path.dirname(HERE)
-PROGRAM = os.path.join(TOP, "crates", "tracerun", "out", "tracerun")
+PROGRAM = os.path.join(TOP, "crates", "tracerun", "out", "tracerun")  # the proved one
 SECONDS = 120
+
+
+def current_program(path):
+    """The program at the path; with none the proved one, where it is current."""
+    launcher = [os.path.join(TOP, "tracerun"), "--program"]
+    return path or subprocess.run(launcher, stdout=subprocess.PIPE, universal_newlines=True).stdout.strip()
 
 
 def read(path, default=None):
@@ -70,16 +76,14 @@ def waiting_names():
 
 def main():
     parser = argparse.ArgumentParser(description="Runs the worked cases against the built program.")
-    parser.add_argument("--program", default=PROGRAM)
+    parser.add_argument("--program", default="", type=current_program)
     parser.add_argument("names", nargs="*")
     given = parser.parse_args()
 
-    if given.program == PROGRAM:
-        built = subprocess.run([os.path.join(TOP, "tracerun"), "replay"], stdin=subprocess.DEVNULL, stdout=subprocess.DEVNULL)
-        if built.returncode != 0:
-            print("the program is not built")
-            print("0 passed, 1 failed")
-            return 1
+    if not given.program:
+        print("the program is not built")
+        print("0 passed, 1 failed")
+        return 1
 
     waiting = waiting_names()
     passed = failed = 0

@@ -10,7 +10,7 @@ import subprocess
 import sys
 
 from random_scripts import is_built
-from run_cases import PROGRAM, shown
+from run_cases import current_program, shown
 
 WORKERS, ROUNDS = 16, 400
 SECONDS = 120
@@ -56,7 +56,7 @@ def ends_well(running, name):
 
 def main():
     parser = argparse.ArgumentParser(description="Runs the greatest storm many times.")
-    parser.add_argument("--program", default=PROGRAM)
+    parser.add_argument("--program", default="", type=current_program)
     parser.add_argument("--times", type=int, default=50)
     given = parser.parse_args()
     if not is_built(given.program):

@@ -1,0 +1,256 @@
+#!/usr/bin/env python3
+"""Runs the launcher `./tracerun` in small clones, with a command rt that compiles and proves nothing. It needs a C
+compiler.
+
+usage: launcher.py
+Each row is a call, and compares its standard output, its standard error and its status. The last line is 'N passed,
+M failed'; the status is 0 where nothing failed.
+"""
+import os
+import pty
+import re
+import shutil
+import signal
+import subprocess
+import sys
+import tempfile
+import time
+
+from refused_memory import compiler
+
+TOP = os.path.dirname(os.path.dirname(os.path.realpath(__file__)))
+SOURCE = "crates/tracerun/src/command_line.rt"
+VERSION = re.search(r'\.version\("(.*)"\)', open(f"{TOP}/{SOURCE}", encoding="utf-8").read())[1]
+PROGRAM = r"""
+#include <stdio.h>
+#include <string.h>
+
+int main(int count, char **words) {
+    char script[100] = "", *word = count > 1 ? words[1] : "";
+    if (!strcmp(word, "storm")) return printf("%s: workers 4\n", KIND), 0;
+    if (strcmp(word, "replay")) return fprintf(stderr, "error: unrecognized subcommand '%s'\n", word), 2;
+    fread(script, 1, sizeof script - 1, stdin);
+    if (!strcmp(script, "fault")) return fputs("line 1: not JSON\n", stderr), 1;
+    if (printf("%s: %s\n", KIND, script) < 0 || fflush(stdout)) return fputs("device: write failed\n", stderr), 3;
+    return 0;
+}
+"""
+# What it does is as the variable RT says, else all goes well. `rt try` runs the words behind `--`.
+FAKE_RT = r"""#!/bin/sh
+echo "$1 ${PWD##*/}" >> "$FAKE/calls"
+case $1-$RT in
+    try-refuses) printf 'src/main.rt:1:1: error: no such name\nrun=none proved=no\n' >&2; exit 1 ;;
+    try-faults) printf 'checked: fault kind=overflow\nrun=fault proved=no\n' >&2; exit 4 ;;
+    try-is_long) echo start; printf 'checked: no-answer: more than a MiB\nrun=no-answer proved=no\n' >&2; exit 6 ;;
+    try-hangs) exec sleep 60 ;;
+    try-*) shift 2; "$FAKE/unproved" "$@" > "$FAKE/output.$$"; status=$?; cat "$FAKE/output.$$"; rm "$FAKE/output.$$"
+        printf 'checked: ended status=%s\nraces: not looked for\nrun=ended status=%s proved=no\n' $status $status >&2
+        exit $status ;;
+esac
+[ "${PWD##*/}-$RT" != low-hangs ] || { echo "so far: 1 of 2 functions checked"; exec sleep 60; }
+echo "rt: chose --jobs 4"
+echo "so far: 0 of 2 functions checked; the verdict comes last"
+[ "${PWD##*/}-$RT" != mid-hangs_later ] || exec sleep 60
+[ "${PWD##*/}-$RT" != low-refuses ] || { echo "fn low::it: not proved"; exit 1; }
+printf 'fn it: proved\nso far: 2 of 2 functions checked\nlogic=proved functions=2\n'
+[ $1 = lib ] || { mkdir -p out && cp "$FAKE/proved" out/tracerun; }
+"""
+UNPROVED = "tracerun: this run is unproved: "
+NOT_YET = f"{UNPROVED}the program is not proved on this machine yet"
+PROVES_IT = "; ./tracerun --prove proves it\n"
+TELLS = f"; rt try compiles it first, each time anew{PROVES_IT}"
+FAULT = "line 1: not JSON\n"
+NO_ANSWER = "tracerun: rt try gives no answer"
+
+
+def write(path, text, mode=0o644):
+    os.makedirs(os.path.dirname(path), exist_ok=True)
+    with open(path, "w", encoding="utf-8") as file:
+        file.write(text)
+    os.chmod(path, mode)
+
+
+class Clone:
+    """A repository of three crates and one that the program doesn't stand on, and what surrounds it."""
+
+    def __init__(self, folder, programs):
+        self.at, self.fake, self.room = f"{folder}/clone", f"{folder}/fake", f"{folder}/room"
+        os.mkdir(folder)
+        os.mkdir(self.room)
+        for name in ("tracerun", "tools/prove.py", "tools/unproved.py", SOURCE, "crates/tracerun/src/main.rt"):
+            os.makedirs(os.path.dirname(f"{self.at}/{name}"), exist_ok=True)
+            shutil.copy(f"{TOP}/{name}", f"{self.at}/{name}")
+        write(f"{self.at}/tools/prove_times.txt", "# times\nlow 2 60\nmid 2 90\ntracerun 3 30\n")
+        write(f"{self.at}/crates.txt", "# all\nlow:\napart: low\nmid: low\ntracerun may_wait=2: low mid clap\n")
+        for name in ("low", "mid", "apart"):
+            write(f"{self.at}/crates/{name}/src/lib.rt", "pub fn it() {}\n")
+        write(f"{self.fake}/bin/rt", FAKE_RT, 0o755)
+        for kind in ("proved", "unproved"):
+            shutil.copy(f"{programs}/{kind}", self.fake)
+
+    def start(self, *words, script="a script", rt="", has_rt=True, **how):
+        path = f"{self.fake}/bin:{os.environ['PATH']}" if has_rt else "/usr/bin:/bin"
+        env = {**os.environ, "PATH": path, "FAKE": self.fake, "RT": rt, "TMPDIR": self.room}
+        env["XDG_CACHE_HOME"] = f"{self.fake}/cache"
+        self.script = tempfile.TemporaryFile("w+")
+        self.script.write(script)
+        self.script.seek(0)
+        how = {"stdin": self.script, "stdout": subprocess.PIPE, "stderr": subprocess.PIPE, "text": True, **how}
+        return subprocess.Popen([f"{self.at}/tracerun", *words], env=env, **how)
+
+    def run(self, *words, **how):
+        return self.ended(self.start(*words, **how))
+
+    def ended(self, run):
+        output, errors = run.communicate(timeout=60)
+        return output, errors, run.returncode
+
+    def calls(self):
+        """The calls of rt since this was asked last, and the folders of the crates where they were made."""
+        path = f"{self.fake}/calls"
+        found = open(path, encoding="utf-8").read().splitlines() if os.path.exists(path) else []
+        write(path, "")
+        return found
+
+    def is_tidy(self):
+        return os.listdir(self.room) == []
+
+    def reads_nothing(self):
+        return os.lseek(self.script.fileno(), 0, os.SEEK_CUR) == 0
+
+
+class Rows:
+    def __init__(self):
+        self.passed = self.failed = 0
+
+    def wants(self, name, found, wanted):
+        is_so = found == wanted
+        self.passed, self.failed = self.passed + is_so, self.failed + (not is_so)
+        if not is_so:
+            print(f"FAILED {name}: {found!r}, wanted {wanted!r}")
+
+
+def pages(rows, clone):
+    for words, status in ((), 2), (("--help",), 0), (("help",), 0):
+        output, errors, found = clone.run(*words)
+        text = errors if status else output
+        told = all(it in text for it in ("replay < ", "storm --workers", "--prove")) and output + errors == text
+        rows.wants(f"{words}: the page", (told, found), (True, status))
+    rows.wants("the version", clone.run("--version"), (f"tracerun {VERSION}\n", "", 0))
+    told = "tracerun: replay reads the script of standard input: ./tracerun replay < a\\ b\n"
+    rows.wants("a file's name", clone.run("replay", "a b"), ("", told, 2))
+    rows.wants("all that without rt", clone.calls(), [])
+    for words in ("replay",), ("--prove",):
+        output, errors, status = clone.run(*words, has_rt=False)
+        told = all(it in errors for it in ("rattle-kit-13f", "Linux on x86-64", "README.md"))
+        rows.wants(f"{words}: no rt", (output, told, status), ("", True, 4))
+        rows.wants(f"{words}: no rt: the script", clone.reads_nothing(), True)
+
+
+def unproved(rows, clone):
+    rows.wants("unproved", clone.run("replay"), ("unproved: a script\n", NOT_YET + TELLS, 0))
+    words = "storm", "--workers", "4", "--rounds", "100"
+    rows.wants("a storm", clone.run(*words), ("unproved: workers 4\n", NOT_YET + TELLS, 0))
+    rows.wants("a fault", clone.run("replay", script="fault"), ("", NOT_YET + TELLS + FAULT, 1))
+    told = "error: unrecognized subcommand 'jump'\n"
+    rows.wants("no subcommand", clone.run("jump"), ("", NOT_YET + TELLS + told, 2))
+    found = clone.run("replay", stdout=None, preexec_fn=lambda: os.close(1))
+    rows.wants("no standard output", found, (None, f"{NOT_YET}{TELLS}device: write failed\n", 3))
+    with open("/dev/full", "w", encoding="utf-8") as full:
+        found = clone.run("replay", stdout=full)
+    rows.wants("a full disk", found, (None, f"{NOT_YET}{TELLS}device: write failed\n", 3))
+    above, below = pty.openpty()
+    os.write(above, b"typed\n\x04")
+    output, errors, status = clone.run("replay", stdin=below)
+    rows.wants("a terminal", (output, "waits for a script" in errors, status), ("unproved: typed\n\n", True, 0))
+    two = [clone.start("replay") for _ in range(2)]
+    rows.wants("two at once", [clone.ended(it) for it in two], [("unproved: a script\n", NOT_YET + TELLS, 0)] * 2)
+    rows.wants("each by rt try", clone.calls(), ["try tracerun"] * 9)
+    told = f"tracerun: {NOT_YET[len(UNPROVED):]}{PROVES_IT}"
+    rows.wants("where the proved program is", clone.run("--program", has_rt=False), ("", told, 4))
+
+
+def no_answers(rows, clone):
+    told = f"src/main.rt:1:1: error: no such name\nrun=none proved=no\n{NO_ANSWER}, and says why above\n"
+    rows.wants("refused", clone.run("replay", rt="refuses"), ("", NOT_YET + TELLS + told, 4))
+    rows.wants("refused: the script", clone.reads_nothing(), True)
+    output, errors, status = clone.run("replay", rt="faults")
+    rows.wants("a fault of the program", (output, "kind=overflow" in errors, status), ("", True, 4))
+    told = f"{NO_ANSWER}: more than a MiB; ./tracerun --prove builds the program that has no such limit\n"
+    rows.wants("a long output", clone.run("replay", rt="is_long"), ("", NOT_YET + TELLS + told, 4))
+    clone.calls()
+    run = clone.start("replay", rt="hangs", start_new_session=True)
+    while not clone.calls():
+        time.sleep(0.1)
+    os.killpg(run.pid, signal.SIGINT)
+    rows.wants("broken off while it is tried", clone.ended(run), ("", NOT_YET + TELLS, 130))
+    rows.wants("nothing is left", clone.is_tidy(), True)
+
+
+def proving(rows, clone):
+    output, errors, status = clone.run("--prove", rt="refuses")
+    told = "tracerun: the program was not built: low is not proved\n"
+    rows.wants("not proved", (output, errors.endswith(f"fn low::it: not proved\n{told}"), status), ("", True, 4))
+    rows.wants("not proved: the program", os.path.exists(f"{clone.at}/crates/tracerun/out/tracerun"), False)
+    above, below = pty.openpty()
+    rows.wants("on a terminal", clone.run("--prove", rt="refuses", stderr=below), ("", None, 4))
+    drawn = b"\rtracerun: low (0 of 7 functions, 0 min 00 s, about 3 min left)"
+    rows.wants("on a terminal: one line", drawn in os.read(above, 65536), True)
+    run = clone.start("--prove", rt="hangs_later")
+    calls = clone.calls()
+    while "lib mid" not in calls:
+        time.sleep(0.1)
+        calls += clone.calls()
+    run.send_signal(signal.SIGINT)
+    output, errors, status = clone.ended(run)
+    told = "low is proved (2 of 7 functions" in errors and "broken off" in errors
+    rows.wants("broken off while it proves", (output, told, status), ("", True, 130))
+    rows.wants("its calls", calls, ["lib low"] * 3 + ["lib mid"])
+    output, errors, status = clone.run("--prove")
+    told = errors.startswith("tracerun: proving 3 crates (0 of 7 functions") and "proved and built" in errors
+    rows.wants("proved", (output, told, "fn it" in errors, status), ("", True, False, 0))
+    rows.wants("proved: its calls", clone.calls(), ["lib low", "lib mid", "run tracerun"])
+    with open(f"{clone.fake}/cache/kozhumir/prove_times", encoding="utf-8") as times:
+        rows.wants("the times of the last run", [it.split()[0] for it in times], ["low", "mid"])
+    rows.wants("nothing is left", clone.is_tidy(), True)
+
+
+def proved(rows, clone):
+    clone.run("--prove")
+    clone.calls()
+    rows.wants("all built", clone.run("replay"), ("proved: a script\n", "", 0))
+    program = f"{clone.at}/crates/tracerun/out/tracerun\n"
+    rows.wants("where it is", clone.run("--program", has_rt=False), (program, "", 0))
+    rows.wants("all built: a fault", clone.run("replay", script="fault"), ("", FAULT, 1))
+    rows.wants("proved already", clone.run("--prove")[0::2], ("", 0))
+    write(f"{clone.at}/crates/apart/src/lib.rt", "pub fn other() {}\n")
+    rows.wants("a newer source that it doesn't stand on", clone.run("replay"), ("proved: a script\n", "", 0))
+    rows.wants("all that without rt", clone.calls(), [])
+    write(f"{clone.at}/crates/low/src/lib.rt", "pub fn other() {}\n")
+    told = f"{UNPROVED}crates/low/src/lib.rt is newer than the proved program{TELLS}"
+    rows.wants("a newer source", clone.run("replay"), ("unproved: a script\n", told, 0))
+    os.rename(f"{clone.at}/crates/low", f"{clone.at}/crates/lower")
+    output, errors, status = clone.run("--prove")
+    rows.wants("a crate that isn't there", (output, "not built" in errors, status), ("", True, 4))
+    rows.wants("a newer source, no rt", clone.run("--prove", has_rt=False)[0::2], ("", 4))
+
+
+def compile_programs(folder):
+    write(f"{folder}/program.c", PROGRAM)
+    for kind in ("proved", "unproved"):
+        words = [f'-DKIND="{kind}"', "-o", f"{folder}/{kind}", f"{folder}/program.c"]
+        subprocess.run([compiler(), *words], check=True)
+
+
+def main():
+    rows = Rows()
+    with tempfile.TemporaryDirectory() as folder:
+        compile_programs(folder)
+        for part in (pages, unproved, no_answers, proving, proved):
+            part(rows, Clone(f"{folder}/for_{part.__name__}", folder))
+    print(f"{rows.passed} passed, {rows.failed} failed")
+    return 1 if rows.failed else 0
+
+
+if __name__ == "__main__":
+    sys.exit(main())
