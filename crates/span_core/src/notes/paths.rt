@@ -191,7 +191,8 @@ pub(crate) fn seen_text(
     walked_text(recent, forest, paths, layer, place)
 }
 
-// The text that an earlier call told of a layer's path at a span that is open.
+// The text that an earlier call told of a layer's path at a span that is open. Where nothing is remembered nothing is
+// looked up.
 fn known_text<'a>(
     known: &'a KnownPaths,
     forest: &Forest,
@@ -201,6 +202,9 @@ fn known_text<'a>(
     requires remembers { Remembers forest.now known.now }
     ensures text { IfSome result (λ text. arc_str_bytes text.now ≡ path_text (path_at layer forest.now.spans place.now)) }
 {
+    if !known.shares {
+        return None;
+    }
     let id = (*place)?;
     forest.find(id)?;
     known.get(layer, id)
@@ -227,12 +231,15 @@ fn walked_text(
     Ok(text)
 }
 
-// Remembers the text of a layer's path, if it was read at a span.
+// Remembers the text of a layer's path, if it was read at a span and notes may share it.
 fn remember(known: &mut KnownPaths, forest: &Forest, layer: u32, place: &Option<Id>, text: &ArcStr)
     requires text { arc_str_bytes text.now ≡ path_text (path_at layer forest.now.spans place.now) }
     requires remembers { Remembers forest.now known.old }
     ensures remembers { Remembers forest.now known.new }
 {
+    if !known.shares {
+        return;
+    }
     each_slot_has_one_open_id(forest);
     if let Some(id) = place {
         if forest.find(*id).is_some() {
@@ -241,14 +248,17 @@ fn remember(known: &mut KnownPaths, forest: &Forest, layer: u32, place: &Option<
     }
 }
 
-// Remembers the paths that layers were told of a new span, as many as it has places: each layer reads its own there
-// from now on.
+// Remembers the paths that layers were told of a new span, as many as it has places, where notes may share them: each
+// layer reads its own there from now on.
 pub(crate) fn remember_new(recent: &mut Recent, forest: &Forest, id: Id, notes: &[Note])
     requires open { IsOpen forest.now.spans id }
     requires told { All (λ note. arc_str_bytes note.path ≡ path_text (path note.layer forest.now.spans id)) notes.now }
     requires remembers { Remembers forest.now recent.old.paths }
     ensures remembers { Remembers forest.now recent.new.paths }
 {
+    if !recent.paths.shares {
+        return;
+    }
     each_slot_has_one_open_id(forest);
     for note in notes.iter().take(LAYERS as usize) {
         recent.paths.keep(note.layer, id, &note.path);
