@@ -183,6 +183,13 @@ pub seen_none : (p : ℕ → Bool) (o : Option ℕ) (whole part rest : List ℕ)
 seen_none p None whole part rest is parts = ap (first_that p) parts ∙ find_later p part rest (sym is)
 seen_none p (Some id) whole part rest is parts = tt
 
+-- the one at the front passes, or it fails
+pub found_here : (p : ℕ → Bool) (left rest : List ℕ) (id : ℕ) → left ≡ id ∷ rest → p id ≡ true → Some id ≡ first_that p left
+found_here p left rest id is passes = sym (ap (first_that p) is ∙ (rw passes refl))
+
+pub found_later : (p : ℕ → Bool) (left rest : List ℕ) (id : ℕ) → left ≡ id ∷ rest → p id ≡ false → first_that p rest ≡ first_that p left
+found_later p left rest id is fails = sym (ap (first_that p) is ∙ (rw fails refl))
+
 -- an entry on top that the layer doesn't admit
 seen_push : (spans : Spans) (ids : List ℕ) (id layer : ℕ) → has_bit (bits_in spans id) layer ≡ false
     → contextual_span spans (ids ++ id ∷ []) layer ≡ contextual_span spans ids layer
