@@ -70,7 +70,7 @@ path_in_part layer id part whole p part_ends whole_ends in_part in_whole =
     (names_in_part layer part whole p (length whole) (Some id) in_part
     ∙ ap (names_for layer part) (walks_agree (length whole) (length part) part (Some id) (ends_in_part layer part whole p (length whole) (Some id) in_part (whole_ends id in_whole)) (part_ends id in_part)))
 
--- the places as they are, one more in which nothing stands, and a path at one of them
+-- the places as they are, one more in which nothing stands, one from which a path is gone, and a path at one of them
 pub remembers_same : (forest : ForestView) (old new : KnownPaths) → new.places.items ≡ old.places.items → Remembers forest old → Remembers forest new
 remembers_same forest old new is before = record {
   each = subst (All (λ place. IfSome place (IsRemembered forest))) (sym is) before.each;
@@ -82,6 +82,11 @@ remembers_place forest old new is before =
     record {
       each = subst (All here) (sym is) (All-append here old.places.items (None ∷ []) before.each (All-cons here None [] tt (All-nil here)));
     }
+
+pub remembers_none : (forest : ForestView) (old new : KnownPaths) (at : ℕ) → new.places.items ≡ set old.places.items at None → Remembers forest old → Remembers forest new
+remembers_none forest old new at is before =
+    let here : Option KnownPath → Type 0 = λ place. IfSome place (IsRemembered forest) in
+    record { each = subst (All here) (sym is) (All-set here old.places.items at None tt before.each) }
 
 pub remembers_put : (forest : ForestView) (old new : KnownPaths) (at : ℕ) (known : KnownPath) → new.places.items ≡ set old.places.items at (Some known) → IsRemembered forest known → Remembers forest old → Remembers forest new
 remembers_put forest old new at known is told before =

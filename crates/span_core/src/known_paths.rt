@@ -1,4 +1,4 @@
-//! The paths that were told lately, to be told again without a walk.
+//! The paths that were told lately at spans that are open, to be told again without a walk.
 ghost use Rattle.std.specs.Prelude.{◌≡◌, IfSome};
 ghost use Rattle.std.specs.Arc.{arc_str_bytes};
 ghost use Rattle.span_slots.specs.Table.{IsIssued};
@@ -28,12 +28,13 @@ pub(crate) struct KnownPath {
     text: ArcStr,
 }
 
-/// The paths that were told lately, one at each of a few places. They stay owned until others take their places.
+/// The paths that were told lately, one at each of 256 places. They stay owned until their spans close or others take
+/// their places: so they are those of open spans, and have at most 1 MiB together.
 #[derive(Drop)]
 pub(crate) struct KnownPaths {
-    // Whether the notes of later calls may share the texts. Where batches are kept they don't, so that whoever takes a
-    // batch is the only owner of what its notes tell, and nothing is remembered: a copy for each would cost more than
-    // most walks.
+    // Whether the notes of later calls may share the texts. Where batches are kept they don't, so that no path and no
+    // event's field belongs to two batches, and nothing is remembered: a copy for each would cost more than most walks.
+    // A meta, and the fields of a span that its new and its close notes tell, may belong to several there too.
     pub(crate) shares: bool,
     // Empty, or one for each place.
     places: Vec<Option<KnownPath>>,
@@ -83,6 +84,31 @@ impl KnownPaths {
         });
     }
 
+    /// Gives up the paths of spans that closed: they are never read again.
+    pub(crate) fn forget(&mut self, closed: &[Id])
+        ensures { (forest : ForestView) → Remembers forest self.old → Remembers forest self.new }
+    {
+        if self.places.is_empty() {
+            return;
+        }
+        for id in closed {
+            for layer in 0..LAYERS {
+                self.forget_at(place_of(layer, *id), *id);
+            }
+        }
+    }
+
+    // Gives up the path that stands at a place, if it is one of this span.
+    fn forget_at(&mut self, at: usize, id: Id)
+        ensures { (forest : ForestView) → Remembers forest self.old → Remembers forest self.new }
+    {
+        if let Some(place) = self.places.get_mut(at) {
+            if is_of(place, id) {
+                *place = None;
+            }
+        }
+    }
+
     // Puts a path at its place, in place of what stood there.
     fn put(&mut self, known: KnownPath)
         ensures { (forest : ForestView) → IsRemembered forest known → Remembers forest self.old →
@@ -108,6 +134,14 @@ impl KnownPaths {
             self.places.push(None)?;
         }
         Ok(())
+    }
+}
+
+// Whether a path of this span stands at a place.
+fn is_of(place: &Option<KnownPath>, id: Id) -> bool {
+    match place {
+        Some(known) => known.place == id,
+        None => false,
     }
 }
 

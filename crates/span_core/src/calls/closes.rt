@@ -64,6 +64,7 @@ pub(crate) fn leave(
     let ids = closing_on_exit(recent.alloc, forest, stays, exit.id)?;
     let notes = exit_notes(recent, rules, forest, exit, ids.as_slice())?;
     release_on_exit(forest, stays, exit.id, ids.as_slice());
+    recent.paths.forget(ids.as_slice());
     pop_at(stacks, exit.worker, exit.id);
     Ok(Closes { ids, notes })
 }
@@ -96,6 +97,7 @@ pub(crate) fn give_back(
     forest.release_closing(id, Holder::Handle, ids.as_slice());
     walks_end(forest);
     open_spans_are_counted(forest);
+    recent.paths.forget(ids.as_slice());
     Ok(Closes { ids, notes })
 }
 

@@ -5,5 +5,6 @@ use Rattle.span_core.proofs.calls.closes.give_back.Goals as goal
 
 pub returns-clause-remembers : goal.returns-clause-remembers
 returns-clause-remembers c =
-    remembers_released _ _ c.args.id Handle _ (ap (λ f. f.spans) c.release_closing.ensures) (ap (λ f. f.given) c.release_closing.ensures)
-    c.open_spans_are_counted.ensures.parent c.walks_end.ensures c.walks_end-2.ensures c.in_ok-notes.ensures.remembers
+    c.forget.ensures _
+    (remembers_released _ _ c.args.id Handle _ (ap (λ f. f.spans) c.release_closing.ensures) (ap (λ f. f.given) c.release_closing.ensures)
+    c.open_spans_are_counted.ensures.parent c.walks_end.ensures c.walks_end-2.ensures c.in_ok-notes.ensures.remembers)

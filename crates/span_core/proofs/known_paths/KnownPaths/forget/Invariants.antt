@@ -1,0 +1,9 @@
+use Rattle.span_forest.specs.Forest.{ForestView}
+use Rattle.span_core.specs.inside.Remembering.{Remembers}
+use Rattle.span_core.proofs.known_paths.KnownPaths.forget.Given as goal
+
+abbrev pub invariant-loop-id : goal.invariant-loop-id
+invariant-loop-id l = (forest : ForestView) → Remembers forest l.initial.self → Remembers forest l.self
+
+abbrev pub invariant-loop-layer : goal.invariant-loop-layer
+invariant-loop-layer l = (forest : ForestView) → Remembers forest l.initial.self → Remembers forest l.self
