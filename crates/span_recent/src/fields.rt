@@ -9,17 +9,17 @@ use std::alloc::Global;
 const MOST: usize = 4;
 
 // How many places the lists of one length have.
-const PLACES: usize = 32;
+const PLACES: usize = 16;
 
-// The length of the longest text that is kept, in bytes: so what is kept takes little memory.
-const LONGEST: usize = 256;
+// How many bytes the texts of a list that is kept have together, at most: so what is kept takes little memory.
+const MOST_BYTES: usize = 256;
 
-/// Fields that were copied lately: of lists of 1 to 4 fields, whose texts have at most 256 bytes each, the last 32 of each
-/// length. They stay owned until others take their places.
+/// Fields that were copied lately: of lists of 1 to 4 fields, whose texts have at most 256 bytes together, the last 16 of
+/// each length. They stay owned until others take their places: less than 40 KiB of memory, whatever is copied.
 #[derive(Drop)]
 pub struct RecentFields {
     alloc: Global,
-    // Empty, or 32 for each length: they are used in turn.
+    // Empty, or 16 for each length: they are used in turn.
     places: Vec<Option<Fields>>,
     // How many turns were taken at each length, modulo 256.
     turns: [u8; MOST],
@@ -35,7 +35,7 @@ impl RecentFields {
         }
     }
 
-    /// Equal fields of their own: in the memory of the copy of as many fields that was made 32 copies ago, where nobody
+    /// Equal fields of their own: in the memory of the copy of as many fields that was made 16 copies ago, where nobody
     /// else has it any longer. The only error is `Memory`.
     pub fn copy(&mut self, fields: &[Field]) -> Result<Fields, Fault>
         ensures fields { IfOk result (λ copy. copy ≡ plain_fields fields.now) }
@@ -89,6 +89,15 @@ fn copy_at(alloc: Global, place: &mut Option<Fields>, fields: &[Field]) -> Resul
 
 // Whether a copy of these fields is kept: of few fields with short texts.
 fn is_kept(fields: &[Field]) -> bool {
-    fields.len() <= MOST
-        && fields.iter().all(|field| field.key.len() <= LONGEST && field.value.len() <= LONGEST)
+    fields.len() <= MOST && bytes_of(fields) <= MOST_BYTES
+}
+
+// How many bytes the texts of these fields have together.
+fn bytes_of(fields: &[Field]) -> usize {
+    let mut bytes = 0usize;
+    for field in fields {
+        let more = field.key.len().saturating_add(field.value.len());
+        bytes = bytes.saturating_add(more);
+    }
+    bytes
 }

@@ -6,11 +6,11 @@ use crate::place::{PLACES, place_of};
 use span_id::{Fault, Meta, SharedMeta};
 use std::alloc::Global;
 
-// The length of the longest text that is kept, in bytes: so what is kept takes little memory.
-const LONGEST: usize = 256;
+// How many bytes both texts of a meta that is kept have together, at most: so what is kept takes little memory.
+const MOST_BYTES: usize = 128;
 
-/// The metas that were copied lately, one at each of a few places. They stay owned until others take their places. Of
-/// a meta that is kept neither text has more than 256 bytes.
+/// The metas that were copied lately, one at each of 64 places. They stay owned until others take their places: less
+/// than 16 KiB of memory, whatever is copied, since both texts of a meta that is kept have at most 128 bytes together.
 #[derive(Drop)]
 pub struct RecentMetas {
     alloc: Global,
@@ -79,5 +79,5 @@ impl RecentMetas {
 
 // Whether a copy of this meta is kept: of one with short texts.
 fn is_kept(meta: &Meta) -> bool {
-    meta.name.len() <= LONGEST && meta.target.len() <= LONGEST
+    meta.name.len().saturating_add(meta.target.len()) <= MOST_BYTES
 }
