@@ -33,17 +33,22 @@ const LIB: Plan<'static> = (Form::Json, Wanted::All, "lib", Level::Trace);
 // One layer admits everything, and two more what begins with `lib`.
 static PLANS: [Plan<'static>; 3] = [EVERYTHING, LIB, LIB];
 
-// A core over a ring, and the ring's drain.
-fn ringed(rt: &impl Abort, alloc: Global, layers: Layers) -> (Core<Ring>, Drain) {
-    let checked = LIMITS.check().expect(rt, "limits");
+/// A core over a ring, and the ring's drain.
+pub(crate) fn ringed(
+    rt: &impl Abort,
+    alloc: Global,
+    limits: &Limits,
+    layers: Layers,
+) -> (Core<Ring>, Drain) {
+    let checked = limits.check().expect(rt, "limits");
     let (filters, tellers) = layers.split();
     let (ring, tap) = Ring::pair(alloc, &checked).expect(rt, "memory");
     let core = Core::new(alloc, &checked, filters, ring);
     (core.expect(rt, "memory"), Drain::new(alloc, tap, tellers))
 }
 
-// Both cores make this call and answer the same; then the drain takes so many batches, where they are there.
-fn turn<V: Say>(
+/// Both cores make this call and answer the same; then the drain takes so many batches, where they are there.
+pub(crate) fn turn<V: Say>(
     rt: &impl Abort,
     alloc: Global,
     kept: &mut Core<Kept<V>>,
@@ -63,8 +68,8 @@ fn turn<V: Say>(
     }
 }
 
-// The lines and the counts are the same.
-fn told_the_same<V: Say>(rt: &impl Abort, alloc: Global, kept: &Kept<V>, drain: &Drain) {
+/// The lines and the counts are the same.
+pub(crate) fn told_the_same<V: Say>(rt: &impl Abort, alloc: Global, kept: &Kept<V>, drain: &Drain) {
     let want = shown(rt, alloc, kept.all());
     let lines = shown(rt, alloc, drain.all());
     same(rt, lines.as_str(), want.as_str(), "all lines");
@@ -149,7 +154,7 @@ fn compare_rounds<V: Say>(
 {
     let checked = LIMITS.check().expect(rt, "limits");
     let mut kept = Core::new(alloc, &checked, filters, outlet).expect(rt, "memory");
-    let (mut core, mut drain) = ringed(rt, alloc, layers);
+    let (mut core, mut drain) = ringed(rt, alloc, &LIMITS, layers);
     let opens = (Act::Child("s", 0), 1);
     turn(rt, alloc, &mut kept, &mut core, &mut drain, &opens);
     let mut first = 2u64;

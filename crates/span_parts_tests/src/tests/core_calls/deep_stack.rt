@@ -58,37 +58,37 @@ pub(crate) fn come_up<O: Outlet>(
     right
 }
 
-const ROOT: Act<'static> = Act::NewWith {
+pub(crate) const ROOT: Act<'static> = Act::NewWith {
     name: "root",
     target: "root",
     level: Level::Info,
     fields: &[],
 };
 
-const MID: Act<'static> = Act::NewWith {
+pub(crate) const MID: Act<'static> = Act::NewWith {
     name: "mid",
     target: "mid",
     level: Level::Info,
     fields: &[],
 };
 
-const SEEK_ROOT: Act<'static> = Act::Event {
+pub(crate) const SEEK_ROOT: Act<'static> = Act::Event {
     target: "root",
     level: Level::Info,
     message: "seek",
     fields: &[],
 };
 
-const SEEK_MID: Act<'static> = Act::Event {
+pub(crate) const SEEK_MID: Act<'static> = Act::Event {
     target: "mid",
     level: Level::Info,
     message: "seek",
     fields: &[],
 };
 
-// The first layer admits most spans, the second and the third one each; of an event only the layer of its target is
-// told.
-const PLANS: [Plan<'static>; 3] = [
+/// The first layer admits most spans, the second and the third one each; of an event only the layer of its target is
+/// told.
+pub(crate) const PLANS: [Plan<'static>; 3] = [
     (Form::Compact, Wanted::None, "app", Level::Info),
     (Form::Compact, Wanted::None, "root", Level::Info),
     (Form::Compact, Wanted::None, "mid", Level::Info),
