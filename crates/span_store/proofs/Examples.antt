@@ -1,11 +1,10 @@
 -- Worked cases, computed from the definitions alone.
-use Rattle.std.proofs.Common.{◌≡◌, ℕ, List, [], ◌∷◌, Some, None, refl}
+use Rattle.std.proofs.Common.{◌≡◌, ℕ, [], ◌∷◌, Some, None, refl}
 use Rattle.span_id.specs.declared.fault.Fault.TheVariants.{Unknown, CountFull, Full}
-use Rattle.span_slots.specs.Table.{value_at, next_id}
+use Rattle.span_slots.specs.Table.{next_id}
 use Rattle.span_store.specs.Node.{Node}
-use Rattle.span_store.specs.Spans.{total_handles}
 use Rattle.span_store.specs.Store.{StoreView}
-use Rattle.span_store.specs.Calls.{Call, Add, Keep, Release, Ended, refusal, after, told, after_all, times_told}
+use Rattle.span_store.specs.Calls.{Add, Keep, Release, Ended, refusal, after, told, after_all, times_told}
 
 -- two slots, each with two ids, and two holders at most
 abbrev empty : StoreView

@@ -11,5 +11,10 @@ pub mod Found
 pub mod Held
 pub mod Ended
 pub mod Steps
-pub mod Promises
+pub mod Others
+pub mod Closing
+pub mod Gone
+pub mod Numbers
+pub mod Made
+pub mod Walks
 mod Examples

@@ -1,5 +1,5 @@
 -- The calls that change a store: why each is refused, what it leaves, and which span it tells to be closing now.
-use Rattle.std.specs.Prelude.{ℕ, ◌≢◌, ◌+◌, ◌-◌, cond, nat_lt, List, [], ◌∷◌, Option, Some, None, is_some, is_none}
+use Rattle.std.specs.Prelude.{ℕ, ◌≢◌, ◌+◌, ◌-◌, Bool, true, false, ◌&&◌, cond, nat_lt, List, [], ◌∷◌, Option, Some, None, is_some, is_none}
 use Rattle.span_id.specs.declared.fault.Fault.{Fault}
 use Rattle.span_id.specs.declared.fault.Fault.TheVariants.{Unknown, CountFull, Full}
 use Rattle.span_slots.specs.Table.{next_id, value_at}
@@ -88,6 +88,29 @@ NeverEnds id (call ∷ calls) = (call ≢ Ended id) × NeverEnds id calls
 abbrev pub times_told : ℕ → StoreView → List Call → ℕ
 times_told id store [] = 0
 times_told id store (call ∷ calls) = cond (is_some_id (told store call) id) 1 0 + times_told id (after store call) calls
+
+-- which call it is
+abbrev pub is_add : Call → Bool
+is_add (Add parent bits word) = true
+is_add _ = false
+
+abbrev pub is_keep : Call → Bool
+is_keep (Keep id) = true
+is_keep _ = false
+
+abbrev pub is_release : Call → Bool
+is_release (Release id) = true
+is_release _ = false
+
+abbrev pub is_ended : Call → Bool
+is_ended (Ended id) = true
+is_ended _ = false
+
+-- how many of the calls, made one after the other, are such ones and are accepted
+abbrev pub times_accepted : (Call → Bool) → StoreView → List Call → ℕ
+times_accepted is_such store [] = 0
+times_accepted is_such store (call ∷ calls) =
+    cond (is_none (refusal store call) && is_such call) 1 0 + times_accepted is_such (after store call) calls
 
 -- how many handles there are after a call that is accepted, and how many spans
 abbrev pub handles_then : ℕ → Call → ℕ

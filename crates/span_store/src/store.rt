@@ -1,6 +1,6 @@
 ghost use Rattle.std.specs.Prelude.{◌≡◌, ℕ, ◌↔◌, ◌⊎◌, Some, None, IfSome, IfNone, IfOk, IfErr, OnOk, OnErr, IsTrue, length, []};
 ghost use Rattle.span_id.specs.Id.{IsId};
-ghost use Rattle.span_slots.specs.Table.{value_at, next_id, IsIssued};
+ghost use Rattle.span_slots.specs.Table.{value_at, id_from, next_id, IsIssued};
 ghost use Rattle.span_store.specs.Node.{node_of};
 ghost use Rattle.span_store.specs.Spans.{IsClosing, children, total_handles};
 ghost use Rattle.span_store.specs.Calls.{Add, Keep, Release, Ended, refusal, after, told};
@@ -18,8 +18,8 @@ use std::marker::Model;
 
 /// Spans under their ids, with what holds them.
 ///
-/// No call but `new` takes memory, and each other call costs the same however many spans are there. What a store promises
-/// beside its calls' contracts is said by the functions of [`laws`].
+/// No call but `new` takes memory, and each other call costs the same however many spans are there, but for `id_from`. What
+/// a store promises beside its calls' contracts is said by the functions of [`laws`].
 #[derive(Debug, Drop)]
 pub struct Store {
     slots: Slots<Entry>,
@@ -73,6 +73,16 @@ impl Store {
         // Looked at, the store shows what it keeps: here that the child counts are right.
         let _opened = &self.max_count;
         self.slots.get(id)
+    }
+
+    /// The lowest id that is there, by slots, from this slot on; closing spans are among them. Who goes on at the slot after
+    /// the one that was told meets each span once, as before a store with open spans is let go.
+    ///
+    /// It looks at each slot that was ever used from there on, up to the one that it tells.
+    pub fn id_from(&self, slot: u32) -> Option<Id>
+        ensures { result ≡ id_from self.now.table.entries slot }
+    {
+        self.slots.id_from(slot)
     }
 
     /// How many spans are there, the closing ones among them.

@@ -2,15 +2,16 @@
 //!
 //! `Add`, `Keep`, `Release` and `Ended` stand for the calls; `after` is the store after one of them, `after_all` after any
 //! number, and `told` the span that a call tells to be closing now.
-ghost use Rattle.std.specs.Prelude.{◌≡◌, ◌≢◌, ℕ, ◌<◌, ◌≤◌, ◌↔◌, List, [], Option, Some, None, length};
+ghost use Rattle.std.specs.Prelude.{◌≡◌, ◌≢◌, ℕ, ◌+◌, ◌<◌, ◌≤◌, ◌↔◌, List, [], ◌∷◌, map, Option, Some, None, length};
 ghost use Rattle.span_id.specs.Id.{IsId, slot_of};
-ghost use Rattle.span_slots.specs.Table.{value_at, next_id, IsIssued};
+ghost use Rattle.span_id.specs.declared.fault.Fault.TheVariants.{Unknown};
+ghost use Rattle.span_slots.specs.Table.{value_at, id_from, ids_from, next_id, IsIssued};
 ghost use Rattle.span_store.specs.Node.{Node, new_node};
 ghost use Rattle.span_store.specs.Spans.{IsThere, IsOpen, IsClosing, parent_of, count, total_handles};
-ghost use Rattle.span_store.specs.Calls.{Call, Add, Keep, Release, Ended, refusal, after, told, after_all, NeverEnds, times_told, handles_then, spans_then};
+ghost use Rattle.span_store.specs.Calls.{Call, Add, Keep, Release, Ended, refusal, after, told, after_all, NeverEnds, times_told, times_accepted, is_add, is_keep, is_release, is_ended, handles_then, spans_then};
 
 use super::Store;
-use span_slots::laws::each_slot_has_one_id;
+use span_slots::laws::{a_walk_meets_each_id_once, each_slot_has_one_id};
 
 /// A call tells a span to be closing exactly where the span becomes closing by it: so it tells at most one.
 pub fn what_becomes_closing_is_told(store: &Store)
@@ -38,6 +39,19 @@ pub fn closing_spans_stay_until_their_end(store: &Store)
         value_at (after_all store.now calls).table.entries id ≡ value_at store.now.table.entries id }
     ensures closing { (id : ℕ) (calls : List Call) → IsClosing store.now.table.entries id → NeverEnds id calls →
         IsClosing (after_all store.now calls).table.entries id }
+{
+    let _opened = &store.slots;
+}
+
+/// A closing span is held by nobody, however many calls later, until `ended` is called for it: no handle of it is given
+/// or taken back, and no child is made under it.
+pub fn closing_spans_are_held_by_nobody(store: &Store)
+    ensures not_kept { (id : ℕ) (calls : List Call) → IsClosing store.now.table.entries id → NeverEnds id calls →
+        refusal (after_all store.now calls) (Keep id) ≡ Some Unknown }
+    ensures not_released { (id : ℕ) (calls : List Call) → IsClosing store.now.table.entries id → NeverEnds id calls →
+        refusal (after_all store.now calls) (Release id) ≡ Some Unknown }
+    ensures no_child { (id bits word : ℕ) (calls : List Call) → IsClosing store.now.table.entries id →
+        NeverEnds id calls → refusal (after_all store.now calls) (Add (Some id) bits word) ≡ Some Unknown }
 {
     let _opened = &store.slots;
 }
@@ -88,6 +102,32 @@ pub fn numbers_follow_the_calls(store: &Store)
         length (after store.now call).table.entries ≡ spans_then (length store.now.table.entries) call }
 {
     let _opened = &store.slots;
+}
+
+/// However many calls later, as many spans are there as before them and as were added and didn't end; and as many handles
+/// as before them and as were given by `add` and `keep` and not given back.
+pub fn as_many_are_there_as_did_not_end(store: &Store)
+    ensures spans { (calls : List Call) →
+        length (after_all store.now calls).table.entries + times_accepted is_ended store.now calls
+        ≡ length store.now.table.entries + times_accepted is_add store.now calls }
+    ensures handles { (calls : List Call) →
+        total_handles (after_all store.now calls).table.entries + times_accepted is_release store.now calls
+        ≡ total_handles store.now.table.entries
+        + (times_accepted is_add store.now calls + times_accepted is_keep store.now calls) }
+{
+    let _opened = &store.slots;
+}
+
+/// A walk by `id_from`, which begins at slot 0 and goes on at the slot after the one that was told, meets the id of each
+/// span that is there once, and no other: by ascending slot.
+pub fn a_walk_meets_each_span_once(store: &Store)
+    ensures all { ids_from store.now.table.entries 0 ≡ map (λ e. e.0) store.now.table.entries }
+    ensures next { (slot id : ℕ) → id_from store.now.table.entries slot ≡ Some id →
+        ids_from store.now.table.entries slot ≡ id ∷ ids_from store.now.table.entries (slot_of id + 1) }
+    ensures end { (slot : ℕ) → id_from store.now.table.entries slot ≡ None →
+        ids_from store.now.table.entries slot ≡ [] }
+{
+    a_walk_meets_each_id_once(&store.slots);
 }
 
 /// What a span was made with stays: as long as it is there, its parent, its bits and its word are those of its start,

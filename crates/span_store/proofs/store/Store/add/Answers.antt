@@ -1,5 +1,6 @@
-use Rattle.std.proofs.Common.{◌≡◌, ◌∙◌, Some, sym, ap, refl, arith}
+use Rattle.std.proofs.Common.{◌≡◌, ℕ, Option, ◌∙◌, Some, sym, ap, refl, arith}
 use Rattle.std.proofs.lemmas.Result.{err_from_is_err_and}
+use Rattle.span_id.specs.declared.bits.Bits.{Bits}
 use Rattle.span_store.specs.declared.entry.Entry.{Entry}
 use Rattle.span_store.specs.Calls.{Add}
 use Rattle.span_store.specs.inside.Reading.{HasRoomAbove}
@@ -9,11 +10,10 @@ use Rattle.span_store.proofs.Views.{view_of, no_child-at, no_child-room, after_r
 use Rattle.span_slots.specs.Table.{next_id}
 use Rattle.span_store.specs.Node.{node_of, new_node}
 use Rattle.span_store.proofs.store.Store.add.Goals as goal
-use Rattle.span_store.proofs.store.Store.add.Goals.{After-self-1}
 
 -- the new entry
-made : After-self-1 → Entry
-made c = record { parent = c.in_ok-parent.parent; bits = c.args.bits; word = c.args.word; handles = 1; children = 0 }
+made : Option ℕ → Bits → ℕ → Entry
+made parent bits word = record { parent = parent; bits = bits; word = word; handles = 1; children = 0 }
 
 pub returns-in_err-parent-clause-refused : goal.returns-in_err-parent-clause-refused
 returns-in_err-parent-clause-refused c =
@@ -38,15 +38,12 @@ overflow_add-self c =
     let fits = handles_fit i.slots i.max_count i.handles c.self.invariant in
     omega arith
 
-room : (c : After-self-1) → HasRoomAbove c.self.inside.max_count c.self.inside.slots.entries c.in_ok-parent.parent
-room c = rw c.in_ok-parent.ensures.same c.in_ok-parent.ensures.accepted
-
 pub invariant_of-self-2 : goal.invariant_of-self-2
 unfolding made
 invariant_of-self-2 c =
     let i = c.self.inside in
-    let at = (goal.at.invariant_of-self-2 c).After-self-1 in
-    IsConsistent-added i.slots i.max_count i.handles c.in_ok-id.id (made at) c.self.invariant c.in_ok-id.ensures.id c.in_ok-id.ensures.vacant refl refl c.place.new.slots (room at) c.in_ok-id.ensures.table c.in_ok-id.ensures.few
+    let room : HasRoomAbove i.max_count i.slots.entries c.in_ok-parent.parent = rw c.in_ok-parent.ensures.same c.in_ok-parent.ensures.accepted in
+    IsConsistent-added i.slots i.max_count i.handles c.in_ok-id.id (made c.in_ok-parent.parent c.args.bits c.args.word) c.self.invariant c.in_ok-id.ensures.id c.in_ok-id.ensures.vacant refl refl c.place.new.slots room c.in_ok-id.ensures.table c.in_ok-id.ensures.few
 
 pub returns-clause-accepted : goal.returns-clause-accepted
 returns-clause-accepted c =
@@ -57,7 +54,7 @@ pub returns-clause-change : goal.returns-clause-change
 unfolding made
 returns-clause-change c =
     let i = c.self.inside in
-    let at = (goal.at.returns-clause-change c).After-self-1 in
-    let a = added i.slots i.max_count i.handles c.in_ok-id.id (made at) c.self.invariant c.in_ok-id.ensures.id c.in_ok-id.ensures.vacant refl refl c.place.new.slots (room at) c.in_ok-id.ensures.table in
-    let node : node_of (made at) ≡ new_node c.args.parent c.args.bits.0 c.args.word = ap (λ p. new_node p c.args.bits.0 c.args.word) c.in_ok-parent.ensures.same in
-    rw (← c.self.view_is) (added_view i.slots c.place.new.slots i.max_count c.args.parent c.args.bits.0 c.args.word c.in_ok-id.id (node_of (made at)) a.table node (add_accepted (view_of i.slots i.max_count) c.args.parent c.args.bits.0 c.args.word c.in_ok-id.id (no_child-room i.slots i.max_count c.args.parent c.self.invariant.counted c.in_ok-parent.ensures.accepted) c.in_ok-id.ensures.id))
+    let room : HasRoomAbove i.max_count i.slots.entries c.in_ok-parent.parent = rw c.in_ok-parent.ensures.same c.in_ok-parent.ensures.accepted in
+    let a = added i.slots i.max_count i.handles c.in_ok-id.id (made c.in_ok-parent.parent c.args.bits c.args.word) c.self.invariant c.in_ok-id.ensures.id c.in_ok-id.ensures.vacant refl refl c.place.new.slots room c.in_ok-id.ensures.table in
+    let node : node_of (made c.in_ok-parent.parent c.args.bits c.args.word) ≡ new_node c.args.parent c.args.bits.0 c.args.word = ap (λ p. new_node p c.args.bits.0 c.args.word) c.in_ok-parent.ensures.same in
+    rw (← c.self.view_is) (added_view i.slots c.place.new.slots i.max_count c.args.parent c.args.bits.0 c.args.word c.in_ok-id.id (node_of (made c.in_ok-parent.parent c.args.bits c.args.word)) a.table node (add_accepted (view_of i.slots i.max_count) c.args.parent c.args.bits.0 c.args.word c.in_ok-id.id (no_child-room i.slots i.max_count c.args.parent c.self.invariant.counted c.in_ok-parent.ensures.accepted) c.in_ok-id.ensures.id))

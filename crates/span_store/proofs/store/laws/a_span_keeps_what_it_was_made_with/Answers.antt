@@ -1,4 +1,5 @@
-use Rattle.span_store.proofs.Promises.{is_store, keeps_what_it_was}
+use Rattle.span_store.proofs.Others.{is_store}
+use Rattle.span_store.proofs.Made.{keeps_what_it_was}
 use Rattle.span_store.proofs.Views.{view_of}
 use Rattle.span_store.proofs.store.laws.a_span_keeps_what_it_was_made_with.Goals as goal
 

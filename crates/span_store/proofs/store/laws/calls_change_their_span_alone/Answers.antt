@@ -1,4 +1,4 @@
-use Rattle.span_store.proofs.Promises.{is_store, new_found, others_found, others_kept, others_released, others_ended}
+use Rattle.span_store.proofs.Others.{is_store, new_found, others_found, others_kept, others_released, others_ended}
 use Rattle.span_store.proofs.Views.{view_of}
 use Rattle.span_store.proofs.store.laws.calls_change_their_span_alone.Goals as goal
 

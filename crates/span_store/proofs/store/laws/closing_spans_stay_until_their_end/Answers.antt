@@ -1,4 +1,5 @@
-use Rattle.span_store.proofs.Promises.{is_store, stays_same, stays_closing}
+use Rattle.span_store.proofs.Others.{is_store}
+use Rattle.span_store.proofs.Closing.{stays_same, stays_closing}
 use Rattle.span_store.proofs.Views.{view_of}
 use Rattle.span_store.proofs.store.laws.closing_spans_stay_until_their_end.Goals as goal
 

@@ -1,4 +1,5 @@
-use Rattle.span_store.proofs.Promises.{is_store, told_at_most_once, told_once, told_no_more}
+use Rattle.span_store.proofs.Others.{is_store}
+use Rattle.span_store.proofs.Gone.{told_at_most_once, told_once, told_no_more}
 use Rattle.span_store.proofs.Views.{view_of}
 use Rattle.span_store.proofs.store.laws.each_span_is_told_once.Goals as goal
 

@@ -1,4 +1,5 @@
-use Rattle.span_store.proofs.Promises.{is_store, empty}
+use Rattle.span_store.proofs.Others.{is_store}
+use Rattle.span_store.proofs.Numbers.{empty}
 use Rattle.span_store.proofs.Views.{view_of}
 use Rattle.span_store.proofs.store.laws.empty_where_nothing_is_held.Goals as goal
 

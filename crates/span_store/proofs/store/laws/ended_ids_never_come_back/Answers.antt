@@ -1,4 +1,5 @@
-use Rattle.span_store.proofs.Promises.{is_store, ended_gone, gone_for_good, never_given}
+use Rattle.span_store.proofs.Others.{is_store}
+use Rattle.span_store.proofs.Gone.{ended_gone, gone_for_good, never_given}
 use Rattle.span_store.proofs.Views.{view_of}
 use Rattle.span_store.proofs.Steps.{IsStore-after}
 use Rattle.span_store.specs.Calls.{Ended, after, after_all}

@@ -1,4 +1,6 @@
-use Rattle.span_store.proofs.Promises.{is_store, no_child_of_closing, told_exactly}
+use Rattle.span_store.proofs.Others.{is_store}
+use Rattle.span_store.proofs.Closing.{told_exactly}
+use Rattle.span_store.proofs.Numbers.{no_child_of_closing}
 use Rattle.span_store.proofs.Views.{view_of}
 use Rattle.span_store.specs.Calls.{after}
 use Rattle.span_store.proofs.store.laws.no_span_closes_before_its_children_ended.Goals as goal

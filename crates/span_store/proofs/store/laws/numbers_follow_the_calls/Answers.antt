@@ -1,4 +1,5 @@
-use Rattle.span_store.proofs.Promises.{is_store, numbers}
+use Rattle.span_store.proofs.Others.{is_store}
+use Rattle.span_store.proofs.Numbers.{numbers}
 use Rattle.span_store.proofs.Views.{view_of}
 use Rattle.span_store.proofs.store.laws.numbers_follow_the_calls.Goals as goal
 

@@ -1,4 +1,5 @@
-use Rattle.span_store.proofs.Promises.{is_store, parent_open, bounded}
+use Rattle.span_store.proofs.Others.{is_store}
+use Rattle.span_store.proofs.Numbers.{parent_open, bounded}
 use Rattle.span_store.proofs.Views.{view_of}
 use Rattle.span_store.proofs.store.laws.parents_are_open.Goals as goal
 

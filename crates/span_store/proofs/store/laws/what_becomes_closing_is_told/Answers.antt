@@ -1,4 +1,5 @@
-use Rattle.span_store.proofs.Promises.{is_store, told_exactly}
+use Rattle.span_store.proofs.Others.{is_store}
+use Rattle.span_store.proofs.Closing.{told_exactly}
 use Rattle.span_store.proofs.Views.{view_of}
 use Rattle.span_store.proofs.store.laws.what_becomes_closing_is_told.Goals as goal
 
