@@ -1,10 +1,11 @@
 -- What the calls on a store do, by their status.
-use Rattle.std.specs.Prelude.{◌≡◌, ℕ, ◌==◌, cond, [], length, Option, Some, None, IsSomeAnd}
+use Rattle.std.specs.Prelude.{◌≡◌, ◌≢◌, ◌⊎◌, ℕ, ◌+◌, ◌==◌, cond, [], length, Option, Some, None, IsSomeAnd}
+use Rattle.span_id.specs.Id.{IsId, slot_of}
 use Rattle.span_id.specs.declared.fault.Fault.{Fault}
 use Rattle.span_id.specs.declared.fault.Fault.TheVariants.{Unknown, BadLimits, Memory}
 use Rattle.span_id.specs.declared.limits.Limits.{Limits}
 use Rattle.span_id.specs.Limits.{AreInRange}
-use Rattle.span_slots.specs.Table.{value_at, next_id}
+use Rattle.span_slots.specs.Table.{value_at, id_from, next_id}
 use Rattle.span_store.specs.Node.{Node}
 use Rattle.span_store.specs.Spans.{children, is_closing, total_handles}
 use Rattle.span_store.specs.Store.{StoreView}
@@ -14,6 +15,10 @@ use Rattle.span_store_ffi.specs.declared.data.SpanStoreCounts.{SpanStoreCounts}
 use Rattle.span_store_ffi.specs.declared.status.Status.{Status}
 use Rattle.span_store_ffi.specs.declared.status.Status.TheVariants.{Done, Refused, HandleInUse}
 use Rattle.span_store_ffi.specs.Ends.{IfDone, flag}
+
+-- the version of the interface
+abbrev pub abi_version : ℕ
+abi_version = 1
 
 -- A call was accepted, and the store is as it is after it; or it was refused with this fault, and nothing changed.
 abbrev pub Makes : Call → StoreView → Status → StoreView → Type 0
@@ -64,6 +69,17 @@ Finds id found old Done new =
     IsSomeAnd (value_at old.table.entries id) (λ node. found ≡ found_as old id node) × (new ≡ old)
 Finds id found old (Refused Unknown) new = (value_at old.table.entries id ≡ None) × (new ≡ old)
 Finds id found old _ new = ⊥
+
+-- the slot at which a walk goes on after an id; after 0 it begins
+abbrev pub slot_past : ℕ → ℕ
+slot_past number = cond (number == 0) 0 (slot_of number + 1)
+
+-- the next id that is there, by slots, or 0 where none is; a number that is no id is refused
+abbrev pub TellsNext : ℕ → ℕ → StoreView → Status → StoreView → Type 0
+TellsNext previous id old Done new =
+    ((previous ≡ 0) ⊎ IsId previous) × (id ≡ id_number (id_from old.table.entries (slot_past previous))) × (new ≡ old)
+TellsNext previous id old (Refused Unknown) new = (previous ≢ 0) × (IsId previous → ⊥) × (new ≡ old)
+TellsNext previous id old _ new = ⊥
 
 -- how many handles and how many spans there are
 abbrev pub Counts : SpanStoreCounts → StoreView → Status → StoreView → Type 0

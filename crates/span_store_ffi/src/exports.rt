@@ -4,7 +4,7 @@ ghost use Rattle.span_slots.specs.Table.{value_at};
 ghost use Rattle.span_store.specs.Spans.{is_closing};
 ghost use Rattle.span_store_ffi.specs.Status.{meaning};
 ghost use Rattle.span_store_ffi.specs.Ends.{Ends, Keeps};
-ghost use Rattle.span_store_ffi.specs.Calls.{Adds, KeepsSpan, Releases, EndsSpan, Finds, Counts, Opens, said_parent, id_number, limits_of, empty_store, WhyNotOpened};
+ghost use Rattle.span_store_ffi.specs.Calls.{Adds, KeepsSpan, Releases, EndsSpan, Finds, TellsNext, Counts, Opens, said_parent, id_number, limits_of, empty_store, WhyNotOpened, abi_version};
 
 use crate::data::{SpanStoreCounts, SpanStoreFound};
 use crate::handle::SpanStore;
@@ -49,6 +49,14 @@ fn open(alloc: Global, slots: u32, last_generation: u32, max_count: u32) -> Resu
     let checked = limits.check()?;
     let store = Store::new(alloc, &checked)?;
     Ok(Box::new(alloc, Held { store })?)
+}
+
+/// The version of this interface. It rises where a program that was built for an earlier one would go wrong.
+#[unsafe(no_mangle)]
+pub extern "C" fn span_store_abi_version() -> u32
+    ensures { result ≡ abi_version }
+{
+    1
 }
 
 /// Fills an empty handle with a new store.
@@ -259,6 +267,42 @@ pub extern "C" fn span_store_find(
         return Status::EmptyHandle.number();
     };
     let status = find(&held.store, id, found);
+    store.put(held);
+    status.number()
+}
+
+fn next(store: &Store, after: u64, id: &mut u64) -> Status
+    ensures told { TellsNext after id.new store.now result store.now }
+    ensures kept { Keeps (Some result) id.old id.new }
+{
+    let slot = if after == 0 {
+        0
+    } else {
+        let Some(last) = Id::from_u64(after) else {
+            return Status::Refused(Fault::Unknown);
+        };
+        last.slot() + 1
+    };
+    *id = id_number(store.id_from(slot));
+    Status::Done
+}
+
+/// The next span that is there, by slots, after one of this id, whether or not that is there; or the first one, where that
+/// is 0. Its id is told, or 0 where none is left.
+#[unsafe(no_mangle)]
+pub extern "C" fn span_store_next(
+    alloc: Global,
+    store: &mut SpanStore,
+    after: u64,
+    id: &mut u64,
+) -> u32
+    ensures told { Ends store.old.held (TellsNext after id.new) (meaning result) store.new.held }
+    ensures kept { Keeps (meaning result) id.old id.new }
+{
+    let Some(held) = store.take(alloc) else {
+        return Status::EmptyHandle.number();
+    };
+    let status = next(&held.store, after, id);
     store.put(held);
     status.number()
 }
