@@ -12,7 +12,7 @@ import subprocess
 import sys
 import tempfile
 
-from parts import PARTS, TOP
+from parts import PARTS, QUICK, TOP
 
 CRATES = "low: # the lowest\ntracerun may_wait=2: low\nhostile_use may_wait=29: low\nspan_ffi staticlib: low\n"
 LISTED = {"low": 0, "tracerun": 2, "hostile_use": 29, "span_ffi": 0}
@@ -48,7 +48,7 @@ class Clone:
             os.mkdir(name)
         for name in ("check", "tests/parts.py"):
             shutil.copy(f"{TOP}/{name}", f"{self.at}/{name}")
-        for script in re.findall(r"tests/\w+\.py", "".join(it.command for it in PARTS)):
+        for script in re.findall(r"tests/\w+\.py", "".join(it.command for it in PARTS + QUICK)):
             self.write(f"{self.at}/{script}", PASSES)
         self.write(f"{self.at}/crates.txt", CRATES)
         for name in LISTED:
@@ -143,6 +143,9 @@ def parts_left_out(rows, clone):
 
 
 def others(rows, clone):
+    found = clone.run("--quick")
+    rows.wants("what needs no proof", found, 0, f"{4 * len(QUICK)} passed, 0 failed", "nothing was proved")
+    rows.wants("what needs no proof: the calls of rt", (0, "", str(clone.calls())), 0, "", "[]")
     rows.wants("named crates", clone.run("low", "tracerun"), 0, "2 passed, 0 failed")
     wanted = "['check in low', 'test in low', 'check in tracerun', 'test in tracerun']"
     rows.wants("named crates: the calls", (0, "", str(clone.calls())), 0, "", wanted)

@@ -1,11 +1,12 @@
 #!/usr/bin/env python3
 """Runs all that `./check` is: `rt ci`, then `rt lib` of the static library, then the other parts that PARTS lists.
 
-usage: parts.py
+usage: parts.py [--quick]
 
 A part that needs nothing begins beside `rt ci`. The others come after it, one after the other, on the programs that it
 leaves in crates/NAME/out/. A part whose program or library wasn't made failed; one whose tool isn't on the PATH isn't
-run, and says so. The last line is 'N passed, M failed', the sums of what the parts say in such a line.
+run, and says so. With --quick nothing is proved, and the parts that QUICK lists run side by side. The last line is
+'N passed, M failed', the sums of what the parts say in such a line.
 """
 import os
 import re
@@ -36,10 +37,13 @@ class Part(NamedTuple):
 
 GATE = Part("the gate", "", "rt ci")
 LIBRARY = Part("the static library", "", "rt lib", "crates/span_ffi")
-PARTS = [
+ALONE = [
     Part("the model on the worked cases", "", "python3 tests/test_model.py"),
     Part("the runner of the parts", "", "python3 tests/check_itself.py"),
     Part("the launcher", "", "python3 tests/launcher.py"),
+]
+PARTS = [
+    *ALONE,
     Part("the model on a script of 16 MiB", "", "python3 tests/long_script.py --make {room}/long --seed 1"),
     Part("the worked cases", "tracerun", "python3 tests/run_cases.py --program {tracerun}"),
     Part("the command line", "tracerun", "python3 tests/command_line.py --program {tracerun}"),
@@ -58,6 +62,15 @@ PARTS = [
     Part("the C interface", "span_ffi valgrind", "python3 tests/c_interface.py --library {span_ffi}"),
     Part("the Rust package", "span_ffi cargo",
          "env SPAN_REGISTRY_LIB={library} CARGO_TARGET_DIR={room}/target rust/test"),
+]
+# (an archive of nothing stands for the library, which these tests don't call)
+RUST_ALONE = """sh -c 'mkdir {room}/nothing && echo "!<arch>" > {room}/nothing/libspan_ffi.a &&
+    export SPAN_REGISTRY_LIB={room}/nothing CARGO_TARGET_DIR={room}/target &&
+    cargo check --offline --all-targets && ./test --test header --test directives'"""
+QUICK = [
+    *ALONE,
+    Part("the program, unproved", "", "python3 tests/unproved_cases.py"),
+    Part("the Rust package without its library", "cargo", RUST_ALONE, "rust"),
 ]
 # What parts need of crates.
 BUILT = {it: TOP / f"crates/{it}/out/{it}" for it in ("tracerun", "hostile_use")}
@@ -196,6 +209,16 @@ def all_parts(runs):
         yield runs.run(part)
 
 
+def quick_parts(runs):
+    """The parts that need no proof."""
+    left_out = [(part, *why_not(part, ())) for part in QUICK]
+    begun = [runs.beside([part]) for part, why, _ in left_out if not why]
+    yield from (shown(Ended(part.name, [why], 0, failed)) for part, why, failed in left_out if why)
+    for ended, thread in begun:
+        thread.join()
+        yield from map(shown, ended)
+
+
 def shown(ended):
     print(f"== {ended.name}\n{''.join(ended.lines)}", end="", flush=True)
     return ended
@@ -209,17 +232,19 @@ def main():
     sys.stdout.reconfigure(encoding="utf-8", errors="replace")
     for number in (signal.SIGINT, signal.SIGTERM, signal.SIGHUP):
         signal.signal(number, lambda number, _: sys.exit(128 + number))
-    start = time.monotonic()
+    start, is_quick = time.monotonic(), sys.argv[1:] == ["--quick"]
     with tempfile.TemporaryDirectory(prefix="check-") as room:
         runs = Runs(room)
         try:
-            ended = list(all_parts(runs))
+            ended = list(quick_parts(runs) if is_quick else all_parts(runs))
         finally:
             runs.end()
     for it in ended:
         print(f"{it.name}: {it.passed} passed, {it.failed} failed, {clock(it.seconds)}")
     used = resource.getrusage(resource.RUSAGE_CHILDREN)
     print(f"in all {clock(time.monotonic() - start)}, and {clock(used.ru_utime + used.ru_stime)} of processors")
+    if is_quick:
+        print("nothing was proved, and nothing ran that needs the proved library or program: ./check does all")
     passed, failed = sum(it.passed for it in ended), sum(it.failed for it in ended)
     print(f"{passed} passed, {failed} failed")
     return 1 if failed else 0
