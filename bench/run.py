@@ -182,7 +182,7 @@ def main():
         words.peer = PEER
     for path in (words.program, words.peer):
         if not os.access(path, os.X_OK):
-            sys.exit(f"run.py: {path} isn't there; ./tracerun builds the program")
+            sys.exit(f"run.py: {path} isn't there; ./tracerun --prove builds the program")
     become_parent_of_orphans()
     results = measured(words)
     print(tables.all_tables(results), end="")
