@@ -4,8 +4,8 @@
 usage: prove.py CRATE..
 
 The crates are named lowest first. Each is proved by `rt lib` in its folder once those that it needs are, side by side
-with others, and the program is proved and built by `rt run`. The processors are shared among those that begin at the
-same time. What is proved stays in the folders out/, so a run that is broken off goes on from there the next time.
+with others, and the program is proved and built by `rt run`. Those that begin together share the processors. What is
+proved stays in the folders out/, so a run that is broken off goes on from there the next time.
 
 Standard error tells how far it is: on a terminal in one line that is drawn anew, elsewhere in a line for each crate and
 one each minute. What is left is guessed by the times of the last run on this machine that proved a crate from nothing,
@@ -77,12 +77,12 @@ class Proof:
         self.name, self.needs, self.is_program = name, needs, is_program
         self.functions, self.seconds = listed
         self.checked, self.lines, self.process, self.start, self.took = 0, [], None, None, None
-        self.jobs = self.of_this_run = 0
+        self.of_this_run = 0
 
     def begin(self, jobs):
         words = ["rt", "run" if self.is_program else "lib", "--jobs", str(jobs)]
         words += ["--", "replay"] if self.is_program else []
-        self.jobs, self.start = jobs, time.monotonic()
+        self.start = time.monotonic()
         self.process = subprocess.Popen(
             words, cwd=TOP / "crates" / self.name, start_new_session=True, encoding="utf-8", errors="replace",
             stdin=subprocess.DEVNULL, stdout=subprocess.PIPE, stderr=subprocess.STDOUT)
@@ -129,6 +129,15 @@ class Proof:
             self.process.wait()
 
 
+def ways_through(proofs):
+    """Of each crate the seconds of the longest way from it to the program, with its own."""
+    ways = {}
+    for proof in reversed(proofs):
+        above = [ways[it.name] for it in proofs if proof.name in it.needs]
+        ways[proof.name] = proof.left() + max(above, default=0)
+    return ways
+
+
 class Progress:
     """How far all is: on a terminal a line that is drawn anew, elsewhere a line for each crate and each minute."""
 
@@ -138,14 +147,10 @@ class Progress:
 
     def left(self):
         """The longest way through what is left, at the pace until now, or none where nothing is known of it."""
-        ways = {}
-        for proof in reversed(self.proofs):
-            above = [ways[it.name] for it in self.proofs if proof.name in it.needs]
-            ways[proof.name] = proof.left() + max(above, default=0)
         ended = [it for it in self.proofs if it.is_proved() and it.seconds and it.of_this_run >= it.functions]
         listed = sum(it.seconds for it in ended)
         pace = sum(it.took for it in ended) / listed if listed else 1
-        return max(ways.values()) * pace if all(it.seconds for it in self.proofs) else None
+        return max(ways_through(self.proofs).values()) * pace if all(it.seconds for it in self.proofs) else None
 
     def so_far(self):
         done, whole = sum(it.done() for it in self.proofs), sum(it.functions for it in self.proofs)
@@ -170,16 +175,16 @@ class Progress:
 
 
 def begin_those_that_can(proofs, whole):
-    """Shares the processors that are free among the crates that need none any more that isn't proved."""
+    """Begins the crates that need none any more that isn't proved, those with the longest ways first.
+
+    They share all processors, since no proof gets more of them later, when those that are at work now have ended.
+    """
     proved = {it.name for it in proofs if it.is_proved()}
-    ready = [it for it in proofs if not it.process and it.needs <= proved]
-    free = whole - sum(it.jobs for it in proofs if it.is_at_work())
-    # (the longest first, and none that would find no processor)
-    ready = sorted(ready, key=lambda it: -it.seconds)[: max(free, 0)]
-    for place, proof in enumerate(ready):
-        jobs = -(-free // (len(ready) - place))
-        proof.begin(jobs)
-        free -= jobs
+    ways = ways_through(proofs)
+    ready = sorted((it for it in proofs if not it.process and it.needs <= proved), key=lambda it: -ways[it.name])
+    ready = ready[: max(0, whole - sum(it.is_at_work() for it in proofs))]
+    for proof in ready:
+        proof.begin(-(-whole // len(ready)))
 
 
 def prove(proofs, progress):
