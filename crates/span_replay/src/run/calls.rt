@@ -135,7 +135,7 @@ fn refusal<V: Say, A: Admit>(core: &Core<Latest<V>, A>, fault: Fault) -> Result<
     Ok(Answer::Refused(fault))
 }
 
-/// The outlet never lacked a place: it takes memory for each batch.
+/// The outlet never lacked a place: it keeps no batch, and each comes in place of the one before.
 fn outlet_has_places<V: Say, A: Admit>(core: &Core<Latest<V>, A>)
     ensures { core.now.times_full ≡ 0 }
 {

@@ -1,4 +1,4 @@
-//! A script as far as its calls have run: the registry, the labels, and how many lines of notes were written.
+//! A script as far as its calls have run: the registry, the labels, and of how many batches the notes were written.
 ghost use Rattle.std.specs.Prelude.{◌≡◌, ◌<◌, ◌≤◌, ◌++◌, [], None, Ok, ℕ, IfOk, IfErr, OnOk};
 ghost use Rattle.std.specs.Prelude.{length, flat_map, reverse};
 ghost use Rattle.span_core.specs.Happening.{id_at};

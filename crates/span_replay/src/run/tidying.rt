@@ -25,7 +25,7 @@ use std::alloc::Global;
 use std::io::Write;
 use std::mem;
 
-/// What becomes of the memory that a run kept for its history, its spans and its labels.
+/// What becomes of the memory that a run kept for its spans, its workers' entries and its labels.
 #[derive(Clone, Copy, Debug, PartialEq, Eq)]
 pub enum Remains {
     /// It is freed.
