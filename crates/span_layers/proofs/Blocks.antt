@@ -1,6 +1,6 @@
--- From the mask of a block to bytes that a form writes as they are.
-use Rattle.std.proofs.Common.{◌≡◌, ℕ, suc, ◌+◌, ◌%◌, ◌^◌, ◌≤◌, ltb, Bool, true, false, cond, ◌==◌, ◌||◌, List, [], ◌∷◌, ◌++◌, length, map, replicate, bit_or, refl, sym, ap, ap₂, ◌∙◌, arith}
-use Rattle.std.proofs.lemmas.Bool.{or_parts, eqb-true, eqb-false, ltb-false, ne_eqb}
+-- From the mask of a block to bytes that the compact form writes as they are.
+use Rattle.std.proofs.Common.{◌≡◌, ℕ, suc, ◌+◌, ◌%◌, ◌^◌, ◌≤◌, Bool, true, false, cond, ◌==◌, ◌||◌, List, [], ◌∷◌, ◌++◌, length, map, replicate, bit_or, refl, sym, ap, ap₂, ◌∙◌, arith}
+use Rattle.std.proofs.lemmas.Bool.{or_parts, eqb-true, eqb-false, ne_eqb}
 use Rattle.std.proofs.lemmas.List.{length-map}
 use Rattle.std.proofs.lemmas.Simd.{length-chunk, mask_l-mod, none_from_empty_mask}
 use Rattle.std.specs.Bool.{OnTrue}
@@ -9,13 +9,13 @@ use Rattle.span_layers.specs.Text.{escape, escaped}
 use Rattle.span_layers.specs.inside.Clean.{is_special, IsCleanIn}
 
 -- the three tests of a block of n bytes, joined lane by lane
-abbrev tests : ℕ → ℕ → ℕ → List ℕ → List ℕ
-tests other bound n block =
+abbrev tests : ℕ → List ℕ → List ℕ
+tests n block =
     zip2 bit_or
     (zip2 bit_or
     (zip2 (λ a b. cond (a == b) 255 0) block (replicate n 92))
-    (zip2 (λ a b. cond (a == b) 255 0) block (replicate n other)))
-    (zip2 (λ a b. cond (ltb a b) 255 0) block (replicate n bound))
+    (zip2 (λ a b. cond (a == b) 255 0) block (replicate n 10)))
+    (zip2 (λ a b. cond (a == b) 255 0) block (replicate n 13))
 
 lane : (a b c : Bool) → top 7 (bit_or (bit_or (cond a 255 0) (cond b 255 0)) (cond c 255 0)) ≡ (a || b) || c
 lane true true true = refl
@@ -27,39 +27,38 @@ lane false true false = refl
 lane false false true = refl
 lane false false false = refl
 
-lanes : (other bound : ℕ) (block : List ℕ) → map (top 7) (tests other bound (length block) block) ≡ map (is_special other bound) block
-lanes other bound [] = refl
-lanes other bound (x ∷ xs) = ap₂ (λ a b. a ∷ b) (lane (x == 92) (x == other) (ltb x bound)) (lanes other bound xs)
+lanes : (block : List ℕ) → map (top 7) (tests (length block) block) ≡ map is_special block
+lanes [] = refl
+lanes (x ∷ xs) = ap₂ (λ a b. a ∷ b) (lane (x == 92) (x == 10) (x == 13)) (lanes xs)
 
-mask : (other bound n : ℕ) (block : List ℕ) → length block ≡ n → n ≤ 64 → mask_l (map (top 7) (tests other bound n block)) % 2 ^ 64 ≡ mask_l (map (is_special other bound) block)
-mask other bound n block long few =
-    ap (λ k. mask_l (map (top 7) (tests other bound k block)) % 2 ^ 64) (sym long)
-    ∙ ap (λ l. mask_l l % 2 ^ 64) (lanes other bound block)
-    ∙ mask_l-mod (map (is_special other bound) block) 64 (omega (arith, length-map block (is_special other bound)))
+mask : (n : ℕ) (block : List ℕ) → length block ≡ n → n ≤ 64 → mask_l (map (top 7) (tests n block)) % 2 ^ 64 ≡ mask_l (map is_special block)
+mask n block long few =
+    ap (λ k. mask_l (map (top 7) (tests k block)) % 2 ^ 64) (sym long)
+    ∙ ap (λ l. mask_l l % 2 ^ 64) (lanes block)
+    ∙ mask_l-mod (map is_special block) 64 (omega (arith, length-map block is_special))
 
 on_true : (b : Bool) (P : Type 0) → (b ≡ true → P) → OnTrue b P
 on_true true P f = f refl
 on_true false P f = tt
 
 -- where the mask of the n bytes from i on is empty, none of them is special
-pub clean_from_block : (bytes : List ℕ) (other bound i n : ℕ) → i + n ≤ length bytes → n ≤ 64
-    → OnTrue (mask_l (map (top 7) (tests other bound n (chunk i n bytes))) % 2 ^ 64 == 0) (IsCleanIn other bound bytes i (i + n))
-clean_from_block bytes other bound i n room few =
-    let same = mask other bound n (chunk i n bytes) (length-chunk i n bytes room) few in
-    on_true _ _ (λ empty. none_from_empty_mask (is_special other bound) bytes i n 0 room (sym same ∙ eqb-true _ 0 empty))
+pub clean_from_block : (bytes : List ℕ) (i n : ℕ) → i + n ≤ length bytes → n ≤ 64
+    → OnTrue (mask_l (map (top 7) (tests n (chunk i n bytes))) % 2 ^ 64 == 0) (IsCleanIn bytes i (i + n))
+clean_from_block bytes i n room few =
+    let same = mask n (chunk i n bytes) (length-chunk i n bytes room) few in
+    on_true _ _ (λ empty. none_from_empty_mask is_special bytes i n 0 room (sym same ∙ eqb-true _ 0 empty))
 
-escape_clean : (byte : ℕ) → is_special 92 14 byte ≡ false → escape byte ≡ byte ∷ []
+escape_clean : (byte : ℕ) → is_special byte ≡ false → escape byte ≡ byte ∷ []
 escape_clean byte clean =
     let parts = or_parts _ _ clean in
-    let slash = eqb-false byte 92 (or_parts _ _ parts.0).0 in
-    let low = ltb-false byte 14 parts.1 in
-    rw (ne_eqb byte 92 slash, ne_eqb byte 10 (omega arith), ne_eqb byte 13 (omega arith)) refl
+    let first = or_parts _ _ parts.0 in
+    rw (ne_eqb byte 92 (eqb-false byte 92 first.0), ne_eqb byte 10 (eqb-false byte 10 first.1), ne_eqb byte 13 (eqb-false byte 13 parts.1)) refl
 
-escaped_clean : (bytes : List ℕ) → IsCleanIn 92 14 bytes 0 (length bytes) → escaped bytes ≡ bytes
+escaped_clean : (bytes : List ℕ) → IsCleanIn bytes 0 (length bytes) → escaped bytes ≡ bytes
 escaped_clean [] clean = refl
 escaped_clean (x ∷ xs) clean =
     ap₂ (λ a b. a ++ b) (escape_clean x (clean 0 (omega arith) (omega arith))) (escaped_clean xs (λ k from to. clean (suc k) (omega arith) (omega arith)))
 
-pub escaped_on_clean : (b : Bool) (bytes : List ℕ) → OnTrue b (IsCleanIn 92 14 bytes 0 (length bytes)) → OnTrue b (escaped bytes ≡ bytes)
+pub escaped_on_clean : (b : Bool) (bytes : List ℕ) → OnTrue b (IsCleanIn bytes 0 (length bytes)) → OnTrue b (escaped bytes ≡ bytes)
 escaped_on_clean true bytes clean = escaped_clean bytes clean
 escaped_on_clean false bytes clean = tt

@@ -1,115 +1,79 @@
-//! Whether a text has no byte that a form escapes, asked of many bytes at once.
-ghost use Rattle.std.specs.Prelude.{◌≡◌, ◌+◌, ◌≤◌, length};
+//! Which bytes of a text the compact form escapes, asked of many bytes at once.
+//!
+//! The method is that of copies of short lengths: a stretch of N to 2 N bytes is covered by its first N and its last N,
+//! which may share some. So two tests of one width serve many lengths, and few bytes are left to a loop.
+ghost use Rattle.std.specs.Prelude.{◌≡◌, ◌+◌, ◌*◌, ◌≤◌, length, nat_eq};
 ghost use Rattle.std.specs.Bool.{OnTrue};
 ghost use Rattle.span_layers.specs.Text.{escaped};
 ghost use Rattle.span_layers.specs.inside.Clean.{IsCleanIn};
 
 use std::simd::prelude::*;
 
-// The newline and the carriage return are below this.
-const COMPACT_BOUND: u8 = 14;
-
-/// Whether the compact form writes the text as it is. It may say no of a text with a tab or another control character.
-#[inline]
-pub(crate) fn is_clean_compact(text: &[u8]) -> bool
+/// Whether the compact form writes the text as it is.
+#[inline(always)]
+pub(crate) fn is_clean(text: &[u8]) -> bool
     ensures { OnTrue result (escaped text.now ≡ text.now) }
 {
-    is_clean(text, b'\\', COMPACT_BOUND)
-}
-
-// Whether no byte is a backslash, the other byte or below the bound. Where the length is no multiple of a block's, the
-// last block begins inside the one before it.
-#[inline(always)]
-fn is_clean(text: &[u8], other: u8, bound: u8) -> bool
-    ensures { OnTrue result (IsCleanIn other bound text.now 0 (length text.now)) }
-{
-    let len = text.len();
-    if len > 32 {
-        is_clean_long(text, other, bound)
-    } else if len >= 16 {
-        is_clean_16(text, 0, other, bound) && is_clean_16(text, len - 16, other, bound)
-    } else if len >= 8 {
-        is_clean_8(text, 0, other, bound) && is_clean_8(text, len - 8, other, bound)
-    } else if len >= 4 {
-        is_clean_4(text, 0, other, bound) && is_clean_4(text, len - 4, other, bound)
-    } else {
-        is_clean_few(text, other, bound)
-    }
+    has_no_escapes(text)
 }
 
 #[inline(always)]
-fn is_clean_long(text: &[u8], other: u8, bound: u8) -> bool
-    requires { 32 ≤ length text.now }
-    ensures { OnTrue result (IsCleanIn other bound text.now 0 (length text.now)) }
+fn has_no_escapes(text: &[u8]) -> bool
+    ensures { OnTrue result (IsCleanIn text.now 0 (length text.now)) }
 {
-    let last = text.len() - 32;
-    let mut at = 0;
-    while at < last {
-        if !is_clean_32(text, at, other, bound) {
+    let end = text.len();
+    let mut start = 0;
+    while end - start > 64 {
+        if !are_ends_clean::<32>(text, start, start + 64) {
             return false;
         }
-        at += 32;
+        start += 64;
     }
-    is_clean_32(text, last, other, bound)
+    match end - start {
+        0..4 => is_rest_clean(text, start),
+        4..8 => are_ends_clean::<4>(text, start, end),
+        8..16 => are_ends_clean::<8>(text, start, end),
+        16..32 => are_ends_clean::<16>(text, start, end),
+        _ => are_ends_clean::<32>(text, start, end),
+    }
 }
 
+// The same of the bytes between two places, which are as many as a block has, up to twice as many.
 #[inline(always)]
-fn is_clean_32(text: &[u8], at: usize, other: u8, bound: u8) -> bool
-    requires { at + 32 ≤ length text.now }
-    ensures { OnTrue result (IsCleanIn other bound text.now at (at + 32)) }
+fn are_ends_clean<const N: usize>(text: &[u8], start: usize, end: usize) -> bool
+    requires block { N ≤ 64 }
+    requires covered { (start + N ≤ end) × (end ≤ start + 2 * N) × (end ≤ length text.now) }
+    ensures { OnTrue result (IsCleanIn text.now start end) }
 {
-    let block = u8x32::from_slice(&text[at..]);
-    let slash = block.simd_eq(u8x32::splat(b'\\'));
-    let other = block.simd_eq(u8x32::splat(other));
-    let low = block.simd_lt(u8x32::splat(bound));
-    (slash | other | low).to_bitmask() == 0
+    let first = escapes_in::<N>(text, start);
+    let last = escapes_in::<N>(text, end - N);
+    (first == 0) & (last == 0)
 }
 
+// The same of the bytes from a place on, which are too few for a block.
 #[inline(always)]
-fn is_clean_16(text: &[u8], at: usize, other: u8, bound: u8) -> bool
-    requires { at + 16 ≤ length text.now }
-    ensures { OnTrue result (IsCleanIn other bound text.now at (at + 16)) }
+fn is_rest_clean(text: &[u8], start: usize) -> bool
+    requires { start ≤ length text.now }
+    ensures { OnTrue result (IsCleanIn text.now start (length text.now)) }
 {
-    let block = u8x16::from_slice(&text[at..]);
-    let slash = block.simd_eq(u8x16::splat(b'\\'));
-    let other = block.simd_eq(u8x16::splat(other));
-    let low = block.simd_lt(u8x16::splat(bound));
-    (slash | other | low).to_bitmask() == 0
-}
-
-#[inline(always)]
-fn is_clean_8(text: &[u8], at: usize, other: u8, bound: u8) -> bool
-    requires { at + 8 ≤ length text.now }
-    ensures { OnTrue result (IsCleanIn other bound text.now at (at + 8)) }
-{
-    let block = u8x8::from_slice(&text[at..]);
-    let slash = block.simd_eq(u8x8::splat(b'\\'));
-    let other = block.simd_eq(u8x8::splat(other));
-    let low = block.simd_lt(u8x8::splat(bound));
-    (slash | other | low).to_bitmask() == 0
-}
-
-#[inline(always)]
-fn is_clean_4(text: &[u8], at: usize, other: u8, bound: u8) -> bool
-    requires { at + 4 ≤ length text.now }
-    ensures { OnTrue result (IsCleanIn other bound text.now at (at + 4)) }
-{
-    let block = u8x4::from_slice(&text[at..]);
-    let slash = block.simd_eq(u8x4::splat(b'\\'));
-    let other = block.simd_eq(u8x4::splat(other));
-    let low = block.simd_lt(u8x4::splat(bound));
-    (slash | other | low).to_bitmask() == 0
-}
-
-// Byte by byte, for texts that are too short for a block.
-#[inline(always)]
-fn is_clean_few(text: &[u8], other: u8, bound: u8) -> bool
-    ensures { OnTrue result (IsCleanIn other bound text.now 0 (length text.now)) }
-{
-    for &byte in text {
-        if byte == b'\\' || byte == other || byte < bound {
+    for at in start..text.len() {
+        if matches!(text[at], b'\\' | b'\n' | b'\r') {
             return false;
         }
     }
     true
+}
+
+/// Which of the N bytes from a place on the compact form escapes, as the bits of a mask, the first byte's the lowest.
+#[inline(always)]
+pub(crate) fn escapes_in<const N: usize>(text: &[u8], start: usize) -> u64
+    requires block { N ≤ 64 }
+    requires inside { start + N ≤ length text.now }
+    ensures { OnTrue (nat_eq result 0) (IsCleanIn text.now start (start + N)) }
+{
+    let block = Simd::<u8, N>::from_slice(&text[start..]);
+    let slash = block.simd_eq(Simd::splat(b'\\'));
+    let newline = block.simd_eq(Simd::splat(b'\n'));
+    let carriage_return = block.simd_eq(Simd::splat(b'\r'));
+    (slash | newline | carriage_return).to_bitmask()
 }
