@@ -17,6 +17,7 @@ pub(crate) fn is_clean(text: &[u8]) -> bool
     has_no_escapes(text)
 }
 
+// Whether none of its bytes is escaped.
 #[inline(always)]
 fn has_no_escapes(text: &[u8]) -> bool
     ensures { OnTrue result (IsCleanIn text.now 0 (length text.now)) }
@@ -30,11 +31,11 @@ fn has_no_escapes(text: &[u8]) -> bool
         start += 64;
     }
     match end - start {
-        0..4 => is_rest_clean(text, start),
-        4..8 => are_ends_clean::<4>(text, start, end),
-        8..16 => are_ends_clean::<8>(text, start, end),
+        32..=64 => are_ends_clean::<32>(text, start, end),
         16..32 => are_ends_clean::<16>(text, start, end),
-        _ => are_ends_clean::<32>(text, start, end),
+        8..16 => are_ends_clean::<8>(text, start, end),
+        4..8 => are_ends_clean::<4>(text, start, end),
+        _ => is_rest_clean(text, start),
     }
 }
 
