@@ -22,8 +22,9 @@ const MOST_ROOM: usize = 4096;
 // A list gives back the room that it has for more lines than this.
 const MOST_LINES: usize = 64;
 
-// A text keeps room for as many bytes more: fewer aren't worth that it is moved.
-const MOST_LEFT: usize = 16;
+// A text keeps room for as many bytes more: what a JSON text with nothing to escape and no long message or value leaves
+// at most. To give them back takes some 400 instructions, a third of what the text itself takes.
+const MOST_LEFT: usize = 67;
 
 /// The lines so far, and how many notes were missed.
 #[derive(Drop)]

@@ -231,10 +231,10 @@ fn has_texts_with_room(rt: &impl Abort, alloc: Global, room: usize) {
     send_all_to_both(rt, alloc, &mut kept, &mut latest);
 }
 
-// More than 16 bytes of room are given back, and the room of a text with more than 4096.
+// More than 67 bytes of room are given back, and the room of a text with more than 4096.
 #[test]
 fn texts_with_room_behind_them(rt: HostRuntime) {
-    for room in [16, 17, 5000] {
+    for room in [67, 68, 5000] {
         has_texts_with_room(&rt, rt.alloc(), room);
     }
 }
