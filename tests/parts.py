@@ -8,6 +8,7 @@ leaves in crates/NAME/out/. A part whose program or library wasn't made failed; 
 run, and says so. With --quick nothing is proved, and the parts that QUICK lists run side by side. The last line is
 'N passed, M failed', the sums of what the parts say in such a line.
 """
+import contextlib
 import os
 import re
 import resource
@@ -134,7 +135,8 @@ class Runs:
     def end(self):
         self.is_over = True
         for process in list(self.running):
-            os.killpg(process.pid, signal.SIGTERM)
+            with contextlib.suppress(ProcessLookupError):
+                os.killpg(process.pid, signal.SIGTERM)
             process.wait()
 
 

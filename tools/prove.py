@@ -13,6 +13,7 @@ which are kept in kozhumir/prove_times of the user's cache, else by those of pro
 for each crate, with its number of functions and the seconds on the clock. The status is 0, or 4 where not all is
 proved, after what rt said of that.
 """
+import contextlib
 import os
 import re
 import resource
@@ -76,8 +77,8 @@ class Proof:
     def __init__(self, name, needs, is_program, listed):
         self.name, self.needs, self.is_program = name, needs, is_program
         self.functions, self.seconds = listed
-        self.checked, self.lines, self.process, self.start, self.took = 0, [], None, None, None
-        self.of_this_run = 0
+        self.lines, self.process, self.start, self.took = [], None, None, None
+        self.checked = self.of_this_run = 0
 
     def begin(self, jobs):
         words = ["rt", "run" if self.is_program else "lib", "--jobs", str(jobs)]
@@ -125,7 +126,8 @@ class Proof:
 
     def end(self):
         if self.is_at_work():
-            os.killpg(self.process.pid, signal.SIGTERM)
+            with contextlib.suppress(ProcessLookupError):
+                os.killpg(self.process.pid, signal.SIGTERM)
             self.process.wait()
 
 
@@ -206,11 +208,10 @@ def keep_times(proofs):
     times = times_in(LAST)
     times.update({it.name: (it.functions, round(it.took)) for it in proofs
                   if it.is_proved() and it.of_this_run and it.of_this_run >= it.functions})
-    try:
+    # (else the next run guesses by the listed times)
+    with contextlib.suppress(OSError):
         LAST.parent.mkdir(parents=True, exist_ok=True)
         LAST.write_text("".join(f"{name} {count} {took}\n" for name, (count, took) in times.items()), encoding="utf-8")
-    except OSError:
-        pass  # the next run guesses by the listed times
 
 
 def prove_all(proofs, progress):
