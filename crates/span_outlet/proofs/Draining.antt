@@ -15,7 +15,7 @@ use Rattle.span_outlet.specs.Lines.{PlainLine, plain_line}
 use Rattle.span_outlet.specs.Kept.{NumberedNote, numbered_in, AreTold, GainsLines}
 use Rattle.span_outlet.specs.Kept.AreTold.{none, told, missed}
 use Rattle.span_outlet.specs.Drain.{TakesBatch}
-use Rattle.span_outlet.specs.inside.Posted.{plain_posted}
+use Rattle.span_outlet.specs.Posted.{plain_posted}
 use Rattle.span_outlet.specs.inside.Telling.{numbered_notes}
 
 -- ---- each note is told or missed

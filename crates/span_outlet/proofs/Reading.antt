@@ -16,7 +16,7 @@ use Rattle.span_outlet.specs.Lines.{plain_line}
 use Rattle.span_outlet.specs.Kept.{numbered_in, numbered, AreKept, GainsLines}
 use Rattle.span_outlet.specs.Kept.AreTold.{none}
 use Rattle.span_outlet.specs.LineReader.{LineReaderView, numbered_from, TakesBatches, AreLeft}
-use Rattle.span_outlet.specs.inside.Posted.{plain_posted}
+use Rattle.span_outlet.specs.Posted.{plain_posted}
 use Rattle.span_outlet.specs.inside.Reading.{reader_view}
 use Rattle.span_outlet.proofs.Keeping.{gains_none, gains_more, kept_more}
 use Rattle.span_outlet.proofs.Apart.{of_one_batch}

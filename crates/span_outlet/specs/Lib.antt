@@ -4,6 +4,7 @@ pub mod KnownEvent
 pub mod Outlet
 pub mod Lines
 pub mod Kept
+pub mod Posted
 pub mod Past
 pub mod Latest
 pub mod Ring

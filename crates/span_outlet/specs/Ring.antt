@@ -8,7 +8,7 @@ abbrev pub places_of : RingName → ℕ
 places_of name = name.names.0
 
 -- its name, the batches sent so far, how many places it knows to be free, whether the last `room` answered true and
--- no `put` came since, and how often `room` answered false
+-- nothing was sent since, and how often `room` answered false
 pub record RingView : Type 0 where
   pub name : RingName
   pub sent : List PlainBatch

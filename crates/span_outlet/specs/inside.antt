@@ -1,6 +1,5 @@
 -- What only the proofs of this crate need: no public clause cites it.
 pub mod Ends
 pub mod OfLayer
-pub mod Posted
 pub mod Reading
 pub mod Telling

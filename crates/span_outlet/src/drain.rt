@@ -44,7 +44,7 @@ impl<V> Model for Drain<V> {
     ghost use Rattle.span_outlet.specs.Kept.{AreKept, numbered};
     ghost use Rattle.span_outlet.specs.Drain.{DrainView};
     ghost use Rattle.span_outlet.specs.inside.Ends.{name_of_consumer};
-    ghost use Rattle.span_outlet.specs.inside.Posted.{plain_posted};
+    ghost use Rattle.span_outlet.specs.Posted.{plain_posted};
 
     ghost Value = { DrainView };
 

@@ -5,7 +5,7 @@ ghost use Rattle.span_outlet.specs.KnownEvent.{batch_of_known};
 ghost use Rattle.span_outlet.specs.Lines.{plain_line};
 ghost use Rattle.span_outlet.specs.Kept.{GainsLines, numbered_in};
 ghost use Rattle.span_outlet.specs.Latest.{last_lines};
-ghost use Rattle.span_outlet.specs.inside.Posted.{plain_posted};
+ghost use Rattle.span_outlet.specs.Posted.{plain_posted};
 
 use crate::batch::Batch;
 use crate::known_event::KnownEvent;

@@ -5,7 +5,7 @@ ghost use Rattle.span_outlet.specs.Lines.{plain_line};
 ghost use Rattle.span_outlet.specs.Outlet.{one_more};
 ghost use Rattle.span_outlet.specs.LineReader.{AreLeft, AreOfLast, TakesBatches, looks_of_fill};
 ghost use Rattle.span_outlet.specs.inside.Ends.{name_of_consumer};
-ghost use Rattle.span_outlet.specs.inside.Posted.{plain_posted};
+ghost use Rattle.span_outlet.specs.Posted.{plain_posted};
 ghost use Rattle.span_outlet.specs.inside.Reading.{reader_view};
 
 use crate::line::Line;

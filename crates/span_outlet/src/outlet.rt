@@ -14,7 +14,7 @@ pub trait Outlet {
     /// The batches sent so far.
     ghost sent: { Self → List PlainBatch };
 
-    /// Whether the last `room` answered true, and no `put` came since.
+    /// Whether the last `room` answered true, and nothing was sent since, by `put` or by `put_event`.
     ghost ready: { Self → Bool };
 
     /// How often `room` answered false. An outlet stores it as a `u64`, which stays at its greatest value.
@@ -78,8 +78,10 @@ pub trait Outlet {
         None
     }
 
-    /// Whether batches are kept as they are sent, for somebody to take. Then the notes of two batches share nothing, so
-    /// that a batch that is taken is the only owner of what it tells. It is a hint: no contract rests on it.
+    /// Whether batches are kept as they are sent, for somebody to take. Then a core tells no path in a batch that it told
+    /// in an earlier one, so whoever takes a batch is the only owner of its paths. Fields and metas are shared all the
+    /// same: a span's notes have its fields, whatever batches they are in, and batches of one meta may have one copy of
+    /// it. It is a hint: no contract rests on it.
     fn keeps_batches(&self) -> bool {
         true
     }

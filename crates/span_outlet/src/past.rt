@@ -1,7 +1,7 @@
 //! A history that is known and not kept.
 ghost use Rattle.std.specs.Prelude.{◌≡◌, ◌++◌, ◌∷◌, []};
 ghost use Rattle.span_outlet.specs.Past.{batches_of};
-ghost use Rattle.span_outlet.specs.inside.Posted.{plain_posted};
+ghost use Rattle.span_outlet.specs.Posted.{plain_posted};
 
 use crate::posted::Posted;
 use std::mem;

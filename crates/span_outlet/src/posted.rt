@@ -2,7 +2,7 @@
 ghost use Rattle.std.specs.Prelude.{◌≡◌};
 ghost use Rattle.span_outlet.specs.Batch.{plain_batch};
 ghost use Rattle.span_outlet.specs.KnownEvent.{batch_of_known};
-ghost use Rattle.span_outlet.specs.inside.Posted.{plain_posted};
+ghost use Rattle.span_outlet.specs.Posted.{plain_posted};
 
 use crate::batch::{Batch, Call, Reply};
 use crate::known_event::KnownEvent;

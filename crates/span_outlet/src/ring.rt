@@ -6,7 +6,7 @@ ghost use Rattle.span_outlet.specs.KnownEvent.{batch_of_known};
 ghost use Rattle.span_outlet.specs.Outlet.{one_more};
 ghost use Rattle.span_outlet.specs.Ring.{places_of};
 ghost use Rattle.span_outlet.specs.inside.Ends.{name_of_consumer};
-ghost use Rattle.span_outlet.specs.inside.Posted.{plain_posted};
+ghost use Rattle.span_outlet.specs.Posted.{plain_posted};
 
 use crate::batch::Batch;
 use crate::known_event::KnownEvent;
@@ -47,7 +47,7 @@ impl Model for Ring {
     ghost use Rattle.rtrb.specs.Ring.{sent, known_free};
     ghost use Rattle.span_outlet.specs.Ring.{RingView};
     ghost use Rattle.span_outlet.specs.inside.Ends.{name_of_producer};
-    ghost use Rattle.span_outlet.specs.inside.Posted.{plain_posted};
+    ghost use Rattle.span_outlet.specs.Posted.{plain_posted};
 
     ghost Value = { RingView };
 

@@ -6,7 +6,7 @@ use Rattle.span_outlet.specs.declared.line.Line.{Line}
 use Rattle.span_outlet.specs.Lines.{plain_line}
 use Rattle.span_outlet.specs.Outlet.{RingName}
 use Rattle.span_outlet.specs.LineReader.{LineReaderView}
-use Rattle.span_outlet.specs.inside.Posted.{plain_posted}
+use Rattle.span_outlet.specs.Posted.{plain_posted}
 
 -- the looks, the batches that it took, and the lines that wait, in order
 abbrev pub reader_view : RingName → ℕ → List Form → List Posted → List Line → ℕ → LineReaderView

@@ -7,7 +7,7 @@ use Rattle.span_outlet.specs.declared.posted.Posted.{Posted}
 use Rattle.span_outlet.specs.declared.line.Line.{Line}
 use Rattle.span_outlet.specs.Lines.{plain_line}
 use Rattle.span_outlet.specs.Kept.{GainsLines, NumberedNote, numbered_in}
-use Rattle.span_outlet.specs.inside.Posted.{plain_posted}
+use Rattle.span_outlet.specs.Posted.{plain_posted}
 
 -- the notes of a batch with this number
 abbrev pub numbered_notes : ℕ → List PlainNote → List NumberedNote

@@ -3,7 +3,7 @@ use Rattle.rtrb.specs.Ring.{received, known_items}
 use Rattle.span_outlet.specs.LineReader.{TakesBatches}
 use Rattle.span_outlet.specs.inside.Ends.{name_of_consumer}
 use Rattle.span_outlet.specs.inside.Reading.{reader_view}
-use Rattle.span_outlet.specs.inside.Posted.{plain_posted}
+use Rattle.span_outlet.specs.Posted.{plain_posted}
 use Rattle.span_outlet.proofs.line_reader.take_until_told.Given as goal
 
 -- what was taken had no line, and the batches that are still to come stand in the ring

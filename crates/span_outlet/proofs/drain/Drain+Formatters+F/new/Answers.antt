@@ -1,6 +1,6 @@
 use Rattle.std.proofs.Common.{rules}
 use Rattle.rtrb.specs.Ring.{received}
-use Rattle.span_outlet.specs.inside.Posted.{plain_posted}
+use Rattle.span_outlet.specs.Posted.{plain_posted}
 use Rattle.span_outlet.proofs.Keeping.{nothing_kept}
 use Rattle.span_outlet.proofs.drain.Drain+Formatters+F.new.Goals as goal
 

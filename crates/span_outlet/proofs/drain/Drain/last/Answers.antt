@@ -1,7 +1,7 @@
 use Rattle.std.proofs.Common.{◌∷◌, [], length, map, ap, ◌∙◌, arith}
 use Rattle.rtrb.specs.Ring.{received}
 use Rattle.std.proofs.lemmas.List.{map-append}
-use Rattle.span_outlet.specs.inside.Posted.{plain_posted}
+use Rattle.span_outlet.specs.Posted.{plain_posted}
 use Rattle.span_outlet.proofs.Keeping.{kept_more, batch_kept}
 use Rattle.span_outlet.proofs.Draining.{moved_on, prefix_more}
 use Rattle.span_outlet.proofs.drain.Drain.last.Goals as goal

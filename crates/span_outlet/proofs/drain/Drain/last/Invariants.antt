@@ -4,7 +4,7 @@ use Rattle.rtrb.specs.Ring.{received, known_items}
 use Rattle.span_outlet.specs.Lines.{plain_line}
 use Rattle.span_outlet.specs.Kept.{AreKept, numbered}
 use Rattle.span_outlet.specs.inside.Ends.{name_of_consumer}
-use Rattle.span_outlet.specs.inside.Posted.{plain_posted}
+use Rattle.span_outlet.specs.Posted.{plain_posted}
 use Rattle.span_outlet.proofs.drain.Drain.last.Given as goal
 
 -- what was taken is kept, and with what still stands in the ring it is all that was sent

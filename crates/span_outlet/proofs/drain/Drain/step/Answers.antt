@@ -1,6 +1,6 @@
 use Rattle.std.proofs.Common.{rules, ◌≡◌, ◌∷◌, ◌++◌, []}
 use Rattle.rtrb.specs.Ring.{received}
-use Rattle.span_outlet.specs.inside.Posted.{plain_posted}
+use Rattle.span_outlet.specs.Posted.{plain_posted}
 use Rattle.span_outlet.proofs.Keeping.{as_shown, kept_more, batch_kept}
 use Rattle.span_outlet.proofs.Draining.{batch_taken, one_more_taken}
 use Rattle.span_outlet.proofs.drain.Drain.step.Goals as goal

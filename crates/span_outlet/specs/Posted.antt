@@ -1,4 +1,4 @@
--- A batch of which the notes alone are kept: no public clause cites it.
+-- A batch of which the notes alone are kept: its call and its reply are known and have no bytes.
 use Rattle.std.specs.Prelude.{map}
 use Rattle.span_layers.specs.Note.{plain_note}
 use Rattle.span_outlet.specs.declared.posted.Posted.{Posted}
