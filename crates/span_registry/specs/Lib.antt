@@ -1,9 +1,13 @@
 -- The words of the core and of what leaves it, again.
 pub use Rattle.span_outlet.specs.Request
 pub use Rattle.span_outlet.specs.Batch
+pub use Rattle.span_outlet.specs.KnownEvent
 pub use Rattle.span_outlet.specs.Outlet
 pub use Rattle.span_outlet.specs.Lines
 pub use Rattle.span_outlet.specs.Kept
+pub use Rattle.span_outlet.specs.Posted
+pub use Rattle.span_outlet.specs.Past
+pub use Rattle.span_outlet.specs.Latest
 pub use Rattle.span_outlet.specs.Ring
 pub use Rattle.span_outlet.specs.Drain
 pub use Rattle.span_outlet.specs.LineReader

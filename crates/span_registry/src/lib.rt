@@ -32,8 +32,8 @@ pub use setup::Setup;
 pub use share::Share;
 pub use span_core::Core;
 pub use span_outlet::{
-    Batch, Call, Drain, Kept, LayerLines, Line, LineReader, Outlet, ParentOf, Reply, Ring, Step,
-    Tap,
+    Batch, Call, Drain, Kept, KnownEvent, Latest, LayerLines, Line, LineReader, Outlet, ParentOf,
+    Reply, Ring, Step, Tap,
 };
 pub use span_seats::{SeatTable, TableName};
 pub use worker::Worker;
