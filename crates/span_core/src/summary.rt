@@ -60,9 +60,9 @@ impl Summary {
 
     /// Summarises a few more blocks of a worker's stack, where it is deep: of no more entries than earlier events looked
     /// at in vain, the duplicates that they skipped apart, so that whatever calls are made, this takes no more time than
-    /// their looks took. What they looked at is used up by the next event in a deep stack. Where the blocks are another worker's they are forgotten, and none is
-    /// summarised in that call: so workers with deep stacks that tell events by turns summarise none. Where memory is
-    /// refused it is fewer blocks, which is no error.
+    /// their looks took. What they looked at is used up by the next event in a deep stack. Where the blocks are another
+    /// worker's they are forgotten, and none is summarised in that call: so workers with deep stacks that tell events by
+    /// turns summarise none. Where memory is refused it is fewer blocks, which is no error.
     pub(crate) fn extend(
         &mut self,
         forest: &Forest,
