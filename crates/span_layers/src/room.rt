@@ -20,8 +20,8 @@ const COMPACT_TOLD: usize = 2;
 // Room for what is escaped in bytes that the compact form doesn't look at.
 const COMPACT_SPARE: usize = 15;
 
-// A JSON text without its path, its message and its fields has at most 114 bytes. With ordinary numbers there is room for
-// some 30 bytes of escapes in an event's text, and for some 60 in others.
+// A JSON text without its path, its message and its fields has at most 114 bytes. With ordinary numbers there is room
+// for some 30 bytes of escapes in an event's text, and for some 60 in others.
 const JSON_FRAME: usize = 120;
 
 // `["",""],` with its comma, which the last pair lacks.
