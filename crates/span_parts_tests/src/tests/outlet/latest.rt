@@ -10,7 +10,8 @@ use std::alloc::{AllocError, Global};
 use std::process::Abort;
 use std::sync::ArcStr;
 
-static FORMS: [Form; 2] = [Form::Json, Form::Compact];
+/// The forms of the layers.
+pub(crate) static FORMS: [Form; 2] = [Form::Json, Form::Compact];
 
 // The lines that are kept from this one on.
 fn from<'a>(rt: &impl Abort, lines: &'a [Line], first: usize) -> &'a [Line] {
@@ -68,8 +69,8 @@ fn layer_at(place: usize) -> (u32, &'static str) {
     }
 }
 
-// The note at this place, an event whose text has so many bytes.
-fn event(rt: &impl Abort, alloc: Global, place: usize, bytes: usize) -> Note {
+/// The note at this place, an event whose text has so many bytes.
+pub(crate) fn event(rt: &impl Abort, alloc: Global, place: usize, bytes: usize) -> Note {
     let (layer, around) = layer_at(place);
     let letters = bytes.saturating_sub(around.len());
     let message = "x".repeat(alloc, letters).expect(rt, "memory");
@@ -87,8 +88,8 @@ fn event(rt: &impl Abort, alloc: Global, place: usize, bytes: usize) -> Note {
     }
 }
 
-// Sends a batch whose notes have texts of so many bytes, in the list that the outlet has to spare.
-fn send_texts<O: Outlet>(rt: &impl Abort, alloc: Global, outlet: &mut O, texts: &[usize])
+/// Sends a batch whose notes have texts of so many bytes, in the list that the outlet has to spare.
+pub(crate) fn send_texts<O: Outlet>(rt: &impl Abort, alloc: Global, outlet: &mut O, texts: &[usize])
     requires { length (O.sent outlet.old) < 2 ^ 64 - 1 }
     ensures { length (O.sent outlet.new) ≤ length (O.sent outlet.old) + 1 }
 {
