@@ -12,7 +12,7 @@ use std::process::Abort;
 // The longest text whose buffer is kept, and the most room that is left behind a text that isn't.
 const MOST: usize = 4096;
 
-const LEFT: usize = 16;
+const LEFT: usize = 67;
 
 // The most buffers that are kept.
 const BUFFERS: usize = 64;
