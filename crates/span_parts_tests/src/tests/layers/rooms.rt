@@ -1,5 +1,5 @@
-//! How much longer than its text a buffer is: a few bytes, wherever an escape stands, and a short text with many escapes
-//! doesn't make it grow.
+//! How much longer than its text a buffer is: a few bytes, wherever an escape stands, and a short text with many
+//! escapes doesn't make it grow.
 
 use crate::tests::compare::{holds, same};
 use crate::tests::layers::fixtures::fields;
