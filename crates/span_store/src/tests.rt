@@ -89,3 +89,24 @@ fn counts_and_slots_have_limits(rt: HostRuntime) -> Result<(), Fail> {
     assert_eq!(rt; spans.add(None, Bits(0), 4), Err(Fault::Full));
     Ok(())
 }
+
+#[test]
+fn a_walk_meets_open_and_closing_spans_by_their_slots(rt: HostRuntime) -> Result<(), Fail> {
+    let mut spans = store(rt.alloc(), 4, 9)?;
+    assert_eq!(rt; spans.id_from(0), None);
+    let first = spans.add(None, Bits(0), 1)?;
+    let second = spans.add(None, Bits(0), 2)?;
+    let third = spans.add(Some(second), Bits(0), 3)?;
+    assert_eq!(rt; spans.release(third), Ok(true));
+    assert_eq!(rt; spans.release(first), Ok(true));
+    assert_eq!(rt; spans.ended(first), Ok(None));
+    assert_eq!(rt; spans.id_from(0), Some(second));
+    assert_eq!(rt; spans.id_from(2), Some(third));
+    assert_eq!(rt; spans.id_from(3), None);
+    let again = spans.add(None, Bits(0), 4)?;
+    assert_eq!(rt; spans.id_from(0), Some(again));
+    assert_eq!(rt; again, Id::pack(0, 1));
+    assert_eq!(rt; spans.id_from(1), Some(second));
+    assert_eq!(rt; spans.id_from(u32::MAX), None);
+    Ok(())
+}
