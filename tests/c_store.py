@@ -1,5 +1,5 @@
-"""Builds the C programs of tests/c for the store against the static library of crates/span_store_ffi, and runs each with
-the sanitizers of the C compiler and under valgrind. The last line is 'N passed, M failed'.
+"""Builds the C programs of tests/c for the store against the static library of crates/span_store_ffi, and runs each
+with the sanitizers of the C compiler and under valgrind. The last line is 'N passed, M failed'.
 
 The library is that of `rt lib`, which is made first where it isn't there or a source is newer, or that of --library.
 The C compiler is $CC, else cc. --stores says how many stores the random calls are tried on.

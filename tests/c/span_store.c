@@ -1,5 +1,6 @@
 /* Uses the C interface of the store: what its calls answer and give, and what they leave as it was. The last line that
- * it prints is 'N passed, M failed'. It is linked with --wrap=malloc and --wrap=realloc, so that memory can be refused. */
+ * it prints is 'N passed, M failed'. It is linked with --wrap=malloc and --wrap=realloc, so that memory can be
+ * refused. */
 #include "checks.h"
 #include "span_store.h"
 
@@ -192,7 +193,7 @@ static void test_walk(void) {
     close_store();
 }
 
-/* words that own memory, and a store that is let go with spans there: a leak is seen by the sanitizer and by valgrind */
+/* words that own memory, and a store that is let go with spans there: the sanitizer and valgrind see a leak */
 static void test_words_are_given_back(void) {
     SpanStoreFound found;
     int freed = 0;

@@ -1,7 +1,7 @@
-/* Random calls on stores of few slots, each against a plain model of this file's own: what every call answers and writes,
- * what every id that was ever given finds then, what is counted, and a walk. The model counts children by looking at all
- * spans, and notes of each span how often it was told to be closing: once, after all of its children ended. The argument
- * is how many stores are tried. The last line that is printed is 'N passed, M failed'. */
+/* Random calls on stores of few slots, each against a plain model of this file's own: what every call answers and
+ * writes, what every id that was ever given finds then, what is counted, and a walk. The model counts children by
+ * looking at all spans, and notes of each span how often it was told to be closing: once, after all of its children
+ * ended. The argument is how many stores are tried. The last line that is printed is 'N passed, M failed'. */
 #include "span_store.h"
 
 #include <stdint.h>

@@ -65,8 +65,8 @@ static int passes(uint64_t id) {
     return makes(id) && closes(id) && ends(id);
 }
 
-/* slot 0 is retired, slot 1 has its second span, which is open, slot 2 is free again, slot 3 has a span that is closing,
- * slot 4 was never used */
+/* slot 0 is retired, slot 1 has its second span, which is open, slot 2 is free again, slot 3 has a span that is
+ * closing, slot 4 was never used */
 static int opens_with_a_past(void) {
     return span_store_new(&store, 5, 1, 9) == SPAN_STORE_OK && passes(1) && passes(GENERATION + 1) && passes(2)
         && makes(OPEN) && makes(3) && makes(CLOSING) && closes(CLOSING) && closes(3) && ends(3);

@@ -1,8 +1,8 @@
 //! A store of spans that close in two steps, for callers that tell of a close outside their lock.
 //!
-//! A release answers that nothing holds the span any longer: it is closing. It stays there, with its hold of its parent,
-//! until its end is told; that frees its slot, and answers the parent where nothing holds that any longer. So at most
-//! one span becomes closing by a call, and none while a child of it is there.
+//! A release answers that nothing holds the span any longer: it is closing. It stays there, with its hold of its
+//! parent, until its end is told; that frees its slot, and answers the parent where nothing holds that any longer. So
+//! at most one span becomes closing by a call, and none while a child of it is there.
 #![tactic(auto)]
 
 mod adding;

@@ -18,8 +18,8 @@ use std::marker::Model;
 
 /// Spans under their ids, with what holds them.
 ///
-/// No call but `new` takes memory, and each other call costs the same however many spans are there, but for `id_from`. What
-/// a store promises beside its calls' contracts is said by the functions of [`laws`].
+/// No call but `new` takes memory, and each other call costs the same however many spans are there, but for `id_from`.
+/// What a store promises beside its calls' contracts is said by the functions of [`laws`].
 #[derive(Debug, Drop)]
 pub struct Store {
     slots: Slots<Entry>,
@@ -75,8 +75,8 @@ impl Store {
         self.slots.get(id)
     }
 
-    /// The lowest id that is there, by slots, from this slot on; closing spans are among them. Who goes on at the slot after
-    /// the one that was told meets each span once, as before a store with open spans is let go.
+    /// The lowest id that is there, by slots, from this slot on; closing spans are among them. Who goes on at the slot
+    /// after the one that was told meets each span once, as before a store with open spans is let go.
     ///
     /// It looks at each slot that was ever used from there on, up to the one that it tells.
     pub fn id_from(&self, slot: u32) -> Option<Id>
@@ -108,8 +108,8 @@ impl Store {
 
     /// Makes a span with this word. It has one handle, and holds its parent.
     ///
-    /// Refused in this order: `Unknown` where the parent isn't there or is closing, `CountFull` where the parent's count
-    /// stands at its greatest, `Full` where no slot is free.
+    /// Refused in this order: `Unknown` where the parent isn't there or is closing, `CountFull` where the parent's
+    /// count stands at its greatest, `Full` where no slot is free.
     pub fn add(&mut self, parent: Option<Id>, bits: Bits, word: u64) -> Result<Id, Fault>
         ensures accepted { OnOk result (refusal self.old (Add parent bits.0 word) ≡ None) }
         ensures refused { IfErr result (λ fault. refusal self.old (Add parent bits.0 word) ≡ Some fault) }
@@ -149,8 +149,8 @@ impl Store {
         Ok(())
     }
 
-    /// Gives one handle of a span back, and answers whether the span is closing now: no handle of it is left, and no child
-    /// of it is there. It is answered once, and `ended` is then to be called once.
+    /// Gives one handle of a span back, and answers whether the span is closing now: no handle of it is left, and no
+    /// child of it is there. It is answered once, and `ended` is then to be called once.
     ///
     /// Refused with `Unknown` where the span has no handle.
     pub fn release(&mut self, id: Id) -> Result<bool, Fault>
@@ -167,8 +167,8 @@ impl Store {
         Ok(closing)
     }
 
-    /// Ends a span that is closing: its slot is free, and its id finds nothing ever again. It gives back the hold of its
-    /// parent, and answers the parent where that is closing now.
+    /// Ends a span that is closing: its slot is free, and its id finds nothing ever again. It gives back the hold of
+    /// its parent, and answers the parent where that is closing now.
     ///
     /// Refused with `Unknown` where the span isn't closing.
     pub fn ended(&mut self, id: Id) -> Result<Option<Id>, Fault>

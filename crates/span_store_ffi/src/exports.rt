@@ -287,8 +287,8 @@ fn next(store: &Store, after: u64, id: &mut u64) -> Status
     Status::Done
 }
 
-/// The next span that is there, by slots, after one of this id, whether or not that is there; or the first one, where that
-/// is 0. Its id is told, or 0 where none is left.
+/// The next span that is there, by slots, after one of this id, whether or not that is there; or the first one, where
+/// that is 0. Its id is told, or 0 where none is left.
 #[unsafe(no_mangle)]
 pub extern "C" fn span_store_next(
     alloc: Global,

@@ -1,7 +1,7 @@
 //! What every store promises over its calls: each function does nothing, and its contract is the promise.
 //!
-//! `Add`, `Keep`, `Release` and `Ended` stand for the calls; `after` is the store after one of them, `after_all` after any
-//! number, and `told` the span that a call tells to be closing now.
+//! `Add`, `Keep`, `Release` and `Ended` stand for the calls; `after` is the store after one of them, `after_all` after
+//! any number, and `told` the span that a call tells to be closing now.
 ghost use Rattle.std.specs.Prelude.{◌≡◌, ◌≢◌, ℕ, ◌+◌, ◌<◌, ◌≤◌, ◌↔◌, List, [], ◌∷◌, map, Option, Some, None, length};
 ghost use Rattle.span_id.specs.Id.{IsId, slot_of};
 ghost use Rattle.span_id.specs.declared.fault.Fault.TheVariants.{Unknown};
@@ -21,8 +21,8 @@ pub fn what_becomes_closing_is_told(store: &Store)
     let _opened = &store.slots;
 }
 
-/// Each span is told to be closing at most once, however many calls are made; and once where it wasn't closing before them
-/// and is after them.
+/// Each span is told to be closing at most once, however many calls are made; and once where it wasn't closing before
+/// them and is after them.
 pub fn each_span_is_told_once(store: &Store)
     ensures at_most { (id : ℕ) (calls : List Call) → times_told id store.now calls ≤ 1 }
     ensures once { (id : ℕ) (calls : List Call) → (IsClosing store.now.table.entries id → ⊥) →
@@ -93,8 +93,8 @@ pub fn empty_where_nothing_is_held(store: &Store)
     let _opened = &store.slots;
 }
 
-/// An accepted `add` and `keep` make the handles of all spans one more, `release` one less, and `ended` leaves them; and as
-/// many spans are there as were added and didn't end.
+/// An accepted `add` and `keep` make the handles of all spans one more, `release` one less, and `ended` leaves them;
+/// and as many spans are there as were added and didn't end.
 pub fn numbers_follow_the_calls(store: &Store)
     ensures handles { (call : Call) → refusal store.now call ≡ None →
         total_handles (after store.now call).table.entries ≡ handles_then (total_handles store.now.table.entries) call }
@@ -104,8 +104,8 @@ pub fn numbers_follow_the_calls(store: &Store)
     let _opened = &store.slots;
 }
 
-/// However many calls later, as many spans are there as before them and as were added and didn't end; and as many handles
-/// as before them and as were given by `add` and `keep` and not given back.
+/// However many calls later, as many spans are there as before them and as were added and didn't end; and as many
+/// handles as before them and as were given by `add` and `keep` and not given back.
 pub fn as_many_are_there_as_did_not_end(store: &Store)
     ensures spans { (calls : List Call) →
         length (after_all store.now calls).table.entries + times_accepted is_ended store.now calls
@@ -118,8 +118,8 @@ pub fn as_many_are_there_as_did_not_end(store: &Store)
     let _opened = &store.slots;
 }
 
-/// A walk by `id_from`, which begins at slot 0 and goes on at the slot after the one that was told, meets the id of each
-/// span that is there once, and no other: by ascending slot.
+/// A walk by `id_from`, which begins at slot 0 and goes on at the slot after the one that was told, meets the id of
+/// each span that is there once, and no other: by ascending slot.
 pub fn a_walk_meets_each_span_once(store: &Store)
     ensures all { ids_from store.now.table.entries 0 ≡ map (λ e. e.0) store.now.table.entries }
     ensures next { (slot id : ℕ) → id_from store.now.table.entries slot ≡ Some id →
@@ -146,8 +146,8 @@ pub fn a_span_keeps_what_it_was_made_with(store: &Store)
     let _opened = &store.slots;
 }
 
-/// The new id finds the new span, and each other id finds what it found before. The other calls change the span of their
-/// id alone.
+/// The new id finds the new span, and each other id finds what it found before. The other calls change the span of
+/// their id alone.
 pub fn calls_change_their_span_alone(store: &Store)
     ensures added { (parent : Option ℕ) (bits word id : ℕ) → refusal store.now (Add parent bits word) ≡ None →
         next_id store.now.table ≡ Some id →
