@@ -68,7 +68,7 @@ fn is_left(rt: &impl Abort, alloc: Global, texts: (usize, usize), want: usize) {
     same(rt, with_capacity(latest.lines(), want), 1, room);
 }
 
-// More than 16 bytes are given back.
+// More room than a plain text leaves is given back.
 #[test]
 fn a_new_text_has_little_room(rt: HostRuntime) {
     let alloc = rt.alloc();
