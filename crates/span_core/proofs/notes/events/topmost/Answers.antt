@@ -1,4 +1,4 @@
-use Rattle.std.proofs.Common.{◌≡◌, ◌∙◌, ℕ, Bool, Some, None, refl, sym, ap}
+use Rattle.std.proofs.Common.{◌∙◌, ℕ, Bool, Some, None, sym, ap}
 use Rattle.std.specs.List.{find as first_that}
 use Rattle.span_id.specs.Bits.{has_bit}
 use Rattle.span_forest.specs.Spans.{Spans}
