@@ -15,8 +15,9 @@ use std::mem;
 const MOST_LEFT: usize = 2;
 
 /// The metas that were copied lately, to be shared where they come again, the fields of events that were copied lately,
-/// to be written over where nobody else has them, the paths that were told at spans, and a list for the notes of a call
-/// to come, which has no memory where there is none.
+/// to be written over where nobody else has them, the paths that were told at spans that are open, and a list for the
+/// notes of a call to come, which has no memory where there is none. The metas and the fields have less than 64 KiB
+/// together, whatever is told.
 #[derive(Drop)]
 pub(crate) struct Recent {
     pub(crate) alloc: Global,
