@@ -32,7 +32,7 @@ pub fn run_rest<V: Say, A: Admit, W: Write>(
     alloc: Global,
     workers: u32,
     core: Core<Latest<V>, A>,
-    rest: &Rest<'_>,
+    rest: Rest<'_>,
     remains: Remains,
     text: &mut Vec<u8>,
     output: &mut Counted<W>,
@@ -41,12 +41,12 @@ pub fn run_rest<V: Say, A: Admit, W: Write>(
     requires fresh { core.sent ≡ [] }
     requires workers { workers ≡ core.limits.workers }
     requires some { 1 ≤ workers }
-    requires call { IfSome rest.now.value (λ value. is_setup (view value) ≡ false) }
-    requires done { IfNone rest.now.value (rest.now.lines.now ≡ []) }
-    requires place { rest.now.number + length rest.now.lines.now ≤ most_bytes + 1 }
+    requires call { IfSome rest.value (λ value. is_setup (view value) ≡ false) }
+    requires done { IfNone rest.value (rest.lines.now ≡ []) }
+    requires place { rest.number + length rest.lines.now ≤ most_bytes + 1 }
     ensures runs { (hooks : ℕ) (stage : Stage) →
-        Runs (resumed_run hooks rest.now.number (record { core = core; labels = []; stage = stage })
-        (option_map view rest.now.value) rest.now.lines.now)
+        Runs (resumed_run hooks rest.entry.number (record { core = core; labels = []; stage = stage })
+        (option_map view rest.entry.value) rest.entry.lines.now)
         (W.contents (inner_of output.old)) (W.contents (inner_of output.new)) result }
     ensures counts { EndsAsCounted 0 0 (failed_of output.old) (failed_of output.new) result }
     ensures flushes { flushes_of output.new ≡ flushes_of output.old }
@@ -59,19 +59,19 @@ pub fn run_rest<V: Say, A: Admit, W: Write>(
 fn run_to_end<V: Say, A: Admit, W: Write>(
     alloc: Global,
     mut script: Script<V, A>,
-    rest: &Rest<'_>,
+    rest: Rest<'_>,
     remains: Remains,
     text: &mut Vec<u8>,
     output: &mut Counted<W>,
 ) -> Result<u64, RunFault>
     requires failed { failed_of output.old < 2 ^ 63 }
     requires written { IsWritten script }
-    requires call { IfSome rest.now.value (λ value. is_setup (view value) ≡ false) }
-    requires done { IfNone rest.now.value (rest.now.lines.now ≡ []) }
-    requires place { rest.now.number + length rest.now.lines.now ≤ most_bytes + 1 }
+    requires call { IfSome rest.value (λ value. is_setup (view value) ≡ false) }
+    requires done { IfNone rest.value (rest.lines.now ≡ []) }
+    requires place { rest.number + length rest.lines.now ≤ most_bytes + 1 }
     ensures runs { (hooks : ℕ) (stage : Stage) →
-        Runs (resumed_run hooks rest.now.number (state_at script stage) (option_map view rest.now.value)
-        rest.now.lines.now) (W.contents (inner_of output.old)) (W.contents (inner_of output.new)) result }
+        Runs (resumed_run hooks rest.entry.number (state_at script stage) (option_map view rest.entry.value)
+        rest.entry.lines.now) (W.contents (inner_of output.old)) (W.contents (inner_of output.new)) result }
     ensures counts { EndsAsCounted 0 0 (failed_of output.old) (failed_of output.new) result }
     ensures flushes { flushes_of output.new ≡ flushes_of output.old }
 {
@@ -83,19 +83,19 @@ fn run_to_end<V: Say, A: Admit, W: Write>(
 /// Runs what is left of a script, and then the tidying.
 fn run_and_tidy<V: Say, A: Admit, W: Write>(
     alloc: Global,
-    rest: &Rest<'_>,
+    rest: Rest<'_>,
     script: &mut Script<V, A>,
     text: &mut Vec<u8>,
     output: &mut Counted<W>,
 ) -> Result<u64, RunFault>
     requires failed { failed_of output.old < 2 ^ 63 }
     requires written { IsWritten script.old }
-    requires call { IfSome rest.now.value (λ value. is_setup (view value) ≡ false) }
-    requires done { IfNone rest.now.value (rest.now.lines.now ≡ []) }
-    requires place { rest.now.number + length rest.now.lines.now ≤ most_bytes + 1 }
+    requires call { IfSome rest.value (λ value. is_setup (view value) ≡ false) }
+    requires done { IfNone rest.value (rest.lines.now ≡ []) }
+    requires place { rest.number + length rest.lines.now ≤ most_bytes + 1 }
     ensures runs { (hooks : ℕ) (stage : Stage) →
-        Runs (resumed_run hooks rest.now.number (state_at script.old stage) (option_map view rest.now.value)
-        rest.now.lines.now) (W.contents (inner_of output.old)) (W.contents (inner_of output.new)) result }
+        Runs (resumed_run hooks rest.entry.number (state_at script.old stage) (option_map view rest.entry.value)
+        rest.entry.lines.now) (W.contents (inner_of output.old)) (W.contents (inner_of output.new)) result }
     ensures counts { EndsAsCounted 0 0 (failed_of output.old) (failed_of output.new) result }
     ensures flushes { flushes_of output.new ≡ flushes_of output.old }
 {
@@ -108,33 +108,38 @@ fn run_and_tidy<V: Say, A: Admit, W: Write>(
 /// Runs the line whose value was read already, and then the other lines that are left.
 fn run_first<V: Say, A: Admit, W: Write>(
     alloc: Global,
-    rest: &Rest<'_>,
+    rest: Rest<'_>,
     script: &mut Script<V, A>,
     text: &mut Vec<u8>,
     output: &mut Counted<W>,
 ) -> Result<(), RunFault>
     requires failed { failed_of output.old < 2 ^ 63 }
     requires written { IsWritten script.old }
-    requires call { IfSome rest.now.value (λ value. is_setup (view value) ≡ false) }
-    requires done { IfNone rest.now.value (rest.now.lines.now ≡ []) }
-    requires place { rest.now.number + length rest.now.lines.now ≤ most_bytes + 1 }
+    requires call { IfSome rest.value (λ value. is_setup (view value) ≡ false) }
+    requires done { IfNone rest.value (rest.lines.now ≡ []) }
+    requires place { rest.number + length rest.lines.now ≤ most_bytes + 1 }
     ensures sent { OnOk result
         ((hooks : ℕ) (stage : Stage) → Sent (W.contents (inner_of output.old)) (W.contents (inner_of output.new))
-        (resumed_run hooks rest.now.number (state_at script.old stage) (option_map view rest.now.value)
-        rest.now.lines.now) (last_part (state_at script.new running))) }
+        (resumed_run hooks rest.entry.number (state_at script.old stage) (option_map view rest.entry.value)
+        rest.entry.lines.now) (last_part (state_at script.new running))) }
     ensures written { OnOk result (IsWritten script.new) }
     ensures err { IfErr result (λ fault. (hooks : ℕ) (stage : Stage) →
-        Fails (resumed_run hooks rest.now.number (state_at script.old stage) (option_map view rest.now.value)
-        rest.now.lines.now)
+        Fails (resumed_run hooks rest.entry.number (state_at script.old stage) (option_map view rest.entry.value)
+        rest.entry.lines.now)
         (W.contents (inner_of output.old)) (W.contents (inner_of output.new)) fault) }
     ensures counts { EndsAsCounted 0 0 (failed_of output.old) (failed_of output.new) result }
     ensures flushes { flushes_of output.new ≡ flushes_of output.old }
 {
-    let Some(value) = &rest.value else {
+    let Rest {
+        number,
+        value,
+        lines,
+    } = rest;
+    let Some(value) = value else {
         return Ok(());
     };
-    match run_value(alloc, rest.number, value, script, text, output) {
-        Ok(()) => run_lines(alloc, rest.number + 1, rest.lines, script, text, output),
+    match run_value(alloc, number, value, script, text, output) {
+        Ok(()) => run_lines(alloc, number + 1, lines, script, text, output),
         Err(fault) => Err(fault),
     }
 }
@@ -204,16 +209,17 @@ fn run_line<V: Say, A: Admit, W: Write>(
     ensures flushes { flushes_of output.new ≡ flushes_of output.old }
 {
     match json_line(alloc, line, scratch) {
-        Ok(value) => run_value(alloc, number, &value, script, text, output),
+        Ok(value) => run_value(alloc, number, value, script, text, output),
         Err(stop) => Err(at_line(number, stop)),
     }
 }
 
-/// Runs the line of a JSON value, and writes its notes and its answer.
+/// Runs the line of a JSON value, and writes its notes and its answer. The value ends with its line: its members may
+/// take much memory, of which the later lines need nothing.
 fn run_value<V: Say, A: Admit, W: Write>(
     alloc: Global,
     number: u64,
-    line: &Value<'_>,
+    line: Value<'_>,
     script: &mut Script<V, A>,
     text: &mut Vec<u8>,
     output: &mut Counted<W>,
@@ -221,17 +227,17 @@ fn run_value<V: Say, A: Admit, W: Write>(
     requires failed { failed_of output.old < 2 ^ 63 }
     requires written { IsWritten script.old }
     ensures turned { OnOk result
-        ((hooks : ℕ) → HasTurned (value_turn hooks (state_at script.old running) (view line.now))
+        ((hooks : ℕ) → HasTurned (value_turn hooks (state_at script.old running) (view line.entry))
         (state_at script.new running)
         (W.contents (inner_of output.old)) (W.contents (inner_of output.new))) }
     ensures written { OnOk result (IsWritten script.new) }
     ensures err { IfErr result
-        (λ fault. (hooks : ℕ) → TurnFails (value_turn hooks (state_at script.old running) (view line.now)) number
+        (λ fault. (hooks : ℕ) → TurnFails (value_turn hooks (state_at script.old running) (view line.entry)) number
         (W.contents (inner_of output.old)) (W.contents (inner_of output.new)) fault) }
     ensures counts { EndsAsCounted 0 0 (failed_of output.old) (failed_of output.new) result }
     ensures flushes { flushes_of output.new ≡ flushes_of output.old }
 {
-    match call(alloc, line, script, text) {
+    match call(alloc, &line, script, text) {
         Ok(()) => write_text(output, text.as_slice()),
         Err(stop) => Err(at_line(number, stop)),
     }

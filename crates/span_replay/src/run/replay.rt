@@ -199,7 +199,7 @@ where
                     value: Some(value),
                     lines,
                 };
-                return run_set_up(alloc, setup, &rest, remains, text, output);
+                return run_set_up(alloc, setup, rest, remains, text, output);
             }
             Err(fault) => return Err(fault),
         }
@@ -209,14 +209,14 @@ where
         value: None,
         lines,
     };
-    run_set_up(alloc, setup, &rest, remains, text, output)
+    run_set_up(alloc, setup, rest, remains, text, output)
 }
 
 /// Runs what is left of a script, with the limits and the layers that its first lines gave.
 fn run_set_up<A: Drop, F: Drop, W: Write>(
     alloc: Global,
     setup: Setup<A, F>,
-    rest: &Rest<'_>,
+    rest: Rest<'_>,
     remains: Remains,
     text: &mut Vec<u8>,
     output: &mut Counted<W>,
@@ -225,12 +225,12 @@ where
     Admitters<A>: Admit,
     Formatters<F>: Say,
     requires failed { failed_of output.old < 2 ^ 63 }
-    requires call { IfSome rest.now.value (λ value. is_setup (view value) ≡ false) }
-    requires done { IfNone rest.now.value (rest.now.lines.now ≡ []) }
-    requires place { rest.now.number + length rest.now.lines.now ≤ most_bytes + 1 }
+    requires call { IfSome rest.value (λ value. is_setup (view value) ≡ false) }
+    requires done { IfNone rest.value (rest.lines.now ≡ []) }
+    requires place { rest.number + length rest.lines.now ≤ most_bytes + 1 }
     ensures runs { (hooks : ℕ) →
-        Runs (resumed_run hooks rest.now.number (setup_state setup) (option_map view rest.now.value) rest.now.lines.now)
-        (W.contents (inner_of output.old)) (W.contents (inner_of output.new)) result }
+        Runs (resumed_run hooks rest.entry.number (setup_state setup) (option_map view rest.entry.value)
+        rest.entry.lines.now) (W.contents (inner_of output.old)) (W.contents (inner_of output.new)) result }
     ensures counts { EndsAsCounted 0 0 (failed_of output.old) (failed_of output.new) result }
     ensures flushes { flushes_of output.new ≡ flushes_of output.old }
 {
@@ -246,18 +246,18 @@ fn run_opened<V: Say, A: Admit, W: Write>(
     opened: Opened,
     admitters: A,
     formatters: V,
-    rest: &Rest<'_>,
+    rest: Rest<'_>,
     remains: Remains,
     text: &mut Vec<u8>,
     output: &mut Counted<W>,
 ) -> Result<u64, RunFault>
     requires failed { failed_of output.old < 2 ^ 63 }
-    requires call { IfSome rest.now.value (λ value. is_setup (view value) ≡ false) }
-    requires done { IfNone rest.now.value (rest.now.lines.now ≡ []) }
-    requires place { rest.now.number + length rest.now.lines.now ≤ most_bytes + 1 }
+    requires call { IfSome rest.value (λ value. is_setup (view value) ≡ false) }
+    requires done { IfNone rest.value (rest.lines.now ≡ []) }
+    requires place { rest.number + length rest.lines.now ≤ most_bytes + 1 }
     ensures runs { (hooks : ℕ) (stage : Stage) →
-        Runs (resumed_run hooks rest.now.number (opened_in opened stage) (option_map view rest.now.value) rest.now.lines.now)
-        (W.contents (inner_of output.old)) (W.contents (inner_of output.new)) result }
+        Runs (resumed_run hooks rest.entry.number (opened_in opened stage) (option_map view rest.entry.value)
+        rest.entry.lines.now) (W.contents (inner_of output.old)) (W.contents (inner_of output.new)) result }
     ensures counts { EndsAsCounted 0 0 (failed_of output.old) (failed_of output.new) result }
     ensures flushes { flushes_of output.new ≡ flushes_of output.old }
 {

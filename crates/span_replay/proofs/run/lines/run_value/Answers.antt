@@ -5,5 +5,5 @@ use Rattle.span_replay.proofs.run.lines.run_value.Goals as goal
 pub returns-in-Ok-clause-err : goal.returns-in-Ok-clause-err
 returns-in-Ok-clause-err g c = value_ends _ _ _ _ _ _ _ _ c.in-Ok.ensures.turned c.as_slice.ensures.value c.write_text.ensures.front c.write_text.ensures.device
 
-pub returns-in-Err-clause-err : goal.returns-in-Err-clause-err
-returns-in-Err-clause-err g c = λ hooks. stop_fails _ _ _ _ _ (c.in-Err.ensures.err hooks) c.at_line.ensures
+pub returns-clause-err : goal.returns-clause-err
+returns-clause-err g c = λ hooks. stop_fails _ _ _ _ _ (c.in-Err.ensures.err hooks) c.at_line.ensures
