@@ -2,9 +2,9 @@
 """Measures tracerun beside the peer, a program in plain Rust that does the same (bench/peer), and prints tables.
 
 Each kind of script is run at each size, by both programs in turn. `CPU` is user and system seconds together, the
-least of the runs; `peak` is the most memory that stayed in RAM; a ratio is tracerun's by the peer's. Both have to
-write the same bytes, or nothing is told. Scripts that cost more than their size are run at an eighth of each size.
-Storms are runs of `storm`, by so many workers; their time is by the clock, from the start of the program to its end,
+least of the runs; `peak` is the most memory that stayed in RAM; a ratio is tracerun's by the peer's, which keeps
+nothing, or by that of the peer that keeps its history (`kept`). All have to write the same bytes, or nothing is told.
+Scripts that cost more than their size are run at an eighth of each size. Storms are runs of `storm`, by so many workers; their time is by the clock, from the start of the program to its end,
 the middle one of the runs and the least one.
 
 With --out the tables, their numbers (results.json) and pictures of them (bench/draw.py) go to a folder.
@@ -83,7 +83,9 @@ def replay_row(programs, name, mib, runs):
         file.write(script)
         file.flush()
         del script
-        found = in_turn({it: [path, "replay"] for it, path in programs.items()}, file.name, runs)
+        words = {it: [path, "replay"] for it, path in programs.items()}
+        words["kept"] = [programs["peer"], "replay-kept"]
+        found = in_turn(words, file.name, runs)
     if not found["peer"][0].last.endswith(b"left 0\n"):
         sys.exit(f"run.py: the script {name} leaves spans open")
     row = {"kind": name, "mib": mib, "lines": lines, "size": size, "output": found["peer"][0].size}

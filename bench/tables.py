@@ -1,9 +1,15 @@
 """The tables of what run.py measured, in Markdown."""
+import math
 
 
-def ratio(row, what):
+def ratio(row, what, peer="peer"):
     """tracerun's by the peer's."""
-    return row["program"][what] / row["peer"][what]
+    return row["program"][what] / row[peer][what]
+
+
+def middle(ratios):
+    """The geometric mean."""
+    return math.exp(sum(math.log(it) for it in ratios) / len(ratios))
 
 
 def sizes_of(rows, kind):
@@ -42,16 +48,19 @@ def machine_line(results):
 
 
 def replay_table(rows):
-    head = ["script", "lines", "MB in", "MB out", "CPU s", "peer", "ratio", "lines/s", "peak MB", "peer", "ratio"]
-    return table(head, [
+    head = ["script", "lines", "MB in", "MB out", "CPU s", "peer", "ratio", "by kept", "peak MB", "peer", "ratio"]
+    lines = [
         [
             row["kind"], f"{row['lines']:,}", f"{row['size'] / 1e6:.1f}", f"{row['output'] / 1e6:.1f}",
             f"{row['program']['cpu']:.3f}", f"{row['peer']['cpu']:.3f}", f"{ratio(row, 'cpu'):.2f}",
-            f"{row['lines'] / row['program']['cpu']:,.0f}", f"{row['program']['peak'] / 1e6:.0f}",
+            f"{ratio(row, 'cpu', 'kept'):.2f}", f"{row['program']['peak'] / 1e6:.0f}",
             f"{row['peer']['peak'] / 1e6:.0f}", f"{ratio(row, 'peak'):.2f}",
         ]
         for row in largest_rows(rows)
-    ])
+    ]
+    means = [f"{middle([ratio(row, *by) for row in largest_rows(rows)]):.2f}" for by in (("cpu",), ("cpu", "kept"), ("peak",))]
+    lines.append(["geometric mean", "", "", "", "", "", means[0], means[1], "", "", means[2]])
+    return table(head, lines)
 
 
 def growth_table(rows):

@@ -16,13 +16,15 @@ mod storm;
 mod text;
 
 use loops::{Made, Shape};
+use outlet::{Kept, Shown, Streamed};
 use registry::Refusal;
 use replay::Fault;
 use std::io::{self, Write};
+use std::marker::PhantomData;
 use std::ops::RangeInclusive;
 use std::process::ExitCode;
 
-const USAGE: &str = "usage: peer replay
+const USAGE: &str = "usage: peer replay|replay-kept
        peer storm --workers 1..16 --rounds 1..400
        peer core|registry LAYERS FIELDS DEPTH ROUNDS
        peer bare-storm WORKERS ROUNDS
@@ -30,6 +32,7 @@ const USAGE: &str = "usage: peer replay
 
 enum Order {
     Replay,
+    ReplayKept,
     Storm { workers: u32, rounds: u32, layers: u32 },
     Loop(fn(&Shape) -> Result<Made, Refusal>, Shape),
     Chain { length: u32 },
@@ -39,6 +42,7 @@ fn order_of(words: &[String]) -> Option<Order> {
     let (first, rest) = words.split_first()?;
     match first.as_str() {
         "replay" if rest.is_empty() => Some(Order::Replay),
+        "replay-kept" if rest.is_empty() => Some(Order::ReplayKept),
         "storm" => storm_of(rest),
         "core" => Some(Order::Loop(loops::on_core, shape_of(rest)?)),
         "registry" => Some(Order::Loop(loops::on_registry, shape_of(rest)?)),
@@ -101,8 +105,8 @@ fn fail(status: u8, text: impl std::fmt::Display) -> ExitCode {
     ExitCode::from(status)
 }
 
-fn run_replay() -> ExitCode {
-    match replay::replay(io::stdin().lock(), io::stdout().lock()) {
+fn run_replay<O: Shown>(outlets: PhantomData<O>) -> ExitCode {
+    match replay::replay(io::stdin().lock(), io::stdout().lock(), outlets) {
         Ok(()) => ExitCode::SUCCESS,
         Err(fault @ Fault::Script(..)) => fail(1, fault),
         Err(fault) => fail(3, fault),
@@ -137,7 +141,8 @@ fn main() -> ExitCode {
         .map(|word| word.into_string().ok())
         .collect();
     match words.as_deref().and_then(order_of) {
-        Some(Order::Replay) => run_replay(),
+        Some(Order::Replay) => run_replay(PhantomData::<Streamed>),
+        Some(Order::ReplayKept) => run_replay(PhantomData::<Kept>),
         Some(Order::Storm {
             workers,
             rounds,

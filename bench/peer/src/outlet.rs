@@ -3,6 +3,7 @@ use crate::field::Fields;
 use crate::id::Id;
 use crate::layer::{Form, Level};
 use crate::note::Note;
+use crate::text::push_number;
 use std::mem;
 use std::sync::Arc;
 
@@ -121,11 +122,42 @@ impl Lines {
     }
 }
 
+/// An outlet whose lines are written in between the calls.
+pub trait Shown: Outlet + Default {
+    fn add_form(&mut self, form: Form);
+
+    /// Appends the lines that came since the last time, each with its layer in front.
+    fn show(&mut self, text: &mut Vec<u8>);
+}
+
+fn push_layer(text: &mut Vec<u8>, layer: u32) {
+    text.push(b'L');
+    push_number(text, u64::from(layer));
+    text.push(b' ');
+}
+
 /// Keeps all batches and their lines.
 #[derive(Default)]
 pub struct Kept {
     batches: Vec<Batch>,
-    pub lines: Lines,
+    lines: Lines,
+    /// How many lines were shown.
+    shown: usize,
+}
+
+impl Shown for Kept {
+    fn add_form(&mut self, form: Form) {
+        self.lines.forms.push(form);
+    }
+
+    fn show(&mut self, text: &mut Vec<u8>) {
+        for line in &self.lines.all[self.shown..] {
+            push_layer(text, line.layer);
+            text.extend_from_slice(&line.text);
+            text.push(b'\n');
+        }
+        self.shown = self.lines.all.len();
+    }
 }
 
 impl Outlet for Kept {
@@ -136,5 +168,36 @@ impl Outlet for Kept {
     fn put(&mut self, batch: Batch) {
         self.lines.add(&batch);
         self.batches.push(batch);
+    }
+}
+
+/// Keeps nothing but the lines that were not shown yet.
+#[derive(Default)]
+pub struct Streamed {
+    forms: Vec<Form>,
+    lines: Vec<u8>,
+}
+
+impl Outlet for Streamed {
+    fn has_room(&mut self) -> bool {
+        true
+    }
+
+    fn put(&mut self, batch: Batch) {
+        for note in &*batch.notes {
+            push_layer(&mut self.lines, note.layer);
+            note.write(self.forms[note.layer as usize], &mut self.lines);
+            self.lines.push(b'\n');
+        }
+    }
+}
+
+impl Shown for Streamed {
+    fn add_form(&mut self, form: Form) {
+        self.forms.push(form);
+    }
+
+    fn show(&mut self, text: &mut Vec<u8>) {
+        text.append(&mut self.lines);
     }
 }

@@ -2,13 +2,14 @@
 use crate::id::Id;
 use crate::layer::{Layer, MOST_LAYERS};
 use crate::operation::{self, Act, Event, Named, NewSpan, Operation, ParentNamed, Reason, Stage};
-use crate::outlet::Kept;
+use crate::outlet::Shown;
 use crate::registry::{Limits, Meta, ParentOf, Refusal, Registry};
 use crate::text::push_number;
 use std::borrow::Cow;
 use std::collections::HashMap;
 use std::fmt;
 use std::io::{Read, Write};
+use std::marker::PhantomData;
 use std::mem;
 
 const MOST_BYTES: u64 = 1 << 24;
@@ -34,8 +35,8 @@ impl fmt::Display for Fault {
     }
 }
 
-/// Runs the script that the input gives, and writes what it answers.
-pub fn replay(input: impl Read, output: impl Write) -> Result<(), Fault> {
+/// Runs the script that the input gives, and writes what it answers; `outlets` says what is kept of its calls.
+pub fn replay<O: Shown>(input: impl Read, output: impl Write, _outlets: PhantomData<O>) -> Result<(), Fault> {
     let mut script = Vec::new();
     input
         .take(MOST_BYTES + 1)
@@ -45,10 +46,9 @@ pub fn replay(input: impl Read, output: impl Write) -> Result<(), Fault> {
         return Err(Fault::Script(0, Reason::TooLong));
     }
     let mut run = Run {
-        registry: Registry::new(Limits::default(), Kept::default()),
+        registry: Registry::new(Limits::default(), O::default()),
         labels: HashMap::new(),
         stage: Stage::Start,
-        shown: 0,
         text: Vec::with_capacity(2 * WRITTEN_AT),
         output,
     };
@@ -67,12 +67,10 @@ fn is_blank(line: &[u8]) -> bool {
     line.iter().all(|byte| matches!(byte, b' ' | b'\t' | b'\r'))
 }
 
-struct Run<'a, W: Write> {
-    registry: Registry<Kept>,
+struct Run<'a, O, W: Write> {
+    registry: Registry<O>,
     labels: HashMap<Cow<'a, str>, Id>,
     stage: Stage,
-    /// How many lines of the outlet were written.
-    shown: usize,
     /// What isn't written yet.
     text: Vec<u8>,
     output: W,
@@ -93,7 +91,7 @@ fn closed_or_open(is_closed: bool) -> &'static str {
     }
 }
 
-impl<'a, W: Write> Run<'a, W> {
+impl<'a, O: Shown, W: Write> Run<'a, O, W> {
     fn whole(&mut self, script: &'a [u8]) -> Result<(), Fault> {
         for (place, line) in script.split(|byte| *byte == b'\n').enumerate() {
             if !is_blank(line) {
@@ -152,7 +150,7 @@ impl<'a, W: Write> Run<'a, W> {
             self.text.extend_from_slice(b"! bad limits\n");
             return;
         }
-        self.registry = Registry::new(limits, Kept::default());
+        self.registry = Registry::new(limits, O::default());
         self.answer(Ok(Answer::Plain("limits")));
     }
 
@@ -162,7 +160,7 @@ impl<'a, W: Write> Run<'a, W> {
             self.text.extend_from_slice(b"! too many layers\n");
             return;
         }
-        self.registry.outlet.lines.forms.push(layer.form);
+        self.registry.outlet.add_form(layer.form);
         self.registry.layers.push(layer.spans, layer.rule);
         self.answer(Ok(Answer::Layer(number)));
     }
@@ -231,15 +229,8 @@ impl<'a, W: Write> Run<'a, W> {
 
     /// Writes the lines of the notes that came since the last answer, and then the answer.
     fn answer(&mut self, result: Result<Answer, Refusal>) {
-        let (lines, text) = (&self.registry.outlet.lines.all, &mut self.text);
-        for line in &lines[self.shown..] {
-            text.push(b'L');
-            push_number(text, u64::from(line.layer));
-            text.push(b' ');
-            text.extend_from_slice(&line.text);
-            text.push(b'\n');
-        }
-        self.shown = lines.len();
+        let text = &mut self.text;
+        self.registry.outlet.show(text);
         text.extend_from_slice(if result.is_ok() { b"= " } else { b"! " });
         match result {
             Ok(Answer::Plain(answer)) => text.extend_from_slice(answer.as_bytes()),
