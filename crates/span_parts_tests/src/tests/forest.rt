@@ -3,6 +3,7 @@ mod answers;
 mod fields;
 mod fixtures;
 mod many_spans;
+mod pair;
 mod row;
 pub(crate) mod strangers;
 mod tree;

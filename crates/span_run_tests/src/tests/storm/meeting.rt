@@ -95,6 +95,19 @@ impl Gate for HoldsAt {
     }
 }
 
+/// Holds one party at one of its calls alone.
+#[derive(Clone, Copy)]
+pub(crate) struct HoldsOnce {
+    pub(crate) party: u32,
+    pub(crate) call: u64,
+}
+
+impl Gate for HoldsOnce {
+    fn before(&self, party: u32, call: u64) -> bool {
+        party != self.party || call != self.call
+    }
+}
+
 /// Holds the parties before `workers`, at each of their calls.
 #[derive(Clone, Copy)]
 pub(crate) struct HoldsWorkers {

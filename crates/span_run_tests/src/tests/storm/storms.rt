@@ -3,7 +3,7 @@ ghost use Rattle.std.specs.Prelude.{◌<◌, ◌≤◌};
 
 use crate::tests::compare::{equal, is_text};
 use crate::tests::storm::layer::{REFUSED_FROM, storm_of_all};
-use crate::tests::storm::meeting::{HoldsAt, HoldsWorkers, InOrder, Meeting};
+use crate::tests::storm::meeting::{HoldsAt, HoldsOnce, HoldsWorkers, InOrder, Meeting};
 use span_layers::Layers;
 use span_registry::{Line, Report};
 use span_run::{Counted, RunFault};
@@ -137,6 +137,32 @@ fn the_lowest_party_that_is_held_is_told(rt: HostRuntime) {
         };
         ends_with_gate(&rt, rt.alloc(), 1, &gate, end);
     }
+}
+
+// Which party is held at which of its calls alone in three rounds, and how the storm ends.
+const HELD_ONCE: [(u32, u64, &str); 5] = [
+    (1, 5, "worker 1 was held"),
+    (0, 27, "worker 0 was held"),
+    (2, 1, "worker 2 was held"),
+    (2, 2, TWO_BY_THREE),
+    (1, 28, TWO_BY_THREE),
+];
+
+#[test]
+fn one_party_is_held_at_one_call_alone(rt: HostRuntime) {
+    for (party, call, end) in &HELD_ONCE {
+        let gate = HoldsOnce {
+            party: *party,
+            call: *call,
+        };
+        ends_with_gate(&rt, rt.alloc(), 3, &gate, end);
+    }
+}
+
+#[test]
+fn all_parties_are_held_at_once(rt: HostRuntime) {
+    let gate = HoldsAt { first: 0, call: 1 };
+    ends_with_gate(&rt, rt.alloc(), 3, &gate, "worker 0 was held");
 }
 
 #[test]
