@@ -1,6 +1,7 @@
 //! What calls answer.
 
-use span_forest::Span;
+use span_core::SpanDetails;
+use span_forest::{Held, Span};
 use span_id::{Fault, Id};
 use span_registry::Found;
 use std::fmt;
@@ -16,6 +17,11 @@ pub(crate) enum Answer {
     Number(u64),
     Span(Id),
     Spans(Vec<Id>),
+    /// Spans with their handles and entries.
+    Holders(Vec<Held>),
+    Workers(Vec<u32>),
+    /// Open spans with all that is told of them.
+    Details(Vec<SpanDetails>),
     Names(Vec<String>),
     Text(String),
     Found(Found),
@@ -50,6 +56,38 @@ pub(crate) fn yes_or_no(made: Result<bool, Fault>) -> Result<Answer, Fault> {
     }
 }
 
+/// The answer of a call that lists spans.
+pub(crate) fn spans(ids: Result<Vec<Id>, Fault>) -> Result<Answer, Fault> {
+    match ids {
+        Ok(ids) => Ok(Answer::Spans(ids)),
+        Err(fault) => Err(fault),
+    }
+}
+
+/// The answer of a call that lists what keeps spans open.
+pub(crate) fn holders(held: Result<Vec<Held>, Fault>) -> Result<Answer, Fault> {
+    match held {
+        Ok(held) => Ok(Answer::Holders(held)),
+        Err(fault) => Err(fault),
+    }
+}
+
+/// The answer of a call that tells of all open spans.
+pub(crate) fn details(list: Result<Vec<SpanDetails>, Fault>) -> Result<Answer, Fault> {
+    match list {
+        Ok(list) => Ok(Answer::Details(list)),
+        Err(fault) => Err(fault),
+    }
+}
+
+/// The answer of a call that lists workers.
+pub(crate) fn workers(numbers: Result<Vec<u32>, Fault>) -> Result<Answer, Fault> {
+    match numbers {
+        Ok(numbers) => Ok(Answer::Workers(numbers)),
+        Err(fault) => Err(fault),
+    }
+}
+
 /// What holds a span, if it is open.
 pub(crate) fn held(span: Option<&Span>) -> Answer {
     match span {
@@ -67,6 +105,9 @@ impl fmt::Display for Answer {
             Answer::Number(number) => number.fmt(f),
             Answer::Span(id) => id.fmt(f),
             Answer::Spans(ids) => write_all(f, ids.as_slice()),
+            Answer::Holders(held) => write_holders(f, held.as_slice()),
+            Answer::Workers(numbers) => write_all(f, numbers.as_slice()),
+            Answer::Details(list) => write_details(f, list.as_slice()),
             Answer::Names(names) => write_all(f, names.as_slice()),
             Answer::Text(text) => f.write_str(text.as_str()),
             Answer::Found(found) => write_found(f, found),
@@ -96,6 +137,40 @@ fn write_all<T: fmt::Display, W: fmt::Write>(
     f.write_str("[")?;
     for item in items {
         write!(f, " {item}")?;
+    }
+    f.write_str(" ]")
+}
+
+// Each span with its handles and its entries, as `1:2/0`.
+fn write_holders<W: fmt::Write>(f: &mut fmt::Formatter<W>, held: &[Held]) -> fmt::Result {
+    f.write_str("[")?;
+    for one in held {
+        let Held {
+            id,
+            handles,
+            entries,
+        } = one;
+        write!(f, " {id}:{handles}/{entries}")?;
+    }
+    f.write_str(" ]")
+}
+
+// Each span with its name, its parent, its handles, the workers that are inside it, and its open children.
+fn write_details<W: fmt::Write>(f: &mut fmt::Formatter<W>, list: &[SpanDetails]) -> fmt::Result {
+    f.write_str("[")?;
+    for one in list {
+        let (name, parent) = (
+            one.meta.as_meta().name.as_str(),
+            one.parent.map_or(0, Id::get),
+        );
+        write!(
+            f,
+            " {} {name} parent {parent} handles {}",
+            one.id, one.handles
+        )?;
+        f.write_str(" workers ")?;
+        write_all(f, one.workers.as_slice())?;
+        write!(f, " children {}", one.children)?;
     }
     f.write_str(" ]")
 }

@@ -32,3 +32,7 @@ pub mod KeptSummaries
 pub mod Weights
 pub mod OutcomeCases
 mod Examples
+pub mod WorkersInside
+pub mod KeptOpen
+pub mod OneWorld
+pub mod Detailed

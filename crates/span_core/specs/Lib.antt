@@ -9,4 +9,5 @@ pub mod Outcome
 pub mod ClosedSpans
 pub mod Handles
 pub mod Shown
+pub mod Details
 pub mod inside

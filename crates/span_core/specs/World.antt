@@ -1,5 +1,6 @@
 -- The world: the open spans with their holders, and the stacks of the workers.
-use Rattle.std.specs.Prelude.{◌≡◌, ℕ, ◌+◌, ◌<◌, List, [], MatchOption, replicate, length, sum_by, count_by, slice_index_or, slice_set}
+use Rattle.std.specs.Prelude.{◌≡◌, ℕ, ◌+◌, ◌<◌, List, [], filter, MatchOption, replicate, length, sum_by, count_by, slice_index_or, slice_set}
+use Rattle.std.specs.List.{range_with_len}
 use Rattle.span_forest.specs.declared.span.Span.{Span}
 use Rattle.span_forest.specs.declared.span.Holder.TheVariants.{Entry}
 use Rattle.span_forest.specs.Spans.{Spans, find, IsOpen}
@@ -28,6 +29,10 @@ with_stack world worker stack = slice_set world.stacks worker stack
 -- how many workers have the span in their stack
 abbrev pub workers_inside : List (List ℕ) → ℕ → ℕ
 workers_inside stacks id = count_by (λ stack. has stack id) stacks
+
+-- the workers that have the span in their stack, by their numbers
+abbrev pub workers_with : List (List ℕ) → ℕ → List ℕ
+workers_with stacks id = filter (λ worker. has (slice_index_or stacks worker []) id) (range_with_len 0 (length stacks))
 
 -- how many entries all stacks have that are no duplicates: of each stack those at the first places of their ids
 abbrev pub entries_in : List (List ℕ) → ℕ

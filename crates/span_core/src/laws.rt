@@ -1,20 +1,24 @@
 //! What every registry promises, in plain words: each function does nothing, and its contract is the promise.
-ghost use Rattle.std.specs.Prelude.{◌≡◌, ◌≢◌, ◌≤◌, ◌<◌, ◌+◌, ℕ, nat_lt, true, false, ◌&&◌, ◌↔◌, if◌then◌else◌, [], List, length, Option, Some, None, IsTrue, All, AllPairs, count_by};
+ghost use Rattle.std.specs.Prelude.{◌≡◌, ◌≢◌, ◌≤◌, ◌<◌, ◌+◌, ℕ, nat_lt, true, false, ◌&&◌, ◌↔◌, if◌then◌else◌, [], List, length, Option, Some, None, IsTrue, All, AllPairs, Contains, count_by};
 ghost use Rattle.span_id.specs.Id.{slot_of, IsId};
 ghost use Rattle.span_id.specs.Meta.{KeyValue, PlainMeta};
-ghost use Rattle.span_layers.specs.Filter.{admission_set};
+ghost use Rattle.span_layers.specs.Filter.{Filter, admission_set};
 ghost use Rattle.span_forest.specs.Node.{Node};
 ghost use Rattle.span_forest.specs.Spans.{find, IsOpen, parent_of};
 ghost use Rattle.span_forest.specs.declared.span.Holder.TheVariants.{Handle};
 ghost use Rattle.span_forest.specs.Count.{total_held, total_handles};
 ghost use Rattle.span_forest.specs.Holders.{held_in};
+ghost use Rattle.span_forest.specs.declared.span.Holder.{Holder};
+ghost use Rattle.span_forest.specs.declared.holding.Held.{Held};
+ghost use Rattle.span_forest.specs.Holding.{held_spans, what_holds, AreHeld, spans_after, IsGivenBack};
 ghost use Rattle.span_forest.specs.Live.{stands_in, is_live};
 ghost use Rattle.span_forest.specs.Forest.{IsForest};
-ghost use Rattle.span_core.specs.World.{IsWorld, entries_in};
+ghost use Rattle.span_outlet.specs.Batch.{PlainBatch};
+ghost use Rattle.span_core.specs.World.{World, IsWorld, entries_in};
 ghost use Rattle.span_outlet.specs.Request.{Request, new_span, exit, try_close, Answer, made, exited, released};
 ghost use Rattle.span_core.specs.Core.{CoreView, IsAccepted};
 ghost use Rattle.span_core.specs.Step.{made_node};
-ghost use Rattle.span_core.specs.History.{issued};
+ghost use Rattle.span_core.specs.History.{issued, IsLegal};
 ghost use Rattle.span_core.specs.NextId.{next_id, is_used_up};
 ghost use Rattle.span_core.specs.Handles.{handles_given_out, handles_given_back};
 ghost use Rattle.span_core.specs.ClosedSpans.{closed_by, closed_in, gives_back, spans_before_closing, tells_close, hears_close, notes_in};
@@ -23,8 +27,10 @@ pub mod outcome;
 
 use crate::Core;
 use span_forest::laws::{
-    each_slot_has_one_open_id, full_where_each_slot_is_used_up as full_where_no_slot_is_left,
-    open_slots_are_in_range,
+    a_span_closes_with_the_last_that_keeps_it, each_slot_has_one_open_id,
+    full_where_each_slot_is_used_up as full_where_no_slot_is_left,
+    no_span_is_held_where_none_is_open as no_span_is_held_in_an_empty_forest,
+    open_slots_are_in_range, open_spans_are_kept_open,
 };
 use span_outlet::Outlet;
 
@@ -201,3 +207,40 @@ pub fn each_slot_has_one_open_span<O: Outlet, A>(core: &Core<O, A>)
     each_slot_has_one_open_id(&core.forest);
     open_slots_are_in_range(&core.forest);
 }
+
+/// A span closes with the last of the holders that are listed, and not before. It is open exactly where its list isn't
+/// empty. After releases that give all of them back, in whatever order and among others, it is closed; as long as one of
+/// them is left it stays open. Whichever call is accepted next: it closes exactly the open spans whose list is empty
+/// after it.
+pub fn a_span_is_open_as_long_as_something_keeps_it<O: Outlet, A>(core: &Core<O, A>)
+    ensures open { (id : ℕ) → IsOpen core.now.world.spans id ↔ (what_holds core.now.world.spans id ≢ []) }
+    ensures closes { (id : ℕ) (releases : List (ℕ × Holder)) → AreHeld core.now.world.spans releases →
+        All (IsGivenBack releases) (what_holds core.now.world.spans id) →
+        find (spans_after core.now.world.spans releases) id ≡ None }
+    ensures stays { (id : ℕ) (releases : List (ℕ × Holder)) (held : Held) →
+        AreHeld core.now.world.spans releases →
+        Contains (what_holds core.now.world.spans id) held → (IsGivenBack releases held → ⊥) →
+        IsOpen (spans_after core.now.world.spans releases) id }
+    ensures next { (request : Request) (answer : Answer) (new : CoreView) (id : ℕ) →
+        IsAccepted core.now request answer new → IsOpen core.now.world.spans id →
+        (IsTrue (stands_in id (closed_by answer)) ↔ (what_holds new.world.spans id ≡ [])) }
+{
+    core.calls();
+    entries_are_the_workers_inside(core);
+    open_spans_are_kept_open(&core.forest);
+    a_span_closes_with_the_last_that_keeps_it(&core.forest);
+}
+
+/// The list of what holds any span at all is empty exactly where no span is open.
+pub fn no_span_is_held_where_none_is_open<O: Outlet, A>(core: &Core<O, A>)
+    ensures { (held_spans core.now.world.spans ≡ []) ↔ (core.now.world.spans ≡ []) }
+{
+    no_span_is_held_in_an_empty_forest(&core.forest);
+}
+
+/// In the world that any legal history leaves, the list of what holds any span at all is empty exactly where no span is
+/// left.
+pub fn no_span_is_held_where_none_is_left()
+    ensures { (rules : List Filter) (workers : ℕ) (history : List PlainBatch) (world : World) →
+        IsLegal rules workers history world → ((held_spans world.spans ≡ []) ↔ (length world.spans ≡ 0)) }
+{}

@@ -3,15 +3,19 @@
 //! What a core promises over all its calls is said by the functions of [`laws`].
 #![tactic(auto)]
 
-ghost use Rattle.std.specs.Prelude.{◌≡◌, ◌<◌, [], length, IfOk, IfErr, IfSome, IfNone, Some, None};
+ghost use Rattle.std.specs.Prelude.{◌≡◌, ◌<◌, [], length, IfOk, IfErr, OnOk, IfSome, IfNone, Some, None};
 ghost use Rattle.span_forest.specs.Node.{node_of};
-ghost use Rattle.span_forest.specs.Spans.{find};
+ghost use Rattle.span_forest.specs.Spans.{find, IsOpen, WhyNotFound};
+ghost use Rattle.span_forest.specs.declared.span.Holder.TheVariants.{Entry};
+ghost use Rattle.span_forest.specs.Holders.{held_in};
+ghost use Rattle.span_forest.specs.Holding.{open_ids, held_spans, what_holds};
 ghost use Rattle.span_forest.specs.Count.{total_held, total_handles, reference_count};
-ghost use Rattle.span_core.specs.World.{empty_world, stack_of, entries_in, IsCounted};
+ghost use Rattle.span_core.specs.World.{empty_world, stack_of, entries_in, workers_with, IsCounted};
 ghost use Rattle.span_core.specs.History.{issued, IsLegal};
 ghost use Rattle.span_core.specs.ClosedSpans.{closed_in};
 
 mod calls;
+mod details;
 mod given;
 mod known_paths;
 pub mod laws;
@@ -20,12 +24,15 @@ mod recent;
 mod stacks;
 mod summary;
 
-use crate::laws::{entries_are_counted_once, made_spans_are_open_or_closed};
+use crate::laws::{
+    entries_are_counted_once, entries_are_the_workers_inside, made_spans_are_open_or_closed,
+};
 use crate::recent::Recent;
-use crate::stacks::empty_stacks;
+use crate::stacks::{empty_stacks, workers_with};
 use crate::summary::Summary;
+pub use details::SpanDetails;
 use span_forest::laws::open_spans_are_counted;
-use span_forest::{Forest, Span};
+use span_forest::{Forest, Held, Span};
 use span_id::{Checked, Fault, Id, Limits};
 use span_layers::{Admitters, Filters, Rules};
 use span_outlet::Outlet;
@@ -169,6 +176,47 @@ impl<O: Outlet, A> Core<O, A> {
         ensures { result.now.ids ≡ stack_of self.now.world worker }
     {
         &self.stacks[worker as usize]
+    }
+
+    /// The ids of the open spans, by ascending slot. The only error is `Memory`.
+    pub fn open_spans(&self) -> Result<Vec<Id>, Fault>
+        ensures ids { IfOk result (λ ids. ids.items ≡ open_ids self.now.world.spans) }
+        ensures memory { IfErr result (λ fault. fault ≡ Fault.Memory) }
+    {
+        self.forest.open_spans()
+    }
+
+    /// What keeps all open spans open: the spans that have handles or entries of their own, with how many, by ascending
+    /// slot. The only error is `Memory`.
+    pub fn held_spans(&self) -> Result<Vec<Held>, Fault>
+        ensures list { IfOk result (λ list. list.items ≡ held_spans self.now.world.spans) }
+        ensures memory { IfErr result (λ fault. fault ≡ Fault.Memory) }
+    {
+        self.forest.held_spans()
+    }
+
+    /// What keeps a span open: the spans at it or below it that have handles or entries of their own, with how many,
+    /// by ascending slot. `workers_inside` tells whose entries these are.
+    ///
+    /// Refused in this order: `Unknown` where the span isn't open, `Memory`.
+    pub fn holders_of(&self, id: Id) -> Result<Vec<Held>, Fault>
+        ensures found { OnOk result (IsOpen self.now.world.spans id) }
+        ensures list { IfOk result (λ list. list.items ≡ what_holds self.now.world.spans id) }
+        ensures refused { IfErr result (λ fault. WhyNotFound self.now.world.spans id fault) }
+    {
+        self.forest.holders_of(id)
+    }
+
+    /// The workers that are inside a span, by their numbers: as many as the span has entries. The only error is
+    /// `Memory`.
+    pub fn workers_inside(&self, id: Id) -> Result<Vec<u32>, Fault>
+        ensures workers { IfOk result (λ workers. workers.items ≡ workers_with self.now.world.stacks id) }
+        ensures count { IfOk result (λ workers. length workers.items ≡ held_in Entry (find self.now.world.spans id)) }
+        ensures memory { IfErr result (λ fault. fault ≡ Fault.Memory) }
+    {
+        entries_are_the_workers_inside(self);
+        let _limits = self.limits.limits();
+        workers_with(self.stacks.as_slice(), self.recent.alloc, id)
     }
 
     /// How many spans are open.

@@ -1,5 +1,6 @@
-ghost use Rattle.std.specs.Prelude.{◌≡◌, ◌<◌, ◌++◌, ◌∷◌, [], false, not, length, replicate, slice_index_or, slice_set, is_some, IfSome, IfOk, IfErr, OnOk, OnErr};
+ghost use Rattle.std.specs.Prelude.{◌≡◌, ◌<◌, ◌≤◌, ◌++◌, ◌∷◌, [], false, not, length, replicate, slice_index_or, slice_set, is_some, IfSome, IfOk, IfErr, OnOk, OnErr};
 ghost use Rattle.span_stack.specs.Stack.{has, without_last, ids_of_each};
+ghost use Rattle.span_core.specs.World.{workers_with};
 
 use span_id::{Fault, Id};
 use span_stack::SpanStack;
@@ -90,4 +91,19 @@ fn pop_one(stack: &mut SpanStack, id: Id)
     ensures { stack.new.ids ≡ without_last stack.old.ids id }
 {
     stack.pop(id);
+}
+
+// The workers in whose stack a span stands, by their numbers.
+pub(crate) fn workers_with(stacks: &[SpanStack], alloc: Global, id: Id) -> Result<Vec<u32>, Fault>
+    requires few { length stacks.now ≤ 4294967295 }
+    ensures workers { IfOk result (λ workers. workers.items ≡ workers_with (ids_of_each stacks.now) id) }
+    ensures memory { IfErr result (λ fault. fault ≡ Fault.Memory) }
+{
+    let mut workers = Vec::new(alloc);
+    for worker in 0..stacks.len() as u32 {
+        if stacks[worker as usize].has(id) {
+            workers.push(worker)?;
+        }
+    }
+    Ok(workers)
 }

@@ -88,7 +88,7 @@ pub none_open : (o : Option Node) → o ≡ None → IsSome o → ⊥
 none_open None e h = cc
 none_open (Some n) e h = cc
 
-held_node : (node : Node) → 0 < holders node → is_held node ≡ true
+pub held_node : (node : Node) → 0 < holders node → is_held node ≡ true
 held_node node h = grind (arith, nat_tests)
 
 -- a span that has a holder is live
@@ -105,7 +105,7 @@ parent_live spans c p w e h =
     is_live-from_Live spans p w (record { holder = v.holder; node = v.node; found = v.found; held = v.held; on_walk = OnWalk-up spans v.holder c p v.on_walk e })
 
 -- all spans of an open span's walk are open
-on_walk_open : (spans : Spans) → IsRanked spans → (u s : ℕ) → OnWalk spans u s → IsOpen spans u → IsOpen spans s
+pub on_walk_open : (spans : Spans) → IsRanked spans → (u s : ℕ) → OnWalk spans u s → IsOpen spans u → IsOpen spans s
 on_walk_open spans w u s here o = o
 on_walk_open spans w u s (above p e r) o = on_walk_open spans w p s r (w.parents_open u p e)
 

@@ -100,11 +100,11 @@ child_on_walk spans u s (above p e r) =
       | inr k ↦ inr (k.0, above p e k.1, k.2)
     ]
 
-held_more : (node : Node) → is_held node ≡ true → 0 < holders node
+pub held_more : (node : Node) → is_held node ≡ true → 0 < holders node
 held_more node h = grind (arith, nat_tests)
 
 module _ (spans : Spans) (w : IsRanked spans) where
-  live_parent : (c p : ℕ) → parent_of (live_part spans) c ≡ Some p → (is_live spans c ≡ true) × (parent_of spans c ≡ Some p)
+  pub live_parent : (c p : ℕ) → parent_of (live_part spans) c ≡ Some p → (is_live spans c ≡ true) × (parent_of spans c ≡ Some p)
   live_parent c p e =
       let live = kept_passes (is_live spans) spans c (child_open (live_part spans) c p e) in
       (live, sym (ap parent_in (passing_kept (is_live spans) spans c live)) ∙ e)

@@ -2,3 +2,4 @@
 pub mod Invariant
 pub mod Chain
 pub mod Adding
+pub mod Marks

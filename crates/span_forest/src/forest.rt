@@ -11,6 +11,7 @@ ghost use Rattle.span_forest.specs.Forest.{next_span_id, table_of};
 ghost use Rattle.span_forest.specs.Holders.{IsHeld};
 ghost use Rattle.span_forest.specs.Keep.{with_holder, CanKeep, WhyNotKept};
 ghost use Rattle.span_forest.specs.Release.{closing_list, spans_left, freed_after, WhyNotReleased};
+ghost use Rattle.span_forest.specs.Holding.{open_ids, held_spans, what_holds};
 ghost use Rattle.span_forest.specs.Add.{CanHaveChild, with_span, WhyNotAdded};
 
 pub mod laws;
@@ -18,6 +19,7 @@ pub mod laws;
 use crate::adding::{checked_parent, place};
 use crate::closing::{chain, let_go};
 use crate::holders::{count_of, handles_in, is_held, is_open, raise_holder};
+use crate::holding::{Held, all_held, holders_below};
 use crate::path_text::{PathText, path_text_below_of, path_text_of};
 use crate::span::{Holder, Span};
 use crate::writing::{append_fields, names_of};
@@ -130,6 +132,38 @@ impl Forest {
         ensures { result ≡ next_span_id self.now }
     {
         self.slots.next_id()
+    }
+
+    /// The ids of the open spans, by ascending slot. It looks at each slot that was ever used. The only error is `Memory`.
+    pub fn open_spans(&self) -> Result<Vec<Id>, Fault>
+        ensures ids { IfOk result (λ ids. ids.items ≡ open_ids self.now.spans) }
+        ensures memory { IfErr result (λ fault. fault ≡ Fault.Memory) }
+    {
+        self.slots.ids()
+    }
+
+    /// What keeps all open spans open: the spans that have handles or entries of their own, with how many, by ascending
+    /// slot. Where no span is open there are none. It looks at each slot that was ever used. The only error is `Memory`.
+    pub fn held_spans(&self) -> Result<Vec<Held>, Fault>
+        ensures list { IfOk result (λ list. list.items ≡ held_spans self.now.spans) }
+        ensures memory { IfErr result (λ fault. fault ≡ Fault.Memory) }
+    {
+        all_held(&self.slots, self.alloc)
+    }
+
+    /// What keeps a span open: the spans at it or below it that have handles or entries of their own, with how many,
+    /// by ascending slot. It looks at each slot that was ever used, and costs the same however deep the spans stand.
+    ///
+    /// Refused in this order: `Unknown` where the span isn't open, `Memory`.
+    pub fn holders_of(&self, id: Id) -> Result<Vec<Held>, Fault>
+        ensures found { OnOk result (IsOpen self.now.spans id) }
+        ensures list { IfOk result (λ list. list.items ≡ what_holds self.now.spans id) }
+        ensures refused { IfErr result (λ fault. WhyNotFound self.now.spans id fault) }
+    {
+        if !is_open(&self.slots, id) {
+            return Err(Fault::Unknown);
+        }
+        holders_below(&self.slots, self.alloc, id)
     }
 
     /// Makes a span with this meta and these fields. It has one handle, and its parent's count rises. It takes no memory.

@@ -8,10 +8,12 @@ mod adding;
 mod closing;
 mod forest;
 mod holders;
+mod holding;
 mod path_text;
 mod span;
 mod writing;
 
 pub use forest::{Forest, laws};
+pub use holding::Held;
 pub use path_text::PathText;
 pub use span::{Holder, Span};

@@ -102,6 +102,13 @@ impl<T: Drop> Slots<T> {
         self.len == 0
     }
 
+    /// How many slots were ever used: these are the first ones.
+    pub fn used(&self) -> u32
+        ensures { result ≡ length self.now.given }
+    {
+        self.cells.len() as u32
+    }
+
     /// How many slots are neither occupied nor retired: so many values can be inserted.
     pub fn free(&self) -> u32
         ensures count { result ≡ free_count self.now }

@@ -1,6 +1,6 @@
 //! A span and its child, with what holds them.
 
-use crate::answer::{Answer, done, held};
+use crate::answer::{Answer, done, held, holders, spans};
 use crate::named::Named::{self, One, Two};
 use crate::rows::acts::Called;
 use crate::stage::Memory::{Taken, Untouched};
@@ -23,13 +23,16 @@ enum Act {
     Path(u32, Named),
     PathText(u32, Named),
     Find(Named),
+    OpenSpans,
+    HeldSpans,
+    HoldersOf(Named),
     Len,
     Total,
     NextId,
 }
 
 // Both spans are made, kept, written and released.
-static PLAN: [Planned<'static, Act>; 21] = [
+static PLAN: [Planned<'static, Act>; 25] = [
     ("add a", Untouched, Act::Add(Called::A, None)),
     ("add b under 1", Untouched, Act::Add(Called::B, Some(One))),
     ("path of 2 for layer 0", Taken, Act::Path(0, Two)),
@@ -39,6 +42,9 @@ static PLAN: [Planned<'static, Act>; 21] = [
     ("write fields of 1", Taken, Act::WriteFields(One)),
     ("write fields of 2", Taken, Act::WriteFields(Two)),
     ("keep 1 by an entry", Untouched, Act::Keep(One, Entry)),
+    ("open spans", Taken, Act::OpenSpans),
+    ("held spans", Taken, Act::HeldSpans),
+    ("holders of 1", Taken, Act::HoldersOf(One)),
     ("release 1 by its entry", Taken, Act::Release(One, Entry)),
     ("closing 1", Taken, Act::Closing(One, Handle)),
     ("release 1", Taken, Act::Release(One, Handle)),
@@ -51,6 +57,7 @@ static PLAN: [Planned<'static, Act>; 21] = [
     ("next id", Untouched, Act::NextId),
     ("release 2", Taken, Act::Release(Two, Handle)),
     ("path of 2 for layer 0", Taken, Act::Path(0, Two)),
+    ("holders of 2", Taken, Act::HoldersOf(Two)),
 ];
 
 /// What the spans are called, and their fields.
@@ -121,6 +128,9 @@ impl<'t> Subject<Act> for OnForest<'t> {
             Act::Path(layer, named) => path(forest, *layer, named.id()),
             Act::PathText(layer, named) => path_text(forest, *layer, named.id()),
             Act::Find(named) => Ok(held(forest.find(named.id()))),
+            Act::OpenSpans => spans(forest.open_spans()),
+            Act::HeldSpans => holders(forest.held_spans()),
+            Act::HoldersOf(named) => holders(forest.holders_of(named.id())),
             Act::Len => Ok(Answer::Number(u64::from(forest.len()))),
             Act::Total => Ok(Answer::Number(forest.total())),
             Act::NextId => Ok(Answer::from(forest.next_id())),
@@ -149,13 +159,6 @@ fn add(
     let parent = parent.map(Named::id);
     match forest.add(meta.share()?, fields.share()?, parent, Bits(1)) {
         Ok(id) => Ok(Answer::Span(id)),
-        Err(fault) => Err(fault),
-    }
-}
-
-fn spans(ids: Result<Vec<Id>, Fault>) -> Result<Answer, Fault> {
-    match ids {
-        Ok(ids) => Ok(Answer::Spans(ids)),
         Err(fault) => Err(fault),
     }
 }

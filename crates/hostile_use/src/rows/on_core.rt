@@ -1,7 +1,7 @@
 //! Spans on a core, which has no lock.
 ghost use Rattle.std.specs.Prelude.{◌≡◌, ◌<◌, [], IfOk};
 
-use crate::answer::{Answer, done, held, yes_or_no};
+use crate::answer::{Answer, details, done, held, holders, spans, workers, yes_or_no};
 use crate::named::Named::{self, One, OneAnew, Two};
 use crate::rows::acts::Place::{Apart, Inside};
 use crate::rows::acts::{Act, Called, MESSAGE, Names};
@@ -22,6 +22,11 @@ enum Ask {
     Len,
     Total,
     Calls,
+    OpenSpans,
+    HeldSpans,
+    HoldersOf(Named),
+    WorkersInside(Named),
+    SpanDetails,
     /// The topmost entry of the worker's stack.
     Top,
     /// How many batches the outlet keeps.
@@ -31,7 +36,7 @@ enum Ask {
 }
 
 // A span inside another, and one that is entered nine times. The third span gets the slot of the first.
-static PLAN: [Planned<'static, Ask>; 29] = [
+static PLAN: [Planned<'static, Ask>; 35] = [
     ("new a", Taken, Ask::Call(Act::New(Called::A, Apart))),
     ("clone 1", Taken, Ask::Call(Act::Clone(One))),
     ("enter 1", Taken, Ask::Call(Act::Enter(One))),
@@ -44,6 +49,12 @@ static PLAN: [Planned<'static, Ask>; 29] = [
     ("event m", Taken, Ask::Call(Act::Event)),
     ("find 1", Untouched, Ask::Call(Act::Find(One))),
     ("find 2", Untouched, Ask::Call(Act::Find(Two))),
+    ("open spans", Taken, Ask::OpenSpans),
+    ("held spans", Taken, Ask::HeldSpans),
+    ("holders of 1", Taken, Ask::HoldersOf(One)),
+    ("workers inside 1", Taken, Ask::WorkersInside(One)),
+    ("workers inside 2", Taken, Ask::WorkersInside(Two)),
+    ("span details", Taken, Ask::SpanDetails),
     ("close 1", Taken, Ask::Call(Act::Close(One))),
     ("close 1", Taken, Ask::Call(Act::Close(One))),
     ("top", Untouched, Ask::Top),
@@ -132,6 +143,11 @@ impl<'n, V: Say> Subject<Ask> for OnCore<'n, V> {
             Ask::Len => Answer::Number(u64::from(core.len())),
             Ask::Total => Answer::Number(core.total()),
             Ask::Calls => Answer::Number(core.calls()),
+            Ask::OpenSpans => return spans(core.open_spans()),
+            Ask::HeldSpans => return holders(core.held_spans()),
+            Ask::HoldersOf(named) => return holders(core.holders_of(named.id())),
+            Ask::WorkersInside(named) => return workers(core.workers_inside(named.id())),
+            Ask::SpanDetails => return details(core.span_details()),
             Ask::Top => Answer::from(core.stack(0).top()),
             Ask::Batches => Answer::Number(core.outlet().batches().len() as u64),
             Ask::Notes => {

@@ -10,7 +10,8 @@ ghost use Rattle.span_layers.specs.Filter.{Filter};
 ghost use Rattle.span_core.specs.World.{World};
 ghost use Rattle.span_outlet.specs.Request.{Request, Answer, worker_of};
 ghost use Rattle.span_core.specs.Step.{IsStep};
-ghost use Rattle.span_core.specs.History.{id_issued};
+ghost use Rattle.span_core.specs.History.{id_issued, IsLegal};
+ghost use Rattle.span_outlet.specs.Batch.{PlainBatch};
 ghost use Rattle.span_core.specs.Core.{CoreView, IsAccepted, IsRefused, IsNotWanted};
 ghost use Rattle.span_core.specs.Core.{IsLate};
 ghost use Rattle.span_core.specs.Outcome.{outcome, done, refused, not_wanted, accepted, TakesNextId, IsNextIdNew, IsAllowed};
@@ -63,6 +64,12 @@ pub fn steps_leave_no_choice()
         (notes others : List PlainNote) (new next : World) →
         IsStep rules ids old request answer notes new → IsStep rules ids old request other others next →
         id_issued answer ≡ id_issued other → (answer ≡ other) × (notes ≡ others) × (new ≡ next) }
+{}
+
+/// A legal history leaves one world: whoever knows what was sent knows which spans are open and what holds them.
+pub fn a_history_leaves_one_world()
+    ensures { (rules : List Filter) (workers : ℕ) (history : List PlainBatch) (world other : World) →
+        IsLegal rules workers history world → IsLegal rules workers history other → world ≡ other }
 {}
 
 // The next id is in the layout, and no batch that was sent issued it.

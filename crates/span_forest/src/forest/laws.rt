@@ -1,5 +1,6 @@
 //! What every forest promises, in plain words: each function does nothing, and its contract is the promise.
-ghost use Rattle.std.specs.Prelude.{◌≡◌, ◌≢◌, ℕ, ◌<◌, ◌≤◌, ◌↔◌, ◌⊎◌, [], false, Some, None, IfSome, IsTrue, AllPairs, length, take};
+ghost use Rattle.std.specs.Prelude.{◌≡◌, ◌≢◌, ℕ, ◌<◌, ◌≤◌, ◌↔◌, ◌⊎◌, [], false, Some, None, IfSome, IsTrue, All, AllPairs, Contains, List, length, map, take};
+ghost use Rattle.std.specs.List.Sorted.{IsStrictlyIncreasing};
 ghost use Rattle.span_id.specs.Id.{id_of, slot_of, IsId};
 ghost use Rattle.span_slots.specs.Table.{IsIssued, IsFull};
 ghost use Rattle.span_forest.specs.declared.span.Holder.{Holder};
@@ -10,7 +11,9 @@ ghost use Rattle.span_forest.specs.Walk.{walk, Ends};
 ghost use Rattle.span_forest.specs.Count.{holders_in, reference_count, total_held};
 ghost use Rattle.span_forest.specs.Live.{stands_in, is_live};
 ghost use Rattle.span_forest.specs.Forest.{IsForest, next_span_id, table_of};
-ghost use Rattle.span_forest.specs.Holders.{IsHeld};
+ghost use Rattle.span_forest.specs.Holders.{IsHeld, held_in};
+ghost use Rattle.span_forest.specs.declared.holding.Held.{Held};
+ghost use Rattle.span_forest.specs.Holding.{open_ids, held_spans, what_holds, releases_of, spans_after, AreHeld, given_back, IsGivenBack};
 ghost use Rattle.span_forest.specs.Release.{without_holder, closing_list, spans_left};
 
 use super::Forest;
@@ -175,6 +178,62 @@ pub fn what_is_held_stays_open(forest: &Forest)
         parent_of forest.now.spans child ≡ Some parent →
         IsOpen (spans_left forest.now.spans id holder) child →
         (IsTrue (stands_in parent (closing_list forest.now.spans id holder)) → ⊥) }
+{
+    let _opened = &forest.slots;
+}
+
+/// The list of the open spans has exactly the ids that are open, each once, by ascending slot.
+pub fn open_spans_are_listed_once(forest: &Forest)
+    ensures exact { (id : ℕ) → Contains (open_ids forest.now.spans) id ↔ IsOpen forest.now.spans id }
+    ensures once { AllPairs (λ first later. first ≢ later) (open_ids forest.now.spans) }
+    ensures ascending { IsStrictlyIncreasing (map slot_of (open_ids forest.now.spans)) }
+{
+    each_slot_has_one_id(&forest.slots);
+}
+
+/// A span is open exactly where something keeps it open.
+pub fn open_spans_are_kept_open(forest: &Forest)
+    ensures { (id : ℕ) → IsOpen forest.now.spans id ↔ (what_holds forest.now.spans id ≢ []) }
+{
+    let _opened = &forest.slots;
+}
+
+/// Where no span has a handle or an entry, none is open, and where none is open, none has.
+pub fn no_span_is_held_where_none_is_open(forest: &Forest)
+    ensures { (held_spans forest.now.spans ≡ []) ↔ (forest.now.spans ≡ []) }
+{
+    let _opened = &forest.slots;
+}
+
+/// Releases may be made in any order: each finds its holder when its turn comes, exactly where no more handles
+/// and entries of a span are given back than it has.
+pub fn holders_may_be_given_back_in_any_order(forest: &Forest)
+    ensures { (releases : List (ℕ × Holder)) → AreHeld forest.now.spans releases
+        ↔ ((id : ℕ) (holder : Holder) →
+        given_back holder id releases ≤ held_in holder (find forest.now.spans id)) }
+{
+    let _opened = &forest.slots;
+}
+
+/// What keeps a span open can be given back in the order of the list, and then the span is closed.
+pub fn a_span_closes_where_its_list_is_given_back(forest: &Forest)
+    ensures legal { (id : ℕ) → AreHeld forest.now.spans (releases_of (what_holds forest.now.spans id)) }
+    ensures closes { (id : ℕ) →
+        find (spans_after forest.now.spans (releases_of (what_holds forest.now.spans id))) id ≡ None }
+{
+    let _opened = &forest.slots;
+}
+
+/// A span closes with the last of the holders that are listed, and not before. After releases that give all of them back,
+/// in whatever order and among others, it is closed; as long as one of them is left it stays open.
+pub fn a_span_closes_with_the_last_that_keeps_it(forest: &Forest)
+    ensures closes { (id : ℕ) (releases : List (ℕ × Holder)) → AreHeld forest.now.spans releases →
+        All (IsGivenBack releases) (what_holds forest.now.spans id) →
+        find (spans_after forest.now.spans releases) id ≡ None }
+    ensures stays { (id : ℕ) (releases : List (ℕ × Holder)) (held : Held) →
+        AreHeld forest.now.spans releases →
+        Contains (what_holds forest.now.spans id) held → (IsGivenBack releases held → ⊥) →
+        IsOpen (spans_after forest.now.spans releases) id }
 {
     let _opened = &forest.slots;
 }

@@ -5,6 +5,7 @@ mod by_turns;
 mod chain;
 mod closing_lists;
 mod deep_stack;
+mod holding;
 mod missed;
 mod on_a_ring;
 mod on_both;

@@ -1,7 +1,8 @@
 //! Worked trees, long chains and many roots, and what stands where a call is refused.
 mod answers;
 mod fields;
-mod fixtures;
+pub(crate) mod fixtures;
+mod holding;
 mod many_spans;
 mod pair;
 mod row;

@@ -44,6 +44,14 @@ pub(crate) enum Act<'a> {
     Find(u64),
     /// What is counted of the core.
     Count,
+    /// The ids of the open spans.
+    Open,
+    /// The spans that have holders of their own, as `1:2/0` for two handles and no entry.
+    AllHeld,
+    /// The same of those that keep a span open.
+    HeldBelow(u64),
+    /// The workers that are inside a span.
+    Inside(u64),
     /// Below the span 1, each under the one before, the spans up to this id, whose handles are given back but the last.
     Grow(u64),
     /// The spans from this id to another, each made under the one before and entered by the worker 0.

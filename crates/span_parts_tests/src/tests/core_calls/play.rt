@@ -6,6 +6,7 @@ use crate::tests::core_calls::acts::{Act, perform};
 use crate::tests::core_calls::answers::{Answer, push_answer, push_lines};
 use crate::tests::core_calls::chain::grow;
 use crate::tests::core_calls::deep_stack::{come_up, go_down};
+use crate::tests::core_calls::holding::push_asked;
 use crate::tests::core_calls::sharing::are_shared;
 use crate::tests::layers::fixtures::{Plan, layers};
 use span_core::Core;
@@ -56,9 +57,12 @@ pub(crate) fn perform_all<V: Say>(
     text: &mut Vec<u8>,
     acts: &[(u32, Act)],
 ) {
-    for act in acts {
+    for (worker, act) in acts {
+        if push_asked(rt, alloc, text, core, act) {
+            continue;
+        }
         let first = core.outlet().all().len();
-        let answer = answer(rt, alloc, core, act);
+        let answer = answer(rt, alloc, core, &(*worker, *act));
         push_told(rt, alloc, text, (core, first), &answer);
     }
 }

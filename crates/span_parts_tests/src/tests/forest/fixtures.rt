@@ -1,7 +1,7 @@
 //! Forests, and what is asked of each.
 use crate::tests::compare::{holds, same};
 use crate::tests::values::id;
-use span_forest::{Forest, Holder};
+use span_forest::{Forest, Held, Holder};
 use span_id::{Bits, Fault, Fields, Id, Level, Limits, Meta, SharedMeta};
 use std::alloc::{AllocError, Global};
 use std::process::Abort;
@@ -74,6 +74,29 @@ fn listed(alloc: Global, ids: &[Id]) -> Result<String, AllocError> {
 /// Whether these are the ids of a list, as `2,1`; `of` is the span with which they close.
 pub(crate) fn are_listed(rt: &impl Abort, alloc: Global, ids: &[Id], want: &str, of: u64) {
     let text = listed(alloc, ids).expect(rt, "memory");
+    same(rt, text.as_str(), want, of);
+}
+
+/// Each span with its handles and its entries, as `1:2/0`.
+pub(crate) fn held_text(alloc: Global, spans: &[Held]) -> Result<String, AllocError> {
+    let mut text = String::new(alloc);
+    for Held {
+        id,
+        handles,
+        entries,
+    } in spans {
+        if !text.is_empty() {
+            text.push(' ')?;
+        }
+        let held = format!(in alloc; "{id}:{handles}/{entries}")?;
+        text.push_str(held.as_str())?;
+    }
+    Ok(text)
+}
+
+// Whether these spans are listed with their holders; `of` is the span that they keep open.
+fn are_held(rt: &impl Abort, alloc: Global, spans: &[Held], want: &str, of: u64) {
+    let text = held_text(alloc, spans).expect(rt, "memory");
     same(rt, text.as_str(), want, of);
 }
 
@@ -187,6 +210,12 @@ pub(crate) enum Act<'a> {
     Held(u64, Option<(u32, u32, u32)>),
     /// The number of the next id.
     Next(u64),
+    /// The ids of the open spans.
+    Open(&'a str),
+    /// The spans that have holders of their own, as `1:2/0` for two handles and no entry.
+    AllHeld(&'a str),
+    /// The same of those that keep a span open.
+    HeldBelow(u64, &'a str),
 }
 
 fn shows(rt: &impl Abort, alloc: Global, forest: &Forest, act: &Act<'_>) {
@@ -198,7 +227,29 @@ fn shows(rt: &impl Abort, alloc: Global, forest: &Forest, act: &Act<'_>) {
         }
         Act::Held(number, want) => same(rt, held(rt, forest, *number), *want, *number),
         Act::Next(want) => same(rt, next_number(forest), *want, "the next id"),
+        Act::Open(_) | Act::AllHeld(_) | Act::HeldBelow(..) => asks(rt, alloc, forest, act),
         Act::Add(..) | Act::Refuse(..) | Act::Keep(..) | Act::Release(..) => {}
+    }
+}
+
+// What the forest answers when it is asked for spans.
+fn asks(rt: &impl Abort, alloc: Global, forest: &Forest, act: &Act<'_>) {
+    match act {
+        Act::Open(want) => {
+            let ids = forest.open_spans().expect(rt, "memory");
+            are_listed(rt, alloc, ids.as_slice(), want, 0);
+        }
+        Act::AllHeld(want) => {
+            let found = forest.held_spans().expect(rt, "memory");
+            are_held(rt, alloc, found.as_slice(), want, 0);
+        }
+        Act::HeldBelow(number, want) => {
+            let found = forest
+                .holders_of(id(rt, *number))
+                .expect(rt, "an open span");
+            are_held(rt, alloc, found.as_slice(), want, *number);
+        }
+        _ => {}
     }
 }
 
