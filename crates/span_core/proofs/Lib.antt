@@ -14,6 +14,8 @@ pub mod Effects
 pub mod Legal
 pub mod LegalWorlds
 pub mod Released
+pub mod NothingHeld
+pub mod OneRelease
 pub mod Entries
 pub mod Empties
 pub mod Announcing

@@ -7,6 +7,7 @@ pub mod NextId
 pub mod Core
 pub mod Outcome
 pub mod ClosedSpans
+pub mod GivenBack
 pub mod Handles
 pub mod Shown
 pub mod Details

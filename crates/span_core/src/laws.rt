@@ -22,6 +22,7 @@ ghost use Rattle.span_core.specs.History.{issued, IsLegal};
 ghost use Rattle.span_core.specs.NextId.{next_id, is_used_up};
 ghost use Rattle.span_core.specs.Handles.{handles_given_out, handles_given_back};
 ghost use Rattle.span_core.specs.ClosedSpans.{closed_by, closed_in, gives_back, spans_before_closing, tells_close, hears_close, notes_in};
+ghost use Rattle.span_core.specs.GivenBack.{ClosesWhatNothingHolds};
 
 pub mod outcome;
 
@@ -112,6 +113,26 @@ pub fn closes_are_announced_once<O: Outlet, A>(core: &Core<O, A>)
         then 1 else 0) }
 {
     core.calls();
+}
+
+/// Whichever call is accepted next: where it gives a holder back, it closes exactly the spans that nothing holds any
+/// longer, and announces each once. It is what an exit and a release promise.
+pub fn accepted_releases_close_what_nothing_holds<O: Outlet, A>(core: &Core<O, A>)
+    ensures { (request : Request) (answer : Answer) (new : CoreView) →
+        IsAccepted core.now request answer new → IsTrue (gives_back request) →
+        ClosesWhatNothingHolds core.now request new }
+{
+    entries_are_the_workers_inside(core);
+    closes_are_announced_once(core);
+    core.calls();
+}
+
+/// What a release or an exit promises leaves no choice: the spans that may be left are the same.
+pub fn releases_leave_no_choice<O: Outlet, A>(core: &Core<O, A>)
+    ensures { (request : Request) (new other : CoreView) (id : ℕ) → ClosesWhatNothingHolds core.now request new →
+        ClosesWhatNothingHolds core.now request other → find new.world.spans id ≡ find other.world.spans id }
+{
+    open_spans_are_a_live_forest(core);
 }
 
 /// In the whole history no layer is told twice that a span closed, and none is told so of a span that didn't.

@@ -3,7 +3,7 @@
 //! What a core promises over all its calls is said by the functions of [`laws`].
 #![tactic(auto)]
 
-ghost use Rattle.std.specs.Prelude.{◌≡◌, ◌<◌, [], length, IfOk, IfErr, OnOk, IfSome, IfNone, Some, None};
+ghost use Rattle.std.specs.Prelude.{◌≡◌, ◌<◌, ◌≤◌, [], length, IfOk, IfErr, OnOk, IfSome, IfNone, Some, None};
 ghost use Rattle.span_forest.specs.Node.{node_of};
 ghost use Rattle.span_forest.specs.Spans.{find, IsOpen, WhyNotFound};
 ghost use Rattle.span_forest.specs.declared.span.Holder.TheVariants.{Entry};
@@ -159,11 +159,13 @@ impl<O: Outlet + Drop, A: Drop> Core<O, A> {
 
 impl<O: Outlet, A> Core<O, A> {
     /// The span of an id, if it is open; ids that are closed or were never given find nothing. Its count is its
-    /// handles, the workers that are inside it and its open children; it is positive, and its parent is open.
+    /// handles, the workers that are inside it and its open children; it is positive and at most `max_count`, and its
+    /// parent is open.
     pub fn find(&self, id: Id) -> Option<&Span>
         ensures absent { IfNone result (find self.now.world.spans id ≡ None) }
         ensures found { IfSome result (λ span. find self.now.world.spans id ≡ Some (node_of span.now)) }
         ensures counted { IfSome result (λ span. IsCounted self.now.world id span.now) }
+        ensures bounded { IfSome result (λ span. span.now.count ≤ self.now.limits.max_count) }
         ensures written { IfSome result (λ span. span.now.count ≡ reference_count self.now.world.spans id) }
     {
         open_spans_are_counted(&self.forest);

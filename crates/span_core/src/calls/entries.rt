@@ -11,13 +11,14 @@ ghost use Rattle.span_core.specs.World.{stack_of};
 ghost use Rattle.span_core.specs.Happening.{bits_in};
 ghost use Rattle.span_core.specs.Step.{closed_by_exit, stays_inside};
 ghost use Rattle.span_core.specs.Core.{IsDue, IsAccepted, IsRefused};
+ghost use Rattle.span_core.specs.GivenBack.{ClosesWhatNothingHolds};
 ghost use Rattle.span_core.specs.Shown.{MayBeShown, IsShown};
 
 use crate::Core;
 use crate::calls::closes::{Closes, leave};
 use crate::calls::held::{held_span, open_bits};
 use crate::calls::room::ask;
-use crate::laws::the_named_span_closes_first;
+use crate::laws::{accepted_releases_close_what_nothing_holds, the_named_span_closes_first};
 use crate::notes::{Happening, span_notes};
 use crate::stacks::{is_outside, push_at, stays_inside};
 use span_forest::{Forest, Holder};
@@ -88,9 +89,11 @@ impl<O: Outlet, A> Core<O, A> {
             (exited (closed_by_exit self.old.world worker id)) self.new) }
         ensures closed { IfOk result (λ closed. closed ≡ nat_lt 0 (length (closed_by_exit self.old.world worker id))) }
         ensures gone { IfOk result (λ closed. IsTrue closed ↔ (find self.new.world.spans id ≡ None)) }
+        ensures released { OnOk result (ClosesWhatNothingHolds self.old (exit worker id) self.new) }
         ensures refused { IfErr result (λ fault. IsRefused self.old (exit worker id) fault self.new) }
     {
         the_named_span_closes_first(self);
+        accepted_releases_close_what_nothing_holds(self);
         self.exit_with(worker, id, &mut (), |_, _| ())
     }
 

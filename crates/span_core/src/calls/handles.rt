@@ -11,6 +11,7 @@ ghost use Rattle.span_outlet.specs.Request.{request_of, clone_span, cloned, reco
 ghost use Rattle.span_core.specs.Happening.{at_span, bits_in, notes_of};
 ghost use Rattle.span_core.specs.inside.Given.{fields_given};
 ghost use Rattle.span_core.specs.Core.{IsDue, IsAccepted, IsRefused};
+ghost use Rattle.span_core.specs.GivenBack.{ClosesWhatNothingHolds};
 ghost use Rattle.span_core.specs.Shown.{MayBeShown, IsShown};
 ghost use Rattle.span_core.specs.inside.Remembering.{Remembers};
 
@@ -20,7 +21,7 @@ use crate::calls::held::held_span;
 use crate::calls::names::are_keys;
 use crate::calls::room::ask;
 use crate::given::GivenFields;
-use crate::laws::the_named_span_closes_first;
+use crate::laws::{accepted_releases_close_what_nothing_holds, the_named_span_closes_first};
 use crate::notes::{Announced, Happening, record_told};
 use crate::recent::Recent;
 use span_forest::{Forest, Holder};
@@ -122,9 +123,11 @@ impl<O: Outlet, A> Core<O, A> {
         ensures closed { IfOk result (λ closed. closed
             ≡ nat_lt 0 (length (closing_list self.old.world.spans id Handle))) }
         ensures gone { IfOk result (λ closed. IsTrue closed ↔ (find self.new.world.spans id ≡ None)) }
+        ensures released { OnOk result (ClosesWhatNothingHolds self.old (try_close worker id) self.new) }
         ensures refused { IfErr result (λ fault. IsRefused self.old (try_close worker id) fault self.new) }
     {
         the_named_span_closes_first(self);
+        accepted_releases_close_what_nothing_holds(self);
         self.try_close_with(worker, id, &mut (), |_, _| ())
     }
 
