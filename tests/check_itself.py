@@ -12,10 +12,11 @@ import subprocess
 import sys
 import tempfile
 
-from parts import PARTS, QUICK, TOP
+from parts import LIBRARIES, PARTS, QUICK, TOP
 
-CRATES = "low: # the lowest\ntracerun may_wait=2: low\nhostile_use may_wait=29: low\nspan_ffi staticlib: low\n"
-LISTED = {"low": 0, "tracerun": 2, "hostile_use": 29, "span_ffi": 0}
+CRATES = "low: # the lowest\ntracerun may_wait=2: low\nhostile_use may_wait=29: low\n" + "".join(
+    f"{name} staticlib: low\n" for name in LIBRARIES)
+LISTED = {"low": 0, "tracerun": 2, "hostile_use": 29, **dict.fromkeys(LIBRARIES, 0)}
 # What it prints as rt ci is in a file; the programs that it makes are in the variable MAKES.
 FAKE_RT = """#!/bin/sh
 echo "$1 in ${PWD##*/}" >> "$FAKE/calls"
@@ -24,7 +25,7 @@ case $1 in
         for name in $MAKES; do mkdir -p crates/$name/out && touch crates/$name/out/$name; done
         [ -z "$HANGS" ] || sleep 600
         exit $STATUS ;;
-    lib) mkdir -p out; touch out/libspan_ffi.a; [ -n "$MAKES" ] ;;
+    lib) mkdir -p out; touch "out/lib${PWD##*/}.a"; [ -n "$MAKES" ] ;;
 esac
 """
 PASSES = "print('3 passed, 1 failed')\nprint('4 passed, 0 failed')\n"
@@ -98,11 +99,11 @@ class Rows:
 
 
 def wholes(rows, clone):
-    # (5 by rt ci, 4 crates compared, 1 library, 4 by each part)
-    good = 5 + len(LISTED) + 1 + 4 * len(PARTS)
+    # (5 by rt ci, the crates compared, the libraries, 4 by each part)
+    good = 5 + len(LISTED) + len(LIBRARIES) + 4 * len(PARTS)
     found = clone.run()
     rows.wants("all is well", found, 0, f"{good} passed, 0 failed", "the C interface: 4 passed, 0 failed")
-    rows.wants("the calls of rt", (0, "", str(clone.calls())), 0, "", "['ci in clone', 'lib in span_ffi']")
+    rows.wants("the calls of rt", (0, "", str(clone.calls())), 0, "", str(["ci in clone", *(f"lib in {it}" for it in LIBRARIES)]))
     found = clone.run(said=ci({"low": 1, "tracerun": 3}))
     told = "low: crates.txt says that 0 may wait, the checker counted 1"
     other = "tracerun: crates.txt says that 2 may wait, the checker counted 3"
@@ -124,10 +125,10 @@ def wholes(rows, clone):
 
 
 def parts_left_out(rows, clone):
-    alone = 4 * sum(not it.needs for it in PARTS)
-    on_programs = sum("tracerun" in it.needs or "hostile_use" in it.needs for it in PARTS)
+    alone = [it for it in PARTS if not it.needs]
+    on_valgrind = sum("valgrind" in it.needs for it in PARTS)
     found = clone.run(makes="")
-    wanted = f"{5 + len(LISTED) + alone} passed, {on_programs + 3} failed"
+    wanted = f"{5 + len(LISTED) + 4 * len(alone)} passed, {len(LIBRARIES) + len(PARTS) - len(alone)} failed"
     told = "not run, as span_ffi was not made", "not run, as tracerun was not made"
     rows.wants("nothing is made", found, 1, wanted, *told)
     os.remove(clone.path.split(":")[0] + "/valgrind")
@@ -136,8 +137,8 @@ def parts_left_out(rows, clone):
     for name in ("bash", "sh", "python3", "readlink", "dirname", "cat", "mkdir", "touch", "env", "sleep"):
         os.symlink(shutil.which(name), f"{commands}/{name}")
     found = clone.run(path=f"{clone.path.split(':')[0]}:{commands}")
-    rows.wants("a tool isn't there", found, 0, f"{6 + len(LISTED) + 4 * len(PARTS) - 4} passed, 0 failed",
-               "not run: valgrind is not on the PATH")
+    passed = 5 + len(LISTED) + len(LIBRARIES) + 4 * (len(PARTS) - on_valgrind)
+    rows.wants("a tool isn't there", found, 0, f"{passed} passed, 0 failed", "not run: valgrind is not on the PATH")
     found = clone.run(path=commands)
     rows.wants("no rt", found, 2, "check: the command rt is not on the PATH")
 

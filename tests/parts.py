@@ -1,5 +1,5 @@
 #!/usr/bin/env python3
-"""Runs all that `./check` is: `rt ci`, then `rt lib` of the static library, then the other parts that PARTS lists.
+"""Runs all that `./check` is: `rt ci`, then `rt lib` of the static libraries, then the other parts that PARTS lists.
 
 usage: parts.py [--quick]
 
@@ -37,7 +37,7 @@ class Part(NamedTuple):
 
 
 GATE = Part("the gate", "", "rt ci")
-LIBRARY = Part("the static library", "", "rt lib", "crates/span_ffi")
+LIBRARIES = {it: Part(f"the static library {it}", "", "rt lib", f"crates/{it}") for it in ("span_ffi", "span_store_ffi")}
 ALONE = [
     Part("the model on the worked cases", "", "python3 tests/test_model.py"),
     Part("the runner of the parts", "", "python3 tests/check_itself.py"),
@@ -62,6 +62,8 @@ PARTS = [
     Part("each growth of further calls refused", "hostile_use",
          "python3 tests/refused_calls.py --hostile-use {hostile_use}"),
     Part("the C interface", "span_ffi valgrind", "python3 tests/c_interface.py --library {span_ffi}"),
+    Part("the C interface of the store", "span_store_ffi valgrind",
+         "python3 tests/c_store.py --library {span_store_ffi}"),
     Part("the Rust package", "span_ffi cargo",
          "env SPAN_REGISTRY_LIB={library} CARGO_TARGET_DIR={room}/target rust/test"),
 ]
@@ -76,7 +78,7 @@ QUICK = [
 ]
 # What parts need of crates.
 BUILT = {it: TOP / f"crates/{it}/out/{it}" for it in ("tracerun", "hostile_use")}
-BUILT["span_ffi"] = TOP / "crates/span_ffi/out/libspan_ffi.a"
+BUILT.update({it: TOP / f"crates/{it}/out/lib{it}.a" for it in LIBRARIES})
 
 
 class Ended(NamedTuple):
@@ -117,7 +119,8 @@ class Runs:
                 print(line, end="", flush=True)
         status = process.wait()
         self.running.remove(process)
-        counts = counted(lines, status) if part is not LIBRARY else (int(status == 0), int(status != 0))
+        is_library = part in LIBRARIES.values()
+        counts = (int(status == 0), int(status != 0)) if is_library else counted(lines, status)
         return Ended(part.name, lines, *counts, time.monotonic() - start)
 
     def beside(self, parts):
@@ -197,12 +200,14 @@ def all_parts(runs):
     proved, kept = stand_after(gate.lines)
     yield gate
     yield from map(shown, (edits_made(gate.lines), who_may_wait(proved, kept)))
-    print(f"== {LIBRARY.name}", flush=True)
-    library = runs.run(LIBRARY)
-    yield library
+    built = {*proved, *kept}
+    for name, part in LIBRARIES.items():
+        print(f"== {part.name}", flush=True)
+        library = runs.run(part)
+        yield library
+        built -= {name} if library.failed else set()
     thread.join()
     yield from map(shown, beside)
-    built = {*proved, *kept} - ({"span_ffi"} if library.failed else set())
     for part in (it for it in PARTS if it.needs):
         why, failed = why_not(part, built)
         if why:
