@@ -1,0 +1,97 @@
+//! What belongs to a thread: its seat, and its stack of entered spans in each registry.
+//!
+//! A stack is given up when its thread ends: what is still entered is left then. In what runs in a thread after that, the
+//! destructors of other thread locals, nothing can be entered, and no span is the current one.
+use super::spans::Spans;
+use crate::registry::stack::SpanStack;
+use std::{
+    cell::{Cell, RefCell},
+    ptr,
+    sync::{
+        atomic::{AtomicUsize, Ordering},
+        Arc, Weak,
+    },
+};
+use tracing_core::span::Id;
+
+const NO_SEAT: usize = usize::MAX;
+
+static SEATS: AtomicUsize = AtomicUsize::new(0);
+
+thread_local! {
+    // It has no destructor, so that it is there to a thread's end.
+    static SEAT: Cell<usize> = const { Cell::new(NO_SEAT) };
+    static STACKS: RefCell<Stacks> = const { RefCell::new(Stacks(Vec::new())) };
+}
+
+struct Stack {
+    // It keeps the address from being another registry's.
+    spans: Weak<Spans>,
+    entered: SpanStack,
+}
+
+struct Stacks(Vec<Stack>);
+
+impl Stacks {
+    fn at(&self, spans: &Spans) -> Option<usize> {
+        self.0.iter().position(|stack| ptr::eq(stack.spans.as_ptr(), spans))
+    }
+
+    #[cold]
+    fn open(&mut self, spans: &Arc<Spans>) -> usize {
+        self.0.retain(|stack| !stack.entered.is_empty() && stack.spans.strong_count() > 0);
+        self.0.push(Stack { spans: Arc::downgrade(spans), entered: SpanStack::default() });
+        self.0.len() - 1
+    }
+}
+
+impl Drop for Stacks {
+    fn drop(&mut self) {
+        for stack in self.0.drain(..) {
+            if let Some(spans) = stack.spans.upgrade() {
+                stack.entered.iter().for_each(|id| spans.leave(id.into_u64()));
+            }
+        }
+    }
+}
+
+/// A number of the thread, given when it is first asked for.
+pub(super) fn seat() -> usize {
+    SEAT.with(|seat| {
+        if seat.get() == NO_SEAT {
+            seat.set(SEATS.fetch_add(1, Ordering::Relaxed));
+        }
+        seat.get()
+    })
+}
+
+/// Shows the thread's stack in the registry to a function that runs no code of others. None where the thread has none any
+/// longer.
+pub(super) fn with_stack<T>(spans: &Arc<Spans>, change: impl FnOnce(&mut SpanStack) -> T) -> Option<T> {
+    let shown = STACKS.try_with(|stacks| {
+        let mut stacks = stacks.try_borrow_mut().ok()?;
+        let at = stacks.at(spans).unwrap_or_else(|| stacks.open(spans));
+        Some(change(&mut stacks.0[at].entered))
+    });
+    shown.ok().flatten()
+}
+
+/// The thread's stack in a registry, as layers with a filter look through it.
+pub(crate) struct Entered<'a>(pub(super) &'a Spans);
+
+impl Entered<'_> {
+    pub(crate) fn iter(&self) -> &Self {
+        self
+    }
+
+    /// The first answer of the entered spans, from the innermost on.
+    pub(crate) fn find_map<T>(&self, mut answer: impl FnMut(&Id) -> Option<T>) -> Option<T> {
+        let found = STACKS.try_with(|stacks| {
+            let stacks = stacks.try_borrow().ok()?;
+            let stack = &stacks.0[stacks.at(self.0)?];
+            let found = stack.entered.iter().find_map(|id| answer(&id));
+            found
+        });
+        found.ok().flatten()
+    }
+}

@@ -1,0 +1,74 @@
+//! What a thread's last destructors do with spans, after its other thread locals are gone: a span is dropped, entered, left,
+//! made and told of there, and nothing ends the process or stays.
+use programs::{is_there, new, site, Judge};
+use std::cell::RefCell;
+use std::sync::mpsc::{channel, Sender};
+use tracing::span::EnteredSpan;
+use tracing::{dispatcher, Dispatch, Span};
+use tracing_core::span::Id;
+use tracing_subscriber::prelude::*;
+use tracing_subscriber::Registry;
+
+/// What a thread does when this is dropped.
+struct Last {
+    dispatch: Dispatch,
+    span: Option<Span>,
+    entered: Option<EnteredSpan>,
+    told: Sender<Id>,
+}
+
+impl Drop for Last {
+    fn drop(&mut self) {
+        drop(self.entered.take());
+        let span = self.span.take().expect("it is dropped once");
+        span.in_scope(|| tracing::info!("told"));
+        let id = span.id().expect("it is there");
+        self.dispatch.enter(&id);
+        self.dispatch.current_span();
+        self.dispatch.exit(&id);
+        let twin = span.clone();
+        drop(span);
+        drop(twin);
+        // No default subscriber can be set any longer: a span is made by a raw call.
+        let made = new(&self.dispatch, site!("made at last"));
+        self.dispatch.enter(&made);
+        self.dispatch.exit(&made);
+        self.dispatch.try_close(made.clone());
+        let _ = self.told.send(made);
+        let _ = self.told.send(id);
+    }
+}
+
+thread_local! {
+    static LAST: RefCell<Option<Last>> = const { RefCell::new(None) };
+}
+
+/// The local is registered before all others of the thread, or after them.
+fn thread(dispatch: &Dispatch, is_first: bool, told: Sender<Id>) {
+    if is_first {
+        LAST.with(|last| drop(last.borrow_mut().take()));
+    }
+    let (span, entered) = dispatcher::with_default(dispatch, || {
+        let span = tracing::info_span!("span");
+        let entered = tracing::info_span!(parent: &span, "entered").entered();
+        tracing::info_span!("inner").in_scope(|| tracing::info!("told"));
+        (span, entered)
+    });
+    let last = Last { dispatch: dispatch.clone(), span: Some(span), entered: Some(entered), told };
+    LAST.with(|cell| *cell.borrow_mut() = Some(last));
+}
+
+fn main() {
+    let judge = Judge::default();
+    let dispatch = Dispatch::new(Registry::default().with(judge.clone()));
+    let (told, hears) = channel();
+    for is_first in [true, false] {
+        let (dispatch, told) = (dispatch.clone(), told.clone());
+        std::thread::spawn(move || thread(&dispatch, is_first, told)).join().expect("the thread ends well");
+    }
+    drop(told);
+    let stays = hears.iter().filter(|id| is_there(&dispatch, id)).count();
+    let (made, open, faults) = judge.verdict();
+    println!("{made} spans, {open} left open, {stays} stay, {} faults {faults:?}", faults.len());
+    std::process::exit(i32::from(made != 8 || open > 0 || stays > 0 || !faults.is_empty()));
+}

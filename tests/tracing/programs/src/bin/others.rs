@@ -1,0 +1,104 @@
+//! Two registries, each with the other as the default one: no release of one takes a handle of the other's spans, and the
+//! layers of each hear of each close of its own.
+use programs::{child, is_there, new, registry, root, site, Checks, Dice, Judge};
+use std::collections::HashSet;
+use tracing::{dispatcher, Dispatch};
+use tracing_core::span::Id;
+use tracing_subscriber::prelude::*;
+use tracing_subscriber::Registry;
+
+fn stack() -> (Dispatch, Judge) {
+    let judge = Judge::default();
+    (Dispatch::new(Registry::default().with(judge.clone())), judge)
+}
+
+/// Trees of both, entered, left and closed under the default of the other, or of none.
+fn at_random(checks: &mut Checks, seed: u64) {
+    let sides = [stack(), stack()];
+    let mut dice = Dice::new(seed);
+    let mut spans: [Vec<Id>; 2] = Default::default();
+    let mut entered: [Vec<Id>; 2] = Default::default();
+    for _ in 0..3_000 {
+        let side = dice.below(2) as usize;
+        let default = &sides[dice.below(2) as usize].0;
+        let dispatch = &sides[side].0;
+        dispatcher::with_default(default, || match dice.below(7) {
+            0 | 1 => spans[side].push(root(dispatch, site!("root"))),
+            2 if !spans[side].is_empty() => {
+                let at = dice.below(spans[side].len() as u64) as usize;
+                let under = spans[side][at].clone();
+                spans[side].push(child(dispatch, site!("child"), &under));
+            }
+            3 if !spans[side].is_empty() => {
+                let at = dice.below(spans[side].len() as u64) as usize;
+                let id = spans[side][at].clone();
+                dispatch.enter(&id);
+                entered[side].push(id);
+            }
+            4 => {
+                if let Some(id) = entered[side].pop() {
+                    dispatch.exit(&id);
+                }
+            }
+            _ if !spans[side].is_empty() => {
+                let at = dice.below(spans[side].len() as u64) as usize;
+                dispatch.try_close(spans[side].swap_remove(at));
+            }
+            _ => {}
+        });
+    }
+    for side in 0..2 {
+        let dispatch = &sides[side].0;
+        let default = &sides[1 - side].0;
+        dispatcher::with_default(default, || {
+            entered[side].drain(..).rev().for_each(|id| dispatch.exit(&id));
+            spans[side].drain(..).for_each(|id| drop(dispatch.try_close(id)));
+        });
+    }
+    for (_, judge) in &sides {
+        let (_, open, faults) = judge.verdict();
+        checks.check(&format!("seed {seed}: {open} left open, faults {faults:?}"), open == 0 && faults.is_empty());
+    }
+}
+
+/// No id of one is found in another, also not where that has spans in the same slots.
+fn ids_apart(checks: &mut Checks) {
+    let stacks: Vec<_> = (0..20).map(|_| stack()).collect();
+    let mut ids = HashSet::new();
+    for (dispatch, _) in &stacks {
+        for _ in 0..100 {
+            let id = new(dispatch, site!("s"));
+            let found = stacks.iter().filter(|(other, _)| is_there(other, &id)).count();
+            checks.check("an id is found in its own registry alone", found == 1);
+            checks.check("no two spans have one id", ids.insert(id.into_u64()));
+        }
+    }
+    let (first, second) = (&stacks[0].0, &stacks[1].0);
+    let id = new(first, site!("s"));
+    let twin = new(second, site!("s"));
+    let refused = std::panic::catch_unwind(std::panic::AssertUnwindSafe(|| second.try_close(id.clone())));
+    checks.check("the other registry refuses the id", refused.is_err());
+    let refused = std::panic::catch_unwind(std::panic::AssertUnwindSafe(|| second.enter(&id)));
+    checks.check("and to enter it", refused.is_err() && second.current_span().id().is_none());
+    second.exit(&id);
+    checks.check("nothing was taken from its own span", is_there(second, &twin) && is_there(first, &id));
+    checks.check("that closes by its one handle", second.try_close(twin.clone()) && !is_there(second, &twin));
+    checks.check("and so does the first one's", first.try_close(id) && registry(first).current_id_is_none());
+}
+
+trait CurrentIdIsNone {
+    fn current_id_is_none(&self) -> bool;
+}
+impl CurrentIdIsNone for Registry {
+    fn current_id_is_none(&self) -> bool {
+        tracing::Subscriber::current_span(self).id().is_none()
+    }
+}
+
+fn main() {
+    std::panic::set_hook(Box::new(|_| {}));
+    let mut checks = Checks::default();
+    ids_apart(&mut checks);
+    (1..=40).for_each(|seed| at_random(&mut checks, seed));
+    checks.end();
+}

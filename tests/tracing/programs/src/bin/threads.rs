@@ -1,0 +1,29 @@
+//! So many threads alive at once, each of which makes, enters and closes a span.
+//!
+//!     threads COUNT
+use programs::Judge;
+use std::sync::{Arc, Barrier};
+use tracing_subscriber::prelude::*;
+
+fn main() {
+    let count: usize = std::env::args().nth(1).expect("how many threads").parse().expect("a number");
+    std::panic::set_hook(Box::new(|_| {}));
+    let judge = Judge::default();
+    tracing_subscriber::registry().with(judge.clone()).init();
+    let gate = Arc::new(Barrier::new(count));
+    let threads: Vec<_> = (0..count)
+        .map(|_| {
+            let gate = gate.clone();
+            let work = move || {
+                let done = std::panic::catch_unwind(|| drop(tracing::info_span!("s").entered()));
+                gate.wait();
+                done.is_ok()
+            };
+            std::thread::Builder::new().stack_size(64 << 10).spawn(work).expect("a thread")
+        })
+        .collect();
+    let done = threads.into_iter().filter(|_| true).map(|thread| thread.join().unwrap()).filter(|is_done| *is_done).count();
+    let (_, open, faults) = judge.verdict();
+    println!("{done} of {count} threads made a span, {open} left open, {} faults", faults.len());
+    std::process::exit(i32::from(done != count || open > 0 || !faults.is_empty()));
+}
