@@ -2,7 +2,9 @@
 //! in `span_store`, whose theorems stand in its crate. What layers keep of a span, and which spans a thread has entered,
 //! is here.
 mod close;
+mod lock;
 mod numbers;
+mod places;
 mod raw;
 mod refused;
 mod spans;
@@ -36,7 +38,7 @@ use tracing_core::{
 /// parents, their metadata and what layers keep in their extensions. A span is there until its last handle was given back,
 /// all its children ended, and all layers were told of its close.
 ///
-/// No two spans of a process have one id, but for those of registries of which 16,383 others were made and dropped since.
+/// No two spans of a process have one id, but for those of registries of which 8,191 others were made and dropped since.
 #[cfg(feature = "registry")]
 #[cfg_attr(docsrs, doc(cfg(all(feature = "registry", feature = "std"))))]
 #[derive(Debug)]
@@ -87,10 +89,11 @@ impl Registry {
 
     #[cold]
     fn refuse_hold(&self, id: &Id, why: Refused) -> ! {
+        if why == Refused::Unknown && self.spans.data(id.into_u64()).is_some() {
+            let handles = 0;
+            assert_ne!(handles, 0, "tried to clone a span ({:?}) that already closed", id);
+        }
         match why {
-            Refused::Unknown if self.spans.data(id.into_u64()).is_some() => {
-                panic!("tried to clone a span ({:?}) that already closed", id)
-            }
             Refused::Unknown => panic!(
                 "tried to clone {:?}, but no span exists with that ID\n\
                 This may be caused by consuming a parent span (`parent: span`) rather than borrowing it \
@@ -127,7 +130,6 @@ impl Subscriber for Registry {
 
     #[inline]
     fn new_span(&self, attrs: &span::Attributes<'_>) -> span::Id {
-        self.spans.see_dispatch();
         let current = if attrs.is_contextual() { self.current_id() } else { None };
         let parent = attrs.parent().or(current.as_ref());
         let filters = crate::filter::FILTERING.with(|filtering| filtering.filter_map());
@@ -181,7 +183,6 @@ impl Subscriber for Registry {
     }
 
     fn exit(&self, id: &span::Id) {
-        self.spans.see_dispatch();
         let is_released = with_stack(&self.spans, |stack| stack.pop(id)).unwrap_or(false);
         if is_released {
             match self.spans.release(id.into_u64()) {
@@ -193,7 +194,6 @@ impl Subscriber for Registry {
     }
 
     fn clone_span(&self, id: &span::Id) -> span::Id {
-        self.spans.see_dispatch();
         match self.spans.keep(id.into_u64()) {
             Ok(()) => id.clone(),
             Err(why) => self.refuse_hold(id, why),

@@ -23,6 +23,10 @@ impl SpanStack {
     #[inline]
     pub(super) fn pop(&mut self, id: &Id) -> bool {
         let id = id.into_u64();
+        if self.0.last() == Some(&id) {
+            self.0.pop();
+            return true;
+        }
         match self.0.iter().rposition(|entry| entry & !IS_TWIN == id) {
             Some(at) => self.0.remove(at) == id,
             None => false,
@@ -42,6 +46,9 @@ impl SpanStack {
 
     #[inline]
     pub(crate) fn current(&self) -> Option<Id> {
-        self.iter().next()
+        match self.0.last() {
+            Some(id) if id & IS_TWIN != 0 => self.iter().next(),
+            id => id.map(|id| Id::from_u64(*id)),
+        }
     }
 }

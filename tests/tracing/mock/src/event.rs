@@ -53,13 +53,7 @@ impl MockEvent {
         }
         if let Some(expected) = &self.parent {
             let actual = get_parent_name();
-            expected.check(
-                actual.as_deref(),
-                event.is_contextual(),
-                event.is_root(),
-                meta.name(),
-                name,
-            );
+            expected.check(actual.as_deref(), event.is_contextual(), event.is_root(), meta.name(), name);
         }
     }
     pub fn scope_mut(&mut self) -> &mut [span::MockSpan] {

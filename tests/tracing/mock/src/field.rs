@@ -48,23 +48,14 @@ pub fn mock<K>(name: K) -> MockField
 where
     String: From<K>,
 {
-    MockField {
-        name: name.into(),
-        value: MockValue::Any,
-    }
+    MockField { name: name.into(), value: MockValue::Any }
 }
 pub fn msg(message: impl fmt::Display) -> MockField {
-    MockField {
-        name: "message".into(),
-        value: MockValue::Debug(message.to_string()),
-    }
+    MockField { name: "message".into(), value: MockValue::Debug(message.to_string()) }
 }
 impl MockField {
     pub fn with_value(self, value: &dyn Value) -> Self {
-        Self {
-            value: MockValue::from(value),
-            ..self
-        }
+        Self { value: MockValue::from(value), ..self }
     }
     pub fn and(self, other: MockField) -> Expect {
         Expect::from(self).and(other)
@@ -75,10 +66,7 @@ impl MockField {
 }
 impl From<MockField> for Expect {
     fn from(field: MockField) -> Self {
-        Expect {
-            fields: HashMap::from([(field.name, field.value)]),
-            only: false,
-        }
+        Expect { fields: HashMap::from([(field.name, field.value)]), only: false }
     }
 }
 impl From<&dyn Value> for MockValue {
@@ -142,11 +130,7 @@ impl Expect {
         Self { only: true, ..self }
     }
     pub(crate) fn checker<'a>(&'a mut self, what: String, name: &'a str) -> Check<'a> {
-        Check {
-            expect: self,
-            what,
-            name,
-        }
+        Check { expect: self, what, name }
     }
     pub fn is_empty(&self) -> bool {
         self.fields.is_empty()

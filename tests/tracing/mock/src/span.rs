@@ -32,19 +32,11 @@ impl MockSpan {
     }
     pub fn with_explicit_parent(self, parent: Option<&str>) -> NewSpan {
         let parent = parent.map_or(Parent::ExplicitRoot, |name| Parent::Explicit(name.into()));
-        NewSpan {
-            parent: Some(parent),
-            span: self,
-            ..Default::default()
-        }
+        NewSpan { parent: Some(parent), span: self, ..Default::default() }
     }
     pub fn with_contextual_parent(self, parent: Option<&str>) -> NewSpan {
         let parent = parent.map_or(Parent::ContextualRoot, |name| Parent::Contextual(name.into()));
-        NewSpan {
-            parent: Some(parent),
-            span: self,
-            ..Default::default()
-        }
+        NewSpan { parent: Some(parent), span: self, ..Default::default() }
     }
     pub fn name(&self) -> Option<&str> {
         self.metadata.name.as_deref()
@@ -56,11 +48,7 @@ impl MockSpan {
         self.metadata.target.as_deref()
     }
     pub fn with_field<I: Into<field::Expect>>(self, fields: I) -> NewSpan {
-        NewSpan {
-            span: self,
-            fields: fields.into(),
-            ..Default::default()
-        }
+        NewSpan { span: self, fields: fields.into(), ..Default::default() }
     }
     pub(crate) fn check_meta(&self, meta: &tracing_core::Metadata<'_>, name: &str) {
         self.metadata.check(meta, "a span", name)
@@ -73,30 +61,18 @@ impl fmt::Display for MockSpan {
 }
 impl From<MockSpan> for NewSpan {
     fn from(span: MockSpan) -> Self {
-        NewSpan {
-            span,
-            ..Default::default()
-        }
+        NewSpan { span, ..Default::default() }
     }
 }
 impl NewSpan {
     pub fn with_explicit_parent(self, parent: Option<&str>) -> Self {
-        NewSpan {
-            parent: self.span.clone().with_explicit_parent(parent).parent,
-            ..self
-        }
+        NewSpan { parent: self.span.clone().with_explicit_parent(parent).parent, ..self }
     }
     pub fn with_contextual_parent(self, parent: Option<&str>) -> Self {
-        NewSpan {
-            parent: self.span.clone().with_contextual_parent(parent).parent,
-            ..self
-        }
+        NewSpan { parent: self.span.clone().with_contextual_parent(parent).parent, ..self }
     }
     pub fn with_field<I: Into<field::Expect>>(self, fields: I) -> Self {
-        NewSpan {
-            fields: fields.into(),
-            ..self
-        }
+        NewSpan { fields: fields.into(), ..self }
     }
     pub fn check(&mut self, span: &Attributes<'_>, get_parent_name: impl FnOnce() -> Option<String>, name: &str) {
         let meta = span.metadata();
@@ -106,13 +82,7 @@ impl NewSpan {
         checker.finish();
         if let Some(expected) = &self.parent {
             let actual = get_parent_name();
-            expected.check(
-                actual.as_deref(),
-                span.is_contextual(),
-                span.is_root(),
-                meta.name(),
-                name,
-            );
+            expected.check(actual.as_deref(), span.is_contextual(), span.is_root(), meta.name(), name);
         }
     }
 }

@@ -31,11 +31,7 @@ pub enum Expect {
 }
 impl Expect {
     pub fn bad(&self, name: impl AsRef<str>, what: fmt::Arguments<'_>) {
-        panic!(
-            "\n[{}] expected {self:?}\n[{}] but {what}",
-            name.as_ref(),
-            name.as_ref()
-        )
+        panic!("\n[{}] expected {self:?}\n[{}] but {what}", name.as_ref(), name.as_ref())
     }
 }
 struct SpanState {
@@ -70,10 +66,7 @@ pub fn mock() -> MockSubscriber<fn(&Metadata<'_>) -> bool> {
 }
 impl<F: Fn(&Metadata<'_>) -> bool + 'static> MockSubscriber<F> {
     pub fn named(self, name: impl ToString) -> Self {
-        Self {
-            name: name.to_string(),
-            ..self
-        }
+        Self { name: name.to_string(), ..self }
     }
     pub fn enter(mut self, span: MockSpan) -> Self {
         self.expected.push_back(Expect::Enter(span));
@@ -112,18 +105,10 @@ impl<F: Fn(&Metadata<'_>) -> bool + 'static> MockSubscriber<F> {
         self
     }
     pub fn with_filter<G: Fn(&Metadata<'_>) -> bool + 'static>(self, filter: G) -> MockSubscriber<G> {
-        MockSubscriber {
-            expected: self.expected,
-            filter,
-            max_level: self.max_level,
-            name: self.name,
-        }
+        MockSubscriber { expected: self.expected, filter, max_level: self.max_level, name: self.name }
     }
     pub fn with_max_level_hint(self, hint: impl Into<LevelFilter>) -> Self {
-        Self {
-            max_level: Some(hint.into()),
-            ..self
-        }
+        Self { max_level: Some(hint.into()), ..self }
     }
     pub fn run(self) -> impl Subscriber
     where
@@ -167,9 +152,7 @@ impl<F: Fn(&Metadata<'_>) -> bool + Send + Sync + 'static> Subscriber for Runnin
     }
     fn record(&self, id: &Id, values: &span::Record<'_>) {
         let spans = self.spans.lock().unwrap();
-        let span = spans
-            .get(id)
-            .unwrap_or_else(|| panic!("[{}] no span for ID {id:?}", self.name));
+        let span = spans.get(id).unwrap_or_else(|| panic!("[{}] no span for ID {id:?}", self.name));
         let mut expected = self.expected.lock().unwrap();
         if let Some(Expect::Visit(..)) = expected.front() {
             if let Some(Expect::Visit(expected_span, mut fields)) = expected.pop_front() {
@@ -190,11 +173,7 @@ impl<F: Fn(&Metadata<'_>) -> bool + Send + Sync + 'static> Subscriber for Runnin
                 let spans = self.spans.lock().unwrap();
                 let current = self.current.lock().unwrap();
                 let parent = || {
-                    let id = if event.is_contextual() {
-                        current.last()
-                    } else {
-                        event.parent()
-                    }?;
+                    let id = if event.is_contextual() { current.last() } else { event.parent() }?;
                     Some(spans.get(id)?.metadata.name().to_string())
                 };
                 expected.check(event, parent, &self.name);
@@ -204,11 +183,7 @@ impl<F: Fn(&Metadata<'_>) -> bool + Send + Sync + 'static> Subscriber for Runnin
     }
     fn record_follows_from(&self, consequence: &Id, cause: &Id) {
         let spans = self.spans.lock().unwrap();
-        if let Some(Expect::FollowsFrom {
-            consequence: a,
-            cause: b,
-        }) = self.expected.lock().unwrap().pop_front()
-        {
+        if let Some(Expect::FollowsFrom { consequence: a, cause: b }) = self.expected.lock().unwrap().pop_front() {
             a.check_meta(spans[consequence].metadata, &self.name);
             b.check_meta(spans[cause].metadata, &self.name);
         }
@@ -222,23 +197,13 @@ impl<F: Fn(&Metadata<'_>) -> bool + Send + Sync + 'static> Subscriber for Runnin
             if let Some(Expect::NewSpan(mut expected)) = expected.pop_front() {
                 let current = self.current.lock().unwrap();
                 let parent = || {
-                    let id = if span.is_contextual() {
-                        current.last()
-                    } else {
-                        span.parent()
-                    }?;
+                    let id = if span.is_contextual() { current.last() } else { span.parent() }?;
                     Some(spans.get(id)?.metadata.name().to_string())
                 };
                 expected.check(span, parent, &self.name);
             }
         }
-        spans.insert(
-            id.clone(),
-            SpanState {
-                metadata: meta,
-                refs: 1,
-            },
-        );
+        spans.insert(id.clone(), SpanState { metadata: meta, refs: 1 });
         id
     }
     fn enter(&self, id: &Id) {
@@ -257,20 +222,13 @@ impl<F: Fn(&Metadata<'_>) -> bool + Send + Sync + 'static> Subscriber for Runnin
             return;
         }
         let spans = self.spans.lock().unwrap();
-        let span = spans
-            .get(id)
-            .unwrap_or_else(|| panic!("[{}] no span for ID {id:?}", self.name));
+        let span = spans.get(id).unwrap_or_else(|| panic!("[{}] no span for ID {id:?}", self.name));
         match self.expected.lock().unwrap().pop_front() {
             None => {}
             Some(Expect::Exit(expected)) => {
                 expected.check_meta(span.metadata, &self.name);
                 let current = self.current.lock().unwrap().pop();
-                assert_eq!(
-                    Some(id),
-                    current.as_ref(),
-                    "[{}] exited another span than the current one",
-                    self.name
-                );
+                assert_eq!(Some(id), current.as_ref(), "[{}] exited another span than the current one", self.name);
             }
             Some(ex) => ex.bad(&self.name, format_args!("exited span {:?}", span.metadata.name())),
         }

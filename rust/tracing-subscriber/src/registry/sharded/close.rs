@@ -17,36 +17,29 @@ use tracing_core::{
     Subscriber,
 };
 
-/// A release that goes through a stack of layers, and the span where it is closing by that.
-struct Passing {
-    id: u64,
-    closing: Option<Closing>,
-}
-
 thread_local! {
-    /// The release that goes through a stack of layers now, the innermost one.
-    static PASSING: Cell<Option<Passing>> = const { Cell::new(None) };
+    /// The span of the release that goes through a stack of layers now, the innermost one; 0: none.
+    static PASSING: Cell<u64> = const { Cell::new(0) };
+    /// That span, where it is closing by that release.
+    static CLOSING: Cell<Option<Closing>> = const { Cell::new(None) };
     /// The span that is closing already and of which the layers are being told, until that comes to the registry; 0: none.
     static TOLD: Cell<u64> = const { Cell::new(0) };
 }
 
 /// Whether the release of this id is one by which `Spans::tell` tells the layers. It is asked once.
+#[inline]
 pub(super) fn is_told(id: u64) -> bool {
     TOLD.with(|told| told.get() == id && told.replace(0) != 0)
 }
 
 /// Leaves a closing span to the outermost layer whose guard is in this call; gives it back where there is none.
+#[inline]
 pub(super) fn leave_to_layers(closing: Closing) -> Option<Closing> {
-    PASSING.with(|cell| {
-        let passing = cell.take();
-        let is_its = passing.as_ref().map_or(false, |passing| passing.id == closing.id());
-        let (passing, closing) = match passing {
-            Some(passing) if is_its => (Some(Passing { closing: Some(closing), ..passing }), None),
-            passing => (passing, Some(closing)),
-        };
-        cell.set(passing);
-        closing
-    })
+    if PASSING.with(Cell::get) != closing.id() {
+        return Some(closing);
+    }
+    CLOSING.with(|cell| cell.set(Some(closing)));
+    None
 }
 
 /// Stands round a layer's part of a release. The outermost one of a release ends the span, if it is closing, when all
@@ -54,23 +47,16 @@ pub(super) fn leave_to_layers(closing: Closing) -> Option<Closing> {
 pub(crate) struct CloseGuard<'a> {
     spans: &'a Spans,
     stack: &'a dyn Subscriber,
-    // What was passing before, in the outermost guard.
-    before: Option<Option<Passing>>,
+    // In the outermost guard: what was passing before.
+    before: Option<(u64, Option<Closing>)>,
 }
 
 impl<'a> CloseGuard<'a> {
     /// `stack` is the layer with all that is below it.
+    #[inline]
     pub(super) fn new(spans: &'a Spans, id: u64, stack: &'a dyn Subscriber) -> Self {
-        let before = PASSING.with(|cell| match cell.take() {
-            Some(passing) if passing.id == id => {
-                cell.set(Some(passing));
-                None
-            }
-            before => {
-                cell.set(Some(Passing { id, closing: None }));
-                Some(before)
-            }
-        });
+        let passing = PASSING.with(|cell| cell.replace(id));
+        let before = (passing != id).then(|| (passing, CLOSING.with(Cell::take)));
         CloseGuard { spans, stack, before }
     }
 
@@ -79,10 +65,11 @@ impl<'a> CloseGuard<'a> {
 }
 
 impl Drop for CloseGuard<'_> {
+    #[inline]
     fn drop(&mut self) {
-        let Some(before) = self.before.take() else { return };
-        let passed = PASSING.with(|cell| cell.replace(before));
-        if let Some(closing) = passed.and_then(|passing| passing.closing) {
+        let Some((id, closing)) = self.before.take() else { return };
+        PASSING.with(|cell| cell.set(id));
+        if let Some(closing) = CLOSING.with(|cell| cell.replace(closing)) {
             self.spans.close_up(closing, Some(self.stack));
         }
     }
@@ -125,8 +112,20 @@ impl Drop for CloseUp<'_> {
 
 impl Spans {
     /// Ends a span of which the layers were told, and what is closing by that. `stack` is the outermost layer that told.
+    #[inline]
     pub(super) fn close_up(&self, closing: Closing, stack: Option<&dyn Subscriber>) {
-        CloseUp { spans: self, stack, next: Some(closing), ended: Vec::new() }.run();
+        let (data, parent) = self.end(closing);
+        if let Some(parent) = parent {
+            self.close_parents(data, parent, stack);
+        }
+    }
+
+    #[cold]
+    fn close_parents(&self, data: Option<Held<'_, DataInner>>, parent: Closing, stack: Option<&dyn Subscriber>) {
+        let id = parent.id();
+        let mut rest = CloseUp { spans: self, stack, next: Some(parent), ended: data.into_iter().collect() };
+        self.tell(id, stack);
+        rest.run();
     }
 
     /// Gives an entry's handle back.

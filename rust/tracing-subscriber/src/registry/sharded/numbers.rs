@@ -5,7 +5,7 @@ use std::{
 };
 
 /// Numbers are from 1 to this one.
-pub(super) const GREATEST: u64 = (1 << 14) - 1;
+pub(super) const GREATEST: u64 = (1 << 13) - 1;
 
 struct Numbers {
     last: u64,

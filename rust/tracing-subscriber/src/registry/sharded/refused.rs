@@ -14,12 +14,21 @@ pub(super) enum Refused {
 }
 
 /// What a status of include/span_store.h says.
+#[inline]
 pub(super) fn answer(status: u32) -> Result<(), Refused> {
+    if status == 0 {
+        Ok(())
+    } else {
+        Err(refused(status))
+    }
+}
+
+#[cold]
+fn refused(status: u32) -> Refused {
     match status {
-        0 => Ok(()),
-        1 => Err(Refused::Unknown),
-        2 => Err(Refused::CountFull),
-        3 => Err(Refused::Full),
-        _ => Err(Refused::Other),
+        1 => Refused::Unknown,
+        2 => Refused::CountFull,
+        3 => Refused::Full,
+        _ => Refused::Other,
     }
 }

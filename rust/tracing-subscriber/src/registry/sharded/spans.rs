@@ -5,28 +5,29 @@
 //! that has a handle of its parent, which is given back when the child ended.
 use super::{
     numbers,
-    raw::{Clear, Held, Places, Store},
+    places::Places,
+    raw::{Clear, Held, Store},
     refused::Refused,
     threads,
 };
 use crate::{filter::FilterMap, registry::extensions::ExtensionsInner, sync::RwLock};
 use std::{
     fmt,
+    num::NonZeroU64,
     sync::{
         atomic::{AtomicIsize, AtomicUsize, Ordering},
-        Mutex, MutexGuard, OnceLock, PoisonError,
+        Mutex, OnceLock,
     },
 };
 use tracing_core::{dispatcher::WeakDispatch, span::Id, Metadata};
 
-/// An id is, from its highest bits on: a bit that is 0, the registry's number, the store's place in the registry, a
-/// generation, and a slot.
-const SLOT_BITS: u32 = 20;
-const GENERATION_BITS: u32 = 23;
+/// An id is, from its highest bits on: a bit that is 0, the registry's number (13 bits), the store's place in the registry,
+/// and the store's own id, which is generation * 2^24 + slot + 1.
+const OWN_BITS: u32 = 44;
 const STORE_BITS: u32 = 6;
-const NUMBER_AT: u32 = SLOT_BITS + GENERATION_BITS + STORE_BITS;
-/// An id of a store is generation * 2^24 + slot + 1.
-const STORES_SLOT_BITS: u32 = 24;
+const SLOT_BITS: u32 = 24;
+/// So that a store's ids are below 2^44.
+const LAST_GENERATION: u32 = (1 << (OWN_BITS - SLOT_BITS)) - 2;
 
 /// How many seats threads take, and how many stores each has, which are opened as those before are full.
 const SEATS: usize = 16;
@@ -70,33 +71,40 @@ impl<T: Clear + fmt::Debug> fmt::Debug for Held<'_, T> {
 /// A store and its spans' data; each has its own lines of the processors' caches.
 #[repr(align(128))]
 struct Part {
-    store: Mutex<Store>,
+    store: Store,
     data: Places<DataInner>,
-}
-
-impl Part {
-    fn store(&self) -> MutexGuard<'_, Store> {
-        self.store.lock().unwrap_or_else(PoisonError::into_inner)
-    }
 }
 
 /// A span that is closing: nothing holds it any longer, and no child of it is there. Whoever has this value ends it, when
 /// the layers were told: the value is made once for each span, can't be copied, and is given up by `Spans::end`.
 #[must_use]
-pub(super) struct Closing(u64);
+pub(super) struct Closing(NonZeroU64);
 
 impl Closing {
     pub(super) fn id(&self) -> u64 {
-        self.0
+        self.0.get()
     }
 }
 
-/// The part of an id, its slot there, and its id in the store.
+/// The slot of a store's own id.
+#[inline]
+fn slot_of(own: u64) -> u32 {
+    (own.wrapping_sub(1) % (1 << SLOT_BITS)) as u32
+}
+
+/// The part of an id, and its id in the store there.
 struct Place<'a> {
     part: &'a Part,
     index: usize,
-    slot: u32,
     own: u64,
+}
+
+/// A span that was made, which has no data yet.
+struct Made<'a> {
+    part: &'a Part,
+    index: usize,
+    own: u64,
+    is_apart: bool,
 }
 
 pub(super) struct Spans {
@@ -135,89 +143,92 @@ impl Spans {
 
     /// Whether an id names this registry.
     pub(super) fn is_own(&self, id: u64) -> bool {
-        id >> NUMBER_AT == self.number
+        id >> (OWN_BITS + STORE_BITS) == self.number
     }
 
+    #[inline]
     fn place(&self, id: u64) -> Option<Place<'_>> {
         if !self.is_own(id) {
             return None;
         }
-        let index = (id >> (SLOT_BITS + GENERATION_BITS)) as usize % STORES;
-        let generation = (id >> SLOT_BITS) % (1 << GENERATION_BITS);
-        let slot = id % (1 << SLOT_BITS);
+        let index = (id >> OWN_BITS) as usize % STORES;
         let part = self.parts[index].get()?;
-        let own = (generation << STORES_SLOT_BITS | slot) + 1;
-        Some(Place { part, index, slot: slot as u32, own })
+        Some(Place { part, index, own: id % (1 << OWN_BITS) })
     }
 
     /// The id of a store's own one.
+    #[inline]
     fn full_id(&self, index: usize, own: u64) -> u64 {
-        let (generation, slot) = ((own - 1) >> STORES_SLOT_BITS, (own - 1) % (1 << STORES_SLOT_BITS));
-        (self.number << STORE_BITS | index as u64) << (SLOT_BITS + GENERATION_BITS) | generation << SLOT_BITS | slot
+        (self.number << STORE_BITS | index as u64) << OWN_BITS | own
     }
 
-    fn opened(&self, index: usize) -> Result<&Part, Refused> {
-        if let Some(part) = self.parts[index].get() {
-            return Ok(part);
-        }
-        let store = Store::new(SLOTS[index / SEATS], (1 << GENERATION_BITS) - 1)?;
-        Ok(self.parts[index].get_or_init(|| {
-            Box::new(Part { store: Mutex::new(store), data: Places::default() })
-        }))
+    #[cold]
+    fn open(&self, index: usize) -> Result<&Part, Refused> {
+        let store = Store::new(SLOTS[index / SEATS], LAST_GENERATION)?;
+        Ok(self.parts[index].get_or_init(|| Box::new(Part { store, data: Places::default() })))
     }
 
     /// A new span with one handle, under a parent that is open, or under none. `fill` writes its data.
-    pub(super) fn add(&self, parent: Option<u64>, fill: impl FnOnce(&mut DataInner)) -> Result<u64, Refused> {
-        let mut is_apart = false;
-        let (index, own) = match parent {
+    #[inline]
+    pub(super) fn add(&self, parent: Option<u64>, fill: impl Fn(&mut DataInner)) -> Result<u64, Refused> {
+        let made = match parent {
             None => self.add_root()?,
             Some(parent) => {
                 let place = self.place(parent).ok_or(Refused::Unknown)?;
-                let added = place.part.store().add(place.own);
-                match added {
-                    Err(Refused::Full) => {
-                        is_apart = true;
-                        self.add_apart(parent)?
-                    }
-                    added => (place.index, added?),
+                match place.part.store.add(place.own) {
+                    Err(Refused::Full) => self.add_apart(parent)?,
+                    own => Made { part: place.part, index: place.index, own: own?, is_apart: false },
                 }
             }
         };
-        let id = self.full_id(index, own);
-        let filled = self.opened(index)?.data.put((id % (1 << SLOT_BITS)) as u32, id, |data| {
+        let id = self.full_id(made.index, made.own);
+        let filled = made.part.data.put(slot_of(made.own), id, |data| {
             data.id = id;
-            data.is_apart = is_apart;
+            data.is_apart = made.is_apart;
             data.parent = parent.map(Id::from_u64);
             fill(data);
         });
         if let Err(why) = filled {
-            self.take_back(index, own, parent.filter(|_| is_apart));
+            self.take_back(made, parent);
             return Err(why);
         }
         Ok(id)
     }
 
-    fn add_root(&self) -> Result<(usize, u64), Refused> {
+    #[inline]
+    fn add_root(&self) -> Result<Made<'_>, Refused> {
         let seat = threads::seat() % SEATS;
-        let first = self.rows[seat].load(Ordering::Relaxed);
-        for row in first..ROWS {
-            let index = row * SEATS + seat;
-            let added = self.opened(index)?.store().add(0);
-            match added {
-                Err(Refused::Full) => self.rows[seat].store(row + 1, Ordering::Relaxed),
-                added => return Ok((index, added?)),
-            }
+        let row = self.rows[seat].load(Ordering::Relaxed) % ROWS;
+        let index = row * SEATS + seat;
+        let part = match self.parts[index].get() {
+            Some(part) => part,
+            None => self.open(index)?,
+        };
+        let own = part.store.add(0);
+        match own {
+            Err(Refused::Full) => self.add_anywhere(seat, row + 1),
+            own => Ok(Made { part, index, own: own?, is_apart: false }),
         }
-        self.add_anywhere()
     }
 
+    /// In one of the seat's other stores, else in any.
     #[cold]
-    fn add_anywhere(&self) -> Result<(usize, u64), Refused> {
-        for index in 0..STORES {
-            let added = self.opened(index)?.store().add(0);
-            match added {
+    fn add_anywhere(&self, seat: usize, row: usize) -> Result<Made<'_>, Refused> {
+        let own = (row..ROWS).map(|row| row * SEATS + seat);
+        for index in own.chain(0..STORES) {
+            let part = match self.parts[index].get() {
+                Some(part) => part,
+                None => self.open(index)?,
+            };
+            let own = part.store.add(0);
+            match own {
                 Err(Refused::Full) => {}
-                added => return Ok((index, added?)),
+                own => {
+                    if index % SEATS == seat {
+                        self.rows[seat].store(index / SEATS, Ordering::Relaxed);
+                    }
+                    return Ok(Made { part, index, own: own?, is_apart: false });
+                }
             }
         }
         Err(Refused::Full)
@@ -225,66 +236,71 @@ impl Spans {
 
     /// A root in another store, for which the parent is kept.
     #[cold]
-    fn add_apart(&self, parent: u64) -> Result<(usize, u64), Refused> {
+    fn add_apart(&self, parent: u64) -> Result<Made<'_>, Refused> {
         self.keep(parent)?;
-        self.add_root().map_err(|why| {
-            let _is_open = self.release(parent);
-            why
-        })
+        match self.add_root() {
+            Ok(made) => Ok(Made { is_apart: true, ..made }),
+            Err(why) => {
+                let _is_open = self.release(parent);
+                Err(why)
+            }
+        }
     }
 
     /// Gives up a span that nobody knows yet.
     #[cold]
-    fn take_back(&self, index: usize, own: u64, kept: Option<u64>) {
-        if let Ok(part) = self.opened(index) {
-            let mut store = part.store();
-            let _is_closing = store.release(own);
-            let _parent = store.ended(own);
-        }
-        if let Some(parent) = kept {
+    fn take_back(&self, made: Made<'_>, parent: Option<u64>) {
+        let _is_closing = made.part.store.release(made.own);
+        let _parent = made.part.store.ended(made.own);
+        if let Some(parent) = parent.filter(|_| made.is_apart) {
             let _is_open = self.release(parent);
         }
     }
 
     /// One more handle of a span that is open.
+    #[inline]
     pub(super) fn keep(&self, id: u64) -> Result<(), Refused> {
         let place = self.place(id).ok_or(Refused::Unknown)?;
-        let mut store = place.part.store();
-        store.keep(place.own)
+        place.part.store.keep(place.own)
     }
 
     /// Gives a handle back. A span that is closing now is answered once, and is to be ended.
+    #[inline]
     pub(super) fn release(&self, id: u64) -> Result<Option<Closing>, Refused> {
         let place = self.place(id).ok_or(Refused::Unknown)?;
-        let is_closing = place.part.store().release(place.own)?;
-        Ok(is_closing.then(|| Closing(id)))
+        let is_closing = place.part.store.release(place.own)?;
+        Ok(if is_closing { NonZeroU64::new(id).map(Closing) } else { None })
     }
 
     /// Ends a span: its id finds nothing from now on, and its parent is let go of, which is answered where it is closing by
     /// that. Its data stays until the last reader, of which the one answered here is one, is gone.
     pub(super) fn end(&self, closing: Closing) -> (Option<Held<'_, DataInner>>, Option<Closing>) {
-        let Closing(id) = closing;
+        let id = closing.id();
         let Some(place) = self.place(id) else { return (None, None) };
-        let data = place.part.data.take(place.slot, id);
-        let ended = place.part.store().ended(place.own);
+        let data = place.part.data.take(slot_of(place.own), id);
+        let ended = place.part.store.ended(place.own);
         debug_assert!(ended.is_ok() && data.is_some(), "a span ends once");
-        let seat = &self.rows[place.index % SEATS];
-        if place.index / SEATS < seat.load(Ordering::Relaxed) {
-            seat.store(place.index / SEATS, Ordering::Relaxed);
+        let row = &self.rows[place.index % SEATS];
+        if place.index / SEATS < row.load(Ordering::Relaxed) {
+            row.store(place.index / SEATS, Ordering::Relaxed);
         }
         let parent = match &data {
             Some(data) if data.is_apart => {
                 let parent = data.parent.as_ref().map_or(0, Id::into_u64);
                 self.release(parent).ok().flatten()
             }
-            _ => ended.ok().filter(|own| *own != 0).map(|own| Closing(self.full_id(place.index, own))),
+            _ => match ended {
+                Ok(0) | Err(_) => None,
+                Ok(own) => NonZeroU64::new(self.full_id(place.index, own)).map(Closing),
+            },
         };
         (data, parent)
     }
 
     /// What layers read of a span that is there, closing or not.
+    #[inline]
     pub(super) fn data(&self, id: u64) -> Option<Held<'_, DataInner>> {
         let place = self.place(id)?;
-        place.part.data.get(place.slot, id)
+        place.part.data.get(slot_of(place.own), id)
     }
 }

@@ -6,7 +6,6 @@ use super::spans::Spans;
 use crate::registry::stack::SpanStack;
 use std::{
     cell::{Cell, RefCell},
-    ptr,
     sync::{
         atomic::{AtomicUsize, Ordering},
         Arc, Weak,
@@ -25,22 +24,32 @@ thread_local! {
 }
 
 struct Stack {
+    address: usize,
     // It keeps the address from being another registry's.
     spans: Weak<Spans>,
     entered: SpanStack,
 }
 
+fn address(spans: &Spans) -> usize {
+    spans as *const Spans as usize
+}
+
 struct Stacks(Vec<Stack>);
 
 impl Stacks {
+    #[inline]
     fn at(&self, spans: &Spans) -> Option<usize> {
-        self.0.iter().position(|stack| ptr::eq(stack.spans.as_ptr(), spans))
+        match self.0.first() {
+            Some(first) if first.address == address(spans) => Some(0),
+            _ => self.0.iter().position(|stack| stack.address == address(spans)),
+        }
     }
 
     #[cold]
     fn open(&mut self, spans: &Arc<Spans>) -> usize {
         self.0.retain(|stack| !stack.entered.is_empty() && stack.spans.strong_count() > 0);
-        self.0.push(Stack { spans: Arc::downgrade(spans), entered: SpanStack::default() });
+        let stack = Stack { address: address(spans), spans: Arc::downgrade(spans), entered: SpanStack::default() };
+        self.0.push(stack);
         self.0.len() - 1
     }
 }
@@ -56,6 +65,7 @@ impl Drop for Stacks {
 }
 
 /// A number of the thread, given when it is first asked for.
+#[inline]
 pub(super) fn seat() -> usize {
     SEAT.with(|seat| {
         if seat.get() == NO_SEAT {
@@ -67,6 +77,7 @@ pub(super) fn seat() -> usize {
 
 /// Shows the thread's stack in the registry to a function that runs no code of others. None where the thread has none any
 /// longer.
+#[inline]
 pub(super) fn with_stack<T>(spans: &Arc<Spans>, change: impl FnOnce(&mut SpanStack) -> T) -> Option<T> {
     let shown = STACKS.try_with(|stacks| {
         let mut stacks = stacks.try_borrow_mut().ok()?;

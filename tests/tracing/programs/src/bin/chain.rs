@@ -20,7 +20,11 @@ fn main() {
         }
         dispatch.try_close(last);
         let (made, open, faults) = judge.verdict();
-        println!("{made} spans, {open} left open, {} faults, the first is there: {}", faults.len(), is_there(&dispatch, &first));
+        println!(
+            "{made} spans, {open} left open, {} faults, the first is there: {}",
+            faults.len(),
+            is_there(&dispatch, &first)
+        );
         std::process::exit(i32::from(open > 0 || !faults.is_empty() || is_there(&dispatch, &first)));
     });
 }

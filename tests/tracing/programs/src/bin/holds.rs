@@ -125,7 +125,8 @@ fn under_readers(checks: &mut Checks) {
     let is_kept = readers.iter().enumerate().all(|(at, reader)| reader.extensions().get() == Some(&(at as u32)));
     checks.check("each reader reads its own span's data", is_kept && drops.load(Ordering::SeqCst) == 0);
     let fresh = new(&dispatch, site!("fresh"));
-    checks.check("a new span has no data of another", registry.span(&fresh).unwrap().extensions().get::<u32>().is_none());
+    checks
+        .check("a new span has no data of another", registry.span(&fresh).unwrap().extensions().get::<u32>().is_none());
     drop(readers);
     checks.check("data is dropped with its last reader", drops.load(Ordering::SeqCst) == 100);
     dispatch.try_close(fresh);

@@ -1,5 +1,5 @@
 //! What stays of spans that nothing holds any longer: each line says whether the data can still be looked up.
-use programs::{is_there, lock, new, registry, site, child, Quiet};
+use programs::{child, is_there, lock, new, registry, site, Quiet};
 use std::cell::RefCell;
 use std::panic::{catch_unwind, AssertUnwindSafe};
 use std::sync::Mutex;
@@ -13,7 +13,7 @@ use tracing_subscriber::registry::{LookupSpan, SpanRef};
 use tracing_subscriber::{Layer, Registry};
 
 fn say(what: &str, stays: bool) {
-    println!("{what}: {}", if stays { "stays" } else { "gone" });
+    println!("{what} => {}", if stays { "stays" } else { "gone" });
 }
 
 fn without_a_layer() {
@@ -93,7 +93,10 @@ fn in_an_event() {
         tracing::info!(value = ?Value(Mutex::new(Some(child))), "told");
         id
     });
-    say("4 the parent of a span whose last handle is dropped while a layer is told of an event", is_there(&dispatch, &parent));
+    say(
+        "4 the parent of a span whose last handle is dropped while a layer is told of an event",
+        is_there(&dispatch, &parent),
+    );
 }
 
 fn under_another_default() {
@@ -132,7 +135,7 @@ fn at_a_threads_end() {
     let current = std::thread::spawn(move || {
         dispatcher::with_default(&next, || Span::current().metadata().map(|metadata| metadata.name()))
     });
-    println!("7 the next thread's current span: {:?}", current.join().unwrap());
+    println!("7 the next thread's current span => {:?}", current.join().unwrap());
 }
 
 thread_local! {
@@ -162,7 +165,10 @@ fn under_a_late_reader() {
         drop(child);
         drop(tracing::info_span!("other"));
         for (name, id) in ["grandparent", "parent", "child"].iter().zip(&ids) {
-            say(&format!("8 the {name}, where a reader of the child ends in another close"), registry.span(id).is_some());
+            say(
+                &format!("8 the {name}, where a reader of the child ends in another close"),
+                registry.span(id).is_some(),
+            );
         }
     });
 }

@@ -1,7 +1,7 @@
 //! Threads make, share, enter, clone and drop spans at random for so many seconds, also in the callbacks of a layer. Each
 //! span has to be told closed once, after its children, with its data there, and none may be left.
 //!
-//!     stress SECONDS [SEED [THREADS]]
+//!     stress SECONDS [SEED [THREADS [ROUNDS]]]
 use programs::{lock, Dice, Judge};
 use std::cell::Cell;
 use std::sync::{Arc, Mutex};
@@ -15,7 +15,7 @@ use tracing_subscriber::prelude::*;
 use tracing_subscriber::registry::LookupSpan;
 use tracing_subscriber::{Layer, Registry};
 
-const ROUNDS: u32 = 20_000;
+const ROUNDS: u64 = 20_000;
 const MOST: usize = 200;
 
 type Pool = Arc<Mutex<Vec<Span>>>;
@@ -127,12 +127,16 @@ fn round(dice: &mut Dice, pool: &Pool) {
     let more: Vec<Span> = {
         let mut pool = lock(pool);
         let end = pool.len();
-        if end > MOST { pool.split_off(end - 20) } else { Vec::new() }
+        if end > MOST {
+            pool.split_off(end - 20)
+        } else {
+            Vec::new()
+        }
     };
     drop(more);
 }
 
-fn turn(seed: u64, threads: u64) -> (u64, usize, Vec<String>) {
+fn turn(seed: u64, threads: u64, rounds: u64) -> (u64, usize, Vec<String>) {
     let judge = Judge::default();
     let pool = Pool::default();
     let layers = Registry::default().with(judge.clone()).with(Meddler(pool.clone())).with(LevelFilter::TRACE);
@@ -144,7 +148,7 @@ fn turn(seed: u64, threads: u64) -> (u64, usize, Vec<String>) {
                 dispatcher::with_default(dispatch, || {
                     SEED.set(seed ^ thread << 32);
                     let mut dice = Dice::new(seed * 64 + thread + 1);
-                    (0..ROUNDS).for_each(|_| round(&mut dice, pool));
+                    (0..rounds).for_each(|_| round(&mut dice, pool));
                 });
             });
         }
@@ -165,10 +169,11 @@ fn main() {
     let seconds = words.next().expect("how many seconds");
     let mut seed = words.next().unwrap_or(1);
     let threads = words.next().unwrap_or(4);
+    let rounds = words.next().unwrap_or(ROUNDS);
     let end = Instant::now() + Duration::from_secs(seconds);
     let (mut turns, mut spans, mut left, mut faults) = (0, 0, 0, Vec::new());
     while turns == 0 || Instant::now() < end {
-        let (made, open, wrong) = turn(seed, threads);
+        let (made, open, wrong) = turn(seed, threads, rounds);
         if open > 0 || !wrong.is_empty() {
             println!("seed {seed}: {open} left open, {} faults", wrong.len());
         }

@@ -123,19 +123,23 @@ fn main() {
     show("compact", &sink, registry().with(compact).into());
     let pretty = layer!().pretty().with_writer(sink.clone()).with_span_events(FmtSpan::ACTIVE);
     show("pretty", &sink, registry().with(pretty).into());
-    let json = fmt::layer().json().without_time().with_writer(sink.clone()).with_current_span(true).with_span_list(true);
+    let json =
+        fmt::layer().json().without_time().with_writer(sink.clone()).with_current_span(true).with_span_list(true);
     show("json", &sink, registry().with(json).into());
     let flat = fmt::layer().json().flatten_event(true).without_time().with_writer(sink.clone());
     show("json, flat", &sink, registry().with(flat).into());
 
-    for directives in ["info", "warn,app::db=debug", "[outer]=trace", "[{peer=10.0.0.1}]=debug,error", "off", "texts=info"] {
+    for directives in
+        ["info", "warn,app::db=debug", "[outer]=trace", "[{peer=10.0.0.1}]=debug,error", "off", "texts=info"]
+    {
         let own = layer!().with_writer(sink.clone());
         show(&format!("EnvFilter {directives}"), &sink, registry().with(EnvFilter::new(directives)).with(own).into());
         let own = layer!().with_writer(sink.clone()).with_filter(EnvFilter::new(directives));
         show(&format!("EnvFilter {directives} of one layer"), &sink, registry().with(own).into());
     }
     let first = layer!().with_writer(sink.clone()).with_filter(LevelFilter::WARN);
-    let second = layer!().compact().with_writer(sink.clone()).with_filter(Targets::new().with_target("app", Level::DEBUG));
+    let second =
+        layer!().compact().with_writer(sink.clone()).with_filter(Targets::new().with_target("app", Level::DEBUG));
     let third = layer!().with_target(false).with_writer(sink.clone()).with_filter(filter_fn(|meta| meta.is_event()));
     show("three layers with filters", &sink, registry().with(first).with(second).with(third).into());
     let inner = layer!().with_writer(sink.clone()).with_span_events(FmtSpan::FULL);

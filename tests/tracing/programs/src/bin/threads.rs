@@ -22,7 +22,8 @@ fn main() {
             std::thread::Builder::new().stack_size(64 << 10).spawn(work).expect("a thread")
         })
         .collect();
-    let done = threads.into_iter().filter(|_| true).map(|thread| thread.join().unwrap()).filter(|is_done| *is_done).count();
+    let done =
+        threads.into_iter().filter(|_| true).map(|thread| thread.join().unwrap()).filter(|is_done| *is_done).count();
     let (_, open, faults) = judge.verdict();
     println!("{done} of {count} threads made a span, {open} left open, {} faults", faults.len());
     std::process::exit(i32::from(done != count || open > 0 || !faults.is_empty()));

@@ -1,0 +1,196 @@
+//! The same work on a registry of tracing-subscriber, whichever it is built with.
+//!
+//!     rounds CALLS WORK LAYER DEPTH THREADS ROUNDS TURNS
+//!
+//! CALLS: raw (of a Dispatch) or macros. WORK: span (new with one field, enter, exit, close), clone (clone, close), event, or
+//! all (span with an event in it). LAYER: none (one that does nothing: without any, the original keeps what closed), line (it
+//! keeps a span's fields as text, and writes a line with the path for each event and close), look (it looks up the span and its
+//! parents each time), fmt (fmt::layer into a sink). DEPTH: so many spans stay entered below. Prints the nanoseconds and the
+//! allocations of a round in each thread: the best turn's.
+mod layers;
+
+use std::alloc::{GlobalAlloc, Layout, System};
+use std::sync::atomic::{AtomicU64, Ordering};
+use std::sync::{Barrier, Mutex};
+use std::time::{Duration, Instant};
+use tracing_core::field::Value;
+use tracing_core::span::{Attributes, Id};
+use tracing_core::{dispatcher, metadata::Kind, Dispatch, Event, Field, Level, Metadata};
+use tracing_subscriber::prelude::*;
+
+/// Counts what is asked for.
+struct Counting;
+static ASKED: AtomicU64 = AtomicU64::new(0);
+
+// SAFETY: all is the system's own.
+unsafe impl GlobalAlloc for Counting {
+    unsafe fn alloc(&self, layout: Layout) -> *mut u8 {
+        ASKED.fetch_add(1, Ordering::Relaxed);
+        System.alloc(layout)
+    }
+    unsafe fn dealloc(&self, at: *mut u8, layout: Layout) {
+        System.dealloc(at, layout)
+    }
+    unsafe fn realloc(&self, at: *mut u8, layout: Layout, size: usize) -> *mut u8 {
+        ASKED.fetch_add(1, Ordering::Relaxed);
+        System.realloc(at, layout, size)
+    }
+}
+
+#[global_allocator]
+static COUNTING: Counting = Counting;
+
+struct Site;
+static SITE: Site = Site;
+impl tracing_core::Callsite for Site {
+    fn set_interest(&self, _: tracing_core::Interest) {}
+    fn metadata(&self) -> &Metadata<'_> {
+        &SPAN
+    }
+}
+
+macro_rules! metadata {
+    ($name:expr, $kind:expr, $field:expr) => {
+        Metadata::new(
+            $name,
+            "app",
+            Level::INFO,
+            None,
+            None,
+            None,
+            tracing_core::field::FieldSet::new(&[$field], tracing_core::identify_callsite!(&SITE)),
+            $kind,
+        )
+    };
+}
+static SPAN: Metadata<'static> = metadata!("request", Kind::SPAN, "key");
+static EVENT: Metadata<'static> = metadata!("event", Kind::EVENT, "message");
+
+struct Order {
+    work: String,
+    depth: usize,
+    threads: usize,
+    rounds: u32,
+    turns: usize,
+}
+
+/// Lets each thread do its turns, all threads at once.
+struct Clock<'a> {
+    order: &'a Order,
+    start: Barrier,
+    best: Mutex<Vec<(Duration, u64)>>,
+}
+
+impl Clock<'_> {
+    fn run(&self, mut round: impl FnMut()) {
+        for turn in 0..self.order.turns {
+            self.start.wait();
+            let (began, asked) = (Instant::now(), ASKED.load(Ordering::Relaxed));
+            for _ in 0..self.order.rounds {
+                round();
+            }
+            let took = began.elapsed();
+            self.start.wait();
+            let asked = ASKED.load(Ordering::Relaxed) - asked;
+            let mut best = self.best.lock().unwrap();
+            best[turn] = (best[turn].0.max(took), best[turn].1.max(asked));
+        }
+    }
+}
+
+fn by_macros(clock: &Clock<'_>) {
+    let under = || tracing::info_span!(target: "app", "below", key = "value").entered();
+    let below: Vec<_> = (0..clock.order.depth).map(|_| under()).collect();
+    let held = tracing::info_span!(target: "app", "held", key = "value");
+    match clock.order.work.as_str() {
+        "span" => clock.run(|| {
+            let span = tracing::info_span!(target: "app", "request", key = "value");
+            let _entered = span.enter();
+        }),
+        "clone" => clock.run(|| drop(std::hint::black_box(held.clone()))),
+        "event" => clock.run(|| tracing::info!(target: "app", "told")),
+        _ => clock.run(|| {
+            let span = tracing::info_span!(target: "app", "request", key = "value");
+            let _entered = span.enter();
+            tracing::info!(target: "app", "told");
+        }),
+    }
+    drop(held);
+    below.into_iter().rev().for_each(drop);
+}
+
+fn by_raw_calls(clock: &Clock<'_>, dispatch: &Dispatch) {
+    let key = SPAN.fields().field("key").expect("it has the field");
+    let message = EVENT.fields().field("message").expect("it has the field");
+    let new = || {
+        let value: (&Field, Option<&dyn Value>) = (&key, Some(&"value"));
+        dispatch.new_span(&Attributes::new(&SPAN, &SPAN.fields().value_set(&[value])))
+    };
+    let event = || {
+        let text = format_args!("told");
+        let value: (&Field, Option<&dyn Value>) = (&message, Some(&text));
+        dispatch.event(&Event::new(&EVENT, &EVENT.fields().value_set(&[value])));
+    };
+    let leave = |id: Id| {
+        dispatch.exit(&id);
+        dispatch.try_close(id);
+    };
+    let enter = || {
+        let id = new();
+        dispatch.enter(&id);
+        id
+    };
+    let below: Vec<Id> = (0..clock.order.depth).map(|_| enter()).collect();
+    let held = new();
+    match clock.order.work.as_str() {
+        "span" => clock.run(|| leave(enter())),
+        "clone" => clock.run(|| {
+            let twin = dispatch.clone_span(&held);
+            dispatch.try_close(twin);
+        }),
+        "event" => clock.run(event),
+        _ => clock.run(|| {
+            let id = enter();
+            event();
+            leave(id);
+        }),
+    }
+    dispatch.try_close(held);
+    below.into_iter().rev().for_each(leave);
+}
+
+fn dispatch_with(layer: &str) -> Dispatch {
+    let registry = tracing_subscriber::registry();
+    match layer {
+        "none" => Dispatch::new(registry.with(layers::Quiet)),
+        "line" => Dispatch::new(registry.with(layers::Lines)),
+        "look" => Dispatch::new(registry.with(layers::Looks)),
+        "fmt" => Dispatch::new(registry.with(tracing_subscriber::fmt::layer().with_writer(std::io::sink))),
+        _ => panic!("there is no layer {layer}"),
+    }
+}
+
+fn main() {
+    let words: Vec<String> = std::env::args().skip(1).collect();
+    let number = |at: usize| words[at].parse::<usize>().expect("a number");
+    let (depth, threads, turns) = (number(3), number(4), number(6));
+    let order = Order { work: words[1].clone(), depth, threads, rounds: number(5) as u32, turns };
+    let dispatch = dispatch_with(&words[2]);
+    let best = Mutex::new(vec![(Duration::ZERO, 0); order.turns]);
+    let clock = Clock { order: &order, start: Barrier::new(order.threads), best };
+    std::thread::scope(|scope| {
+        for _ in 0..order.threads {
+            scope.spawn(|| {
+                dispatcher::with_default(&dispatch, || match words[0].as_str() {
+                    "macros" => by_macros(&clock),
+                    _ => by_raw_calls(&clock, &dispatch),
+                });
+            });
+        }
+    });
+    let turns = clock.best.into_inner().unwrap();
+    let rounds = f64::from(order.rounds);
+    let took = turns.iter().map(|(took, _)| took.as_nanos()).min().unwrap_or(0);
+    let asked = turns.last().map_or(0, |(_, asked)| *asked);
+    println!("{:.1} ns {:.2} allocations", took as f64 / rounds, asked as f64 / rounds / order.threads as f64);
+}

@@ -1,0 +1,98 @@
+//! The data of spans, by slot.
+use super::{
+    raw::{Clear, Held, Shared},
+    refused::Refused,
+};
+use std::sync::{
+    atomic::{AtomicU64, Ordering},
+    OnceLock,
+};
+
+/// A value with the id that it belongs to, 0 where it belongs to none.
+#[derive(Default)]
+struct Place<T> {
+    id: AtomicU64,
+    value: Shared<T>,
+    // Where this one is still read under an id that ended, the slot's next span has another place.
+    next: OnceLock<Box<Place<T>>>,
+}
+
+impl<T> Drop for Place<T> {
+    /// One after the other, however many there are.
+    fn drop(&mut self) {
+        let mut next = self.next.take();
+        while let Some(mut place) = next {
+            next = place.next.take();
+        }
+    }
+}
+
+/// How many places the first row has, as a power of two. Each row has twice the places of the one before it.
+const FIRST_ROW: u32 = 5;
+/// How many rows there are, for slots below 2^24.
+const ROWS: usize = 20;
+
+#[derive(Default)]
+pub(super) struct Places<T> {
+    rows: [OnceLock<Box<[Place<T>]>>; ROWS],
+}
+
+impl<T: Clear> Places<T> {
+    /// Fills a place for the id of a slot's new span.
+    #[inline]
+    pub(super) fn put(&self, slot: u32, id: u64, fill: impl Fn(&mut T)) -> Result<(), Refused> {
+        let (row, at) = row_of(slot);
+        let mut place = match self.rows[row].get() {
+            Some(row) => &row[at],
+            None => &self.new_row(row)?[at],
+        };
+        while !place.value.fill(&fill) {
+            place = place.next.get_or_init(Box::default);
+        }
+        place.id.store(id, Ordering::Release);
+        Ok(())
+    }
+
+    #[cold]
+    fn new_row(&self, row: usize) -> Result<&[Place<T>], Refused> {
+        let length = 1 << (FIRST_ROW as usize + row);
+        let mut places = Vec::new();
+        places.try_reserve_exact(length).map_err(|_| Refused::Other)?;
+        places.resize_with(length, Place::default);
+        Ok(self.rows[row].get_or_init(|| places.into_boxed_slice()))
+    }
+
+    #[inline]
+    fn with_id(&self, slot: u32, id: u64) -> Option<&Place<T>> {
+        let (row, at) = row_of(slot);
+        let mut place = &self.rows[row].get()?[at];
+        while place.id.load(Ordering::Acquire) != id {
+            place = place.next.get()?;
+        }
+        Some(place)
+    }
+
+    /// A hold of the value of an id, without a lock.
+    #[inline]
+    pub(super) fn get(&self, slot: u32, id: u64) -> Option<Held<'_, T>> {
+        let place = self.with_id(slot, id)?;
+        let held = place.value.hold()?;
+        // It may be another span's meanwhile; then the hold is given back.
+        (place.id.load(Ordering::Relaxed) == id).then_some(held)
+    }
+
+    /// Takes the id from its place, and answers the hold that it was put with.
+    #[inline]
+    pub(super) fn take(&self, slot: u32, id: u64) -> Option<Held<'_, T>> {
+        let place = self.with_id(slot, id)?;
+        place.id.store(0, Ordering::Relaxed);
+        place.value.take()
+    }
+}
+
+#[inline]
+fn row_of(slot: u32) -> (usize, usize) {
+    let number = slot + (1 << FIRST_ROW);
+    let row = number.ilog2();
+    ((row - FIRST_ROW) as usize, (number - (1 << row)) as usize)
+}

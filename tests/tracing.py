@@ -1,0 +1,319 @@
+"""Runs the real tracing-subscriber over the proved store: its own tests and ours, beside the original. The last line is 'N
+passed, M failed'.
+
+The crate is laid over by rust/tracing-subscriber/lay, with the library of `rt lib` in crates/span_store_ffi, which is made
+first where it isn't there or a source is newer, or with that of --library. Then
+- the crate's own tests run, over the original and over the copy, and each file of them has to pass as many tests there. The
+  original's numbers are those of this run. What tests need of tracing_mock, which isn't published, is in tests/tracing/mock;
+- the programs of tests/tracing/programs run over both. Texts have to be the same, and answers differ where
+  tests/tracing/differing.txt says so, and in no other place; what has to hold holds over the copy; and where the original is
+  known to fail it is run, too, so that what docs/FROM_TRACING.md says of it is seen;
+- some of these run under valgrind.
+
+Without cargo, or without Debian's packages of the crates' sources, nothing is run, and that is said.
+"""
+
+import argparse
+import os
+import re
+import shutil
+import subprocess
+import sys
+import tempfile
+import time
+from pathlib import Path
+
+TOP = Path(__file__).resolve().parent.parent
+OURS = TOP / "rust/tracing-subscriber"
+PARTS = TOP / "tests/tracing"
+CRATE = TOP / "crates/span_store_ffi"
+REGISTRY = Path("/usr/share/cargo/registry")
+# Debian's packages, and the folder that each brings.
+PACKAGES = {
+    "librust-tracing-dev": "tracing-0.1.37",
+    "librust-tracing-subscriber-dev": "tracing-subscriber-0.3.16",
+    "librust-tracing-futures-dev": "tracing-futures-0.2.5",
+    "librust-tokio-dev": "tokio-1.*",
+}
+CONFIG = f"""[source.crates-io]
+replace-with = "debian"
+
+[source.debian]
+directory = "{REGISTRY}"
+
+[net]
+offline = true
+"""
+# What has to end well over the copy: the program, its words, and after how many seconds it is ended.
+SOUND = [
+    ("chain", ["1000000"], 120),
+    ("threads", ["4500"], 120),
+    ("ids", ["1500000", "4"], 300),
+    ("last", [], 60),
+    ("holds", [], 60),
+    ("others", [], 60),
+    ("futures", [], 120),
+]
+# Where the original is known to fail.
+UNSOUND = [
+    ("chain", ["100000"], 120),
+    ("threads", ["4500"], 120),
+    ("ids", ["200000", "1"], 120),
+    ("last", [], 60),
+    ("holds", [], 60),
+    ("others", [], 60),
+]
+# What runs under valgrind, and whether that also looks for memory that is lost.
+CHECKED = [
+    ("behaviour", [], False),
+    ("leaks", [], False),
+    ("holds", [], True),
+    ("last", [], True),
+    ("stress", ["0", "5", "3", "400"], True),
+]
+VALGRIND = ["valgrind", "--quiet", "--error-exitcode=99", "--fair-sched=yes"]
+LOST = ["--leak-check=full", "--show-leak-kinds=definite", "--errors-for-leak-kinds=definite"]
+
+
+class Count:
+    """How many checks passed and failed."""
+
+    def __init__(self):
+        self.passed = 0
+        self.failed = 0
+
+    def check(self, is_right, what):
+        if is_right:
+            self.passed += 1
+        else:
+            self.failed += 1
+            print(f"failed: {what}")
+
+
+def missing():
+    """What isn't there of what is needed; none where all is."""
+    if shutil.which("cargo") is None:
+        return "Rust's command cargo is not on the PATH"
+    lacks = [package for package, folder in PACKAGES.items() if not list(REGISTRY.glob(folder))]
+    return f"Debian's packages {', '.join(lacks)} aren't installed" if lacks else None
+
+
+def current_library():
+    """The library that `rt lib` makes, made again where a source of the repository is newer; none where that fails."""
+    library = CRATE / "out/libspan_store_ffi.a"
+    sources = [file for end in ("src/**/*.rt", "specs/**/*.antt") for file in TOP.glob(f"crates/*/{end}")]
+    newest = max(file.stat().st_mtime for file in sources)
+    if library.exists() and library.stat().st_mtime >= newest:
+        return library
+    done = subprocess.run(["rt", "lib"], cwd=CRATE, capture_output=True, text=True)
+    if done.returncode != 0:
+        sys.stdout.write(done.stdout + done.stderr)
+    return library if done.returncode == 0 else None
+
+
+class Yard:
+    """A folder in which crates are built: with the original, and with the copy that stands on the proved store."""
+
+    def __init__(self, folder, library, jobs):
+        self.folder = folder
+        self.library = library
+        self.jobs = jobs
+        (folder / ".cargo").mkdir(parents=True, exist_ok=True)
+        (folder / ".cargo/config.toml").write_text(CONFIG)
+
+    def lay(self, folder):
+        shutil.rmtree(folder, ignore_errors=True)
+        folder.parent.mkdir(parents=True, exist_ok=True)
+        source = REGISTRY / "tracing-subscriber-0.3.16"
+        subprocess.run([OURS / "lay", folder, "--from", source, "--library", self.library], check=True)
+
+    def cargo(self, command, folder, *words):
+        """Runs cargo, with one folder of what is built for all crates."""
+        line = ["cargo", command, "--offline", "-j", str(self.jobs), *words]
+        environment = {**os.environ, "CARGO_TARGET_DIR": str(self.folder / "target"), "RUST_BACKTRACE": "0"}
+        return subprocess.run(line, cwd=folder, env=environment, stdin=subprocess.DEVNULL, text=True,
+                              stdout=subprocess.PIPE, stderr=subprocess.STDOUT)
+
+
+def make_suite(yard, name):
+    """A copy of the crate with its tests as they were before Debian left out those that need tracing_mock."""
+    folder = yard.folder / name / "tracing-subscriber"
+    if name == "copy":
+        yard.lay(folder)
+    else:
+        shutil.rmtree(folder, ignore_errors=True)
+        shutil.copytree(REGISTRY / "tracing-subscriber-0.3.16", folder,
+                        ignore=shutil.ignore_patterns(".cargo-checksum.json"))
+    left_out = folder / "debian/patches/remove-tracing-mock.diff"
+    if left_out.is_file():
+        subprocess.run(["patch", "-R", "-s", "-p1", "-i", left_out], cwd=folder, check=True)
+    manifest = folder / "Cargo.toml"
+    text = manifest.read_text()
+    for section in (r"\[\[bench\]\]", r"\[dev-dependencies\.criterion\]"):
+        text = re.sub(rf"\n{section}\n(?:[^\[\n][^\n]*\n)*", "\n", text)
+    text = text.replace("\n[package]\n", "\n[package]\nautobenches = false\n")
+    text += f'\n[dev-dependencies.tracing-mock]\npath = "{PARTS / "mock"}"\n\n[workspace]\n'
+    manifest.write_text(text)
+    return folder
+
+
+def suite_counts(yard, name):
+    """For each file of the crate's own tests, how many passed and failed; and what cargo said."""
+    folder = make_suite(yard, name)
+    done = yard.cargo("test", folder, "--no-fail-fast", "--features", "env-filter,json")
+    counts, file = {}, None
+    for line in done.stdout.splitlines():
+        if found := re.match(r"\s+Running (?:unittests )?(\S+) ", line):
+            file = found[1]
+        elif re.match(r"\s+Doc-tests ", line):
+            file = "doc tests"
+        elif found := re.match(r"test result: \w+\. (\d+) passed; (\d+) failed", line):
+            counts[file] = (int(found[1]), int(found[2]))
+    return counts, done.stdout
+
+
+def run_suites(yard, count):
+    original, said = suite_counts(yard, "original")
+    if sum(passed for passed, _ in original.values()) == 0:
+        print(said)
+    ours, said = suite_counts(yard, "copy")
+    for file in sorted(original):
+        passed, failed = ours.get(file, (0, 0))
+        if failed or passed < original[file][0]:
+            count.failed += max(failed, original[file][0] - passed)
+            print(f"failed: {file}: {passed} passed, {failed} failed; the original: {original[file][0]} passed")
+        count.passed += passed
+    if count.failed:
+        print(said[-20000:])
+    count.check(bool(original) and sum(passed for passed, _ in original.values()) > 0, "the original's own tests run")
+    for name, counts in (("the original", original), ("the copy", ours)):
+        units = sum(passed for file, (passed, _) in counts.items() if file != "doc tests")
+        print(f"tracing-subscriber's own tests over {name}: {units} passed, and {counts.get('doc tests', (0, 0))[0]} doc tests")
+
+
+def build_programs(yard, name):
+    """The folder of the built programs; none where that fails."""
+    folder = yard.folder / name / "programs"
+    shutil.copytree(PARTS / "programs", folder, dirs_exist_ok=True, ignore=shutil.ignore_patterns("target", "Cargo.lock"))
+    words = ["--release"]
+    if name == "copy":
+        laid = yard.folder / name / "laid"
+        yard.lay(laid)
+        words += ["--config", f'patch.crates-io.tracing-subscriber.path="{laid}"']
+    done = yard.cargo("build", folder, *words)
+    if done.returncode != 0:
+        print(done.stdout)
+        return None
+    bins = yard.folder / name / "bin"
+    bins.mkdir(exist_ok=True)
+    for source in (folder / "src/bin").glob("*.rs"):
+        shutil.copyfile(yard.folder / "target/release" / source.stem, bins / source.stem)
+        (bins / source.stem).chmod(0o755)
+    return bins
+
+
+def run(program, words=(), seconds=60, before=()):
+    """What a program says, and its status; none where it took longer."""
+    environment = {**os.environ, "RUST_BACKTRACE": "0"}
+    try:
+        done = subprocess.run([*before, program, *words], capture_output=True, text=True, timeout=seconds, env=environment)
+    except subprocess.TimeoutExpired:
+        return "it took too long", None
+    return done.stdout + ("" if done.returncode == 0 else done.stderr[-2000:]), done.returncode
+
+
+def differing():
+    """The answers that differ, by program and question: the original's and ours."""
+    text = (PARTS / "differing.txt").read_text()
+    found = re.findall(r"^\? (\w+), (.*)\n- (.*)\n\+ (.*)$", text, re.MULTILINE)
+    return {(program, question): (theirs, ours) for program, question, theirs, ours in found}
+
+
+def compare_answers(original, ours, count):
+    known = differing()
+    for program in ("behaviour", "leaks"):
+        sides = [dict(line.split(" => ", 1) for line in run(side / program)[0].splitlines()) for side in (original, ours)]
+        count.check(sides[0].keys() == sides[1].keys() and len(sides[0]) > 10, f"{program} asks the same of both")
+        for question, theirs in sides[0].items():
+            wanted = known.pop((program, question), (theirs, theirs))
+            answers = (theirs, sides[1].get(question))
+            count.check(answers == wanted, f"{program}, {question}: {answers[0]!r}, and ours {answers[1]!r}")
+    count.check(not known, f"each question of differing.txt was asked: {list(known)}")
+
+
+def compare_texts(original, ours, count):
+    theirs, status = run(original / "texts")
+    text, our_status = run(ours / "texts")
+    count.check(status == 0 and our_status == 0 and len(theirs.splitlines()) > 300, "texts runs over both")
+    count.check(theirs == text, "fmt, EnvFilter, JSON, reload and tracing-log write the same text over both")
+
+
+def run_programs(yard, count, seconds):
+    original, ours = (build_programs(yard, name) for name in ("original", "copy"))
+    if original is None or ours is None:
+        count.check(False, "the programs are built")
+        return
+    compare_answers(original, ours, count)
+    compare_texts(original, ours, count)
+    stress = ("stress", [str(seconds), str(int(time.time()) % 100_000)], seconds + 300)
+    for program, words, limit in [*SOUND, stress]:
+        said, status = run(ours / program, words, limit)
+        line = (said.splitlines() or [""])[-1]
+        print(f"{program} {' '.join(words)}: {line}")
+        count.check(status == 0, f"{program} {' '.join(words)}: status {status}\n{said[-3000:]}")
+    for program, words, limit in UNSOUND:
+        said, status = run(original / program, words, limit)
+        print(f"the original, {program} {' '.join(words)}: status {status}, {(said.splitlines() or [''])[-1]}")
+        count.check(status != 0, f"the original fails in {program} {' '.join(words)}, as docs/FROM_TRACING.md says")
+    if shutil.which("valgrind") is None:
+        print("not run under valgrind: it isn't there")
+        return
+    for program, words, looks_for_lost in CHECKED:
+        before = VALGRIND + (LOST if looks_for_lost else [])
+        said, status = run(ours / program, words, 600, before)
+        count.check(status == 0, f"valgrind, {program}: status {status}\n{said[-3000:]}")
+
+
+def run_example(yard, count):
+    """The program of the folder example, built as its page says."""
+    folder = yard.folder / "example"
+    shutil.rmtree(folder, ignore_errors=True)
+    shutil.copytree(OURS / "example", folder, ignore=shutil.ignore_patterns("target", "laid", "Cargo.lock"))
+    yard.lay(folder / "laid")
+    done = yard.cargo("run", folder, "--quiet")
+    lines = [line for line in done.stdout.splitlines() if line.startswith((" INFO", " WARN"))]
+    count.check(done.returncode == 0 and len(lines) == 8 and "GET /users" in lines[0], f"the example: {done.stdout[-3000:]}")
+
+
+def main():
+    parser = argparse.ArgumentParser(description=__doc__, formatter_class=argparse.RawDescriptionHelpFormatter)
+    parser.add_argument("--library", type=Path, help="the static library libspan_store_ffi.a to test")
+    parser.add_argument("--seconds", type=int, default=60, help="how long stress runs (60)")
+    parser.add_argument("--jobs", type=int, default=2, help="how many processes cargo starts at a time (2)")
+    parser.add_argument("--folder", type=Path, help="where to build; it is kept then")
+    parser.add_argument("--part", choices=["suites", "programs", "example"], help="this part alone")
+    asked = parser.parse_args()
+    count = Count()
+    sys.stdout.reconfigure(line_buffering=True)
+    lack = missing()
+    if lack is not None:
+        print(f"not run: {lack}\n0 passed, 0 failed")
+        return 0
+    library = asked.library.resolve() if asked.library else current_library()
+    if library is None or not library.is_file():
+        print("there is no library\n0 passed, 1 failed")
+        return 1
+    with tempfile.TemporaryDirectory() as made:
+        yard = Yard((asked.folder or Path(made)).resolve(), library, asked.jobs)
+        if asked.part in (None, "programs"):
+            run_programs(yard, count, asked.seconds)
+        if asked.part in (None, "example"):
+            run_example(yard, count)
+        if asked.part in (None, "suites"):
+            run_suites(yard, count)
+    print(f"{count.passed} passed, {count.failed} failed")
+    return int(count.failed > 0)
+
+
+if __name__ == "__main__":
+    sys.exit(main())
