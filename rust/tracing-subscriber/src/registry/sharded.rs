@@ -75,16 +75,29 @@ impl Registry {
         Entered(&self.spans)
     }
 
+    #[inline(always)]
     fn current_id(&self) -> Option<Id> {
         with_stack(&self.spans, |stack| stack.current()).flatten()
     }
 
+    #[inline(always)]
     fn add(&self, attrs: &span::Attributes<'_>, parent: Option<&Id>, filters: FilterMap) -> Result<Id, Refused> {
         let made = self.spans.add(parent.map(Id::into_u64), |data| {
             data.metadata = Some(attrs.metadata());
             data.filter_map = filters;
         });
         made.map(Id::from_u64)
+    }
+
+    /// A span that was refused: it is made without a parent, where that is the current span and ended since it was entered.
+    #[cold]
+    fn add_refused(&self, attrs: &span::Attributes<'_>, parent: Option<&Id>, filters: FilterMap, why: Refused) -> Id {
+        match parent {
+            Some(parent) if !attrs.is_contextual() || why != Refused::Unknown => self.refuse_hold(parent, why),
+            Some(parent) if self.spans.data(parent.into_u64()).is_some() => self.refuse_hold(parent, why),
+            Some(_) => self.add(attrs, None, filters).unwrap_or_else(|_| panic!("Unable to allocate another span")),
+            None => panic!("Unable to allocate another span"),
+        }
     }
 
     #[cold]
@@ -130,22 +143,14 @@ impl Subscriber for Registry {
 
     #[inline]
     fn new_span(&self, attrs: &span::Attributes<'_>) -> span::Id {
+        self.spans.see_dispatch();
         let current = if attrs.is_contextual() { self.current_id() } else { None };
         let parent = attrs.parent().or(current.as_ref());
         let filters = crate::filter::FILTERING.with(|filtering| filtering.filter_map());
         debug_assert!(self.has_per_layer_filters() || filters == FilterMap::default());
-        let parent_id = match (self.add(attrs, parent, filters), parent) {
-            (Ok(id), _) => return id,
-            (Err(why), Some(parent)) => (parent, why),
-            (Err(_), None) => panic!("Unable to allocate another span"),
-        };
-        match parent_id {
-            // It was entered, and ended since: then it is no parent.
-            (parent, Refused::Unknown) if current.is_some() && self.spans.data(parent.into_u64()).is_none() => {
-                let made = self.add(attrs, None, filters);
-                made.unwrap_or_else(|_| panic!("Unable to allocate another span"))
-            }
-            (parent, why) => self.refuse_hold(parent, why),
+        match self.add(attrs, parent, filters) {
+            Ok(id) => id,
+            Err(why) => self.add_refused(attrs, parent, filters, why),
         }
     }
 
@@ -163,7 +168,6 @@ impl Subscriber for Registry {
     fn event(&self, _: &Event<'_>) {}
 
     fn enter(&self, id: &span::Id) {
-        self.spans.see_dispatch();
         let number = id.into_u64();
         let entered = with_stack(&self.spans, |stack| {
             if !self.spans.is_own(number) {
@@ -187,7 +191,7 @@ impl Subscriber for Registry {
         if is_released {
             match self.spans.release(id.into_u64()) {
                 Ok(None) => {}
-                Ok(Some(closing)) => self.spans.tell_and_close_up(closing),
+                Ok(Some(closing)) => self.spans.tell_and_close_up(closing, None),
                 Err(_) => refuse_release(id),
             }
         }

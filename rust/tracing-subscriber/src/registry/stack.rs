@@ -14,7 +14,7 @@ impl SpanStack {
     #[inline]
     pub(super) fn push(&mut self, id: Id) -> bool {
         let id = id.into_u64();
-        let is_twin = self.0.contains(&id);
+        let is_twin = !self.0.is_empty() && self.0.contains(&id);
         self.0.push(if is_twin { id | IS_TWIN } else { id });
         !is_twin
     }

@@ -3,13 +3,13 @@
 //! What is kept here of a thread has no destructor, so that it is there to the thread's end.
 use super::{
     raw::Held,
-    spans::{Closing, DataInner, Spans},
+    spans::{Closing, DataInner, Spans, MOST_LOOKS},
     Registry,
 };
 use std::{
     cell::Cell,
-    ptr,
-    sync::{atomic::Ordering, PoisonError},
+    mem, ptr,
+    sync::{atomic::Ordering, Mutex, MutexGuard, PoisonError},
 };
 use tracing_core::{
     dispatcher::{self, Dispatch},
@@ -72,6 +72,9 @@ impl Drop for CloseGuard<'_> {
         if let Some(closing) = CLOSING.with(|cell| cell.replace(closing)) {
             self.spans.close_up(closing, Some(self.stack));
         }
+        if self.spans.looks.load(Ordering::Relaxed) > 0 {
+            self.spans.see_stack(self.stack);
+        }
     }
 }
 
@@ -95,7 +98,9 @@ impl CloseUp<'_> {
             let id = parent.id();
             self.next = Some(parent);
             self.ended.extend(data);
-            self.spans.tell(id, self.stack);
+            if let Some(teller) = self.spans.teller(self.stack) {
+                teller.tell(id);
+            }
         }
         while let Some(data) = self.ended.pop() {
             drop(data);
@@ -112,7 +117,6 @@ impl Drop for CloseUp<'_> {
 
 impl Spans {
     /// Ends a span of which the layers were told, and what is closing by that. `stack` is the outermost layer that told.
-    #[inline]
     pub(super) fn close_up(&self, closing: Closing, stack: Option<&dyn Subscriber>) {
         let (data, parent) = self.end(closing);
         if let Some(parent) = parent {
@@ -124,44 +128,44 @@ impl Spans {
     fn close_parents(&self, data: Option<Held<'_, DataInner>>, parent: Closing, stack: Option<&dyn Subscriber>) {
         let id = parent.id();
         let mut rest = CloseUp { spans: self, stack, next: Some(parent), ended: data.into_iter().collect() };
-        self.tell(id, stack);
+        if let Some(teller) = self.teller(stack) {
+            teller.tell(id);
+        }
         rest.run();
     }
 
     /// Gives an entry's handle back.
     pub(super) fn leave(&self, id: u64) {
         if let Ok(Some(closing)) = self.release(id) {
-            self.tell_and_close_up(closing);
+            self.tell_and_close_up(closing, None);
         }
     }
 
-    /// Closes a span of which no layer was told yet.
+    /// Closes a span of which no layer was told yet. Where there are layers and no way to them, it waits until there is one.
     #[cold]
-    pub(super) fn tell_and_close_up(&self, closing: Closing) {
+    pub(super) fn tell_and_close_up(&self, closing: Closing, stack: Option<&dyn Subscriber>) {
+        let teller = self.teller(stack);
+        if teller.is_none() && self.has_layers.load(Ordering::Relaxed) {
+            lock(&self.untold).push(closing);
+            self.looks.store(MOST_LOOKS, Ordering::Relaxed);
+            return;
+        }
         let id = closing.id();
-        let mut rest = CloseUp { spans: self, stack: None, next: Some(closing), ended: Vec::new() };
-        self.tell(id, None);
+        let mut rest = CloseUp { spans: self, stack, next: Some(closing), ended: Vec::new() };
+        if let Some(teller) = teller {
+            teller.tell(id);
+        }
         rest.run();
     }
 
-    /// Tells the layers that a span is closing: those of the default dispatcher where this registry is in it, else those
-    /// of the stack, else those of the dispatcher in which it was seen before. No other registry hears of it.
-    fn tell(&self, id: u64, stack: Option<&dyn Subscriber>) {
-        struct Before(u64);
-        impl Drop for Before {
-            fn drop(&mut self) {
-                TOLD.with(|told| told.set(self.0));
-            }
-        }
-        let _before = Before(TOLD.with(|told| told.replace(id)));
-        let id = Id::from_u64(id);
+    /// The way to the layers: by the default dispatcher where this registry is in it, else by the outermost layer of the
+    /// release that goes on, else by the dispatcher in which the registry was seen before. No other registry hears of it.
+    fn teller<'s>(&self, stack: Option<&'s dyn Subscriber>) -> Option<Teller<'s>> {
         if let Some(dispatch) = self.default_dispatch() {
-            dispatch.try_close(id);
-        } else if let Some(stack) = stack {
-            stack.try_close(id);
-        } else if let Some(dispatch) = self.known_dispatch() {
-            dispatch.try_close(id);
+            return Some(Teller::Dispatch(dispatch));
         }
+        let known = || lock(&self.dispatch).clone()?.upgrade().map(Teller::Dispatch);
+        stack.map(Teller::Stack).or_else(known)
     }
 
     /// The default dispatcher, where this registry is in it.
@@ -170,11 +174,6 @@ impl Spans {
             let registry = dispatch.downcast_ref::<Registry>()?;
             ptr::eq(&*registry.spans, self).then(|| dispatch.clone())
         })
-    }
-
-    fn known_dispatch(&self) -> Option<Dispatch> {
-        let known = self.dispatch.lock().unwrap_or_else(PoisonError::into_inner).clone();
-        known?.upgrade()
     }
 
     /// Keeps the default dispatcher for later, where this registry is in it and none was seen.
@@ -190,11 +189,66 @@ impl Spans {
         self.looks.fetch_sub(1, Ordering::Relaxed);
         if let Some(dispatch) = self.default_dispatch() {
             self.set_dispatch(&dispatch);
+            self.tell_untold(None);
         }
     }
 
     pub(super) fn set_dispatch(&self, dispatch: &Dispatch) {
-        *self.dispatch.lock().unwrap_or_else(PoisonError::into_inner) = Some(dispatch.downgrade());
+        *lock(&self.dispatch) = Some(dispatch.downgrade());
         self.looks.store(0, Ordering::Relaxed);
     }
+
+    /// A release went through these layers.
+    #[cold]
+    fn see_stack(&self, stack: &dyn Subscriber) {
+        self.has_layers.store(true, Ordering::Relaxed);
+        self.tell_untold(Some(stack));
+    }
+
+    fn tell_untold(&self, stack: Option<&dyn Subscriber>) {
+        let mut rest = Untold { spans: self, closing: mem::take(&mut *lock(&self.untold)) };
+        while let Some(closing) = rest.closing.pop() {
+            self.tell_and_close_up(closing, stack);
+        }
+    }
+}
+
+/// Spans that the layers are being told of. What a panic of theirs leaves waits again.
+struct Untold<'a> {
+    spans: &'a Spans,
+    closing: Vec<Closing>,
+}
+
+impl Drop for Untold<'_> {
+    fn drop(&mut self) {
+        lock(&self.spans.untold).append(&mut self.closing);
+    }
+}
+
+/// A way to the whole stack of layers.
+enum Teller<'s> {
+    Dispatch(Dispatch),
+    Stack(&'s dyn Subscriber),
+}
+
+impl Teller<'_> {
+    /// Tells the layers that a span is closing.
+    fn tell(&self, id: u64) {
+        struct Before(u64);
+        impl Drop for Before {
+            fn drop(&mut self) {
+                TOLD.with(|told| told.set(self.0));
+            }
+        }
+        let _before = Before(TOLD.with(|told| told.replace(id)));
+        let id = Id::from_u64(id);
+        let _is_closing = match self {
+            Teller::Dispatch(dispatch) => dispatch.try_close(id),
+            Teller::Stack(stack) => stack.try_close(id),
+        };
+    }
+}
+
+fn lock<T>(mutex: &Mutex<T>) -> MutexGuard<'_, T> {
+    mutex.lock().unwrap_or_else(PoisonError::into_inner)
 }

@@ -39,7 +39,7 @@ pub(super) struct Places<T> {
 
 impl<T: Clear> Places<T> {
     /// Fills a place for the id of a slot's new span.
-    #[inline]
+    #[inline(always)]
     pub(super) fn put(&self, slot: u32, id: u64, fill: impl Fn(&mut T)) -> Result<(), Refused> {
         let (row, at) = row_of(slot);
         let mut place = match self.rows[row].get() {

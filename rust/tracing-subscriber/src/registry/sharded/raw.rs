@@ -11,6 +11,9 @@ use std::{
     sync::atomic::{AtomicBool, AtomicUsize, Ordering},
 };
 
+/// The version of include/span_store.h that the calls here are of.
+const ABI_VERSION: u32 = 1;
+
 /// `SpanStore` of include/span_store.h.
 #[repr(C)]
 struct Handle {
@@ -18,6 +21,7 @@ struct Handle {
 }
 
 extern "C" {
+    fn span_store_abi_version() -> u32;
     fn span_store_new(store: *mut Handle, slots: u32, last_generation: u32, max_count: u32) -> u32;
     fn span_store_free(store: *mut Handle) -> u32;
     fn span_store_add(store: *mut Handle, parent: u64, bits: u64, word: u64, id: *mut u64) -> u32;
@@ -41,6 +45,7 @@ unsafe impl Sync for Store {}
 // itself as long as the call lasts, and each number that is told is written to a variable of this call.
 impl Store {
     pub(super) fn new(slots: u32, last_generation: u32) -> Result<Self, Refused> {
+        assert_eq!(unsafe { span_store_abi_version() }, ABI_VERSION, "libspan_store_ffi.a is of another version");
         let mut handle = Handle { at: ptr::null_mut() };
         answer(unsafe { span_store_new(&mut handle, slots, last_generation, u32::MAX) })?;
         Ok(Store { lock: Lock::default(), handle: UnsafeCell::new(handle) })

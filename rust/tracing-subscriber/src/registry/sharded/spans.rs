@@ -15,7 +15,7 @@ use std::{
     fmt,
     num::NonZeroU64,
     sync::{
-        atomic::{AtomicIsize, AtomicUsize, Ordering},
+        atomic::{AtomicBool, AtomicIsize, AtomicUsize, Ordering},
         Mutex, OnceLock,
     },
 };
@@ -37,7 +37,7 @@ const STORES: usize = SEATS * ROWS;
 const SLOTS: [u32; ROWS] = [1 << 16, 1 << 20, 1 << 20, 1 << 20];
 
 /// How often a registry looks whether it is in the default dispatcher, until it was.
-const MOST_LOOKS: isize = 4096;
+pub(super) const MOST_LOOKS: isize = 4096;
 
 /// What layers read of a span.
 #[derive(Debug, Default)]
@@ -110,12 +110,16 @@ struct Made<'a> {
 pub(super) struct Spans {
     number: u64,
     parts: [OnceLock<Box<Part>>; STORES],
-    // The first row in which a seat's store may have room.
+    // The row in which a seat's store had room last, where the first one was full.
     rows: [AtomicUsize; SEATS],
     // The dispatcher of the whole stack of layers, once it was seen as a thread's default.
     pub(super) dispatch: Mutex<Option<WeakDispatch>>,
     // How often it is still looked for.
     pub(super) looks: AtomicIsize,
+    // Whether a release went through a layer.
+    pub(super) has_layers: AtomicBool,
+    // Spans that are closing, and that the layers are still to be told of.
+    pub(super) untold: Mutex<Vec<Closing>>,
 }
 
 impl fmt::Debug for Spans {
@@ -135,9 +139,11 @@ impl Spans {
         Spans {
             number: numbers::next().expect("more registries than there are numbers for"),
             parts: std::array::from_fn(|_| OnceLock::new()),
-            rows: Default::default(),
+            rows: std::array::from_fn(|_| AtomicUsize::new(1)),
             dispatch: Mutex::new(None),
             looks: AtomicIsize::new(MOST_LOOKS),
+            has_layers: AtomicBool::new(false),
+            untold: Mutex::new(Vec::new()),
         }
     }
 
@@ -169,7 +175,7 @@ impl Spans {
     }
 
     /// A new span with one handle, under a parent that is open, or under none. `fill` writes its data.
-    #[inline]
+    #[inline(always)]
     pub(super) fn add(&self, parent: Option<u64>, fill: impl Fn(&mut DataInner)) -> Result<u64, Refused> {
         let made = match parent {
             None => self.add_root()?,
@@ -195,33 +201,30 @@ impl Spans {
         Ok(id)
     }
 
-    #[inline]
+    #[inline(always)]
     fn add_root(&self) -> Result<Made<'_>, Refused> {
         let seat = threads::seat() % SEATS;
-        let row = self.rows[seat].load(Ordering::Relaxed) % ROWS;
-        let index = row * SEATS + seat;
-        let part = match self.parts[index].get() {
+        let part = match self.parts[seat].get() {
             Some(part) => part,
-            None => self.open(index)?,
+            None => self.open(seat)?,
         };
-        let own = part.store.add(0);
-        match own {
-            Err(Refused::Full) => self.add_anywhere(seat, row + 1),
-            own => Ok(Made { part, index, own: own?, is_apart: false }),
+        match part.store.add(0) {
+            Err(Refused::Full) => self.add_anywhere(seat),
+            own => Ok(Made { part, index: seat, own: own?, is_apart: false }),
         }
     }
 
-    /// In one of the seat's other stores, else in any.
+    /// In the seat's other stores, the one first where there was room before, else in any.
     #[cold]
-    fn add_anywhere(&self, seat: usize, row: usize) -> Result<Made<'_>, Refused> {
-        let own = (row..ROWS).map(|row| row * SEATS + seat);
+    fn add_anywhere(&self, seat: usize) -> Result<Made<'_>, Refused> {
+        let first = self.rows[seat].load(Ordering::Relaxed);
+        let own = (first..ROWS).chain(1..ROWS).map(|row| row * SEATS + seat);
         for index in own.chain(0..STORES) {
             let part = match self.parts[index].get() {
                 Some(part) => part,
                 None => self.open(index)?,
             };
-            let own = part.store.add(0);
-            match own {
+            match part.store.add(0) {
                 Err(Refused::Full) => {}
                 own => {
                     if index % SEATS == seat {
@@ -274,16 +277,13 @@ impl Spans {
 
     /// Ends a span: its id finds nothing from now on, and its parent is let go of, which is answered where it is closing by
     /// that. Its data stays until the last reader, of which the one answered here is one, is gone.
+    #[inline(always)]
     pub(super) fn end(&self, closing: Closing) -> (Option<Held<'_, DataInner>>, Option<Closing>) {
         let id = closing.id();
         let Some(place) = self.place(id) else { return (None, None) };
         let data = place.part.data.take(slot_of(place.own), id);
         let ended = place.part.store.ended(place.own);
         debug_assert!(ended.is_ok() && data.is_some(), "a span ends once");
-        let row = &self.rows[place.index % SEATS];
-        if place.index / SEATS < row.load(Ordering::Relaxed) {
-            row.store(place.index / SEATS, Ordering::Relaxed);
-        }
         let parent = match &data {
             Some(data) if data.is_apart => {
                 let parent = data.parent.as_ref().map_or(0, Id::into_u64);

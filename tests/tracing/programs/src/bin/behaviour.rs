@@ -1,12 +1,13 @@
 //! Asks a registry questions, one line an answer: `QUESTION => ANSWER`. The same program over the original and over the proved store
 //! shows where the two differ.
 use programs::{child, is_there, lock, new, record, registry, root, site, Quiet};
-use std::any::Any;
+use std::any::{Any, TypeId};
 use std::fmt::Debug;
 use std::panic::{catch_unwind, AssertUnwindSafe};
+use std::sync::atomic::{AtomicU32, Ordering};
 use std::sync::{Arc, Mutex};
 use tracing::{dispatcher, Dispatch, Span, Subscriber};
-use tracing_core::span::{Attributes, Id, Record};
+use tracing_core::span::{Attributes, Current, Id, Record};
 use tracing_core::{Event, Level, Metadata};
 use tracing_subscriber::filter::{DynFilterFn, FilterFn, LevelFilter};
 use tracing_subscriber::layer::Context;
@@ -543,6 +544,88 @@ fn other_defaults(a: Site, b: Site) {
     told("other default: what the second hears", &second_log);
 }
 
+/// A subscriber of one's own round another one, which is seen through it or not.
+struct Around<S> {
+    inner: S,
+    is_seen_through: bool,
+    releases: Arc<AtomicU32>,
+}
+
+impl<S: Subscriber> Subscriber for Around<S> {
+    fn enabled(&self, metadata: &Metadata<'_>) -> bool {
+        self.inner.enabled(metadata)
+    }
+    fn new_span(&self, attributes: &Attributes<'_>) -> Id {
+        self.inner.new_span(attributes)
+    }
+    fn record(&self, id: &Id, values: &Record<'_>) {
+        self.inner.record(id, values);
+    }
+    fn record_follows_from(&self, id: &Id, follows: &Id) {
+        self.inner.record_follows_from(id, follows);
+    }
+    fn event(&self, event: &Event<'_>) {
+        self.inner.event(event);
+    }
+    fn enter(&self, id: &Id) {
+        self.inner.enter(id);
+    }
+    fn exit(&self, id: &Id) {
+        self.inner.exit(id);
+    }
+    fn clone_span(&self, id: &Id) -> Id {
+        self.inner.clone_span(id)
+    }
+    fn try_close(&self, id: Id) -> bool {
+        self.releases.fetch_add(1, Ordering::SeqCst);
+        self.inner.try_close(id)
+    }
+    fn current_span(&self) -> Current {
+        self.inner.current_span()
+    }
+    unsafe fn downcast_raw(&self, id: TypeId) -> Option<*const ()> {
+        if id == TypeId::of::<Self>() {
+            return Some(self as *const Self as *const ());
+        }
+        // SAFETY: it is what the inner one answers.
+        self.is_seen_through.then(|| unsafe { self.inner.downcast_raw(id) }).flatten()
+    }
+}
+
+impl<'a> LookupSpan<'a> for Around<Registry> {
+    type Data = <Registry as LookupSpan<'a>>::Data;
+    fn span_data(&'a self, id: &Id) -> Option<Self::Data> {
+        self.inner.span_data(id)
+    }
+}
+
+fn wrapped(a: Site, b: Site) {
+    let log = Log::default();
+    let releases = Arc::new(AtomicU32::new(0));
+    let inner = Registry::default().with(Tell { log: log.clone(), name: "A" });
+    let dispatch = Dispatch::new(Around { inner, is_seen_through: true, releases: releases.clone() });
+    within(&dispatch, || {
+        let x = new(&dispatch, a);
+        let y = child(&dispatch, b, &x);
+        dispatch.enter(&y);
+        dispatch.exit(&y);
+        dispatch.try_close(x);
+        dispatch.try_close(y);
+    });
+    told("wrapped: a parent and a child", &log);
+    say("wrapped: releases that come to it", releases.load(Ordering::SeqCst));
+
+    let inner = Around { inner: Registry::default(), is_seen_through: false, releases };
+    let dispatch = Dispatch::new(inner.with(Tell { log: log.clone(), name: "A" }));
+    within(&dispatch, || {
+        let x = new(&dispatch, a);
+        dispatch.enter(&x);
+        dispatch.exit(&x);
+        dispatch.try_close(x);
+    });
+    told("hidden: a registry that the layer can't see", &log);
+}
+
 fn main() {
     std::panic::set_hook(Box::new(|_| {}));
     let (a, b, c) = (site!("a"), site!("b"), site!("c"));
@@ -555,4 +638,5 @@ fn main() {
     filters();
     macros();
     other_defaults(a, b);
+    wrapped(a, b);
 }

@@ -95,10 +95,29 @@ impl CurrentIdIsNone for Registry {
     }
 }
 
+/// A registry that is nobody's default: its layers hear of what an exit closes by the next release that goes through them.
+fn never_the_default(checks: &mut Checks, spans: u64) {
+    let (dispatch, judge) = stack();
+    let parent = root(&dispatch, site!("parent"));
+    for _ in 0..spans {
+        let id = child(&dispatch, site!("left"), &parent);
+        dispatch.enter(&id);
+        checks.check("it is entered yet", !dispatch.try_close(id.clone()));
+        dispatch.exit(&id);
+    }
+    dispatch.try_close(parent);
+    dispatch.try_close(root(&dispatch, site!("last")));
+    let (made, open, faults) = judge.verdict();
+    let is_right = made == spans + 2 && open == 0 && faults.is_empty();
+    checks.check(&format!("{made} made, {open} left open, {} faults", faults.len()), is_right);
+}
+
 fn main() {
     std::panic::set_hook(Box::new(|_| {}));
     let mut checks = Checks::default();
     ids_apart(&mut checks);
+    never_the_default(&mut checks, 1);
+    never_the_default(&mut checks, 100_000);
     (1..=40).for_each(|seed| at_random(&mut checks, seed));
     checks.end();
 }

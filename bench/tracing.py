@@ -1,0 +1,174 @@
+"""Measures tracing-subscriber over the proved store beside the original: bench/tracing, built with each.
+
+    bench/tracing.py instructions   of a round, by callgrind: the difference of two runs, which no load changes
+    bench/tracing.py allocations    of a round
+    bench/tracing.py clock          nanoseconds of a round by 1, 2, 4 and 8 threads at once, the two by turns, the least of so
+                                    many turns each; on a quiet machine
+    bench/tracing.py benches        tracing-subscriber's own four benches, by criterion (librust-criterion-0.3-dev)
+
+Each line ends in ours over the original's. What is needed is what tests/tracing.py needs.
+"""
+
+import argparse
+import re
+import shutil
+import subprocess
+import sys
+import tempfile
+from pathlib import Path
+
+TOP = Path(__file__).resolve().parent.parent
+sys.path.insert(0, str(TOP / "tests"))
+
+import tracing  # noqa: E402
+
+# Calls, work, layer and depth of each round.
+ROUNDS = [
+    ("raw", "span", "none", 0),
+    ("raw", "span", "none", 1),
+    ("raw", "span", "none", 8),
+    ("raw", "span", "none", 100),
+    ("raw", "clone", "none", 1),
+    ("raw", "event", "none", 1),
+    ("raw", "all", "none", 1),
+    ("macros", "span", "none", 1),
+    ("raw", "span", "look", 1),
+    ("raw", "all", "look", 8),
+    ("raw", "span", "line", 0),
+    ("raw", "span", "line", 1),
+    ("raw", "event", "line", 1),
+    ("raw", "all", "line", 1),
+    ("raw", "all", "line", 8),
+    ("raw", "all", "line", 100),
+    ("raw", "all", "fmt", 1),
+    ("raw", "all", "fmt", 8),
+]
+TIMED = [
+    ("raw", "span", "none", 0),
+    ("raw", "span", "none", 1),
+    ("raw", "span", "none", 100),
+    ("raw", "clone", "none", 1),
+    ("raw", "event", "none", 1),
+    ("macros", "span", "none", 1),
+    ("raw", "all", "look", 8),
+    ("raw", "all", "line", 1),
+    ("raw", "all", "line", 8),
+    ("raw", "all", "fmt", 1),
+]
+SIDES = ("original", "copy")
+
+
+def built(yard, name):
+    """The program of rounds over one of the two."""
+    folder = yard.folder / name / "rounds"
+    shutil.copytree(TOP / "bench/tracing", folder, dirs_exist_ok=True, ignore=shutil.ignore_patterns("target", "Cargo.lock"))
+    words = ["--release"]
+    if name == "copy":
+        laid = yard.folder / name / "laid"
+        yard.lay(laid)
+        words += ["--config", f'patch.crates-io.tracing-subscriber.path="{laid}"']
+    done = yard.cargo("build", folder, *words)
+    if done.returncode != 0:
+        sys.exit(done.stdout)
+    program = yard.folder / name / "rounds-program"
+    shutil.copyfile(yard.folder / "target/release/rounds", program)
+    program.chmod(0o755)
+    return program
+
+
+def line(words, original, ours, unit):
+    """A line of a table: what was done, both figures, and their quotient."""
+    text = " ".join(str(word) for word in words)
+    print(f"{text:32} {original:12.1f} {ours:12.1f} {unit:14} {ours / original if original else 1:5.2f}", flush=True)
+
+
+def instructions_of(program, words, rounds):
+    command = ["valgrind", "--tool=callgrind", "--callgrind-out-file=/dev/null", program, *words, "1", str(rounds), "1"]
+    done = subprocess.run([str(word) for word in command], capture_output=True, text=True, check=True)
+    return int(re.search(r"Collected : (\d+)", done.stderr)[1])
+
+
+def instructions(programs):
+    for words in ROUNDS:
+        figures = [(instructions_of(program, words, 1500) - instructions_of(program, words, 500)) / 1000
+                   for program in programs]
+        line(words, *figures, "instructions")
+
+
+def figures_of(program, words, threads, rounds, turns):
+    """The nanoseconds and the allocations of a round."""
+    command = [program, *words, threads, rounds, turns]
+    done = subprocess.run([str(word) for word in command], capture_output=True, text=True, check=True)
+    return tuple(float(word) for word in re.findall(r"[\d.]+", done.stdout))
+
+
+def allocations(programs):
+    for words in ROUNDS:
+        line(words, *(figures_of(program, words, 1, 2000, 3)[1] for program in programs), "allocations")
+
+
+def clock(programs, threads, turns, rounds):
+    for words in TIMED:
+        for count in threads:
+            least = [float("inf")] * len(programs)
+            for _ in range(turns):
+                for at, program in enumerate(programs):
+                    least[at] = min(least[at], figures_of(program, words, count, rounds, 3)[0])
+            line((*words, f"{count} threads"), *least, "ns")
+
+
+def benches(yard):
+    """The crate's own four benches over both."""
+    means = []
+    for name in SIDES:
+        folder = yard.folder / name / "benches"
+        if name == "copy":
+            yard.lay(folder)
+        else:
+            shutil.rmtree(folder, ignore_errors=True)
+            shutil.copytree(tracing.REGISTRY / "tracing-subscriber-0.3.16", folder,
+                            ignore=shutil.ignore_patterns(".cargo-checksum.json"))
+        with (folder / "Cargo.toml").open("a") as manifest:
+            manifest.write("\n[workspace]\n")
+        done = yard.cargo("bench", folder, "--features", "env-filter,json", "--benches", "--", "--noplot",
+                          "--warm-up-time", "1", "--measurement-time", "2")
+        scale = {"ps": 0.001, "ns": 1, "us": 1000, "µs": 1000, "ms": 1_000_000}
+        found = re.findall(r"^(\S[^\n]*?)\s*\n?\s+time:\s+\[\S+ \S+ (\S+) (\S+) ", done.stdout, re.MULTILINE)
+        means.append({bench: float(time) * scale[unit] for bench, time, unit in found})
+        if not found:
+            print(done.stdout[-3000:])
+    for bench, time in means[0].items():
+        if bench in means[1]:
+            line((bench,), time, means[1][bench], "ns")
+
+
+def main():
+    parser = argparse.ArgumentParser(description=__doc__, formatter_class=argparse.RawDescriptionHelpFormatter)
+    parser.add_argument("what", choices=["instructions", "allocations", "clock", "benches"])
+    parser.add_argument("--library", type=Path, help="libspan_store_ffi.a; without it, that of rt lib")
+    parser.add_argument("--folder", type=Path, help="where to build; it is kept then")
+    parser.add_argument("--jobs", type=int, default=2)
+    parser.add_argument("--threads", type=int, nargs="+", default=[1, 2, 4, 8])
+    parser.add_argument("--turns", type=int, default=5)
+    parser.add_argument("--rounds", type=int, default=50_000)
+    asked = parser.parse_args()
+    if lack := tracing.missing():
+        sys.exit(f"not run: {lack}")
+    library = asked.library.resolve() if asked.library else tracing.current_library()
+    with tempfile.TemporaryDirectory() as made:
+        yard = tracing.Yard((asked.folder or Path(made)).resolve(), library, asked.jobs)
+        if asked.what == "benches":
+            benches(yard)
+            return
+        programs = [built(yard, name) for name in SIDES]
+        print(f"{'':32} {'original':>12} {'ours':>12}")
+        if asked.what == "instructions":
+            instructions(programs)
+        elif asked.what == "allocations":
+            allocations(programs)
+        else:
+            clock(programs, asked.threads, asked.turns, asked.rounds)
+
+
+if __name__ == "__main__":
+    main()
