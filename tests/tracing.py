@@ -16,6 +16,7 @@ Without cargo, or without Debian's packages of the crates' sources, nothing is r
 import argparse
 import os
 import re
+import resource
 import shutil
 import subprocess
 import sys
@@ -71,6 +72,8 @@ CHECKED = [
     ("last", [], True),
     ("stress", ["0", "5", "3", "400"], True),
 ]
+# The memory of the program that is to run out of it.
+LITTLE = 256 << 20
 VALGRIND = ["valgrind", "--quiet", "--error-exitcode=99", "--fair-sched=yes"]
 LOST = ["--leak-check=full", "--show-leak-kinds=definite", "--errors-for-leak-kinds=definite"]
 
@@ -212,11 +215,17 @@ def build_programs(yard, name):
     return bins
 
 
-def run(program, words=(), seconds=60, before=()):
+def run(program, words=(), seconds=60, before=(), memory=None):
     """What a program says, and its status; none where it took longer."""
     environment = {**os.environ, "RUST_BACKTRACE": "0"}
+
+    def limit():
+        if memory is not None:
+            resource.setrlimit(resource.RLIMIT_AS, (memory, memory))
+
     try:
-        done = subprocess.run([*before, program, *words], capture_output=True, text=True, timeout=seconds, env=environment)
+        done = subprocess.run([*before, program, *words], capture_output=True, text=True, timeout=seconds, env=environment,
+                              preexec_fn=limit)
     except subprocess.TimeoutExpired:
         return "it took too long", None
     return done.stdout + ("" if done.returncode == 0 else done.stderr[-2000:]), done.returncode
@@ -261,6 +270,8 @@ def run_programs(yard, count, seconds):
         line = (said.splitlines() or [""])[-1]
         print(f"{program} {' '.join(words)}: {line}")
         count.check(status == 0, f"{program} {' '.join(words)}: status {status}\n{said[-3000:]}")
+    said, status = run(ours / "memory", seconds=120, memory=LITTLE)
+    count.check(status == 0, f"memory: status {status}\n{said[-3000:]}")
     for program, words, limit in UNSOUND:
         said, status = run(original / program, words, limit)
         print(f"the original, {program} {' '.join(words)}: status {status}, {(said.splitlines() or [''])[-1]}")

@@ -125,8 +125,8 @@ impl<T: Clear> Shared<T> {
         if is_free {
             // SAFETY: nobody held it, and nobody makes a hold while `holds` is `ALONE`.
             fill(unsafe { &mut *self.value.get() });
-            self.is_owned.store(true, Ordering::Relaxed);
             self.holds.store(1, Ordering::Release);
+            self.is_owned.store(true, Ordering::Release);
         }
         is_free
     }
@@ -134,7 +134,7 @@ impl<T: Clear> Shared<T> {
     /// The hold that it was filled with, once.
     #[inline]
     pub(super) fn take(&self) -> Option<Held<'_, T>> {
-        self.is_owned.swap(false, Ordering::Relaxed).then(|| Held(self))
+        self.is_owned.swap(false, Ordering::Acquire).then(|| Held(self))
     }
 
     /// One more hold, where it is held.

@@ -6,6 +6,7 @@ use super::spans::Spans;
 use crate::registry::stack::SpanStack;
 use std::{
     cell::{Cell, RefCell},
+    panic::{catch_unwind, AssertUnwindSafe},
     sync::{
         atomic::{AtomicUsize, Ordering},
         Arc, Weak,
@@ -14,6 +15,9 @@ use std::{
 use tracing_core::span::Id;
 
 const NO_SEAT: usize = usize::MAX;
+
+/// Of how many registries a thread keeps stacks in which nothing is entered.
+const FEW: usize = 8;
 
 static SEATS: AtomicUsize = AtomicUsize::new(0);
 
@@ -47,7 +51,8 @@ impl Stacks {
 
     #[cold]
     fn open(&mut self, spans: &Arc<Spans>) -> usize {
-        self.0.retain(|stack| !stack.entered.is_empty() && stack.spans.strong_count() > 0);
+        let are_few = self.0.len() < FEW;
+        self.0.retain(|stack| stack.spans.strong_count() > 0 && (are_few || !stack.entered.is_empty()));
         let stack = Stack { address: address(spans), spans: Arc::downgrade(spans), entered: SpanStack::default() };
         self.0.push(stack);
         self.0.len() - 1
@@ -58,7 +63,10 @@ impl Drop for Stacks {
     fn drop(&mut self) {
         for stack in self.0.drain(..) {
             if let Some(spans) = stack.spans.upgrade() {
-                stack.entered.iter().for_each(|id| spans.leave(id.into_u64()));
+                for id in stack.entered.iter() {
+                    // A layer that panics while a thread ends would end the process: it was heard of by the panic's hook.
+                    let _panicked = catch_unwind(AssertUnwindSafe(|| spans.leave(id.into_u64())));
+                }
             }
         }
     }
