@@ -2,8 +2,8 @@
 
     bench/tracing.py instructions   of a round, by callgrind: the difference of two runs, which no load changes
     bench/tracing.py allocations    of a round
-    bench/tracing.py clock          nanoseconds of a round by 1, 2, 4 and 8 threads at once, the two by turns, the least of so
-                                    many turns each; on a quiet machine
+    bench/tracing.py clock          nanoseconds of a round by 1, 2, 4 and 8 threads at once, of the clock and of the processor,
+                                    the two by turns, the least of so many turns each; on a quiet machine
     bench/tracing.py benches        tracing-subscriber's own four benches, by criterion (librust-criterion-0.3-dev)
 
 Each line ends in ours over the original's. What is needed is what tests/tracing.py needs.
@@ -47,6 +47,7 @@ TIMED = [
     ("raw", "span", "none", 0),
     ("raw", "span", "none", 1),
     ("raw", "span", "none", 100),
+    ("raw", "shared", "none", 0),
     ("raw", "clone", "none", 1),
     ("raw", "event", "none", 1),
     ("macros", "span", "none", 1),
@@ -79,7 +80,7 @@ def built(yard, name):
 def line(words, original, ours, unit):
     """A line of a table: what was done, both figures, and their quotient."""
     text = " ".join(str(word) for word in words)
-    print(f"{text:32} {original:12.1f} {ours:12.1f} {unit:14} {ours / original if original else 1:5.2f}", flush=True)
+    print(f"{text:36} {original:12.1f} {ours:12.1f} {unit:15} {ours / original if original else 1:5.2f}", flush=True)
 
 
 def instructions_of(program, words, rounds):
@@ -96,7 +97,7 @@ def instructions(programs):
 
 
 def figures_of(program, words, threads, rounds, turns):
-    """The nanoseconds and the allocations of a round."""
+    """The nanoseconds of a round, those of its processor, and its allocations."""
     command = [program, *words, threads, rounds, turns]
     done = subprocess.run([str(word) for word in command], capture_output=True, text=True, check=True)
     return tuple(float(word) for word in re.findall(r"[\d.]+", done.stdout))
@@ -104,17 +105,19 @@ def figures_of(program, words, threads, rounds, turns):
 
 def allocations(programs):
     for words in ROUNDS:
-        line(words, *(figures_of(program, words, 1, 2000, 3)[1] for program in programs), "allocations")
+        line(words, *(figures_of(program, words, 1, 2000, 3)[2] for program in programs), "allocations")
 
 
 def clock(programs, threads, turns, rounds):
     for words in TIMED:
         for count in threads:
-            least = [float("inf")] * len(programs)
+            least = [[float("inf")] * 3 for _ in programs]
             for _ in range(turns):
                 for at, program in enumerate(programs):
-                    least[at] = min(least[at], figures_of(program, words, count, rounds, 3)[0])
-            line((*words, f"{count} threads"), *least, "ns")
+                    figures = figures_of(program, words, count, rounds, 3)
+                    least[at] = [min(pair) for pair in zip(least[at], figures)]
+            line((*words, f"{count} threads"), *(figures[0] for figures in least), "ns")
+            line((*words, f"{count} threads"), *(figures[1] for figures in least), "ns of processor")
 
 
 def benches(yard):
@@ -161,7 +164,7 @@ def main():
             benches(yard)
             return
         programs = [built(yard, name) for name in SIDES]
-        print(f"{'':32} {'original':>12} {'ours':>12}")
+        print(f"{'':36} {'original':>12} {'ours':>12}")
         if asked.what == "instructions":
             instructions(programs)
         elif asked.what == "allocations":

@@ -250,6 +250,16 @@ def compare_answers(original, ours, count):
     count.check(not known, f"each question of differing.txt was asked: {list(known)}")
 
 
+def compare_random(original, ours, count):
+    """Programs at random: those of the first seeds, and some of others each time."""
+    for first, programs in ((1, 3000), (10_000 + int(time.time()) % 1_000_000, 3000)):
+        words = [str(first), str(programs)]
+        theirs, said = (run(side / "random", words, 300)[0].splitlines() for side in (original, ours))
+        other = [pair for pair in zip(theirs, said) if pair[0] != pair[1]]
+        is_whole = len(theirs) == len(said) == programs
+        count.check(is_whole and not other, f"random {first} {programs}: {len(said)} of {len(theirs)}, {other[:3]}")
+
+
 def compare_texts(original, ours, count):
     theirs, status = run(original / "texts")
     text, our_status = run(ours / "texts")
@@ -264,6 +274,7 @@ def run_programs(yard, count, seconds):
         return
     compare_answers(original, ours, count)
     compare_texts(original, ours, count)
+    compare_random(original, ours, count)
     stress = ("stress", [str(seconds), str(int(time.time()) % 100_000)], seconds + 300)
     for program, words, limit in [*SOUND, stress]:
         said, status = run(ours / program, words, limit)
@@ -292,6 +303,12 @@ def run_example(yard, count):
     shutil.copytree(OURS / "example", folder, ignore=shutil.ignore_patterns("target", "laid", "Cargo.lock"))
     yard.lay(folder / "laid")
     done = yard.cargo("run", folder, "--quiet")
+    page = (TOP / "docs/FROM_TRACING.md").read_text().split("\n## ")[1]
+    sources = {"rust": folder / "src/main.rs", "toml": folder / "Cargo.toml"}
+    blocks = re.findall(r"^```(rust|toml)\n(.*?)^```$", page, re.MULTILINE | re.DOTALL)
+    for language, block in blocks:
+        count.check(block in sources[language].read_text(), f"the page's block is the example's: {block}")
+    count.check(len(blocks) == 2, "the page has two blocks of the example")
     lines = [line for line in done.stdout.splitlines() if line.startswith((" INFO", " WARN"))]
     count.check(done.returncode == 0 and len(lines) == 8 and "GET /users" in lines[0], f"the example: {done.stdout[-3000:]}")
 

@@ -2,16 +2,16 @@
 //!
 //!     rounds CALLS WORK LAYER DEPTH THREADS ROUNDS TURNS
 //!
-//! CALLS: raw (of a Dispatch) or macros. WORK: span (new with one field, enter, exit, close), clone (clone, close), event, or
-//! all (span with an event in it). LAYER: none (one that does nothing: without any, the original keeps what closed), line (it
+//! CALLS: raw (of a Dispatch) or macros. WORK: span (new with one field, enter, exit, close), clone (clone, close), event,
+//! all (span with an event in it), or shared (raw alone: a span under one that all threads share). LAYER: none (one that does nothing: without any, the original keeps what closed), line (it
 //! keeps a span's fields as text, and writes a line with the path for each event and close), look (it looks up the span and its
-//! parents each time), fmt (fmt::layer into a sink). DEPTH: so many spans stay entered below. Prints the nanoseconds and the
-//! allocations of a round in each thread: the best turn's.
+//! parents each time), fmt (fmt::layer into a sink). DEPTH: so many spans stay entered below. Prints the
+//! nanoseconds of a round by the clock and by its processor, in the slowest thread of the best turn, and its allocations.
 mod layers;
 
 use std::alloc::{GlobalAlloc, Layout, System};
 use std::sync::atomic::{AtomicU64, Ordering};
-use std::sync::{Barrier, Mutex};
+use std::sync::{Barrier, Mutex, OnceLock};
 use std::time::{Duration, Instant};
 use tracing_core::field::Value;
 use tracing_core::span::{Attributes, Id};
@@ -66,6 +66,33 @@ macro_rules! metadata {
 static SPAN: Metadata<'static> = metadata!("request", Kind::SPAN, "key");
 static EVENT: Metadata<'static> = metadata!("event", Kind::EVENT, "message");
 
+#[repr(C)]
+struct Time {
+    seconds: i64,
+    nanoseconds: i64,
+}
+
+extern "C" {
+    fn clock_gettime(clock: i32, time: *mut Time) -> i32;
+}
+
+/// How long this thread has had a processor.
+fn processor_time() -> Duration {
+    const OF_THE_THREAD: i32 = 3;
+    let mut time = Time { seconds: 0, nanoseconds: 0 };
+    // SAFETY: the time is written to a variable of this call.
+    unsafe { clock_gettime(OF_THE_THREAD, &mut time) };
+    Duration::new(time.seconds as u64, time.nanoseconds as u32)
+}
+
+/// What a turn took: of the clock and of its processor, in the slowest thread, and how much memory was asked for.
+#[derive(Clone, Copy, Default)]
+struct Took {
+    clock: Duration,
+    processor: Duration,
+    asked: u64,
+}
+
 struct Order {
     work: String,
     depth: usize,
@@ -78,22 +105,26 @@ struct Order {
 struct Clock<'a> {
     order: &'a Order,
     start: Barrier,
-    best: Mutex<Vec<(Duration, u64)>>,
+    shared: OnceLock<Id>,
+    best: Mutex<Vec<Took>>,
 }
 
 impl Clock<'_> {
     fn run(&self, mut round: impl FnMut()) {
         for turn in 0..self.order.turns {
             self.start.wait();
-            let (began, asked) = (Instant::now(), ASKED.load(Ordering::Relaxed));
+            let (began, had, asked) = (Instant::now(), processor_time(), ASKED.load(Ordering::Relaxed));
             for _ in 0..self.order.rounds {
                 round();
             }
-            let took = began.elapsed();
+            let (clock, processor) = (began.elapsed(), processor_time() - had);
             self.start.wait();
             let asked = ASKED.load(Ordering::Relaxed) - asked;
             let mut best = self.best.lock().unwrap();
-            best[turn] = (best[turn].0.max(took), best[turn].1.max(asked));
+            let took = &mut best[turn];
+            took.clock = took.clock.max(clock);
+            took.processor = took.processor.max(processor);
+            took.asked = took.asked.max(asked);
         }
     }
 }
@@ -149,6 +180,17 @@ fn by_raw_calls(clock: &Clock<'_>, dispatch: &Dispatch) {
             dispatch.try_close(twin);
         }),
         "event" => clock.run(event),
+        "shared" => {
+            let parent = clock.shared.get_or_init(new).clone();
+            clock.run(|| {
+                let value: (&Field, Option<&dyn Value>) = (&key, Some(&"value"));
+                let fields = SPAN.fields();
+                let values = fields.value_set(std::array::from_ref(&value));
+                let id = dispatch.new_span(&Attributes::child_of(parent.clone(), &SPAN, &values));
+                dispatch.enter(&id);
+                leave(id);
+            });
+        }
         _ => clock.run(|| {
             let id = enter();
             event();
@@ -176,8 +218,8 @@ fn main() {
     let (depth, threads, turns) = (number(3), number(4), number(6));
     let order = Order { work: words[1].clone(), depth, threads, rounds: number(5) as u32, turns };
     let dispatch = dispatch_with(&words[2]);
-    let best = Mutex::new(vec![(Duration::ZERO, 0); order.turns]);
-    let clock = Clock { order: &order, start: Barrier::new(order.threads), best };
+    let best = Mutex::new(vec![Took::default(); order.turns]);
+    let clock = Clock { order: &order, start: Barrier::new(order.threads), shared: OnceLock::new(), best };
     std::thread::scope(|scope| {
         for _ in 0..order.threads {
             scope.spawn(|| {
@@ -190,7 +232,9 @@ fn main() {
     });
     let turns = clock.best.into_inner().unwrap();
     let rounds = f64::from(order.rounds);
-    let took = turns.iter().map(|(took, _)| took.as_nanos()).min().unwrap_or(0);
-    let asked = turns.last().map_or(0, |(_, asked)| *asked);
-    println!("{:.1} ns {:.2} allocations", took as f64 / rounds, asked as f64 / rounds / order.threads as f64);
+    let least =
+        |time: fn(&Took) -> Duration| turns.iter().map(time).min().unwrap_or_default().as_nanos() as f64 / rounds;
+    let asked = turns.last().map_or(0, |took| took.asked);
+    let (clock, processor) = (least(|took| took.clock), least(|took| took.processor));
+    println!("{clock:.1} ns {processor:.1} ns {:.2} allocations", asked as f64 / rounds / order.threads as f64);
 }

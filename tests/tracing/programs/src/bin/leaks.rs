@@ -195,6 +195,20 @@ fn where_a_layer_panics() {
     say("9 its parent", is_there(&dispatch, &parent));
 }
 
+fn by_an_exit() {
+    let dispatch = Dispatch::new(Registry::default().with(Quiet));
+    let parent = dispatcher::with_default(&dispatch, || {
+        let parent = new(&dispatch, site!("parent"));
+        let child = child(&dispatch, site!("child"), &parent);
+        dispatch.enter(&child);
+        dispatch.try_close(child.clone());
+        dispatch.exit(&child);
+        dispatch.try_close(parent.clone());
+        parent
+    });
+    say("10 the parent of a span that an exit closes", is_there(&dispatch, &parent));
+}
+
 fn main() {
     std::panic::set_hook(Box::new(|_| {}));
     without_a_layer();
@@ -205,4 +219,5 @@ fn main() {
     at_a_threads_end();
     under_a_late_reader();
     where_a_layer_panics();
+    by_an_exit();
 }
