@@ -44,6 +44,13 @@ impl SpanStack {
         self.0.iter().rev().filter(held).map(|id| Id::from_u64(*id))
     }
 
+    /// The innermost entry below a place, or of all, that holds its span, with its place.
+    pub(super) fn next(&self, below: usize) -> Option<(usize, Id)> {
+        let entries = &self.0[..below.min(self.0.len())];
+        let at = entries.iter().rposition(|entry| entry & IS_TWIN == 0)?;
+        Some((at, Id::from_u64(entries[at])))
+    }
+
     #[inline]
     pub(crate) fn current(&self) -> Option<Id> {
         match self.0.last() {

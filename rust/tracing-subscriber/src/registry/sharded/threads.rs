@@ -103,14 +103,25 @@ impl Entered<'_> {
         self
     }
 
-    /// The first answer of the entered spans, from the innermost on.
+    /// The first answer of the entered spans, from the innermost on. The answers may be code of others, which may enter and
+    /// leave spans meanwhile: nothing is borrowed then.
     pub(crate) fn find_map<T>(&self, mut answer: impl FnMut(&Id) -> Option<T>) -> Option<T> {
-        let found = STACKS.try_with(|stacks| {
+        let mut below = usize::MAX;
+        loop {
+            let (at, id) = self.next(below)?;
+            if let Some(answer) = answer(&id) {
+                return Some(answer);
+            }
+            below = at;
+        }
+    }
+
+    fn next(&self, below: usize) -> Option<(usize, Id)> {
+        let next = STACKS.try_with(|stacks| {
             let stacks = stacks.try_borrow().ok()?;
             let stack = &stacks.0[stacks.at(self.0)?];
-            let found = stack.entered.iter().find_map(|id| answer(&id));
-            found
+            stack.entered.next(below)
         });
-        found.ok().flatten()
+        next.ok().flatten()
     }
 }

@@ -6,6 +6,7 @@ use std::sync::mpsc::{channel, Sender};
 use tracing::span::EnteredSpan;
 use tracing::{dispatcher, Dispatch, Span};
 use tracing_core::span::Id;
+use tracing_subscriber::fmt::format::FmtSpan;
 use tracing_subscriber::prelude::*;
 use tracing_subscriber::Registry;
 
@@ -58,7 +59,32 @@ fn thread(dispatch: &Dispatch, is_first: bool, told: Sender<Id>) {
     LAST.with(|cell| *cell.borrow_mut() = Some(last));
 }
 
+/// A thread ends inside a span, and the layers are told of its close when their own thread locals may be gone, too.
+fn ends_inside() -> bool {
+    let lines = tracing_subscriber::fmt::layer().with_writer(std::io::sink).with_span_events(FmtSpan::FULL);
+    let judge = Judge::default();
+    let dispatch = Dispatch::new(Registry::default().with(lines).with(judge.clone()));
+    let inside = dispatch.clone();
+    let thread = std::thread::spawn(move || {
+        dispatcher::with_default(&inside, || {
+            let span = tracing::info_span!("left");
+            tracing::info!("told");
+            let id = span.id().expect("it is there");
+            std::mem::forget(span.entered());
+            inside.try_close(id.clone());
+            id
+        })
+    });
+    let id = thread.join().expect("the thread ends well");
+    !is_there(&dispatch, &id)
+}
+
 fn main() {
+    std::panic::set_hook(Box::new(|_| {}));
+    if !ends_inside() {
+        println!("a span in which a thread ended stays");
+        std::process::exit(1);
+    }
     let judge = Judge::default();
     let dispatch = Dispatch::new(Registry::default().with(judge.clone()));
     let (told, hears) = channel();
