@@ -2,8 +2,8 @@
 
     bench/tracing.py instructions   of a round, by callgrind: the difference of two runs, which no load changes
     bench/tracing.py allocations    of a round
-    bench/tracing.py clock          nanoseconds of a round by 1, 2, 4 and 8 threads at once, of the clock and of the processor,
-                                    the two by turns, the least of so many turns each; on a quiet machine
+    bench/tracing.py clock          nanoseconds of a round by 1, 2, 4 and 8 threads at once, of the clock and of the
+                                    processor, the two by turns, the least of so many turns each; on a quiet machine
     bench/tracing.py benches        tracing-subscriber's own four benches, by criterion (librust-criterion-0.3-dev)
 
 Each line ends in ours over the original's. What is needed is what tests/tracing.py needs.
@@ -62,7 +62,8 @@ SIDES = ("original", "copy")
 def built(yard, name):
     """The program of rounds over one of the two."""
     folder = yard.folder / name / "rounds"
-    shutil.copytree(TOP / "bench/tracing", folder, dirs_exist_ok=True, ignore=shutil.ignore_patterns("target", "Cargo.lock"))
+    left_out = shutil.ignore_patterns("target", "Cargo.lock")
+    shutil.copytree(TOP / "bench/tracing", folder, dirs_exist_ok=True, ignore=left_out)
     words = ["--release"]
     if name == "copy":
         laid = yard.folder / name / "laid"

@@ -1,13 +1,14 @@
-"""Runs the real tracing-subscriber over the proved store: its own tests and ours, beside the original. The last line is 'N
-passed, M failed'.
+"""Runs the real tracing-subscriber over the proved store: its own tests and ours, beside the original. The last line is
+'N passed, M failed'.
 
-The crate is laid over by rust/tracing-subscriber/lay, with the library of `rt lib` in crates/span_store_ffi, which is made
-first where it isn't there or a source is newer, or with that of --library. Then
-- the crate's own tests run, over the original and over the copy, and each file of them has to pass as many tests there. The
-  original's numbers are those of this run. What tests need of tracing_mock, which isn't published, is in tests/tracing/mock;
+The crate is laid over by rust/tracing-subscriber/lay, with the library of `rt lib` in crates/span_store_ffi, which is
+made first where it isn't there or a source is newer, or with that of --library. Then
+- the crate's own tests run, over the original and over the copy, and each file of them has to pass as many tests there.
+  The original's numbers are those of this run. What tests need of tracing_mock, which isn't published, is in
+  tests/tracing/mock;
 - the programs of tests/tracing/programs run over both. Texts have to be the same, and answers differ where
-  tests/tracing/differing.txt says so, and in no other place; what has to hold holds over the copy; and where the original is
-  known to fail it is run, too, so that what docs/FROM_TRACING.md says of it is seen;
+  tests/tracing/differing.txt says so, and in no other place; what has to hold holds over the copy; and where the
+  original is known to fail it is run, too, so that what docs/FROM_TRACING.md says of it is seen;
 - some of these run under valgrind.
 
 Without cargo, or without Debian's packages of the crates' sources, nothing is run, and that is said.
@@ -191,13 +192,15 @@ def run_suites(yard, count):
     count.check(bool(original) and sum(passed for passed, _ in original.values()) > 0, "the original's own tests run")
     for name, counts in (("the original", original), ("the copy", ours)):
         units = sum(passed for file, (passed, _) in counts.items() if file != "doc tests")
-        print(f"tracing-subscriber's own tests over {name}: {units} passed, and {counts.get('doc tests', (0, 0))[0]} doc tests")
+        documented = counts.get("doc tests", (0, 0))[0]
+        print(f"tracing-subscriber's own tests over {name}: {units} passed, and {documented} doc tests")
 
 
 def build_programs(yard, name):
     """The folder of the built programs; none where that fails."""
     folder = yard.folder / name / "programs"
-    shutil.copytree(PARTS / "programs", folder, dirs_exist_ok=True, ignore=shutil.ignore_patterns("target", "Cargo.lock"))
+    left_out = shutil.ignore_patterns("target", "Cargo.lock")
+    shutil.copytree(PARTS / "programs", folder, dirs_exist_ok=True, ignore=left_out)
     words = ["--release"]
     if name == "copy":
         laid = yard.folder / name / "laid"
@@ -224,8 +227,8 @@ def run(program, words=(), seconds=60, before=(), memory=None):
             resource.setrlimit(resource.RLIMIT_AS, (memory, memory))
 
     try:
-        done = subprocess.run([*before, program, *words], capture_output=True, text=True, timeout=seconds, env=environment,
-                              preexec_fn=limit)
+        done = subprocess.run([*before, program, *words], capture_output=True, text=True, timeout=seconds,
+                              env=environment, preexec_fn=limit)
     except subprocess.TimeoutExpired:
         return "it took too long", None
     return done.stdout + ("" if done.returncode == 0 else done.stderr[-2000:]), done.returncode
@@ -241,7 +244,8 @@ def differing():
 def compare_answers(original, ours, count):
     known = differing()
     for program in ("behaviour", "leaks"):
-        sides = [dict(line.split(" => ", 1) for line in run(side / program)[0].splitlines()) for side in (original, ours)]
+        said = [run(side / program)[0].splitlines() for side in (original, ours)]
+        sides = [dict(line.split(" => ", 1) for line in lines) for lines in said]
         count.check(sides[0].keys() == sides[1].keys() and len(sides[0]) > 10, f"{program} asks the same of both")
         for question, theirs in sides[0].items():
             wanted = known.pop((program, question), (theirs, theirs))
@@ -310,7 +314,8 @@ def run_example(yard, count):
         count.check(block in sources[language].read_text(), f"the page's block is the example's: {block}")
     count.check(len(blocks) == 2, "the page has two blocks of the example")
     lines = [line for line in done.stdout.splitlines() if line.startswith((" INFO", " WARN"))]
-    count.check(done.returncode == 0 and len(lines) == 8 and "GET /users" in lines[0], f"the example: {done.stdout[-3000:]}")
+    is_right = done.returncode == 0 and len(lines) == 8 and "GET /users" in lines[0]
+    count.check(is_right, f"the example: {done.stdout[-3000:]}")
 
 
 def main():

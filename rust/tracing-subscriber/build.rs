@@ -1,5 +1,5 @@
-//! Links the proved store: the two static libraries that `lay` put into the folder `proved`, or those of the folder that
-//! SPAN_STORE_LIB names.
+//! Links the proved store: the two static libraries that `lay` put into the folder `proved`, or those of the folder
+//! that SPAN_STORE_LIB names.
 use std::{env, path::PathBuf, process::exit};
 
 const FOLDER: &str = "SPAN_STORE_LIB";

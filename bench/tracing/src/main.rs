@@ -2,11 +2,12 @@
 //!
 //!     rounds CALLS WORK LAYER DEPTH THREADS ROUNDS TURNS
 //!
-//! CALLS: raw (of a Dispatch) or macros. WORK: span (new with one field, enter, exit, close), clone (clone, close), event,
-//! all (span with an event in it), or shared (raw alone: a span under one that all threads share). LAYER: none (one that does nothing: without any, the original keeps what closed), line (it
-//! keeps a span's fields as text, and writes a line with the path for each event and close), look (it looks up the span and its
-//! parents each time), fmt (fmt::layer into a sink). DEPTH: so many spans stay entered below. Prints the
-//! nanoseconds of a round by the clock and by its processor, in the slowest thread of the best turn, and its allocations.
+//! CALLS: raw (of a Dispatch) or macros. WORK: span (new with one field, enter, exit, close), clone (clone, close),
+//! event, all (span with an event in it), or shared (raw alone: a span under one that all threads share). LAYER: none
+//! (one that does nothing: without any, the original keeps what closed), line (it keeps a span's fields as text, and
+//! writes a line with the path for each event and close), look (it looks up the span and its parents each time), fmt
+//! (fmt::layer into a sink). DEPTH: so many spans stay entered below. Prints the nanoseconds of a round by the clock
+//! and by its processor, in the slowest thread of the best turn, and its allocations.
 mod layers;
 
 use std::alloc::{GlobalAlloc, Layout, System};
@@ -150,6 +151,19 @@ fn by_macros(clock: &Clock<'_>) {
     below.into_iter().rev().for_each(drop);
 }
 
+fn under_shared(dispatch: &Dispatch, key: &Field, parent: &Id) {
+    let value: (&Field, Option<&dyn Value>) = (key, Some(&"value"));
+    let (fields, values) = (SPAN.fields(), [value]);
+    let id = dispatch.new_span(&Attributes::child_of(parent.clone(), &SPAN, &fields.value_set(&values)));
+    dispatch.enter(&id);
+    leave(dispatch, id);
+}
+
+fn leave(dispatch: &Dispatch, id: Id) {
+    dispatch.exit(&id);
+    dispatch.try_close(id);
+}
+
 fn by_raw_calls(clock: &Clock<'_>, dispatch: &Dispatch) {
     let key = SPAN.fields().field("key").expect("it has the field");
     let message = EVENT.fields().field("message").expect("it has the field");
@@ -162,10 +176,7 @@ fn by_raw_calls(clock: &Clock<'_>, dispatch: &Dispatch) {
         let value: (&Field, Option<&dyn Value>) = (&message, Some(&text));
         dispatch.event(&Event::new(&EVENT, &EVENT.fields().value_set(&[value])));
     };
-    let leave = |id: Id| {
-        dispatch.exit(&id);
-        dispatch.try_close(id);
-    };
+    let leave = |id: Id| leave(dispatch, id);
     let enter = || {
         let id = new();
         dispatch.enter(&id);
@@ -182,14 +193,7 @@ fn by_raw_calls(clock: &Clock<'_>, dispatch: &Dispatch) {
         "event" => clock.run(event),
         "shared" => {
             let parent = clock.shared.get_or_init(new).clone();
-            clock.run(|| {
-                let value: (&Field, Option<&dyn Value>) = (&key, Some(&"value"));
-                let fields = SPAN.fields();
-                let values = fields.value_set(std::array::from_ref(&value));
-                let id = dispatch.new_span(&Attributes::child_of(parent.clone(), &SPAN, &values));
-                dispatch.enter(&id);
-                leave(id);
-            });
+            clock.run(|| under_shared(dispatch, &key, &parent));
         }
         _ => clock.run(|| {
             let id = enter();

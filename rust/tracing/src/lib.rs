@@ -9,11 +9,12 @@
 //! span.in_scope(|| tracing::info!("read"));
 //! ```
 //!
-//! The proved registry says which spans are open, who their parents are, which span is current, and what a release closes.
-//! Beside it stands one [`tracing_subscriber::Registry`], the *store*: extensions, filter ids and the maps of filters can't
-//! be made outside of that crate. It holds each span's extensions and filters, and its ids are those that `tracing` sees. It
-//! is shown to the layers as the `Registry` under them, so that `Layered` gives an entry back when the last layer was told
-//! of the close, and so that layers with a filter find its stack. What stays of its faults is said in the crate's README.
+//! The proved registry says which spans are open, who their parents are, which span is current, and what a release
+//! closes. Beside it stands one [`tracing_subscriber::Registry`], the *store*: extensions, filter ids and the maps of
+//! filters can't be made outside of that crate. It holds each span's extensions and filters, and its ids are those
+//! that `tracing` sees. It is shown to the layers as the `Registry` under them, so that `Layered` gives an entry back
+//! when the last layer was told of the close, and so that layers with a filter find its stack. What stays of its
+//! faults is said in the crate's README.
 #![deny(unsafe_code)]
 
 use span_registry::{Callsite, Drain, Error, Level, Meta, Parent, Registry};
@@ -145,8 +146,8 @@ impl ProvedRegistry {
         })
     }
 
-    /// Brings the store's count of an entry to zero where the proved registry closed the span: the store looks at it when
-    /// the entry is used again.
+    /// Brings the store's count of an entry to zero where the proved registry closed the span: the store looks at it
+    /// when the entry is used again.
     fn ended(&self, id: &Id, is_closed: bool) -> bool {
         if is_closed {
             while !self.store.try_close(id.clone()) {}
@@ -157,7 +158,8 @@ impl ProvedRegistry {
     /// Keeps in the store what is known of a span that was made, and answers its id there.
     fn stored(&self, attributes: &Attributes<'_>, made: span_registry::Id, parent: Option<Id>) -> Id {
         let (metadata, values) = (attributes.metadata(), attributes.values());
-        // The store holds the parent as long as the child's entry is there, so that layers find it when the child closes.
+        // The store holds the parent as long as the child's entry is there, so that layers find it when the child
+        // closes.
         let id = match &parent {
             None => self.store.new_span(&Attributes::new_root(metadata, values)),
             Some(parent) => self.store.new_span(&Attributes::child_of(parent.clone(), metadata, values)),
@@ -191,9 +193,9 @@ impl Subscriber for ProvedRegistry {
         let current = if attributes.is_contextual() { self.current() } else { None };
         let parent = attributes.parent().cloned().or(current);
         let under = parent.as_ref().map_or(Parent::Root, |id| Parent::Of(self.known(id).id));
-        // The proved registry lets go of a parent in the step that closes the child. The layers are told after that step and
-        // have to find the parent open until then: so it has a handle more for each child, which the store gives back
-        // by `try_close` of the whole stack once it dropped the child.
+        // The proved registry lets go of a parent in the step that closes the child. The layers are told after that
+        // step and have to find the parent open until then: so it has a handle more for each child, which the store
+        // gives back by `try_close` of the whole stack once it dropped the child.
         if let Parent::Of(parent) = under {
             let kept = self.call(|| self.registry.clone_span(parent));
             kept.unwrap_or_else(|why| panic!("tried to clone a span ({parent:?}) that already closed: {why}"));
@@ -272,8 +274,8 @@ impl Subscriber for ProvedRegistry {
         if id == TypeId::of::<Self>() {
             return Some(self as *const Self as *const ());
         }
-        // Two types that are private to tracing-subscriber, by which it asks what it knows of its own `Registry` without
-        // asking. The layers that have them answer. SAFETY: nothing is read of what is answered.
+        // Two types that are private to tracing-subscriber, by which it asks what it knows of its own `Registry`
+        // without asking. The layers that have them answer. SAFETY: nothing is read of what is answered.
         if let Some(answer) = unsafe { <Option<Nothing> as Layer<Store>>::downcast_raw(&None, id) } {
             return Some(answer);
         }

@@ -1,6 +1,6 @@
-//! The registry over proved stores of spans: which spans are there, their parents, what holds them and when they close is
-//! in `span_store`, whose theorems stand in its crate. What layers keep of a span, and which spans a thread has entered,
-//! is here.
+//! The registry over proved stores of spans: which spans are there, their parents, what holds them and when they close
+//! is in `span_store`, whose theorems stand in its crate. What layers keep of a span, and which spans a thread has
+//! entered, is here.
 mod close;
 mod lock;
 mod numbers;
@@ -35,10 +35,11 @@ use tracing_core::{
 /// Stores the spans of a program for the layers above it, over proved stores.
 ///
 /// It records nothing itself: a [`Layer`](crate::Layer) that is added by `with` finds spans by their ids, with their
-/// parents, their metadata and what layers keep in their extensions. A span is there until its last handle was given back,
-/// all its children ended, and all layers were told of its close.
+/// parents, their metadata and what layers keep in their extensions. A span is there until its last handle was given
+/// back, all its children ended, and all layers were told of its close.
 ///
-/// No two spans of a process have one id, but for those of registries of which 8,191 others were made and dropped since.
+/// No two spans of a process have one id, but for those of registries of which 8,191 others were made and dropped
+/// since.
 #[cfg(feature = "registry")]
 #[cfg_attr(docsrs, doc(cfg(all(feature = "registry", feature = "std"))))]
 #[derive(Debug)]
@@ -47,7 +48,8 @@ pub struct Registry {
     next_filter_id: u8,
 }
 
-/// What a [`Registry`] keeps of a span. It can be read as long as this value lives, also where the span closed meanwhile.
+/// What a [`Registry`] keeps of a span. It can be read as long as this value lives, also where the span closed
+/// meanwhile.
 #[cfg(feature = "registry")]
 #[cfg_attr(docsrs, doc(cfg(all(feature = "registry", feature = "std"))))]
 #[derive(Debug)]
@@ -89,7 +91,8 @@ impl Registry {
         made.map(Id::from_u64)
     }
 
-    /// A span that was refused: it is made without a parent, where that is the current span and ended since it was entered.
+    /// A span that was refused: it is made without a parent, where that is the current span and ended since it was
+    /// entered.
     #[cold]
     fn add_refused(&self, attrs: &span::Attributes<'_>, parent: Option<&Id>, filters: FilterMap, why: Refused) -> Id {
         match parent {

@@ -1,8 +1,8 @@
 //! The spans that a thread has entered in a registry.
 pub(crate) use tracing_core::span::Id;
 
-/// Stands in an entry whose span was entered before it: such an entry holds nothing, and is never the current one. No id
-/// of a registry has it.
+/// Stands in an entry whose span was entered before it: such an entry holds nothing, and is never the current one. No
+/// id of a registry has it.
 const IS_TWIN: u64 = 1 << 63;
 
 /// The entered spans, the innermost last.

@@ -22,7 +22,8 @@ thread_local! {
     static PASSING: Cell<u64> = const { Cell::new(0) };
     /// That span, where it is closing by that release.
     static CLOSING: Cell<Option<Closing>> = const { Cell::new(None) };
-    /// The span that is closing already and of which the layers are being told, until that comes to the registry; 0: none.
+    /// The span that is closing already and of which the layers are being told, until that comes to the registry; 0:
+    /// none.
     static TOLD: Cell<u64> = const { Cell::new(0) };
 }
 
@@ -78,8 +79,8 @@ impl Drop for CloseGuard<'_> {
     }
 }
 
-/// Ends a span of which the layers were told, and so on up its parents, as each of them is closing by that. Data is dropped
-/// afterwards, the root's first: that may run code of the layers.
+/// Ends a span of which the layers were told, and so on up its parents, as each of them is closing by that. Data is
+/// dropped afterwards, the root's first: that may run code of the layers.
 struct CloseUp<'a> {
     spans: &'a Spans,
     stack: Option<&'a dyn Subscriber>,
@@ -116,7 +117,8 @@ impl Drop for CloseUp<'_> {
 }
 
 impl Spans {
-    /// Ends a span of which the layers were told, and what is closing by that. `stack` is the outermost layer that told.
+    /// Ends a span of which the layers were told, and what is closing by that. `stack` is the outermost layer that
+    /// told.
     pub(super) fn close_up(&self, closing: Closing, stack: Option<&dyn Subscriber>) {
         let (data, parent) = self.end(closing);
         if let Some(parent) = parent {
@@ -141,7 +143,8 @@ impl Spans {
         }
     }
 
-    /// Closes a span of which no layer was told yet. Where there are layers and no way to them, it waits until there is one.
+    /// Closes a span of which no layer was told yet. Where there are layers and no way to them, it waits until there
+    /// is one.
     #[cold]
     pub(super) fn tell_and_close_up(&self, closing: Closing, stack: Option<&dyn Subscriber>) {
         let teller = self.teller(stack);
@@ -158,8 +161,9 @@ impl Spans {
         rest.run();
     }
 
-    /// The way to the layers: by the default dispatcher where this registry is in it, else by the outermost layer of the
-    /// release that goes on, else by the dispatcher in which the registry was seen before. No other registry hears of it.
+    /// The way to the layers: by the default dispatcher where this registry is in it, else by the outermost layer of
+    /// the release that goes on, else by the dispatcher in which the registry was seen before. No other registry hears
+    /// of it.
     fn teller<'s>(&self, stack: Option<&'s dyn Subscriber>) -> Option<Teller<'s>> {
         if let Some(dispatch) = self.default_dispatch() {
             return Some(Teller::Dispatch(dispatch));

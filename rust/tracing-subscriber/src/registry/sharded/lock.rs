@@ -1,5 +1,5 @@
-//! A lock for calls of some dozens of instructions that neither panic nor call anybody: it knows no poison, and costs an
-//! exchange each time it is taken and given back.
+//! A lock for calls of some dozens of instructions that neither panic nor call anybody: it knows no poison, and costs
+//! an exchange each time it is taken and given back.
 use std::{
     hint,
     sync::{

@@ -41,8 +41,8 @@ unsafe impl Send for Store {}
 // SAFETY: as above.
 unsafe impl Sync for Store {}
 
-// SAFETY, of each call below: the handle was filled by `span_store_new` and is emptied by the drop alone, `call` has it for
-// itself as long as the call lasts, and each number that is told is written to a variable of this call.
+// SAFETY, of each call below: the handle was filled by `span_store_new` and is emptied by the drop alone, `call` has
+// it for itself as long as the call lasts, and each number that is told is written to a variable of this call.
 impl Store {
     pub(super) fn new(slots: u32, last_generation: u32) -> Result<Self, Refused> {
         assert_eq!(unsafe { span_store_abi_version() }, ABI_VERSION, "libspan_store_ffi.a is of another version");
@@ -102,7 +102,8 @@ pub(super) trait Clear: Default + Send + Sync {
 /// `holds` of a value that one thread has to itself.
 const ALONE: usize = usize::MAX;
 
-/// A value that threads read while it is held. Who sets `holds` from 0 or 1 to `ALONE` has it alone until `holds` is set again.
+/// A value that threads read while it is held. Who sets `holds` from 0 or 1 to `ALONE` has it alone until `holds` is
+/// set again.
 #[derive(Default)]
 pub(super) struct Shared<T> {
     holds: AtomicUsize,

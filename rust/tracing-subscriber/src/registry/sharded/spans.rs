@@ -1,8 +1,8 @@
 //! The spans of a registry: proved stores with a lock each, and beside each the data of its spans, read without a lock.
 //!
-//! A thread's roots are made in the store that its seat names, and children in the store of their parent: so each tree is
-//! in one store, with all that is proved of it. Where that store is full, a child is made in another one, as a root there
-//! that has a handle of its parent, which is given back when the child ended.
+//! A thread's roots are made in the store that its seat names, and children in the store of their parent: so each tree
+//! is in one store, with all that is proved of it. Where that store is full, a child is made in another one, as a root
+//! there that has a handle of its parent, which is given back when the child ended.
 use super::{
     numbers,
     places::Places,
@@ -21,8 +21,8 @@ use std::{
 };
 use tracing_core::{dispatcher::WeakDispatch, span::Id, Metadata};
 
-/// An id is, from its highest bits on: a bit that is 0, the registry's number (13 bits), the store's place in the registry,
-/// and the store's own id, which is generation * 2^24 + slot + 1.
+/// An id is, from its highest bits on: a bit that is 0, the registry's number (13 bits), the store's place in the
+/// registry, and the store's own id, which is generation * 2^24 + slot + 1.
 const OWN_BITS: u32 = 44;
 const STORE_BITS: u32 = 6;
 const SLOT_BITS: u32 = 24;
@@ -75,8 +75,8 @@ struct Part {
     data: Places<DataInner>,
 }
 
-/// A span that is closing: nothing holds it any longer, and no child of it is there. Whoever has this value ends it, when
-/// the layers were told: the value is made once for each span, can't be copied, and is given up by `Spans::end`.
+/// A span that is closing: nothing holds it any longer, and no child of it is there. Whoever has this value ends it,
+/// when the layers were told: the value is made once for each span, can't be copied, and is given up by `Spans::end`.
 #[must_use]
 pub(super) struct Closing(NonZeroU64);
 
@@ -275,8 +275,8 @@ impl Spans {
         Ok(if is_closing { NonZeroU64::new(id).map(Closing) } else { None })
     }
 
-    /// Ends a span: its id finds nothing from now on, and its parent is let go of, which is answered where it is closing by
-    /// that. Its data stays until the last reader, of which the one answered here is one, is gone.
+    /// Ends a span: its id finds nothing from now on, and its parent is let go of, which is answered where it is
+    /// closing by that. Its data stays until the last reader, of which the one answered here is one, is gone.
     #[inline(always)]
     pub(super) fn end(&self, closing: Closing) -> (Option<Held<'_, DataInner>>, Option<Closing>) {
         let id = closing.id();

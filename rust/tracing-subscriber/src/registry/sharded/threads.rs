@@ -1,7 +1,7 @@
 //! What belongs to a thread: its seat, and its stack of entered spans in each registry.
 //!
-//! A stack is given up when its thread ends: what is still entered is left then. In what runs in a thread after that, the
-//! destructors of other thread locals, nothing can be entered, and no span is the current one.
+//! A stack is given up when its thread ends: what is still entered is left then. In what runs in a thread after that,
+//! the destructors of other thread locals, nothing can be entered, and no span is the current one.
 use super::spans::Spans;
 use crate::registry::stack::SpanStack;
 use std::{
@@ -64,7 +64,8 @@ impl Drop for Stacks {
         for stack in self.0.drain(..) {
             if let Some(spans) = stack.spans.upgrade() {
                 for id in stack.entered.iter() {
-                    // A layer that panics while a thread ends would end the process: it was heard of by the panic's hook.
+                    // A layer that panics while a thread ends would end the process: it was heard of by the panic's
+                    // hook.
                     let _panicked = catch_unwind(AssertUnwindSafe(|| spans.leave(id.into_u64())));
                 }
             }
@@ -83,8 +84,8 @@ pub(super) fn seat() -> usize {
     })
 }
 
-/// Shows the thread's stack in the registry to a function that runs no code of others. None where the thread has none any
-/// longer.
+/// Shows the thread's stack in the registry to a function that runs no code of others. None where the thread has none
+/// any longer.
 #[inline]
 pub(super) fn with_stack<T>(spans: &Arc<Spans>, change: impl FnOnce(&mut SpanStack) -> T) -> Option<T> {
     let shown = STACKS.try_with(|stacks| {
@@ -103,8 +104,8 @@ impl Entered<'_> {
         self
     }
 
-    /// The first answer of the entered spans, from the innermost on. The answers may be code of others, which may enter and
-    /// leave spans meanwhile: nothing is borrowed then.
+    /// The first answer of the entered spans, from the innermost on. The answers may be code of others, which may
+    /// enter and leave spans meanwhile: nothing is borrowed then.
     pub(crate) fn find_map<T>(&self, mut answer: impl FnMut(&Id) -> Option<T>) -> Option<T> {
         let mut below = usize::MAX;
         loop {

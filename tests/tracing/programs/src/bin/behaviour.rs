@@ -1,5 +1,5 @@
-//! Asks a registry questions, one line an answer: `QUESTION => ANSWER`. The same program over the original and over the proved store
-//! shows where the two differ.
+//! Asks a registry questions, one line an answer: `QUESTION => ANSWER`. The same program over the original and over
+//! the proved store shows where the two differ.
 use programs::{child, is_there, lock, new, record, registry, root, site, Quiet};
 use std::any::{Any, TypeId};
 use std::fmt::Debug;
@@ -150,7 +150,9 @@ fn closes(a: Site, b: Site, c: Site) {
         say("close: a chain of three is gone", [&x, &y, &z].map(|id| is_there(&dispatch, id)));
     });
     told("close: a chain of three", &log);
+}
 
+fn closes_by_others(a: Site, b: Site, c: Site) {
     let (dispatch, log) = one_layer();
     within(&dispatch, || {
         let x = new(&dispatch, a);
@@ -181,7 +183,9 @@ fn closes(a: Site, b: Site, c: Site) {
             ids
         });
         lock(&log).clear();
-        ids.into_iter().for_each(|id| drop(dispatch.try_close(id)));
+        ids.into_iter().for_each(|id| {
+            dispatch.try_close(id);
+        });
     });
     told("close: the order in which data is dropped", &log);
 }
@@ -211,7 +215,9 @@ fn stacks(a: Site, b: Site) {
         dispatch.exit(&x);
     });
     told("stack: entered twice, left twice", &log);
+}
 
+fn stacks_out_of_order(a: Site, b: Site) {
     let (dispatch, _) = one_layer();
     within(&dispatch, || {
         let (x, y) = (new(&dispatch, a), new(&dispatch, b));
@@ -242,7 +248,9 @@ fn stacks(a: Site, b: Site) {
             dispatch.exit(&y);
         });
     });
+}
 
+fn parents(a: Site, b: Site) {
     let (dispatch, _) = one_layer();
     within(&dispatch, || {
         let parents = |id: &Id| {
@@ -279,7 +287,9 @@ fn bad_ids(a: Site) {
         say("bad id: nothing is current", name(&dispatch));
     });
     lock(&log).clear();
+}
 
+fn closed_ids(a: Site) {
     let (dispatch, _) = one_layer();
     within(&dispatch, || {
         let x = new(&dispatch, a);
@@ -461,7 +471,11 @@ fn filters() {
         tracing::warn!("under it");
     });
     told("filters: dynamic ones", &log);
+}
 
+fn filters_of_some_spans() {
+    let log = Log::default();
+    let tell = |name| Tell { log: log.clone(), name };
     let by_name = FilterFn::new(|metadata: &Metadata<'_>| metadata.name() != "left out");
     let layers = Registry::default().with(tell("F").with_filter(by_name)).with(tell("A"));
     tracing::subscriber::with_default(layers, || {
@@ -630,12 +644,17 @@ fn main() {
     std::panic::set_hook(Box::new(|_| {}));
     let (a, b, c) = (site!("a"), site!("b"), site!("c"));
     closes(a, b, c);
+    closes_by_others(a, b, c);
     stacks(a, b);
+    stacks_out_of_order(a, b);
+    parents(a, b);
     bad_ids(a);
+    closed_ids(a);
     panics(a);
     data(a, b);
     in_callbacks(a, b);
     filters();
+    filters_of_some_spans();
     macros();
     other_defaults(a, b);
     wrapped(a, b);

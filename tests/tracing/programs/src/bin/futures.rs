@@ -1,5 +1,5 @@
-//! Futures with a span each, which is entered on each poll, on a runtime with several threads. Each span has to be told closed
-//! once, after its children, and none may be left.
+//! Futures with a span each, which is entered on each poll, on a runtime with several threads. Each span has to be
+//! told closed once, after its children, and none may be left.
 use programs::Judge;
 use tokio::task::yield_now;
 use tracing::{Instrument, Span};

@@ -1,5 +1,5 @@
-//! A span's data holds handles of other spans, of its own registry and of another one, and is dropped with them: nothing
-//! waits for ever, and nothing stays. Also where a registry is dropped with spans open, their data is dropped.
+//! A span's data holds handles of other spans, of its own registry and of another one, and is dropped with them:
+//! nothing waits for ever, and nothing stays. Also where a registry is dropped with spans open, their data is dropped.
 use programs::{is_there, new, registry, root, site, Checks, Judge, Quiet};
 use std::sync::atomic::{AtomicU32, Ordering};
 use std::sync::Arc;

@@ -1,4 +1,5 @@
-//! Makes and closes so many spans in each of some threads, some of them kept a while, and looks for an id that came twice.
+//! Makes and closes so many spans in each of some threads, some of them kept a while, and looks for an id that came
+//! twice.
 //!
 //!     ids SPANS THREADS
 use programs::{root, site, Quiet};
@@ -21,10 +22,14 @@ fn main() {
                 ids.push(id.into_u64());
                 kept.push_back(id);
                 if kept.len() > at % 7 {
-                    kept.drain(..).for_each(|id| drop(dispatch.try_close(id)));
+                    kept.drain(..).for_each(|id| {
+                        dispatch.try_close(id);
+                    });
                 }
             }
-            kept.into_iter().for_each(|id| drop(dispatch.try_close(id)));
+            kept.into_iter().for_each(|id| {
+                dispatch.try_close(id);
+            });
             ids
         };
         let all: Vec<_> = (0..threads).map(|_| scope.spawn(work)).collect();

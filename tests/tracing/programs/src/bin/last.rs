@@ -1,5 +1,5 @@
-//! What a thread's last destructors do with spans, after its other thread locals are gone: a span is dropped, entered, left,
-//! made and told of there, and nothing ends the process or stays.
+//! What a thread's last destructors do with spans, after its other thread locals are gone: a span is dropped, entered,
+//! left, made and told of there, and nothing ends the process or stays.
 use programs::{is_there, new, site, Judge};
 use std::cell::RefCell;
 use std::sync::mpsc::{channel, Sender};

@@ -1,5 +1,5 @@
-//! Makes spans under one root until there is no memory for another, in a process whose memory is limited; closes all, and does
-//! it again.
+//! Makes spans under one root until there is no memory for another, in a process whose memory is limited; closes all,
+//! and does it again.
 use programs::{child, is_there, root, site, Checks, Judge, Quiet};
 use std::panic::{catch_unwind, AssertUnwindSafe};
 use tracing::{dispatcher, Dispatch};

@@ -1,5 +1,5 @@
-//! Two registries, each with the other as the default one: no release of one takes a handle of the other's spans, and the
-//! layers of each hear of each close of its own.
+//! Two registries, each with the other as the default one: no release of one takes a handle of the other's spans, and
+//! the layers of each hear of each close of its own.
 use programs::{child, is_there, new, registry, root, site, Checks, Dice, Judge};
 use std::collections::HashSet;
 use tracing::{dispatcher, Dispatch};
@@ -12,6 +12,28 @@ fn stack() -> (Dispatch, Judge) {
     (Dispatch::new(Registry::default().with(judge.clone())), judge)
 }
 
+/// A call of one of the two, with its own spans.
+fn step(dice: &mut Dice, dispatch: &Dispatch, spans: &mut Vec<Id>, entered: &mut Vec<Id>) {
+    let at = (!spans.is_empty()).then(|| dice.below(spans.len() as u64) as usize);
+    match (dice.below(7), at) {
+        (0 | 1, _) => spans.push(root(dispatch, site!("root"))),
+        (2, Some(at)) => spans.push(child(dispatch, site!("child"), &spans[at])),
+        (3, Some(at)) => {
+            dispatch.enter(&spans[at]);
+            entered.push(spans[at].clone());
+        }
+        (4, _) => {
+            if let Some(id) = entered.pop() {
+                dispatch.exit(&id);
+            }
+        }
+        (_, Some(at)) => {
+            dispatch.try_close(spans.swap_remove(at));
+        }
+        _ => {}
+    }
+}
+
 /// Trees of both, entered, left and closed under the default of the other, or of none.
 fn at_random(checks: &mut Checks, seed: u64) {
     let sides = [stack(), stack()];
@@ -21,38 +43,16 @@ fn at_random(checks: &mut Checks, seed: u64) {
     for _ in 0..3_000 {
         let side = dice.below(2) as usize;
         let default = &sides[dice.below(2) as usize].0;
-        let dispatch = &sides[side].0;
-        dispatcher::with_default(default, || match dice.below(7) {
-            0 | 1 => spans[side].push(root(dispatch, site!("root"))),
-            2 if !spans[side].is_empty() => {
-                let at = dice.below(spans[side].len() as u64) as usize;
-                let under = spans[side][at].clone();
-                spans[side].push(child(dispatch, site!("child"), &under));
-            }
-            3 if !spans[side].is_empty() => {
-                let at = dice.below(spans[side].len() as u64) as usize;
-                let id = spans[side][at].clone();
-                dispatch.enter(&id);
-                entered[side].push(id);
-            }
-            4 => {
-                if let Some(id) = entered[side].pop() {
-                    dispatch.exit(&id);
-                }
-            }
-            _ if !spans[side].is_empty() => {
-                let at = dice.below(spans[side].len() as u64) as usize;
-                dispatch.try_close(spans[side].swap_remove(at));
-            }
-            _ => {}
-        });
+        dispatcher::with_default(default, || step(&mut dice, &sides[side].0, &mut spans[side], &mut entered[side]));
     }
     for side in 0..2 {
         let dispatch = &sides[side].0;
         let default = &sides[1 - side].0;
         dispatcher::with_default(default, || {
             entered[side].drain(..).rev().for_each(|id| dispatch.exit(&id));
-            spans[side].drain(..).for_each(|id| drop(dispatch.try_close(id)));
+            spans[side].drain(..).for_each(|id| {
+                dispatch.try_close(id);
+            });
         });
     }
     for (_, judge) in &sides {
@@ -95,7 +95,8 @@ impl CurrentIdIsNone for Registry {
     }
 }
 
-/// A registry that is nobody's default: its layers hear of what an exit closes by the next release that goes through them.
+/// A registry that is nobody's default: its layers hear of what an exit closes by the next release that goes through
+/// them.
 fn never_the_default(checks: &mut Checks, spans: u64) {
     let (dispatch, judge) = stack();
     let parent = root(&dispatch, site!("parent"));

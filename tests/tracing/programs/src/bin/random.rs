@@ -1,11 +1,12 @@
-//! Programs of calls at random, each with its own layers and filters: for each seed a line with what the layers heard, as a sum.
-//! Both registries have to print the same lines.
+//! Programs of calls at random, each with its own layers and filters: for each seed a line with what the layers heard,
+//! as a sum. Both registries have to print the same lines.
 //!
 //!     random FIRST_SEED PROGRAMS
 //!     random SEED whole           prints what was heard, in place of its sum
 //!
-//! Left out is where the original is known to fail: every call is made under the registry's own dispatcher, callbacks make no
-//! spans, and no exit closes a span (which holds its parent for ever there). Ids that ended are used, too: what panics then is caught, and its text is heard.
+//! Left out is where the original is known to fail: every call is made under the registry's own dispatcher, callbacks
+//! make no spans, and no exit closes a span (which holds its parent for ever there). Ids that ended are used, too:
+//! what panics then is caught, and its text is heard.
 use programs::{child, lock, new, record, registry, root, site, Dice};
 use std::collections::hash_map::DefaultHasher;
 use std::hash::{Hash, Hasher};

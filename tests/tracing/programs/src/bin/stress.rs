@@ -1,5 +1,5 @@
-//! Threads make, share, enter, clone and drop spans at random for so many seconds, also in the callbacks of a layer. Each
-//! span has to be told closed once, after its children, with its data there, and none may be left.
+//! Threads make, share, enter, clone and drop spans at random for so many seconds, also in the callbacks of a layer.
+//! Each span has to be told closed once, after its children, with its data there, and none may be left.
 //!
 //!     stress SECONDS [SEED [THREADS [ROUNDS]]]
 use programs::{lock, Dice, Judge};
@@ -106,14 +106,7 @@ fn round(dice: &mut Dice, pool: &Pool) {
         }
         3 => {
             if let Some(span) = taken(pool, dice.below(1000)) {
-                span.in_scope(|| {
-                    let inside = tracing::info_span!("inside");
-                    tracing::info!("told");
-                    let _entered = inside.enter();
-                    if dice.below(2) == 0 {
-                        lock(pool).push(inside.clone());
-                    }
-                });
+                span.in_scope(|| inside(dice, pool));
             }
         }
         4 => {
@@ -124,6 +117,19 @@ fn round(dice: &mut Dice, pool: &Pool) {
         }
         _ => drop(taken(pool, dice.below(1000))),
     }
+}
+
+fn inside(dice: &mut Dice, pool: &Pool) {
+    let inside = tracing::info_span!("inside");
+    tracing::info!("told");
+    let _entered = inside.enter();
+    if dice.below(2) == 0 {
+        lock(pool).push(inside.clone());
+    }
+}
+
+/// Drops some spans where there are many.
+fn thin_out(pool: &Pool) {
     let more: Vec<Span> = {
         let mut pool = lock(pool);
         let end = pool.len();
@@ -148,7 +154,10 @@ fn turn(seed: u64, threads: u64, rounds: u64) -> (u64, usize, Vec<String>) {
                 dispatcher::with_default(dispatch, || {
                     SEED.set(seed ^ thread << 32);
                     let mut dice = Dice::new(seed * 64 + thread + 1);
-                    (0..rounds).for_each(|_| round(&mut dice, pool));
+                    (0..rounds).for_each(|_| {
+                        round(&mut dice, pool);
+                        thin_out(pool);
+                    });
                 });
             });
         }

@@ -1,5 +1,5 @@
-//! The texts that `fmt` writes in several formats, under `EnvFilter`, per-layer filters, `reload` and records of `log`: the same
-//! calls each time, with ids and times left out. Both registries have to write the same bytes.
+//! The texts that `fmt` writes in several formats, under `EnvFilter`, per-layer filters, `reload` and records of
+//! `log`: the same calls each time, with ids and times left out. Both registries have to write the same bytes.
 use programs::lock;
 use std::io::Write;
 use std::sync::{Arc, Mutex};
