@@ -86,7 +86,7 @@ fn slot_of(id: span_registry::Id) -> usize {
 }
 
 impl ProvedRegistry {
-    /// So many spans may be open at once (1 to 2^24), and so many threads may call (1 to 65,536).
+    /// So many spans may be open at once (1 to 2^24), and so many threads may call (1 to 256).
     pub fn new(slots: u32, threads: u32) -> Result<ProvedRegistry, Error> {
         let (registry, drain) = Registry::builder().slots(slots).workers(threads).ring(RING).build()?;
         let site = registry.callsite(&Meta::new(Level::Info, "", "span"))?;
