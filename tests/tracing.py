@@ -9,7 +9,8 @@ made first where it isn't there or a source is newer, or with that of --library.
 - the programs of tests/tracing/programs run over both. Texts have to be the same, and answers differ where
   tests/tracing/differing.txt says so, and in no other place; what has to hold holds over the copy; and where the
   original is known to fail it is run, too, so that what docs/FROM_TRACING.md says of it is seen;
-- some of these run under valgrind.
+- some of these run under valgrind;
+- the tests of rust/tracing run over the library of crates/span_ffi, where that is built.
 
 Without cargo, or without Debian's packages of the crates' sources, nothing is run, and that is said.
 """
@@ -318,13 +319,33 @@ def run_example(yard, count):
     count.check(is_right, f"the example: {done.stdout[-3000:]}")
 
 
+def run_outside(yard, library, count):
+    """The tests of the package rust/tracing, which stands beside the crate, over the library of crates/span_ffi."""
+    if not library.is_file():
+        print(f"not run: the tests of rust/tracing, since there is no {library}")
+        return
+    folder = yard.folder / "rust"
+    shutil.copytree(TOP / "rust", folder, dirs_exist_ok=True, ignore=shutil.ignore_patterns("target", "Cargo.lock"))
+    os.environ["SPAN_REGISTRY_LIB"] = str(library.resolve().parent)
+    done = yard.cargo("test", folder / "tracing", "--no-fail-fast")
+    found = re.findall(r"^test result: \w+\. (\d+) passed; (\d+) failed", done.stdout, re.MULTILINE)
+    passed, failed = (sum(int(pair[at]) for pair in found) for at in (0, 1))
+    print(f"rust/tracing: {passed} passed, {failed} failed")
+    count.passed += passed
+    count.failed += failed
+    if done.returncode != 0 or passed == 0:
+        count.check(False, f"the tests of rust/tracing run: {done.stdout[-5000:]}")
+
+
 def main():
     parser = argparse.ArgumentParser(description=__doc__, formatter_class=argparse.RawDescriptionHelpFormatter)
     parser.add_argument("--library", type=Path, help="the static library libspan_store_ffi.a to test")
     parser.add_argument("--seconds", type=int, default=60, help="how long stress runs (60)")
     parser.add_argument("--jobs", type=int, default=2, help="how many processes cargo starts at a time (2)")
     parser.add_argument("--folder", type=Path, help="where to build; it is kept then")
-    parser.add_argument("--part", choices=["suites", "programs", "example"], help="this part alone")
+    parser.add_argument("--registry-library", type=Path, default=TOP / "crates/span_ffi/out/libspan_ffi.a",
+                        help="libspan_ffi.a, on which rust/tracing stands")
+    parser.add_argument("--part", choices=["suites", "programs", "example", "outside"], help="this part alone")
     asked = parser.parse_args()
     count = Count()
     sys.stdout.reconfigure(line_buffering=True)
@@ -342,6 +363,8 @@ def main():
             run_programs(yard, count, asked.seconds)
         if asked.part in (None, "example"):
             run_example(yard, count)
+        if asked.part in (None, "outside"):
+            run_outside(yard, asked.registry_library, count)
         if asked.part in (None, "suites"):
             run_suites(yard, count)
     print(f"{count.passed} passed, {count.failed} failed")

@@ -3,7 +3,8 @@
 //! ```
 //! use tracing_span_registry::ProvedRegistry;
 //! use tracing_subscriber::prelude::*;
-//! tracing_subscriber::registry(); // in place of this:
+//!
+//! // In place of tracing_subscriber::registry():
 //! ProvedRegistry::default().with(tracing_subscriber::fmt::layer()).init();
 //! let span = tracing::info_span!("GET /users");
 //! span.in_scope(|| tracing::info!("read"));
