@@ -4,7 +4,6 @@
     bench/tracing.py allocations    of a round
     bench/tracing.py clock          nanoseconds of a round by 1, 2, 4 and 8 threads at once, of the clock and of the
                                     processor, the two by turns, the least of so many turns each; on a quiet machine
-    bench/tracing.py benches        tracing-subscriber's own four benches, by criterion (librust-criterion-0.3-dev)
 
 Each line ends in ours over the original's. What is needed is what tests/tracing.py needs.
 """
@@ -121,34 +120,9 @@ def clock(programs, threads, turns, rounds):
             line((*words, f"{count} threads"), *(figures[1] for figures in least), "ns of processor")
 
 
-def benches(yard):
-    """The crate's own four benches over both."""
-    means = []
-    for name in SIDES:
-        folder = yard.folder / name / "benches"
-        if name == "copy":
-            yard.lay(folder)
-        else:
-            shutil.rmtree(folder, ignore_errors=True)
-            shutil.copytree(tracing.REGISTRY / "tracing-subscriber-0.3.16", folder,
-                            ignore=shutil.ignore_patterns(".cargo-checksum.json"))
-        with (folder / "Cargo.toml").open("a") as manifest:
-            manifest.write("\n[workspace]\n")
-        done = yard.cargo("bench", folder, "--features", "env-filter,json", "--benches", "--", "--noplot",
-                          "--warm-up-time", "1", "--measurement-time", "2")
-        scale = {"ps": 0.001, "ns": 1, "us": 1000, "µs": 1000, "ms": 1_000_000}
-        found = re.findall(r"^(\S[^\n]*?)\s*\n?\s+time:\s+\[\S+ \S+ (\S+) (\S+) ", done.stdout, re.MULTILINE)
-        means.append({bench: float(time) * scale[unit] for bench, time, unit in found})
-        if not found:
-            print(done.stdout[-3000:])
-    for bench, time in means[0].items():
-        if bench in means[1]:
-            line((bench,), time, means[1][bench], "ns")
-
-
 def main():
     parser = argparse.ArgumentParser(description=__doc__, formatter_class=argparse.RawDescriptionHelpFormatter)
-    parser.add_argument("what", choices=["instructions", "allocations", "clock", "benches"])
+    parser.add_argument("what", choices=["instructions", "allocations", "clock"])
     parser.add_argument("--library", type=Path, help="libspan_store_ffi.a; without it, that of rt lib")
     parser.add_argument("--folder", type=Path, help="where to build; it is kept then")
     parser.add_argument("--jobs", type=int, default=2)
@@ -161,9 +135,6 @@ def main():
     library = asked.library.resolve() if asked.library else tracing.current_library()
     with tempfile.TemporaryDirectory() as made:
         yard = tracing.Yard((asked.folder or Path(made)).resolve(), library, asked.jobs)
-        if asked.what == "benches":
-            benches(yard)
-            return
         programs = [built(yard, name) for name in SIDES]
         print(f"{'':36} {'original':>12} {'ours':>12}")
         if asked.what == "instructions":
