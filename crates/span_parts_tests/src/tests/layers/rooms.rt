@@ -87,10 +87,10 @@ fn an_escape_at_each_place(rt: HostRuntime) {
                 let is_counted = before < length / 32 * 32;
                 let uncounted = if is_counted { 0 } else { *compact };
                 let got = spare(&rt, alloc, Form::Compact, &note);
-                same(&rt, got + uncounted, COMPACT_SPARE, byte);
+                same(&rt, got.saturating_add(uncounted), COMPACT_SPARE, byte);
                 let more = if length < LONG { 0 } else { LONG_SPARE };
                 let got = spare(&rt, alloc, Form::Json, &note);
-                same(&rt, got + json, JSON_SPARE + more, byte);
+                same(&rt, got.saturating_add(*json), JSON_SPARE + more, byte);
             }
         }
     }
