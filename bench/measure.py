@@ -15,9 +15,9 @@ PR_SET_CHILD_SUBREAPER = 36
 # process started itself would begin with Python's memory as its peak.
 START = 'exec 3<&0; "$@" <&3 3<&- & echo $! >&2'
 
-# What one run took: `cpu` (user and system) and `clock` in seconds, `peak` in bytes. What it wrote: `size` in bytes, a
-# check `sum`, and the `last` bytes.
-Run = namedtuple("Run", "cpu clock peak status size sum last error")
+# What one run took: `user`, `cpu` (user and system) and `clock` in seconds, `peak` in bytes, page `faults`. What it
+# wrote: `size` in bytes, a check `sum`, and the `last` bytes.
+Run = namedtuple("Run", "user cpu clock peak faults status size sum last error")
 
 
 def become_parent_of_orphans():
@@ -59,9 +59,11 @@ def run_once(words, path=os.devnull):
         reading.join()
         error += shell.stderr.read(1024)
     return Run(
+        user=used.ru_utime,
         cpu=used.ru_utime + used.ru_stime,
         clock=clock,
         peak=used.ru_maxrss * 1024,
+        faults=used.ru_minflt,
         status=os.waitstatus_to_exitcode(status),
         size=reading.size,
         sum=reading.sum,

@@ -4,11 +4,16 @@
     bench/tracing.py allocations    of a round
     bench/tracing.py clock          nanoseconds of a round by 1, 2, 4 and 8 threads at once, of the clock and of the
                                     processor, the two by turns, the least of so many turns each; on a quiet machine
+    bench/tracing.py benches        the crate's own four benches, with a stand-in for criterion: nanoseconds of the
+                                    clock, as above
 
-Each line ends in ours over the original's. What is needed is what tests/tracing.py needs.
+Each line ends in ours over the original's; of the clock it has the calls a second of all threads, too. What is needed
+is what tests/tracing.py needs.
 """
 
 import argparse
+import json
+import os
 import re
 import shutil
 import subprocess
@@ -23,24 +28,13 @@ import tracing  # noqa: E402
 
 # Calls, work, layer and depth of each round.
 ROUNDS = [
-    ("raw", "span", "none", 0),
-    ("raw", "span", "none", 1),
-    ("raw", "span", "none", 8),
-    ("raw", "span", "none", 100),
+    *(("raw", work, layer, depth) for layer in ("none", "look", "line", "fmt") for work in ("span", "event", "all")
+      for depth in (0, 1, 8, 100)),
     ("raw", "clone", "none", 1),
-    ("raw", "event", "none", 1),
-    ("raw", "all", "none", 1),
     ("macros", "span", "none", 1),
-    ("raw", "span", "look", 1),
-    ("raw", "all", "look", 8),
-    ("raw", "span", "line", 0),
-    ("raw", "span", "line", 1),
-    ("raw", "event", "line", 1),
-    ("raw", "all", "line", 1),
-    ("raw", "all", "line", 8),
-    ("raw", "all", "line", 100),
-    ("raw", "all", "fmt", 1),
-    ("raw", "all", "fmt", 8),
+    ("macros", "clone", "none", 1),
+    ("macros", "event", "none", 1),
+    ("macros", "all", "none", 1),
 ]
 TIMED = [
     ("raw", "span", "none", 0),
@@ -50,11 +44,13 @@ TIMED = [
     ("raw", "clone", "none", 1),
     ("raw", "event", "none", 1),
     ("macros", "span", "none", 1),
+    ("raw", "span", "look", 1),
     ("raw", "all", "look", 8),
     ("raw", "all", "line", 1),
     ("raw", "all", "line", 8),
     ("raw", "all", "fmt", 1),
 ]
+BENCHES = ["enter", "filter", "filter_log", "fmt"]
 SIDES = ("original", "copy")
 
 
@@ -80,7 +76,7 @@ def built(yard, name):
 def line(words, original, ours, unit):
     """A line of a table: what was done, both figures, and their quotient."""
     text = " ".join(str(word) for word in words)
-    print(f"{text:36} {original:12.1f} {ours:12.1f} {unit:15} {ours / original if original else 1:5.2f}", flush=True)
+    print(f"{text:44} {original:12.1f} {ours:12.1f} {unit:15} {ours / original if original else 1:5.2f}", flush=True)
 
 
 def instructions_of(program, words, rounds):
@@ -91,7 +87,9 @@ def instructions_of(program, words, rounds):
 
 def instructions(programs):
     for words in ROUNDS:
-        figures = [(instructions_of(program, words, 1500) - instructions_of(program, words, 500)) / 1000
+        # What differs from run to run, as by the seeds of maps, is some thousands of instructions in all.
+        few = 5000 if words[2] == "none" else 500 if words[3] < 100 else 100
+        figures = [(instructions_of(program, words, 3 * few) - instructions_of(program, words, few)) / (2 * few)
                    for program in programs]
         line(words, *figures, "instructions")
 
@@ -118,11 +116,43 @@ def clock(programs, threads, turns, rounds):
                     least[at] = [min(pair) for pair in zip(least[at], figures)]
             line((*words, f"{count} threads"), *(figures[0] for figures in least), "ns")
             line((*words, f"{count} threads"), *(figures[1] for figures in least), "ns of processor")
+            line((*words, f"{count} threads"), *(1e3 * count / figures[0] for figures in least), "million/s")
+
+
+def benches_of(yard, name):
+    """The programs of the crate's own benches over one of the two."""
+    folder = yard.folder / name / "benches"
+    tracing.copy_crate(yard, name, folder)
+    manifest = folder / "Cargo.toml"
+    text, times = re.subn(r"(\[dev-dependencies\.criterion\]\n)(?:[^\[\n][^\n]*\n)*",
+                          rf'\1path = "{TOP / "bench/tracing/criterion"}"\n', manifest.read_text())
+    assert times == 1, f"{manifest} names criterion once"
+    manifest.write_text(text + "\n[workspace]\n")
+    chosen = [word for bench in BENCHES for word in ("--bench", bench)]
+    done = yard.cargo("bench", folder, "--no-run", "--features", "env-filter", "--message-format", "json", *chosen)
+    made = [json.loads(said) for said in done.stdout.splitlines() if said.startswith("{")]
+    programs = {it["target"]["name"]: it["executable"] for it in made if it.get("executable")}
+    if sorted(programs) != BENCHES:
+        sys.exit(done.stdout)
+    return [Path(shutil.copy(programs[bench], yard.folder / name / f"bench-{bench}")) for bench in BENCHES]
+
+
+def benches(sides, turns):
+    os.environ["SAMPLES"] = "10"
+    for programs in zip(*sides):
+        least = [{}, {}]
+        for _ in range(turns):
+            for figures, program in zip(least, programs):
+                done = subprocess.run([program, "--bench"], capture_output=True, text=True, check=True)
+                for bench, figure in re.findall(r"^(\S+) ([\d.]+) ns$", done.stdout, re.MULTILINE):
+                    figures[bench] = min(float(figure), figures.get(bench, float("inf")))
+        for bench, figure in least[0].items():
+            line((bench,), figure, least[1][bench], "ns")
 
 
 def main():
     parser = argparse.ArgumentParser(description=__doc__, formatter_class=argparse.RawDescriptionHelpFormatter)
-    parser.add_argument("what", choices=["instructions", "allocations", "clock"])
+    parser.add_argument("what", choices=["instructions", "allocations", "clock", "benches"])
     parser.add_argument("--library", type=Path, help="libspan_store_ffi.a; without it, that of rt lib")
     parser.add_argument("--folder", type=Path, help="where to build; it is kept then")
     parser.add_argument("--jobs", type=int, default=2)
@@ -135,9 +165,12 @@ def main():
     library = asked.library.resolve() if asked.library else tracing.current_library()
     with tempfile.TemporaryDirectory() as made:
         yard = tracing.Yard((asked.folder or Path(made)).resolve(), library, asked.jobs)
-        programs = [built(yard, name) for name in SIDES]
-        print(f"{'':36} {'original':>12} {'ours':>12}")
-        if asked.what == "instructions":
+        build = benches_of if asked.what == "benches" else built
+        programs = [build(yard, name) for name in SIDES]
+        print(f"{'':44} {'original':>12} {'ours':>12}")
+        if asked.what == "benches":
+            benches(programs, asked.turns)
+        elif asked.what == "instructions":
             instructions(programs)
         elif asked.what == "allocations":
             allocations(programs)

@@ -1,10 +1,10 @@
 /* A registry of spans, as Rust's `tracing` has one, proved: the C interface of the library span_ffi.
  *
- * Every call answers a status, and SPAN_OK alone means that it was done. Any other status left the registry, the drain
- * and every output as they were, but for what is said of it here. What a pointer points to has to be there, also where
- * a length is 0: no pointer may be NULL, and no output may overlap another output, an input or a handle. Between calls
- * on one handle in two threads stands a lock, a start or join, or the like. No call may come from a signal handler. The
- * library takes its memory by malloc, realloc and free. */
+ * Every call but span_abi_version answers a status, and SPAN_OK alone means that it was done. Any other status left the
+ * registry, the drain and every output as they were, but for what is said of it here. What a pointer points to has to
+ * be there, also where a length is 0: no pointer may be NULL, and no output may overlap another output, an input or a
+ * handle. Between calls on one handle in two threads stands a lock, a start or join, or the like. No call may come from
+ * a signal handler. The library takes its memory by malloc, realloc and free. */
 #ifndef SPAN_REGISTRY_H
 #define SPAN_REGISTRY_H
 
@@ -47,7 +47,7 @@ enum {
     SPAN_NO_SUCH_CALLSITE = 17 /* no span_registry_add_callsite gave the number */
 };
 
-/* slots 1 to 2^24; last_generation any; max_count from 1; workers 1 to 256; ring 1 to 65536 */
+/* slots 1 to 2^24; last_generation any; max_count from 1; workers 1 to 65536; ring 1 to 65536 */
 typedef struct SpanLimits {
     uint32_t slots, last_generation, max_count, workers, ring;
 } SpanLimits;
@@ -83,6 +83,19 @@ typedef struct SpanCounts {
     uint64_t made, closed, calls, held;
     uint32_t open, workers;
 } SpanCounts;
+
+/* how many bytes each of the structs above takes, but for the handles */
+typedef struct SpanSizes {
+    uint32_t limits, layer, rule, meta, field, found, counts;
+} SpanSizes;
+
+/* The version of this interface that the program was built for, and the one that the library has. They rise where a
+ * program that was built for an earlier one would go wrong, so they are compared before any other call. */
+#define SPAN_ABI_VERSION 1
+uint32_t span_abi_version(void);
+
+/* The sizes in the library, to be compared with those in the program. Always SPAN_OK. */
+uint32_t span_struct_sizes(SpanSizes *sizes);
 
 /* Texts stand one after another in `texts`, each of the length that its struct tells, and all bytes have to be used up.
  * Of several things that stand against a call the status tells the first: SPAN_EMPTY_HANDLE, SPAN_NO_SUCH_WORKER,

@@ -80,6 +80,7 @@ class Clone:
         for name in ("tracerun", "tools/prove.py", "tools/unproved.py", SOURCE, "crates/tracerun/src/main.rt"):
             os.makedirs(os.path.dirname(f"{self.at}/{name}"), exist_ok=True)
             shutil.copy(f"{TOP}/{name}", f"{self.at}/{name}")
+        write(f"{self.at}/HANDLES", "Handles allowed: none.\n")
         write(f"{self.at}/tools/prove_times.txt", "# times\nlow 2 60\nmid 2 90\ntracerun 3 30\n")
         write(f"{self.at}/crates.txt", "# all\nlow:\napart: low\nmid: low\ntracerun may_wait=2: low mid clap\n")
         for name in ("low", "mid", "apart"):
@@ -139,6 +140,8 @@ def pages(rows, clone):
     rows.wants("the version", clone.run("--version"), (f"tracerun {VERSION}\n", "", 0))
     told = "tracerun: replay reads the script of standard input: ./tracerun replay < a\\ b\n"
     rows.wants("a file's name", clone.run("replay", "a b"), ("", told, 2))
+    told = "tracerun: --prove takes no further word\n"
+    rows.wants("more than --prove", clone.run("--prove", "replay"), ("", told, 2))
     rows.wants("all that without rt", clone.calls(), [])
     for words in ("replay",), ("--prove",):
         output, errors, status = clone.run(*words, has_rt=False)
@@ -212,7 +215,12 @@ def proving(rows, clone):
     rows.wants("proved: its calls", clone.calls(), ["lib low", "lib mid", "run tracerun"])
     with open(f"{clone.fake}/cache/kozhumir/prove_times", encoding="utf-8") as times:
         rows.wants("the times of the last run", [it.split()[0] for it in times], ["low", "mid"])
-    rows.wants("nothing is left", clone.is_tidy(), True)
+    left = [it for it in os.listdir(f"{clone.fake}/cache/kozhumir/proving") if not it.endswith(".lock")]
+    rows.wants("nothing is left", (clone.is_tidy(), left), (True, []))
+    os.remove(f"{clone.at}/crates/tracerun/out/tracerun")
+    two = [clone.ended(it) for it in [clone.start("--prove") for _ in range(2)]]
+    told = ["waits for another --prove" in errors for _, errors, _ in two]
+    rows.wants("two that prove at once", ([it[0::2] for it in two], sum(told)), ([("", 0)] * 2, 1))
 
 
 def proved(rows, clone):

@@ -55,17 +55,37 @@ SOUND = [
     ("last", [], 60),
     ("holds", [], 60),
     ("others", [], 60),
+    ("refused", [], 120),
     ("futures", [], 120),
+    ("limits", ["registries", "8191"], 120),
+    ("memory", [], 120),
 ]
-# Where the original is known to fail.
+# Those over a copy whose other limits are small: what is changed there, and how much then fits.
+SMALL = [
+    ("src/registry/sharded/spans.rs", r"\[1 << 16, 1 << 20, 1 << 20, 1 << 20\]", "[64, 128, 128, 128]"),
+    ("src/registry/sharded/spans.rs", r"(GREATEST_COUNT: u32 =) u32::MAX", r"\1 7200"),
+    ("src/registry/sharded/spans.rs", r"(LAST_GENERATION: u32 =) [^;]+", r"\1 3"),
+]
+SMALL_LIMITS = [("spans", 16 * (64 + 3 * 128)), ("handles", 7200), ("ever", 4 * 16 * (64 + 3 * 128))]
+# What the example of a leak lists.
+LEAK = [
+    "GET /users (INFO leak, src/bin/leak.rs:19): handles 0, children 1",
+    "  query (INFO leak, src/bin/leak.rs:10): handles 1, children 0",
+]
+# Where the original is known to fail, and what is seen then.
 UNSOUND = [
-    ("chain", ["100000"], 120),
-    ("threads", ["4500"], 120),
-    ("ids", ["200000", "1"], 120),
-    ("last", [], 60),
-    ("holds", [], 60),
-    ("others", [], 60),
+    ("chain", ["100000"], 120, r"overflowed its stack"),
+    ("threads", ["4500"], 120, r"4096 of 4500 threads made a span"),
+    ("ids", ["200000", "1"], 120, r"[1-9]\d* of them again"),
+    ("last", [], 60, r"thread local panicked on drop"),
+    ("holds", [], 60, r"tried to drop a ref to Id\(\d+\), but no such span exists"),
+    ("others", [], 60, r"wrong: no two spans have one id"),
+    ("refused", [], 60, r"memory allocation of \d+ bytes failed"),
+    ("memory", [], 120, r"memory allocation of \d+ bytes failed"),
+    ("stress", ["5", "1"], 120, r"[1-9]\d* left open"),
 ]
+# What a program ends with where the machine lacks what it needs.
+LACKING = 77
 # What runs under valgrind, and whether that also looks for memory that is lost.
 CHECKED = [
     ("behaviour", [], False),
@@ -75,7 +95,7 @@ CHECKED = [
     ("stress", ["0", "5", "3", "400"], True),
 ]
 # The memory of the program that is to run out of it.
-LITTLE = 256 << 20
+LITTLE = {"memory": 256 << 20}
 VALGRIND = ["valgrind", "--quiet", "--error-exitcode=99", "--fair-sched=yes"]
 LOST = ["--leak-check=full", "--show-leak-kinds=definite", "--errors-for-leak-kinds=definite"]
 
@@ -140,15 +160,20 @@ class Yard:
                               stdout=subprocess.PIPE, stderr=subprocess.STDOUT)
 
 
-def make_suite(yard, name):
-    """A copy of the crate with its tests as they were before Debian left out those that need tracing_mock."""
-    folder = yard.folder / name / "tracing-subscriber"
+def copy_crate(yard, name, folder):
+    """A copy of the crate as it is, or laid over the store."""
     if name == "copy":
         yard.lay(folder)
     else:
         shutil.rmtree(folder, ignore_errors=True)
         shutil.copytree(REGISTRY / "tracing-subscriber-0.3.16", folder,
                         ignore=shutil.ignore_patterns(".cargo-checksum.json"))
+
+
+def make_suite(yard, name):
+    """A copy of the crate with its tests as they were before Debian left out those that need tracing_mock."""
+    folder = yard.folder / name / "tracing-subscriber"
+    copy_crate(yard, name, folder)
     left_out = folder / "debian/patches/remove-tracing-mock.diff"
     if left_out.is_file():
         subprocess.run(["patch", "-R", "-s", "-p1", "-i", left_out], cwd=folder, check=True)
@@ -197,15 +222,25 @@ def run_suites(yard, count):
         print(f"tracing-subscriber's own tests over {name}: {units} passed, and {documented} doc tests")
 
 
-def build_programs(yard, name):
-    """The folder of the built programs; none where that fails."""
+def make_small(laid):
+    """Gives a copy small limits."""
+    for name, pattern, new in SMALL:
+        text, times = re.subn(pattern, new, (laid / name).read_text())
+        assert times == 1, f"{name} has {times} places like {pattern}"
+        (laid / name).write_text(text)
+
+
+def build_programs(yard, name, *words):
+    """The folder of the built programs, those that the words say; none where that fails."""
     folder = yard.folder / name / "programs"
     left_out = shutil.ignore_patterns("target", "Cargo.lock")
     shutil.copytree(PARTS / "programs", folder, dirs_exist_ok=True, ignore=left_out)
-    words = ["--release"]
-    if name == "copy":
+    words = ["--release", *words]
+    if name != "original":
         laid = yard.folder / name / "laid"
         yard.lay(laid)
+        if name == "small":
+            make_small(laid)
         words += ["--config", f'patch.crates-io.tracing-subscriber.path="{laid}"']
     done = yard.cargo("build", folder, *words)
     if done.returncode != 0:
@@ -214,14 +249,16 @@ def build_programs(yard, name):
     bins = yard.folder / name / "bin"
     bins.mkdir(exist_ok=True)
     for source in (folder / "src/bin").glob("*.rs"):
-        shutil.copyfile(yard.folder / "target/release" / source.stem, bins / source.stem)
-        (bins / source.stem).chmod(0o755)
+        if "--bin" not in words or source.stem in words:
+            shutil.copyfile(yard.folder / "target/release" / source.stem, bins / source.stem)
+            (bins / source.stem).chmod(0o755)
     return bins
 
 
-def run(program, words=(), seconds=60, before=(), memory=None):
+def run(program, words=(), seconds=60, before=()):
     """What a program says, and its status; none where it took longer."""
     environment = {**os.environ, "RUST_BACKTRACE": "0"}
+    memory = LITTLE.get(program.name)
 
     def limit():
         if memory is not None:
@@ -272,6 +309,59 @@ def compare_texts(original, ours, count):
     count.check(theirs == text, "fmt, EnvFilter, JSON, reload and tracing-log write the same text over both")
 
 
+def check_run(count, whose, program, words, seconds, fault=None):
+    """A program ends well, or with a fault that is known."""
+    said, status = run(program, words, seconds)
+    what = f"{whose}{program.name} {' '.join(words)}"
+    print(f"{what}: {(said.splitlines() or [''])[-1]}")
+    if status == LACKING:
+        print(f"not run: {what}")
+    elif fault is None:
+        count.check(status == 0, f"{what}: status {status}\n{said[-3000:]}")
+    else:
+        is_seen = status not in (0, None) and re.search(fault, said) is not None
+        count.check(is_seen, f"{what} fails as docs/FROM_TRACING.md says: status {status}\n{said[-3000:]}")
+
+
+def run_parking_lot(yard, ours, count):
+    """The crate's feature parking_lot, by which it has other locks."""
+    bins = build_programs(yard, "parking_lot", "--features", "parking_lot", "--bin", "behaviour", "--bin", "holds")
+    count.check(bins is not None, "the programs are built with the feature parking_lot")
+    if bins:
+        answers = [run(side / "behaviour")[0].splitlines() for side in (ours, bins)]
+        # These locks know no poison.
+        other = [pair for pair in zip(*answers) if pair[0] != pair[1] and "Mutex poisoned" not in pair[0]]
+        is_whole = len(answers[0]) == len(answers[1]) > 10
+        count.check(is_whole and not other, f"behaviour answers the same over parking_lot: {other[:3]}")
+        check_run(count, "parking_lot, ", bins / "holds", [], 60)
+
+
+def run_lay(yard, count):
+    """Where lay can't go on it says why, and leaves nothing."""
+    folder = yard.folder / "lay"
+    shutil.rmtree(folder, ignore_errors=True)
+    copy_crate(yard, "original", folder / "other")
+    (folder / "other/src/layer/layered.rs").write_text("")
+    line = [sys.executable, OURS / "lay", folder / "laid", "--library", yard.library, "--from"]
+    asked = [
+        ("rt says no page", [REGISTRY / "tracing-subscriber-0.3.16"]),
+        ("has 0 places", [folder / "other", "--shim", yard.library]),
+    ]
+    for why, words in asked:
+        done = subprocess.run([*line, *words], env={"PATH": str(folder)}, stderr=subprocess.PIPE, text=True)
+        is_said = done.returncode == 1 and done.stderr.startswith("lay: ") and why in done.stderr
+        count.check(is_said and not (folder / "laid").exists(), f"lay says that {why}: {done.stderr}")
+
+
+def run_limits(yard, count):
+    """What the registry does at limits that a test can reach."""
+    bins = build_programs(yard, "small", "--bin", "limits")
+    count.check(bins is not None, "a copy with small limits is built")
+    for limit, most in SMALL_LIMITS if bins else []:
+        said, status = run(bins / "limits", [limit, str(most)], 120)
+        count.check(status == 0, f"limits {limit} {most}: status {status}\n{said[-3000:]}")
+
+
 def run_programs(yard, count, seconds):
     original, ours = (build_programs(yard, name) for name in ("original", "copy"))
     if original is None or ours is None:
@@ -282,16 +372,11 @@ def run_programs(yard, count, seconds):
     compare_random(original, ours, count)
     stress = ("stress", [str(seconds), str(int(time.time()) % 100_000)], seconds + 300)
     for program, words, limit in [*SOUND, stress]:
-        said, status = run(ours / program, words, limit)
-        line = (said.splitlines() or [""])[-1]
-        print(f"{program} {' '.join(words)}: {line}")
-        count.check(status == 0, f"{program} {' '.join(words)}: status {status}\n{said[-3000:]}")
-    said, status = run(ours / "memory", seconds=120, memory=LITTLE)
-    count.check(status == 0, f"memory: status {status}\n{said[-3000:]}")
-    for program, words, limit in UNSOUND:
-        said, status = run(original / program, words, limit)
-        print(f"the original, {program} {' '.join(words)}: status {status}, {(said.splitlines() or [''])[-1]}")
-        count.check(status != 0, f"the original fails in {program} {' '.join(words)}, as docs/FROM_TRACING.md says")
+        check_run(count, "", ours / program, words, limit)
+    run_limits(yard, count)
+    run_parking_lot(yard, ours, count)
+    for program, words, limit, fault in UNSOUND:
+        check_run(count, "the original, ", original / program, words, limit, fault)
     if shutil.which("valgrind") is None:
         print("not run under valgrind: it isn't there")
         return
@@ -317,6 +402,9 @@ def run_example(yard, count):
     lines = [line for line in done.stdout.splitlines() if line.startswith((" INFO", " WARN"))]
     is_right = done.returncode == 0 and len(lines) == 8 and "GET /users" in lines[0]
     count.check(is_right, f"the example: {done.stdout[-3000:]}")
+    done = yard.cargo("run", folder, "--quiet", "--bin", "leak")
+    listed = [line for line in done.stdout.splitlines() if "handles" in line]
+    count.check(done.returncode == 0 and listed == LEAK, f"the example of a leak: {done.stdout[-3000:]}")
 
 
 def run_outside(yard, library, count):
@@ -362,6 +450,7 @@ def main():
         if asked.part in (None, "programs"):
             run_programs(yard, count, asked.seconds)
         if asked.part in (None, "example"):
+            run_lay(yard, count)
             run_example(yard, count)
         if asked.part in (None, "outside"):
             run_outside(yard, asked.registry_library, count)

@@ -3,17 +3,19 @@
 
 usage: prove.py CRATE..
 
-The crates are named lowest first. Each is proved by `rt lib` in its folder once those that it needs are, side by side
-with others, and the program is proved and built by `rt run`. Those that begin together share the processors. What is
-proved stays in the folders out/, so a run that is broken off goes on from there the next time.
+The crates are named lowest first. Each is proved by `rt lib` once those that it needs are, side by side with others, and
+the program is proved and built by `rt run` in its folder. Since a run of rt has the crates that it needs to itself,
+those that are at work at once are each in a copy of the sources, in kozhumir/proving of the user's cache; rt begins with
+what it kept in the other copies. They stay there when a run is broken off, and the next one goes on from there.
 
 Standard error tells how far it is: on a terminal in one line that is drawn anew, elsewhere in a line for each crate and
 one each minute. What is left is guessed by the times of the last run on this machine that proved a crate from nothing,
-which are kept in kozhumir/prove_times of the user's cache, else by those of prove_times.txt beside this file: a line
+which are kept in kozhumir/prove_times there, else by those of prove_times.txt beside this file: a line
 for each crate, with its number of functions and the seconds on the clock. The status is 0, or 4 where not all is
 proved, after what rt said of that.
 """
 import contextlib
+import fcntl
 import os
 import re
 import resource
@@ -27,7 +29,9 @@ from pathlib import Path
 
 TOP = Path(__file__).resolve().parent.parent
 LISTED = Path(__file__).resolve().with_name("prove_times.txt")
-LAST = Path(os.environ.get("XDG_CACHE_HOME") or Path.home() / ".cache") / "kozhumir/prove_times"
+CACHE = Path(os.environ.get("XDG_CACHE_HOME") or Path.home() / ".cache") / "kozhumir"
+LAST = CACHE / "prove_times"
+COPIES = CACHE / "proving" / str(TOP).strip("/").replace("/", "-")
 MEMORY = 3_000_000_000  # bytes that a job may take
 SO_FAR = re.compile(r"so far: (\d+) of (\d+) functions checked")
 WAITS = "rt: waiting for another rt"
@@ -77,15 +81,21 @@ class Proof:
     def __init__(self, name, needs, is_program, listed):
         self.name, self.needs, self.is_program = name, needs, is_program
         self.functions, self.seconds = listed
-        self.lines, self.process, self.start, self.took = [], None, None, None
+        self.lines, self.process, self.copy, self.start, self.took = [], None, None, None, None
         self.checked = self.of_this_run = 0
 
-    def begin(self, jobs):
+    def begin(self, jobs, niceness, copy):
+        def alone():
+            # (in this session, since nice counts nothing beside another one)
+            os.setpgid(0, 0)
+            os.nice(niceness)
+
         words = ["rt", "run" if self.is_program else "lib", "--jobs", str(jobs)]
         words += ["--", "replay"] if self.is_program else []
-        self.start = time.monotonic()
+        self.start, self.copy = time.monotonic(), copy
         self.process = subprocess.Popen(
-            words, cwd=TOP / "crates" / self.name, start_new_session=True, encoding="utf-8", errors="replace",
+            words, cwd=(TOP if self.is_program else copy) / "crates" / self.name, preexec_fn=alone,
+            encoding="utf-8", errors="replace",
             stdin=subprocess.DEVNULL, stdout=subprocess.PIPE, stderr=subprocess.STDOUT)
         self.reader = threading.Thread(target=self.read, daemon=True)
         self.reader.start()
@@ -176,24 +186,62 @@ class Progress:
         self.minute = minute
 
 
-def begin_those_that_can(proofs, whole):
+def begin_those_that_can(proofs, copies):
     """Begins the crates that need none any more that isn't proved, those with the longest ways first.
 
-    They share all processors, since no proof gets more of them later, when those that are at work now have ended.
+    The one with the longest way of all gets a job for each processor and goes before the others, each of which has half
+    as many, for what that one leaves: no proof gets more jobs later, and none has work for all of them all the time.
     """
+    free = [it for it in copies if it not in [proof.copy for proof in proofs if proof.is_at_work()]]
     proved = {it.name for it in proofs if it.is_proved()}
     ways = ways_through(proofs)
     ready = sorted((it for it in proofs if not it.process and it.needs <= proved), key=lambda it: -ways[it.name])
-    ready = ready[: max(0, whole - sum(it.is_at_work() for it in proofs))]
-    for proof in ready:
-        proof.begin(-(-whole // len(ready)))
+    for proof, copy in zip(ready, free):
+        if all(ways[proof.name] >= ways[it.name] for it in proofs if it.is_at_work()):
+            proof.begin(len(copies), 0, copy)
+        else:
+            proof.begin(-(-len(copies) // 2), 10, copy)
+
+
+def copies_of(crates):
+    """As many copies of the sources as jobs may be at work. What rt kept in them stays there."""
+    copies = [COPIES / str(number) for number in range(processors())]
+    listed = (TOP / "crates.txt").read_text(encoding="utf-8").splitlines(keepends=True)
+    for copy in copies:
+        copy.mkdir(parents=True, exist_ok=True)
+        shutil.copy(TOP / "HANDLES", copy)
+        # (rt wants the folder of each crate that is listed)
+        (copy / "crates.txt").write_text("".join(it for it in listed if re.split(r"[\s:#]", it)[0] in crates),
+                                         encoding="utf-8")
+        for crate in crates:
+            for old in (copy / "crates" / crate).glob("[!.]*"):
+                if old.is_file():
+                    old.unlink()
+                elif old.name != "out":
+                    shutil.rmtree(old)
+            shutil.copytree(TOP / "crates" / crate, copy / "crates" / crate, dirs_exist_ok=True,
+                            ignore=shutil.ignore_patterns("out", "must-fail"))
+    return copies
+
+
+@contextlib.contextmanager
+def alone():
+    """Lets one run at a time work for a clone."""
+    COPIES.parent.mkdir(parents=True, exist_ok=True)
+    with open(f"{COPIES}.lock", "w", encoding="utf-8") as lock:
+        try:
+            fcntl.flock(lock, fcntl.LOCK_EX | fcntl.LOCK_NB)
+        except BlockingIOError:
+            tell("waits for another --prove of this clone")
+            fcntl.flock(lock, fcntl.LOCK_EX)
+        yield
 
 
 def prove(proofs, progress):
     """The proof that failed, if one did."""
-    whole = processors()
+    copies = copies_of([it.name for it in proofs])
     while not all(it.is_proved() for it in proofs):
-        begin_those_that_can(proofs, whole)
+        begin_those_that_can(proofs, copies)
         progress.ticks()
         time.sleep(0.2)
         for proof in (it for it in proofs if it.has_ended()):
@@ -242,7 +290,9 @@ def main():
         proofs = [Proof(it, needs, it == crates[-1], times.get(it, (0, 0))) for it, needs in needs_of(crates).items()]
         progress = Progress(proofs)
         tell(f"proving {len(crates)} crates ({progress.so_far()})")
-        prove_all(proofs, progress)
+        with alone():
+            prove_all(proofs, progress)
+            shutil.rmtree(COPIES)
         # What was edited since it began is newer than the program.
         os.utime(program, (began, began))
     except (OSError, KeyError) as error:

@@ -14,12 +14,12 @@ fn main() -> Result<(), Box<dyn Error>> {
     let builder = Registry::builder().layer(everything).layer(database).layer(problems);
     let (registry, mut drain) = builder.build()?;
     {
-        let request = span!(registry, target: "app", Level::Info, "request", path = "/users")?;
-        let _in_request = request.enter()?;
-        let query = span!(registry, target: "app::db", Level::Debug, "query")?;
-        let _in_query = query.enter()?;
-        event!(registry, target: "app::db", Level::Warn, { took_ms = 1200 }, "slow")?;
-        event!(registry, target: "app::noisy", Level::Warn, "told to the first layer alone")?;
+        let request = span!(registry, target: "app", Level::Info, "request", path = "/users");
+        let _in_request = request.enter();
+        let query = span!(registry, target: "app::db", Level::Debug, "query");
+        let _in_query = query.enter();
+        event!(registry, target: "app::db", Level::Warn, { took_ms = 1200 }, "slow");
+        event!(registry, target: "app::noisy", Level::Warn, "told to the first layer alone");
     }
     let mut outs = [Vec::new(), Vec::new(), Vec::new()];
     drain.write_layers(&mut outs)?;

@@ -1,6 +1,6 @@
 //! A toy server: four threads answer requests, each in a span with spans in it, and a fifth writes JSON lines to
 //! standard output. `cargo run --release --offline --example server`
-use span_registry::{event, retry, span, Error, FmtSpan, Layer, Level, Registry};
+use span_registry::{retry, try_event, try_span, Error, FmtSpan, Layer, Level, Registry};
 use std::error::Error as AnyError;
 use std::io::{self, BufWriter};
 use std::thread;
@@ -12,8 +12,8 @@ fn main() -> Result<(), Box<dyn AnyError + Send + Sync>> {
     let layer = Layer::json()
         .with_span_events(FmtSpan::NEW | FmtSpan::CLOSE)
         .with_targets("info,server::db=debug".parse()?);
-    let (registry, mut drain) = Registry::builder().workers(THREADS).layer(layer).build()?;
-    let writing = thread::spawn(move || drain.run(&mut BufWriter::new(io::stdout())));
+    let builder = Registry::builder().workers(THREADS).layer(layer);
+    let (registry, guard) = builder.spawn_writer(BufWriter::new(io::stdout()))?;
     let serving: Vec<_> = (0..THREADS)
         .map(|first| {
             let registry = registry.clone();
@@ -25,29 +25,27 @@ fn main() -> Result<(), Box<dyn AnyError + Send + Sync>> {
         thread.join().expect("it doesn't panic")?;
     }
     let counts = registry.counts();
-    // The last clone of the registry: the writing thread ends once all lines are out.
-    drop(registry);
-    let lines = writing.join().expect("it doesn't panic")?;
+    let lines = guard.finish()?;
     eprintln!("{lines} lines of {} spans, {} left open", counts.made, counts.open);
     Ok(())
 }
 
 /// The server rather waits for the writing thread than loses a line.
 fn answer(registry: &Registry, number: u32) -> Result<(), Error> {
-    let request = retry(|| span!(registry, target: "server", Level::Info, "request", number = number))?;
-    let _inside = retry(|| request.enter())?;
+    let request = retry(|| try_span!(registry, target: "server", Level::Info, "request", number = number))?;
+    let _inside = retry(|| request.try_enter())?;
     let rows = query(registry, number % 3)?;
     if rows == 0 {
-        retry(|| event!(registry, target: "server", Level::Warn, "nothing found"))?;
+        retry(|| try_event!(registry, target: "server", Level::Warn, "nothing found"))?;
     }
     let status = if rows == 0 { "404" } else { "200" };
-    retry(|| request.record(&[("status", status)]))
+    retry(|| request.try_record(&[("status", status)]))
 }
 
 fn query(registry: &Registry, table: u32) -> Result<u32, Error> {
-    let query = retry(|| span!(registry, target: "server::db", Level::Debug, "query", table = table))?;
-    let _inside = retry(|| query.enter())?;
+    let query = retry(|| try_span!(registry, target: "server::db", Level::Debug, "query", table = table))?;
+    let _inside = retry(|| query.try_enter())?;
     let rows = table * 7;
-    retry(|| event!(registry, target: "server::db", Level::Debug, { rows = rows }, "read table {table}"))?;
+    retry(|| try_event!(registry, target: "server::db", Level::Debug, { rows = rows }, "read table {table}"))?;
     Ok(rows)
 }

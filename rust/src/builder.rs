@@ -1,4 +1,5 @@
 //! Limits and layers of a registry, before it is built.
+#![forbid(unsafe_code)]
 use crate::directives::Targets;
 use crate::drain::Drain;
 use crate::error::Error;
@@ -105,7 +106,7 @@ impl RegistryBuilder {
         self
     }
 
-    /// How many threads may call at once: 1 to 256, by default 4. Threads that have ended don't count.
+    /// How many threads may call at once: 1 to 65536, by default 4. Threads that have ended don't count.
     pub fn workers(mut self, workers: u32) -> RegistryBuilder {
         self.limits.workers = workers;
         self

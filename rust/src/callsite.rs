@@ -1,4 +1,5 @@
 //! Callsites: places of a program whose meta is handed over once.
+#![forbid(unsafe_code)]
 use crate::error::Error;
 use crate::meta::{Fields, Id, Meta, Parent};
 use crate::registry::Registry;
@@ -61,6 +62,7 @@ impl Registry {
     /// [`span`](Registry::span) with the meta of a callsite.
     pub fn span_at(&self, callsite: &Callsite, parent: Parent, fields: Fields<'_>) -> Result<Span, Error> {
         let number = callsite.number_in(self)?;
+        let parent = self.own_parent(parent)?;
         let (id, worker) =
             self.call(|state, worker| Ok((state.new_span_at(worker, number, parent, fields)?, worker)))?;
         Ok(id.map_or_else(Span::none, |id| Span::of(self, id, worker)))
@@ -69,7 +71,9 @@ impl Registry {
     /// [`new_span`](Registry::new_span) with the meta of a callsite.
     pub fn new_span_at(&self, callsite: &Callsite, parent: Parent, fields: Fields<'_>) -> Result<Option<Id>, Error> {
         let number = callsite.number_in(self)?;
-        self.call(|state, worker| state.new_span_at(worker, number, parent, fields))
+        let parent = self.own_parent(parent)?;
+        let made = self.call(|state, worker| state.new_span_at(worker, number, parent, fields))?;
+        Ok(made.map(|raw| self.id_of(raw)))
     }
 
     /// [`event`](Registry::event) with the meta of a callsite.

@@ -1,4 +1,5 @@
 //! Which targets a layer admits, and up to which level.
+#![forbid(unsafe_code)]
 use crate::level::Level;
 use std::fmt;
 use std::str::FromStr;

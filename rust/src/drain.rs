@@ -1,7 +1,9 @@
 //! The end from which lines are read.
+#![forbid(unsafe_code)]
 use crate::raw::{Lines, Next};
 use crate::shared::{wait, Shared};
 use std::io::{self, Write};
+use std::sync::atomic::{AtomicBool, Ordering};
 use std::sync::Arc;
 
 /// A line that a layer was told.
@@ -77,7 +79,7 @@ impl Drain {
 
     /// The next line; none where none is at hand now. It doesn't wait for one.
     pub fn line(&mut self) -> Option<Line> {
-        let (layer, length) = self.next_ready()?;
+        let (layer, length) = self.next_ready(|_| true)?;
         self.ready = None;
         let text = String::from_utf8_lossy(&self.buffer[..length]).into_owned();
         Some(Line { layer, text })
@@ -105,15 +107,27 @@ impl Drain {
     /// answers how many. Whenever none is at hand it flushes the writer, and looks again after half a millisecond.
     ///
     /// For a thread of its own. A clone of the registry that is kept, in a static or in this thread, makes it run for
-    /// ever. Where a write fails, it answers that; it may be called again.
+    /// ever. A thread that is inside of a span by a forgotten guard may end after it; what it leaves then isn't read.
+    /// Where a write fails, it answers that; it may be called again.
     pub fn run<W: Write + ?Sized>(&mut self, out: &mut W) -> io::Result<u64> {
-        self.run_out(&mut All(out))
+        self.run_out(&mut All(out), &NEVER)
+    }
+
+    /// As [`run`](Drain::run), and ends once `stop` is true: then the lines of all calls that were accepted by now are
+    /// written and flushed, unless memory is refused, whatever spans are open and whatever other threads go on to do.
+    pub fn run_until<W: Write + ?Sized>(&mut self, out: &mut W, stop: &AtomicBool) -> io::Result<u64> {
+        self.run_out(&mut All(out), stop)
     }
 
     /// As [`run`](Drain::run), the lines of each layer to the writer of its number. There have to be as many writers as
     /// layers, or more.
     pub fn run_layers<W: Write>(&mut self, outs: &mut [W]) -> io::Result<u64> {
-        self.run_out(&mut Each(outs))
+        self.run_out(&mut Each(outs), &NEVER)
+    }
+
+    /// As [`run_until`](Drain::run_until), the lines of each layer to the writer of its number.
+    pub fn run_layers_until<W: Write>(&mut self, outs: &mut [W], stop: &AtomicBool) -> io::Result<u64> {
+        self.run_out(&mut Each(outs), stop)
     }
 
     /// Whether the registry, its clones and its spans are gone. Lines may be left.
@@ -129,9 +143,10 @@ impl Drain {
         DrainCounts { batches, missed }
     }
 
-    // Where the ring is empty, what is owed can be done, and may give lines.
-    fn next_ready(&mut self) -> Option<(usize, usize)> {
-        while self.ready.is_none() {
+    // Where the ring is empty, what is owed can be done, and may give lines. It is asked before each look for a line
+    // whether to go on: batches without one may come for ever.
+    fn next_ready(&mut self, goes_on: impl Fn(&mut Lines) -> bool) -> Option<(usize, usize)> {
+        while self.ready.is_none() && goes_on(&mut self.lines) {
             let room = self.buffer.len() - 1;
             match self.lines.next(&mut self.buffer[..room]) {
                 Next::Line { layer, length } => self.ready = Some((layer as usize, length)),
@@ -147,9 +162,13 @@ impl Drain {
     }
 
     fn write_out(&mut self, outs: &mut impl Outs) -> io::Result<u64> {
+        self.write_while(outs, |_| true)
+    }
+
+    fn write_while(&mut self, outs: &mut impl Outs, goes_on: impl Fn(&mut Lines) -> bool) -> io::Result<u64> {
         outs.check(self.layers)?;
         let mut lines = 0;
-        while let Some((layer, length)) = self.next_ready() {
+        while let Some((layer, length)) = self.next_ready(&goes_on) {
             self.buffer[length] = b'\n';
             outs.write(layer, &self.buffer[..=length])?;
             self.ready = None;
@@ -158,13 +177,24 @@ impl Drain {
         Ok(lines)
     }
 
-    fn run_out(&mut self, outs: &mut impl Outs) -> io::Result<u64> {
+    // The lines of the calls that were accepted or are owed by now, each of which puts one batch into the ring.
+    fn write_rest(&mut self, outs: &mut impl Outs) -> io::Result<u64> {
+        let last = self.shared.with(|state| state.calls_by_now());
+        let lines = self.write_while(outs, |lines| lines.counts().0 <= last)?;
+        outs.flush()?;
+        Ok(lines)
+    }
+
+    fn run_out(&mut self, outs: &mut impl Outs, stop: &AtomicBool) -> io::Result<u64> {
         let (mut lines, mut idle) = (0, 0u32);
         loop {
             let was_over = self.is_over();
-            let more = self.write_out(outs)?;
+            let more = self.write_while(outs, |_| !stop.load(Ordering::Acquire))?;
+            lines += more;
+            if stop.load(Ordering::Acquire) {
+                return Ok(lines + self.write_rest(outs)?);
+            }
             if more > 0 {
-                lines += more;
                 idle = 0;
                 continue;
             }
@@ -179,6 +209,9 @@ impl Drain {
         }
     }
 }
+
+/// What stops no drain.
+static NEVER: AtomicBool = AtomicBool::new(false);
 
 /// Where lines are written.
 trait Outs {
@@ -230,5 +263,33 @@ impl std::fmt::Debug for Drain {
             .field("layers", &self.layers)
             .field("is_over", &self.is_over())
             .finish()
+    }
+}
+
+#[cfg(test)]
+mod tests {
+    use super::All;
+    use crate::{Error, FmtSpan, Layer, Level, Meta, Parent, Registry};
+    use std::cell::Cell;
+    use std::io;
+
+    #[test]
+    fn it_ends_where_it_is_told_to_though_more_is_owed_that_has_no_line() -> Result<(), Error> {
+        let layer = Layer::compact().with_span_events(FmtSpan::NONE);
+        let (registry, mut drain) = Registry::builder().ring(1).layer(layer).build()?;
+        let mut spans = Vec::new();
+        for _ in 0..200 {
+            assert_eq!(drain.line(), None);
+            spans.push(registry.span(&Meta::new(Level::Info, "app", "a"), Parent::Root, &[])?);
+        }
+        // The last span fills the ring, and each look makes place for one of the closes.
+        drop(spans);
+        let looks = Cell::new(0);
+        let lines = drain.write_while(&mut All(&mut io::sink()), |_| looks.replace(looks.get() + 1) < 100);
+        assert_eq!((lines.expect("a sink takes all"), looks.get()), (0, 101));
+        assert!(registry.counts().owed > 90);
+        assert_eq!(drain.line(), None);
+        assert_eq!(registry.counts().closed, 200);
+        Ok(())
     }
 }

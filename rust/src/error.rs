@@ -1,4 +1,5 @@
 //! Why a call was refused.
+#![forbid(unsafe_code)]
 use crate::raw;
 use std::fmt;
 
@@ -33,16 +34,50 @@ pub enum Error {
     BadData,
     /// More threads call than the registry has workers, or the thread calls while its thread locals are being dropped.
     TooManyThreads,
-    /// The callsite belongs to another registry.
+    /// The callsite, the id or the span belongs to another registry.
     OtherRegistry,
+    /// The program was linked with a library that isn't the one that this package was written for.
+    OtherLibrary {
+        /// What differs.
+        what: Differing,
+        /// What it is in the library.
+        library: u32,
+        /// What it is in this package.
+        package: u32,
+    },
     /// A status that no right use of the C interface gets: a fault of this crate, or of the library that it was built
     /// with.
     Other(u32),
 }
 
+/// What a library may have otherwise than this package: the version of the interface, or the size of a struct. It is
+/// small, so that an error fits into registers.
+#[derive(Clone, Copy, Debug, PartialEq, Eq, Hash)]
+#[non_exhaustive]
+#[allow(missing_docs)]
+pub enum Differing {
+    Version,
+    Limits,
+    Layer,
+    Rule,
+    Meta,
+    Field,
+    Found,
+    Counts,
+}
+
+impl fmt::Display for Differing {
+    fn fmt(&self, f: &mut fmt::Formatter<'_>) -> fmt::Result {
+        match self {
+            Differing::Version => f.write_str("version"),
+            of => write!(f, "size of Span{of:?}"),
+        }
+    }
+}
+
 impl Error {
-    /// The number of this refusal in the C interface. This crate's own `TooManyThreads` has 100,
-    /// and `OtherRegistry` 101.
+    /// The number of this refusal in the C interface. This crate's own `TooManyThreads` has 100, `OtherRegistry` 101,
+    /// and `OtherLibrary` 102.
     #[must_use]
     pub fn number(self) -> u32 {
         match self {
@@ -58,6 +93,7 @@ impl Error {
             Error::BadData => raw::BAD_DATA,
             Error::TooManyThreads => 100,
             Error::OtherRegistry => 101,
+            Error::OtherLibrary { .. } => 102,
             Error::Other(status) => status,
         }
     }
@@ -102,6 +138,12 @@ impl fmt::Display for Error {
             Error::BadData => "bad data",
             Error::TooManyThreads => "too many threads",
             Error::OtherRegistry => "other registry",
+            Error::OtherLibrary { what, library, package } => {
+                return write!(
+                    f,
+                    "other library: its {what} is {library}, and this package was written for {package}"
+                );
+            }
             Error::Other(status) => return write!(f, "status {status}: {}", raw::status_text(status)),
         })
     }
@@ -143,6 +185,7 @@ mod tests {
             let error = Error::of_status(status).unwrap_err();
             assert_eq!(error.number(), status);
             assert!(![Error::TooManyThreads, Error::OtherRegistry].contains(&error));
+            assert!(!matches!(error, Error::OtherLibrary { .. }));
         }
     }
 }

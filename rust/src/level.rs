@@ -1,4 +1,5 @@
 //! Levels, what a layer is told of a span's life, and the form of its lines.
+#![forbid(unsafe_code)]
 use std::fmt;
 use std::ops::{BitOr, BitOrAssign};
 

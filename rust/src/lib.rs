@@ -15,8 +15,10 @@ mod directives;
 mod drain;
 mod error;
 mod level;
+mod lost;
 mod macros;
 mod meta;
+mod owed;
 mod packed;
 #[allow(unsafe_code)]
 mod raw;
@@ -25,16 +27,19 @@ mod shared;
 mod span;
 mod state;
 mod workers;
+mod writer;
 
 pub use builder::{Layer, RegistryBuilder};
 pub use callsite::Callsite;
 pub use directives::{ParseError, Targets};
 pub use drain::{Drain, DrainCounts, Line};
-pub use error::Error;
+pub use error::{Differing, Error};
 pub use level::{FmtSpan, Form, Level};
+pub use lost::Lost;
 pub use meta::{Counts, Fields, Found, Id, Meta, Parent};
 pub use registry::{retry, Registry};
 pub use span::{Entered, Span};
+pub use writer::Guard;
 
 /// So that the page's program is run as a test.
 #[cfg(doctest)]

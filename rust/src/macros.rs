@@ -1,16 +1,19 @@
 //! Spans and events whose values are formatted where they stand.
+#![forbid(unsafe_code)]
 
-/// A new span: [`Registry::span`](crate::Registry::span) with fields of any values that can be displayed.
+/// A new span with fields of any values that can be displayed. The target is the module's path, and the parent the
+/// current span, unless they are given. A key may be a keyword as it stands: `type = 1`, since `r#type` is no name.
 ///
-/// The target is the module's path, and the parent the current span, unless they are given.
+/// It answers no error: where the span is refused, it is disabled, and [`Registry::lost`](crate::Registry::lost) counts
+/// it. [`try_span!`](crate::try_span) answers why. What a value borrows or locks is free again behind the macro.
 ///
 /// ```
 /// # fn main() -> Result<(), span_registry::Error> {
 /// # let (registry, mut drain) = span_registry::Registry::builder()
 /// #     .layer(span_registry::Layer::compact()).build()?;
 /// use span_registry::{span, Level};
-/// let request = span!(registry, Level::Info, "request", method = "GET", tries = 1 + 1)?;
-/// let query = span!(registry, target: "app::db", parent: &request, Level::Debug, "query")?;
+/// let request = span!(registry, Level::Info, "request", method = "GET", tries = 1 + 1);
+/// let query = span!(registry, target: "app::db", parent: &request, Level::Debug, "query");
 /// # let lines: Vec<String> = drain.lines().map(|line| line.text).collect();
 /// # assert_eq!(lines, ["new 1 w0 request method=GET tries=2", "new 2 w0 request:query"]);
 /// # Ok(())
@@ -18,29 +21,67 @@
 /// ```
 #[macro_export]
 macro_rules! span {
-    ($registry:expr, target: $target:expr, parent: $parent:expr, $level:expr, $name:expr
-        $(, $key:ident = $value:expr)* $(,)?) => {
-        $registry.span(
-            &$crate::Meta::new($level, $target, $name),
-            $crate::Parent::from($parent),
-            &[$((::core::stringify!($key), &*::std::string::ToString::to_string(&$value))),*],
-        )
-    };
-    ($registry:expr, target: $target:expr, $($rest:tt)+) => {
-        $crate::span!($registry, target: $target, parent: $crate::Parent::Current, $($rest)+)
-    };
-    ($registry:expr, parent: $parent:expr, $($rest:tt)+) => {
-        $crate::span!($registry, target: ::core::module_path!(), parent: $parent, $($rest)+)
-    };
-    ($registry:expr, $($rest:tt)+) => {
-        $crate::span!($registry, target: ::core::module_path!(), parent: $crate::Parent::Current, $($rest)+)
+    ($($arguments:tt)+) => {
+        $crate::__span!(span_or_lost, $($arguments)+)
     };
 }
 
-/// An event: [`Registry::event`](crate::Registry::event) with a formatted message, and fields of any values that can be
-/// displayed.
+/// As [`span!`](crate::span), and answers what [`Registry::span`](crate::Registry::span) does.
 ///
-/// The target is the module's path, unless it is given.
+/// ```
+/// # fn main() -> Result<(), span_registry::Error> {
+/// # let (registry, _drain) = span_registry::Registry::builder().build()?;
+/// use span_registry::{try_span, Error, Level};
+/// let request = try_span!(registry, Level::Info, "request", method = "GET")?;
+/// assert_eq!(try_span!(registry, Level::Info, "GET /users").map(drop), Err(Error::BadName));
+/// # Ok(())
+/// # }
+/// ```
+#[macro_export]
+macro_rules! try_span {
+    ($($arguments:tt)+) => {
+        $crate::__span!(span, $($arguments)+)
+    };
+}
+
+/// The call of a registry that makes a span.
+#[doc(hidden)]
+#[macro_export]
+macro_rules! __span {
+    (@made $call:ident, $registry:expr, $target:expr, $parent:expr, $level:expr, $name:expr
+        $(, $key:ident = $value:expr)* $(,)?) => {{
+        // What the values borrow or lock ends with this statement, and not with the caller's.
+        let made = $registry.$call(
+            &$crate::Meta::new($level, $target, $name),
+            $crate::Parent::from($parent),
+            &[$((::core::stringify!($key), &*::std::string::ToString::to_string(&$value))),*],
+        );
+        made
+    }};
+    (@made $($other:tt)*) => {
+        ::core::compile_error!(
+            "a span is: registry, [target: \"..\",] [parent: ..,] Level::.., \"name\" [, key = value]*"
+        )
+    };
+    ($call:ident, $registry:expr, target: $target:expr, parent: $parent:expr, $($rest:tt)+) => {
+        $crate::__span!(@made $call, $registry, $target, $parent, $($rest)+)
+    };
+    ($call:ident, $registry:expr, target: $target:expr, $($rest:tt)+) => {
+        $crate::__span!(@made $call, $registry, $target, $crate::Parent::Current, $($rest)+)
+    };
+    ($call:ident, $registry:expr, parent: $parent:expr, $($rest:tt)+) => {
+        $crate::__span!(@made $call, $registry, ::core::module_path!(), $parent, $($rest)+)
+    };
+    ($call:ident, $registry:expr, $($rest:tt)+) => {
+        $crate::__span!(@made $call, $registry, ::core::module_path!(), $crate::Parent::Current, $($rest)+)
+    };
+}
+
+/// An event with a formatted message, and fields of any values that can be displayed. The target is the module's path,
+/// unless it is given.
+///
+/// It answers no error: where it is refused, [`Registry::lost`](crate::Registry::lost) counts it.
+/// [`try_event!`](crate::try_event) answers why.
 ///
 /// ```
 /// # fn main() -> Result<(), span_registry::Error> {
@@ -48,8 +89,8 @@ macro_rules! span {
 /// #     .layer(span_registry::Layer::compact()).build()?;
 /// use span_registry::{event, Level};
 /// let rows = 3;
-/// event!(registry, Level::Info, "started")?;
-/// event!(registry, target: "app::db", Level::Debug, { rows = rows, cached = false }, "read {rows} of {}", 7)?;
+/// event!(registry, Level::Info, "started");
+/// event!(registry, target: "app::db", Level::Debug, { rows = rows, cached = false }, "read {rows} of {}", 7);
 /// # let lines: Vec<String> = drain.lines().map(|line| line.text).collect();
 /// # assert_eq!(lines, ["event 0 w0 - INFO started", "event 0 w0 - DEBUG read 3 of 7 rows=3 cached=false"]);
 /// # Ok(())
@@ -57,18 +98,55 @@ macro_rules! span {
 /// ```
 #[macro_export]
 macro_rules! event {
-    ($registry:expr, target: $target:expr, $level:expr,
-        { $($key:ident = $value:expr),* $(,)? }, $($message:tt)+) => {
-        $registry.event(
+    ($($arguments:tt)+) => {
+        $crate::__event!(event_or_lost, $($arguments)+)
+    };
+}
+
+/// As [`event!`](crate::event), and answers what [`Registry::event`](crate::Registry::event) does.
+///
+/// ```
+/// # fn main() -> Result<(), span_registry::Error> {
+/// # let (registry, _drain) = span_registry::Registry::builder().ring(1).build()?;
+/// use span_registry::{try_event, Error, Level};
+/// try_event!(registry, Level::Info, "started")?;
+/// assert_eq!(try_event!(registry, Level::Info, "nobody reads"), Err(Error::Backlog));
+/// # Ok(())
+/// # }
+/// ```
+#[macro_export]
+macro_rules! try_event {
+    ($($arguments:tt)+) => {
+        $crate::__event!(event, $($arguments)+)
+    };
+}
+
+/// The call of a registry that tells an event.
+#[doc(hidden)]
+#[macro_export]
+macro_rules! __event {
+    (@told $call:ident, $registry:expr, $target:expr, $level:expr,
+        { $($key:ident = $value:expr),* $(,)? }, $($message:tt)+) => {{
+        // As of a span.
+        let told = $registry.$call(
             &$crate::Meta::event($level, $target),
             &::std::format!($($message)+),
             &[$((::core::stringify!($key), &*::std::string::ToString::to_string(&$value))),*],
+        );
+        told
+    }};
+    (@told $call:ident, $registry:expr, $target:expr, $level:expr, { $($other:tt)* } $($rest:tt)*) => {
+        ::core::compile_error!(
+            "an event is: registry, [target: \"..\",] Level::.., [{ key = value [, key = value]* },] \"message\""
         )
     };
-    ($registry:expr, target: $target:expr, $level:expr, $($message:tt)+) => {
-        $crate::event!($registry, target: $target, $level, {}, $($message)+)
+    (@told $call:ident, $registry:expr, $target:expr, $level:expr, $($message:tt)+) => {
+        $crate::__event!(@told $call, $registry, $target, $level, {}, $($message)+)
     };
-    ($registry:expr, $($rest:tt)+) => {
-        $crate::event!($registry, target: ::core::module_path!(), $($rest)+)
+    ($call:ident, $registry:expr, target: $target:expr, $($rest:tt)+) => {
+        $crate::__event!(@told $call, $registry, $target, $($rest)+)
+    };
+    ($call:ident, $registry:expr, $($rest:tt)+) => {
+        $crate::__event!(@told $call, $registry, ::core::module_path!(), $($rest)+)
     };
 }

@@ -1,34 +1,72 @@
 //! What calls are given, and what they tell of a span.
+#![forbid(unsafe_code)]
+use crate::error::Error;
 use crate::level::Level;
 use crate::span::Span;
 use std::fmt;
 use std::num::NonZeroU64;
 
 /// A slot below 2^24 and a generation below 2^32 make an id.
+const SLOTS: u64 = 1 << 24;
 const MAX_ID: u64 = 1 << 56;
 
-/// The id of a span. No two spans of a registry ever have the same one: a closed span's id finds nothing for ever.
+/// The number of an id, as the C interface takes and tells it. Whose id it is, nothing says.
 #[derive(Clone, Copy, Debug, PartialEq, Eq, PartialOrd, Ord, Hash)]
-pub struct Id(NonZeroU64);
+pub(crate) struct RawId(NonZeroU64);
+
+impl RawId {
+    /// None for 0 and above 2^56, since no span ever has such an id.
+    pub(crate) fn from_u64(number: u64) -> Option<RawId> {
+        NonZeroU64::new(number)
+            .filter(|number| number.get() <= MAX_ID)
+            .map(RawId)
+    }
+
+    pub(crate) fn get(self) -> u64 {
+        self.0.get()
+    }
+
+    /// The slot of its span, below 2^24.
+    pub(crate) fn slot(self) -> usize {
+        ((self.get() - 1) % SLOTS) as usize
+    }
+}
+
+/// The id of a span of one registry. No two spans of a registry ever have the same one: a closed span's id finds
+/// nothing for ever. Any other registry refuses it as [`OtherRegistry`](Error::OtherRegistry), also once its own is gone.
+///
+/// Calls answer it, and [`Registry::id`](crate::Registry::id) makes it of a number.
+#[derive(Clone, Copy, Debug, PartialEq, Eq, PartialOrd, Ord, Hash)]
+pub struct Id {
+    // No two registries of a process have the same one.
+    registry: u64,
+    raw: RawId,
+}
 
 impl Id {
-    /// The id of this number; none for 0 and above 2^56, since no span ever has such an id. One that is no open span's
-    /// is refused as [`Unknown`](crate::Error::Unknown) where it is used.
-    #[must_use]
-    pub fn from_u64(number: u64) -> Option<Id> {
-        NonZeroU64::new(number).filter(|number| number.get() <= MAX_ID).map(Id)
+    pub(crate) fn of(registry: u64, raw: RawId) -> Id {
+        Id { registry, raw }
+    }
+
+    /// Its number, where it is an id of this registry: there is no other way from an `Id` to a call.
+    pub(crate) fn in_registry(self, registry: u64) -> Result<RawId, Error> {
+        if self.registry == registry {
+            Ok(self.raw)
+        } else {
+            Err(Error::OtherRegistry)
+        }
     }
 
     /// Its number, which lines show.
     #[must_use]
     pub fn into_u64(self) -> u64 {
-        self.0.get()
+        self.raw.get()
     }
 }
 
 impl fmt::Display for Id {
     fn fmt(&self, f: &mut fmt::Formatter<'_>) -> fmt::Result {
-        self.0.fmt(f)
+        self.raw.0.fmt(f)
     }
 }
 
@@ -67,8 +105,27 @@ pub enum Parent {
     Root,
     /// The thread's current span; none where it isn't inside any.
     Current,
-    /// This one.
+    /// This one, of the same registry.
     Of(Id),
+}
+
+/// A parent, as the C interface takes it.
+#[derive(Clone, Copy, Debug, PartialEq, Eq)]
+pub(crate) enum RawParent {
+    Root,
+    Current,
+    Of(RawId),
+}
+
+impl Parent {
+    /// For a span of this registry.
+    pub(crate) fn in_registry(self, registry: u64) -> Result<RawParent, Error> {
+        Ok(match self {
+            Parent::Root => RawParent::Root,
+            Parent::Current => RawParent::Current,
+            Parent::Of(id) => RawParent::Of(id.in_registry(registry)?),
+        })
+    }
 }
 
 impl From<Id> for Parent {

@@ -1,4 +1,5 @@
 //! Texts as the C interface takes them: one after another, with their lengths beside them.
+#![forbid(unsafe_code)]
 use crate::error::Error;
 use crate::meta::Fields;
 use crate::raw::SpanField;

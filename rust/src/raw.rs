@@ -1,6 +1,7 @@
 //! The C interface of `include/span_registry.h`, declaration by declaration, and owners of its two handles.
 //!
 //! All unsafe code of this crate is in this module.
+mod abi;
 mod calls;
 mod lines;
 
@@ -68,13 +69,13 @@ pub(crate) struct SpanField {
 }
 
 #[repr(C)]
-#[derive(Default)]
-struct SpanFound {
-    parent: u64,
-    handles: u32,
-    entries: u32,
-    count: u32,
-    level: u32,
+#[derive(Clone, Copy, Debug, Default)]
+pub(crate) struct SpanFound {
+    pub(crate) parent: u64,
+    pub(crate) handles: u32,
+    pub(crate) entries: u32,
+    pub(crate) count: u32,
+    pub(crate) level: u32,
 }
 
 #[repr(C)]
@@ -87,6 +88,20 @@ pub(crate) struct SpanCounts {
     pub(crate) open: u32,
     pub(crate) workers: u32,
 }
+
+#[repr(C)]
+#[derive(Clone, Copy, Debug, Default, PartialEq, Eq)]
+struct SpanSizes {
+    limits: u32,
+    layer: u32,
+    rule: u32,
+    meta: u32,
+    field: u32,
+    found: u32,
+    counts: u32,
+}
+
+const ABI_VERSION: u32 = 1;
 
 pub(crate) const OK: u32 = 0;
 pub(crate) const UNKNOWN: u32 = 1;
@@ -106,6 +121,8 @@ const CURRENT: u32 = 1;
 const UNDER: u32 = 2;
 
 unsafe extern "C" {
+    fn span_abi_version() -> u32;
+    fn span_struct_sizes(sizes: *mut SpanSizes) -> u32;
     fn span_registry_new(
         registry: *mut SpanRegistry,
         drain: *mut SpanDrain,
@@ -224,6 +241,7 @@ mod tests {
         assert_eq!(size_of::<SpanField>(), 8);
         assert_eq!((size_of::<SpanFound>(), offset_of!(SpanFound, level)), (24, 20));
         assert_eq!((size_of::<SpanCounts>(), offset_of!(SpanCounts, open)), (40, 32));
+        assert_eq!(size_of::<SpanSizes>(), 28);
     }
 
     #[test]

@@ -1,21 +1,25 @@
 //! The registry: calls by ids, under the names of `tracing`'s `Subscriber`.
+#![forbid(unsafe_code)]
 use crate::builder::RegistryBuilder;
 use crate::error::Error;
-use crate::meta::{Counts, Fields, Found, Id, Meta, Parent};
+use crate::level::Level;
+use crate::meta::{Counts, Fields, Found, Id, Meta, Parent, RawId, RawParent};
 use crate::shared::{wait, Shared};
 use crate::span::Span;
-use crate::state::{Owed, State};
+use crate::state::State;
 use crate::workers;
 use std::fmt;
 use std::sync::Arc;
 
 /// A registry of spans. Clones are the same registry; it may be used by several threads at once.
 ///
-/// Each thread that calls is a worker of the registry: it takes a free number at its first call, also a refused one,
-/// and gives it back when it ends, after it has left all spans that it is still inside of. A call of one thread more
-/// than [`workers`](RegistryBuilder::workers) is refused as [`TooManyThreads`](Error::TooManyThreads).
+/// Each thread that calls is a worker of the registry: it takes a free number at its first call, and gives it back
+/// when it ends, after it has left all spans that it is still inside of. A call of one thread more than
+/// [`workers`](RegistryBuilder::workers) is refused as [`TooManyThreads`](Error::TooManyThreads).
 ///
-/// The methods that take an [`Id`] are for adapters; [`Registry::span`] answers a [`Span`] that gives itself back.
+/// The methods that take an [`Id`] are for adapters; [`Registry::span`] answers a [`Span`] that gives itself back. An
+/// id, a parent or a callsite of another registry is refused as [`OtherRegistry`](Error::OtherRegistry), before all
+/// else.
 ///
 /// ```
 /// # fn main() -> Result<(), span_registry::Error> {
@@ -23,7 +27,7 @@ use std::sync::Arc;
 /// let (registry, mut drain) = Registry::builder().layer(Layer::compact()).build()?;
 /// {
 ///     let request = registry.span(&Meta::new(Level::Info, "app", "request"), Parent::Current, &[("n", "1")])?;
-///     let _inside = request.enter()?;
+///     let _inside = request.enter();
 ///     registry.event(&Meta::event(Level::Warn, "app"), "slow", &[])?;
 /// }
 /// let lines: Vec<String> = std::iter::from_fn(|| drain.line()).map(|line| line.text).collect();
@@ -78,6 +82,27 @@ impl Registry {
         })
     }
 
+    /// The number of one of its ids, which other registries' are not.
+    pub(crate) fn own(&self, id: Id) -> Result<RawId, Error> {
+        id.in_registry(self.shared().number())
+    }
+
+    pub(crate) fn own_parent(&self, parent: Parent) -> Result<RawParent, Error> {
+        parent.in_registry(self.shared().number())
+    }
+
+    /// An id that it told.
+    pub(crate) fn id_of(&self, raw: RawId) -> Id {
+        Id::of(self.shared().number(), raw)
+    }
+
+    /// Its id of this number; none for 0 and above 2^56, since no span ever has such an id. One that is no open span's
+    /// is refused as [`Unknown`](Error::Unknown) where it is used.
+    #[must_use]
+    pub fn id(&self, number: u64) -> Option<Id> {
+        RawId::from_u64(number).map(|raw| self.id_of(raw))
+    }
+
     /// The number of the calling thread among the workers, which lines show. It takes one where it has none.
     pub fn worker(&self) -> Result<u32, Error> {
         self.call(|_, worker| Ok(worker))
@@ -85,6 +110,7 @@ impl Registry {
 
     /// A new span with its one handle; a disabled one where there are layers and none wants it.
     pub fn span(&self, meta: &Meta<'_>, parent: Parent, fields: Fields<'_>) -> Result<Span, Error> {
+        let parent = self.own_parent(parent)?;
         let (id, worker) = self.call(|state, worker| Ok((state.new_span(worker, meta, parent, fields)?, worker)))?;
         Ok(id.map_or_else(Span::none, |id| Span::of(self, id, worker)))
     }
@@ -92,11 +118,14 @@ impl Registry {
     /// A new span, whose one handle the caller has to give back by [`try_close`](Registry::try_close); none where there
     /// are layers and none wants it.
     pub fn new_span(&self, meta: &Meta<'_>, parent: Parent, fields: Fields<'_>) -> Result<Option<Id>, Error> {
-        self.call(|state, worker| state.new_span(worker, meta, parent, fields))
+        let parent = self.own_parent(parent)?;
+        let made = self.call(|state, worker| state.new_span(worker, meta, parent, fields))?;
+        Ok(made.map(|raw| self.id_of(raw)))
     }
 
     /// Puts fields at the end of a span's list. A repeated key stands twice.
     pub fn record(&self, id: Id, fields: Fields<'_>) -> Result<(), Error> {
+        let id = self.own(id)?;
         self.call(|state, worker| state.record(worker, id, fields))
     }
 
@@ -108,45 +137,56 @@ impl Registry {
 
     /// The calling thread enters a span. True where it wasn't inside of it already: only such an entry holds the span.
     pub fn enter(&self, id: Id) -> Result<bool, Error> {
+        let id = self.own(id)?;
         self.call(|state, worker| state.enter(worker, id))
     }
 
     /// The calling thread leaves its topmost entry of a span. True where the span closed.
     pub fn exit(&self, id: Id) -> Result<bool, Error> {
+        let id = self.own(id)?;
         self.call(|state, worker| state.exit(worker, id))
     }
 
     /// One more handle of a span, which the caller has to give back by [`try_close`](Registry::try_close).
     pub fn clone_span(&self, id: Id) -> Result<(), Error> {
+        let id = self.own(id)?;
         self.call(|state, worker| state.clone_span(worker, id))
     }
 
     /// Gives a handle of a span back. True where the span closed: nothing else holds it.
     pub fn try_close(&self, id: Id) -> Result<bool, Error> {
+        let id = self.own(id)?;
         self.call(|state, worker| state.try_close(worker, id))
     }
 
-    /// [`exit`](Registry::exit) for callers that can't be refused: what can't be done now is owed, as where a guard is
-    /// dropped.
-    pub fn exit_or_owe(&self, id: Id) {
-        if let Some(worker) = workers::known(self.shared()) {
-            self.shared().pay_or_owe(Owed::Exit { worker, id });
-        }
+    /// [`exit`](Registry::exit) for callers that can't make it again: what can't be done now is owed, as where a guard
+    /// is dropped. Refused as [`NotEntered`](Error::NotEntered) where the thread has no entry of the span whose exit isn't
+    /// owed already, so no more is owed than is held.
+    pub fn exit_or_owe(&self, id: Id) -> Result<(), Error> {
+        let id = self.own(id)?;
+        let worker = workers::known(self.shared()).ok_or(Error::NotEntered)?;
+        self.exit_as(id, worker)
     }
 
-    /// [`try_close`](Registry::try_close) for callers that can't be refused: what can't be done now is owed, as where a
-    /// [`Span`] is dropped. A thread that is no worker and can become none does it as worker 0.
-    pub fn close_or_owe(&self, id: Id) {
-        self.close_as(id, 0);
+    pub(crate) fn exit_as(&self, id: RawId, worker: u32) -> Result<(), Error> {
+        self.shared().with(|state| state.exit_or_owe(worker, id))
+    }
+
+    /// [`try_close`](Registry::try_close) for callers that can't make it again: what can't be done now is owed, as
+    /// where a [`Span`] is dropped. Refused as [`Unknown`](Error::Unknown) where the span has no handle whose close
+    /// isn't owed already, so no more is owed than is held. A thread that is no worker and can become none does it as
+    /// worker 0.
+    pub fn close_or_owe(&self, id: Id) -> Result<(), Error> {
+        self.close_as(self.own(id)?, 0)
     }
 
     // By this thread's number, or by `maker` where it can have none.
-    pub(crate) fn close_as(&self, id: Id, maker: u32) {
+    pub(crate) fn close_as(&self, id: RawId, maker: u32) -> Result<(), Error> {
         self.shared().with(|state| {
             let _owing = state.settle();
             let worker = workers::number(self.shared(), state).unwrap_or(maker);
-            state.pay_or_owe(Owed::Close { worker, id });
-        });
+            state.close_or_owe(worker, id)
+        })
     }
 
     /// The innermost span that the calling thread is inside of; entries that repeat a span are skipped. After entering
@@ -155,18 +195,28 @@ impl Registry {
         let Some(worker) = workers::known(self.shared()) else {
             return Ok(None);
         };
-        self.shared().with(|state| {
+        let current = self.shared().with(|state| {
             state.settle()?;
             state.current_span(worker)
-        })
+        })?;
+        Ok(current.map(|raw| self.id_of(raw)))
     }
 
-    /// An open span; none where the id isn't open. What is owed and can't be done now counts as not done.
+    /// An open span; none where no span of this registry is open with the id. What is owed and can't be done now counts
+    /// as not done.
     #[must_use]
     pub fn find(&self, id: Id) -> Option<Found> {
-        self.shared().with(|state| {
+        let id = self.own(id).ok()?;
+        let found = self.shared().with(|state| {
             let _owing = state.settle();
             state.find(id)
+        })?;
+        Some(Found {
+            parent: self.id(found.parent),
+            handles: found.handles,
+            entries: found.entries,
+            count: found.count,
+            level: Level::of_verbosity(found.level)?,
         })
     }
 
@@ -194,7 +244,8 @@ impl fmt::Debug for Registry {
 }
 
 /// Makes a call again, as long as it is refused as [`Backlog`](Error::Backlog), and lets other threads run in between.
-/// It doesn't come back while nobody reads the [`Drain`](crate::Drain), so the thread that reads must not wait by this.
+/// It doesn't come back while nobody reads the [`Drain`](crate::Drain): not where the thread that reads waits by this,
+/// nor after the drain or its [`Guard`](crate::Guard) was dropped.
 ///
 /// ```
 /// # fn main() -> Result<(), span_registry::Error> {

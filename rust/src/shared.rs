@@ -1,5 +1,7 @@
 //! The lock, and what may be asked without it.
-use crate::state::{Owed, State};
+#![forbid(unsafe_code)]
+use crate::lost::Losses;
+use crate::state::State;
 use std::sync::atomic::{AtomicBool, AtomicU64, Ordering};
 use std::sync::{Mutex, MutexGuard, PoisonError};
 use std::thread;
@@ -17,6 +19,7 @@ pub(crate) struct Shared {
     owes: AtomicBool,
     // Whether each registry and each span is gone. The drain may be there still.
     is_over: AtomicBool,
+    losses: Losses,
 }
 
 impl Shared {
@@ -26,11 +29,13 @@ impl Shared {
             number: MADE.fetch_add(1, Ordering::Relaxed),
             owes: AtomicBool::new(false),
             is_over: AtomicBool::new(false),
+            losses: Losses::default(),
         }
     }
 
-    /// Runs a call under the lock. No code of the caller's runs there, so where a thread panicked with the lock, it was
-    /// between two calls of the registry, each of which is done whole or refused: the poison says nothing.
+    /// Runs a call under the lock. No code of the program's runs there but its global allocator, which must not call
+    /// the registry. So where a thread panicked with the lock, it was between two calls of the registry, each of which
+    /// is done whole or refused: the poison says nothing.
     pub(crate) fn with<T>(&self, call: impl FnOnce(&mut State) -> T) -> T {
         let mut state: MutexGuard<'_, State> = self.state.lock().unwrap_or_else(PoisonError::into_inner);
         let result = call(&mut state);
@@ -43,8 +48,8 @@ impl Shared {
         self.number
     }
 
-    pub(crate) fn pay_or_owe(&self, payment: Owed) {
-        self.with(|state| state.pay_or_owe(payment));
+    pub(crate) fn losses(&self) -> &Losses {
+        &self.losses
     }
 
     /// Whether something is owed, told without the lock.
@@ -68,5 +73,39 @@ pub(crate) fn wait(turn: u32) {
         thread::yield_now();
     } else {
         thread::sleep(Duration::from_micros(500));
+    }
+}
+
+#[cfg(test)]
+mod tests {
+    use crate::{Error, Layer, Level, Meta, Parent, Registry, Span};
+    use std::thread;
+    use std::time::Duration;
+
+    #[test]
+    fn a_thousand_handles_that_are_dropped_while_the_lock_is_held_are_given_back() -> Result<(), Error> {
+        const SPANS: u32 = 1000;
+        for ring in [65_536, 1] {
+            let (registry, mut drain) = Registry::builder().ring(ring).layer(Layer::compact()).build()?;
+            let meta = Meta::new(Level::Info, "app", "a");
+            let mut spans = Vec::new();
+            for _ in 0..SPANS {
+                spans.push(registry.span(&meta, Parent::Root, &[])?);
+                drain.lines().for_each(drop);
+            }
+            let threads = registry.shared().with(|_| {
+                let threads: Vec<_> = (0..4)
+                    .map(|_| spans.split_off(spans.len() - SPANS as usize / 4))
+                    .map(|some: Vec<Span>| thread::spawn(move || drop(some)))
+                    .collect();
+                thread::sleep(Duration::from_millis(50));
+                threads
+            });
+            threads.into_iter().for_each(|thread| thread.join().expect("no panic"));
+            drain.lines().for_each(drop);
+            let counts = registry.counts();
+            assert_eq!((counts.closed, counts.owed, counts.held), (1000, 0, 0), "{counts:?}");
+        }
+        Ok(())
     }
 }

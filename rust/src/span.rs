@@ -1,8 +1,9 @@
 //! Handles of spans that give themselves back, and guards of entered spans.
+#![forbid(unsafe_code)]
 use crate::error::Error;
-use crate::meta::{Fields, Id};
+use crate::meta::{Fields, Id, RawId};
 use crate::registry::Registry;
-use crate::state::{Owed, State};
+use crate::state::State;
 use crate::workers;
 use std::fmt;
 use std::marker::PhantomData;
@@ -17,6 +18,9 @@ use std::sync::Arc;
 /// **Disabled spans.** Where there are layers and none wants a span, it isn't made. Its `Span` is disabled: it has no
 /// id, and all that is done with it succeeds and does nothing.
 ///
+/// **Methods that answer no error**, as [`enter`](Span::enter), do nothing where they are refused, and
+/// [`Registry::lost`] counts that; those that begin with `try_` answer why.
+///
 /// **Drops can't be refused.** Where a dropped `Span`, or a dropped guard of [`enter`](Span::enter), finds the ring
 /// full or is refused memory, what it has to do is *owed*: it is kept in order, and done before the next call of any
 /// thread, by [`Registry::settle`], or by the [`Drain`](crate::Drain) once it has made place, whichever is first. While
@@ -26,13 +30,14 @@ use std::sync::Arc;
 ///
 /// It may be sent to other threads and dropped there. The thread that drops the last clone is told in the lines as the
 /// worker that closed the span; where it is no worker and there is no free number, the worker that made the handle is.
-#[derive(Clone)]
+#[derive(Clone, Default)]
 pub struct Span(Option<Arc<Handle>>);
 
 /// The one handle that clones share.
 struct Handle {
     registry: Registry,
-    id: Id,
+    // Of that registry.
+    id: RawId,
     // The worker that made it.
     maker: u32,
     is_given_back: bool,
@@ -45,7 +50,7 @@ impl Span {
         Span(None)
     }
 
-    pub(crate) fn of(registry: &Registry, id: Id, maker: u32) -> Span {
+    pub(crate) fn of(registry: &Registry, id: RawId, maker: u32) -> Span {
         Span(Some(Arc::new(Handle {
             registry: registry.clone(),
             id,
@@ -57,10 +62,10 @@ impl Span {
     /// Its id; none where it is disabled.
     #[must_use]
     pub fn id(&self) -> Option<Id> {
-        self.0.as_ref().map(|handle| handle.id)
+        self.0.as_ref().map(|handle| handle.id())
     }
 
-    /// Whether no layer wanted it.
+    /// Whether no layer wanted it, or it was [lost](Registry::lost).
     #[must_use]
     pub fn is_disabled(&self) -> bool {
         self.0.is_none()
@@ -69,29 +74,42 @@ impl Span {
     /// The thread enters the span, and leaves it when the guard is dropped, also while it panics.
     ///
     /// A guard that is forgotten leaves the thread inside until it ends.
-    pub fn enter(&self) -> Result<Entered<'_>, Error> {
-        let entry = match self.0.as_deref() {
-            Some(handle) => Some(handle.enter()?),
-            None => None,
-        };
-        Ok(Entered {
-            entry,
-            stays_on_its_thread: PhantomData,
-        })
+    pub fn enter(&self) -> Entered<'_> {
+        Entered::of(self.or_lost(Handle::enter))
     }
 
-    /// Runs `run` inside the span.
-    pub fn in_scope<T>(&self, run: impl FnOnce() -> T) -> Result<T, Error> {
-        let _inside = self.enter()?;
+    /// [`enter`](Span::enter), or why it is refused.
+    pub fn try_enter(&self) -> Result<Entered<'_>, Error> {
+        self.0.as_deref().map(Handle::enter).transpose().map(Entered::of)
+    }
+
+    /// Runs `run` inside the span; outside of it where the entry is refused.
+    pub fn in_scope<T>(&self, run: impl FnOnce() -> T) -> T {
+        let _inside = self.enter();
+        run()
+    }
+
+    /// Runs `run` inside the span. Where the entry is refused, it doesn't run.
+    pub fn try_in_scope<T>(&self, run: impl FnOnce() -> T) -> Result<T, Error> {
+        let _inside = self.try_enter()?;
         Ok(run())
     }
 
     /// Puts fields at the end of the span's list. A repeated key stands twice.
-    pub fn record(&self, fields: Fields<'_>) -> Result<(), Error> {
-        match &self.0 {
-            Some(handle) => handle.registry.record(handle.id, fields),
-            None => Ok(()),
-        }
+    pub fn record(&self, fields: Fields<'_>) -> &Span {
+        self.or_lost(|handle| handle.record(fields));
+        self
+    }
+
+    /// [`record`](Span::record), or why it is refused.
+    pub fn try_record(&self, fields: Fields<'_>) -> Result<(), Error> {
+        self.0.as_deref().map_or(Ok(()), |handle| handle.record(fields))
+    }
+
+    // None of a disabled span, and where it is refused.
+    fn or_lost<'a, T>(&'a self, call: impl FnOnce(&'a Handle) -> Result<T, Error>) -> Option<T> {
+        let handle = self.0.as_deref()?;
+        handle.registry.or_lost(call(handle))
     }
 
     /// A handle of its own of the same span.
@@ -114,7 +132,7 @@ impl Span {
         let Some(mut handle) = self.0.and_then(Arc::into_inner) else {
             return Ok(false);
         };
-        match handle.registry.try_close(handle.id) {
+        match handle.registry.try_close(handle.id()) {
             Err(error) if error != Error::Unknown => Err((Span(Some(Arc::new(handle))), error)),
             result => {
                 handle.is_given_back = true;
@@ -125,6 +143,10 @@ impl Span {
 }
 
 impl Handle {
+    fn id(&self) -> Id {
+        self.registry.id_of(self.id)
+    }
+
     fn enter(&self) -> Result<Entry<'_>, Error> {
         let enter = |state: &mut State, worker| Ok((state.enter(worker, self.id)?, worker));
         let (is_first, worker) = self.registry.call(enter)?;
@@ -134,12 +156,17 @@ impl Handle {
             is_first,
         })
     }
+
+    fn record(&self, fields: Fields<'_>) -> Result<(), Error> {
+        self.registry.record(self.id(), fields)
+    }
 }
 
 impl Drop for Handle {
     fn drop(&mut self) {
         if !self.is_given_back {
-            self.registry.close_as(self.id, self.maker);
+            // Refused is only what somebody gave back by its id.
+            let _closed_or_owed = self.registry.close_as(self.id, self.maker);
         }
     }
 }
@@ -165,8 +192,16 @@ struct Entry<'a> {
     is_first: bool,
 }
 
-impl Entered<'_> {
-    /// Whether the thread wasn't inside of the span already. False of a disabled span.
+impl<'a> Entered<'a> {
+    // None where the span is disabled or the entry was lost: then it does nothing.
+    fn of(entry: Option<Entry<'a>>) -> Entered<'a> {
+        Entered {
+            entry,
+            stays_on_its_thread: PhantomData,
+        }
+    }
+
+    /// Whether the thread wasn't inside of the span already. False of a disabled span, and where the entry was lost.
     #[must_use]
     pub fn is_first(&self) -> bool {
         self.entry.as_ref().is_some_and(|entry| entry.is_first)
@@ -178,17 +213,17 @@ impl Drop for Entered<'_> {
         let Some(Entry { handle, worker, .. }) = self.entry else {
             return;
         };
-        let shared = handle.registry.shared();
         // A thread whose number went back while it ends has left all its spans by that.
-        if workers::known(shared) == Some(worker) {
-            shared.pay_or_owe(Owed::Exit { worker, id: handle.id });
+        if workers::known(handle.registry.shared()) == Some(worker) {
+            // Refused is only what somebody left by its id.
+            let _left_or_owed = handle.registry.exit_as(handle.id, worker);
         }
     }
 }
 
 impl fmt::Debug for Entered<'_> {
     fn fmt(&self, f: &mut fmt::Formatter<'_>) -> fmt::Result {
-        let id = self.entry.as_ref().map(|entry| entry.handle.id.into_u64());
+        let id = self.entry.as_ref().map(|entry| entry.handle.id.get());
         f.debug_tuple("Entered").field(&id).finish()
     }
 }

@@ -1,28 +1,15 @@
 //! What lies under the lock: the proved registry, what is owed to it, and which workers' numbers are taken.
+#![forbid(unsafe_code)]
 use crate::error::Error;
-use crate::meta::{Counts, Fields, Found, Id, Meta, Parent};
+use crate::meta::{Counts, Fields, Meta, RawId, RawParent};
+use crate::owed::{Owed, Owing};
 use crate::packed::Packed;
-use crate::raw::Core;
-use std::collections::VecDeque;
-
-/// What a drop, or the end of a thread, could not do because the ring was full or memory was refused.
-#[derive(Clone, Copy, Debug, PartialEq, Eq)]
-pub(crate) enum Owed {
-    /// This worker's topmost entry of this span.
-    Exit { worker: u32, id: Id },
-    /// A handle of this span.
-    Close { worker: u32, id: Id },
-    /// All that this worker is still inside of, and then its number.
-    Leave { worker: u32 },
-}
+use crate::raw::{Core, SpanFound};
 
 pub(crate) struct State {
     core: Core,
     packed: Packed,
-    // In the order in which it came. It has room for everything that is held, so that a drop needs no memory.
-    owed: VecDeque<Owed>,
-    // Handles and entries, duplicates too, that are not given back: each may come to be owed.
-    held: usize,
+    owing: Owing,
     // Which workers' numbers threads have.
     taken: Vec<bool>,
 }
@@ -33,50 +20,75 @@ impl State {
         let mut taken = Vec::new();
         taken.try_reserve_exact(workers).map_err(|_| Error::OutOfMemory)?;
         taken.resize(workers, false);
-        let mut state = State {
+        Ok(State {
             core,
             packed: Packed::default(),
-            owed: VecDeque::new(),
-            held: 0,
+            owing: Owing::new(workers)?,
             taken,
-        };
-        state.reserve_owed(0)?;
-        Ok(state)
+        })
     }
 
     /// Does what is owed, in order, up to the first that can't be done now.
+    #[inline]
     pub(crate) fn settle(&mut self) -> Result<(), Error> {
-        while let Some(&next) = self.owed.front() {
-            self.pay(next)?;
-            self.owed.pop_front();
+        if self.owes() {
+            self.pay_all()
+        } else {
+            Ok(())
+        }
+    }
+
+    #[cold]
+    fn pay_all(&mut self) -> Result<(), Error> {
+        while let Some(next) = self.owing.first() {
+            match self.pay(next) {
+                Err(error) if error.may_pass() => return Err(error),
+                _ => self.owing.done(),
+            }
         }
         Ok(())
     }
 
-    /// Does this after all that is owed, or owes it too.
-    pub(crate) fn pay_or_owe(&mut self, payment: Owed) {
-        if self.settle().and_then(|()| self.pay(payment)).is_err() {
-            self.owed.push_back(payment);
+    fn pay(&mut self, payment: Owed) -> Result<(), Error> {
+        match payment {
+            Owed::Exit { worker, id } => self.give_back_entry(worker, id).map(drop),
+            Owed::Close { worker, id } => self.try_close(worker, id).map(drop),
+            Owed::Leave { worker } => self.leave(worker),
         }
     }
 
-    // Errs only where the same may succeed later. Other refusals say that somebody gave it back by its id already.
-    fn pay(&mut self, payment: Owed) -> Result<(), Error> {
-        let result = match payment {
-            Owed::Exit { worker, id } => self.exit(worker, id),
-            Owed::Close { worker, id } => self.try_close(worker, id),
-            Owed::Leave { worker } => return self.leave(worker),
-        };
-        match result {
-            Err(error) if error.may_pass() => Err(error),
-            _ => Ok(()),
+    /// Does this after all that is owed, or owes it too.
+    pub(crate) fn exit_or_owe(&mut self, worker: u32, id: RawId) -> Result<(), Error> {
+        match self.settle().and_then(|()| self.exit(worker, id)) {
+            Err(error) if error.may_pass() => self.owing.owe_exit(worker, id),
+            result => result.map(drop),
+        }
+    }
+
+    /// Does this after all that is owed, or owes it too.
+    pub(crate) fn close_or_owe(&mut self, worker: u32, id: RawId) -> Result<(), Error> {
+        match self.settle().and_then(|()| self.try_close(worker, id)) {
+            Err(error) if error.may_pass() => {
+                let handles = self.core.find(id).map_or(0, |found| found.handles);
+                self.owing.owe_close(worker, id, handles)
+            }
+            result => result.map(drop),
+        }
+    }
+
+    /// The worker leaves all spans and its number is free, after all that is owed, or that is owed too.
+    pub(crate) fn leave_or_owe(&mut self, worker: u32) -> Result<(), Error> {
+        match self.settle().and_then(|()| self.leave(worker)) {
+            Err(error) if error.may_pass() => self.owing.owe_end(worker),
+            result => result,
         }
     }
 
     fn leave(&mut self, worker: u32) -> Result<(), Error> {
         while let Some(id) = self.core.current_span(worker)? {
-            self.exit(worker, id)?;
+            self.give_back_entry(worker, id)?;
         }
+        self.owing.left_all(worker);
         self.taken[worker as usize] = false;
         Ok(())
     }
@@ -92,24 +104,17 @@ impl State {
         u32::try_from(free).map_err(|_| Error::TooManyThreads)
     }
 
-    // A `Leave` for each worker, and what is held.
-    fn reserve_owed(&mut self, more: usize) -> Result<(), Error> {
-        let room = self.taken.len() + self.held + more;
-        self.owed.try_reserve(room).map_err(|_| Error::OutOfMemory)
-    }
-
     pub(crate) fn new_span(
         &mut self,
         worker: u32,
         meta: &Meta<'_>,
-        parent: Parent,
+        parent: RawParent,
         fields: Fields<'_>,
-    ) -> Result<Option<Id>, Error> {
-        self.reserve_owed(1)?;
+    ) -> Result<Option<RawId>, Error> {
+        self.owing.reserve_span()?;
         self.packed.pack(&[meta.name, meta.target], fields)?;
         let id = self.core.new_span(worker, parent, meta, &self.packed)?;
-        self.held += usize::from(id.is_some());
-        Ok(id)
+        Ok(id.inspect(|&id| self.owing.made(id)))
     }
 
     /// Its number.
@@ -122,43 +127,48 @@ impl State {
         &mut self,
         worker: u32,
         callsite: u32,
-        parent: Parent,
+        parent: RawParent,
         fields: Fields<'_>,
-    ) -> Result<Option<Id>, Error> {
-        self.reserve_owed(1)?;
+    ) -> Result<Option<RawId>, Error> {
+        self.owing.reserve_span()?;
         self.packed.pack(&[], fields)?;
         let id = self.core.new_span_at(worker, parent, callsite, &self.packed)?;
-        self.held += usize::from(id.is_some());
-        Ok(id)
+        Ok(id.inspect(|&id| self.owing.made(id)))
     }
 
-    pub(crate) fn clone_span(&mut self, worker: u32, id: Id) -> Result<(), Error> {
-        self.reserve_owed(1)?;
+    pub(crate) fn clone_span(&mut self, worker: u32, id: RawId) -> Result<(), Error> {
+        self.owing.reserve_handle()?;
         self.core.clone_span(worker, id)?;
-        self.held += 1;
+        self.owing.cloned();
         Ok(())
     }
 
-    pub(crate) fn enter(&mut self, worker: u32, id: Id) -> Result<bool, Error> {
-        self.reserve_owed(1)?;
+    pub(crate) fn enter(&mut self, worker: u32, id: RawId) -> Result<bool, Error> {
+        self.owing.reserve_entry(worker)?;
         let first = self.core.enter(worker, id)?;
-        self.held += 1;
+        self.owing.entered(worker, id);
         Ok(first)
     }
 
-    pub(crate) fn exit(&mut self, worker: u32, id: Id) -> Result<bool, Error> {
+    pub(crate) fn exit(&mut self, worker: u32, id: RawId) -> Result<bool, Error> {
+        let closed = self.give_back_entry(worker, id)?;
+        self.owing.left(worker, id);
+        Ok(closed)
+    }
+
+    fn give_back_entry(&mut self, worker: u32, id: RawId) -> Result<bool, Error> {
         let closed = self.core.exit(worker, id)?;
-        self.held -= 1;
+        self.owing.given_back();
         Ok(closed)
     }
 
-    pub(crate) fn try_close(&mut self, worker: u32, id: Id) -> Result<bool, Error> {
+    pub(crate) fn try_close(&mut self, worker: u32, id: RawId) -> Result<bool, Error> {
         let closed = self.core.try_close(worker, id)?;
-        self.held -= 1;
+        self.owing.given_back();
         Ok(closed)
     }
 
-    pub(crate) fn record(&mut self, worker: u32, id: Id, fields: Fields<'_>) -> Result<(), Error> {
+    pub(crate) fn record(&mut self, worker: u32, id: RawId, fields: Fields<'_>) -> Result<(), Error> {
         self.packed.pack(&[], fields)?;
         self.core.record(worker, id, &self.packed)
     }
@@ -185,11 +195,11 @@ impl State {
         self.core.event_at(worker, callsite, message, &self.packed)
     }
 
-    pub(crate) fn current_span(&mut self, worker: u32) -> Result<Option<Id>, Error> {
+    pub(crate) fn current_span(&mut self, worker: u32) -> Result<Option<RawId>, Error> {
         self.core.current_span(worker)
     }
 
-    pub(crate) fn find(&mut self, id: Id) -> Option<Found> {
+    pub(crate) fn find(&mut self, id: RawId) -> Option<SpanFound> {
         self.core.find(id)
     }
 
@@ -201,13 +211,18 @@ impl State {
             closed: counts.closed,
             calls: counts.calls,
             held: counts.held,
-            owed: self.owed.len(),
+            owed: self.owing.len(),
             workers: counts.workers,
             threads: self.taken.iter().map(|&taken| u32::from(taken)).sum(),
         }
     }
 
+    /// How many calls were accepted, with those at most that are owed.
+    pub(crate) fn calls_by_now(&mut self) -> u64 {
+        self.core.counts().calls + self.owing.calls()
+    }
+
     pub(crate) fn owes(&self) -> bool {
-        !self.owed.is_empty()
+        self.owing.len() > 0
     }
 }

@@ -1,9 +1,10 @@
 //! Which worker of which registry a thread is.
 //!
 //! A thread takes the lowest free number at its first call, and gives it back when it ends.
+#![forbid(unsafe_code)]
 use crate::error::Error;
 use crate::shared::Shared;
-use crate::state::{Owed, State};
+use crate::state::State;
 use std::cell::{Cell, RefCell};
 use std::sync::{Arc, Weak};
 
@@ -31,7 +32,7 @@ impl Drop for Places {
         LAST.set(None);
         for place in self.0.drain(..) {
             if let Some(shared) = place.registry.upgrade() {
-                shared.pay_or_owe(Owed::Leave { worker: place.worker });
+                let _left_or_owed = shared.with(|state| state.leave_or_owe(place.worker));
             }
         }
     }

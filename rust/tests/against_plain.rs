@@ -156,7 +156,7 @@ impl Pair {
             0 => (Parent::Root, plain::Parent::Root),
             1 => (Parent::Current, plain::Parent::Current),
             _ => (
-                Parent::Of(Id::from_u64(under).expect("not 0")),
+                Parent::Of(self.registry.id(under).expect("not 0")),
                 plain::Parent::Of(under),
             ),
         };
@@ -200,13 +200,13 @@ impl Pair {
 
     fn record(&mut self) -> (Result<u64, Error>, Result<u64, plain::Refusal>) {
         let (id, fields) = (self.random.of(&self.ids), self.random.fields());
-        let ours = self.registry.record(Id::from_u64(id).expect("not 0"), &fields);
+        let ours = self.registry.record(self.registry.id(id).expect("not 0"), &fields);
         (ours.map(|()| 0), self.plain.record(0, id, owned(&fields)).map(|()| 0))
     }
 
     fn of_an_id(&mut self, kind: usize) -> (Result<u64, Error>, Result<u64, plain::Refusal>) {
         let number = self.random.of(&self.ids);
-        let id = Id::from_u64(number).expect("not 0");
+        let id = self.registry.id(number).expect("not 0");
         let (ours, theirs) = match kind {
             3 => (
                 self.registry.clone_span(id).map(|()| true),
@@ -230,7 +230,7 @@ impl Pair {
 
     fn compare(&self) {
         for &number in &self.ids {
-            let ours = self.registry.find(Id::from_u64(number).expect("not 0"));
+            let ours = self.registry.find(self.registry.id(number).expect("not 0"));
             let ours = ours.map(|found| {
                 (
                     found.parent.map(Id::into_u64),
@@ -260,7 +260,7 @@ impl Pair {
         );
         assert_eq!(
             self.registry.current_span(),
-            Ok(self.plain.current(0).and_then(Id::from_u64))
+            Ok(self.plain.current(0).and_then(|number| self.registry.id(number)))
         );
     }
 }

@@ -50,7 +50,7 @@ fn a_refused_close_hands_the_span_back() -> Result<(), Error> {
     let (registry, mut drain) = compact().ring(1).build()?;
     let a = span(&registry, "a");
     let (a, error) = a.try_close().expect_err("the ring is full");
-    assert_eq!((a.id(), error), (Some(id(1)), Error::Backlog));
+    assert_eq!((a.id(), error), (Some(id(&registry, 1)), Error::Backlog));
     assert_eq!(registry.counts().held, 1);
     assert_eq!(texts(&mut drain), ["new 1 w0 a"]);
     assert!(a.try_close().expect("the ring has place"));
@@ -64,7 +64,7 @@ fn what_drops_could_not_do_is_owed_and_done_in_order() -> Result<(), Error> {
     let (registry, mut drain) = compact().ring(2).build()?;
     let (a, b) = (span(&registry, "a"), span(&registry, "b"));
     assert_eq!(texts(&mut drain), ["new 1 w0 a", "new 2 w0 b"]);
-    let (in_a, in_b) = (a.enter()?, b.enter()?);
+    let (in_a, in_b) = (a.try_enter()?, b.try_enter()?);
     // The ring is full from here on.
     drop(in_a);
     drop(b.clone());
@@ -113,7 +113,7 @@ fn the_next_call_does_what_is_owed_first() -> Result<(), Error> {
 fn a_drop_overtakes_nothing_that_is_owed() -> Result<(), Error> {
     let (registry, mut drain) = compact().ring(3).build()?;
     let (a, b) = (span(&registry, "a"), span(&registry, "b"));
-    let in_b = b.enter()?;
+    let in_b = b.try_enter()?;
     drop(a);
     // One place, which is for the close of `a`, and then one for the exit.
     assert_eq!(drain.line().map(|line| line.text), Some("new 1 w0 a".to_owned()));
@@ -151,12 +151,12 @@ fn an_adapter_may_owe_by_ids() -> Result<(), Error> {
     ids.make("a")?;
     assert_eq!(texts(&mut drain).len(), 1);
     ids.enter(1)?;
-    ids.0.exit_or_owe(id(1));
-    ids.0.close_or_owe(id(1));
+    ids.0.exit_or_owe(ids.id(1))?;
+    ids.0.close_or_owe(ids.id(1))?;
     assert_eq!(ids.0.counts().owed, 2);
     assert_eq!(texts(&mut drain), ["enter 1 w0 a", "exit 1 w0 a", "close 1 w0 a"]);
-    ids.0.exit_or_owe(id(1));
-    ids.0.close_or_owe(id(1));
+    assert_eq!(ids.0.exit_or_owe(ids.id(1)), Err(Error::Unknown));
+    assert_eq!(ids.0.close_or_owe(ids.id(1)), Err(Error::Unknown));
     assert_empty(&ids.0);
     assert_eq!(ids.0.counts().calls, 4);
     Ok(())
@@ -179,9 +179,9 @@ fn a_slow_drain_of_a_ring_of_one_loses_nothing() -> Result<(), Error> {
     for round in 0..ROUNDS {
         let name = format!("a{round}");
         let outer = retry(|| registry.span(&info(&name), Parent::Root, &[]))?;
-        let _in_outer = retry(|| outer.enter())?;
+        let _in_outer = retry(|| outer.try_enter())?;
         let inner = retry(|| registry.span(&info("b"), Parent::Current, &[]))?;
-        let _in_inner = retry(|| inner.enter())?;
+        let _in_inner = retry(|| inner.try_enter())?;
     }
     let texts = reading.join().expect("no panic");
     for (round, lines) in texts.chunks(8).enumerate() {

@@ -77,7 +77,12 @@ fn two_layers() -> Result<(Registry, Drain), Error> {
 /// Nested spans and events of all places with all fields, the answers, and the lines.
 fn run(calls: &impl Calls, registry: &Registry, drain: &mut Drain) -> (Vec<String>, Vec<String>) {
     let mut answers = Vec::new();
-    let parents = [Parent::Root, Parent::Current, Parent::Of(id(1)), Parent::Of(id(77))];
+    let parents = [
+        Parent::Root,
+        Parent::Current,
+        Parent::Of(id(registry, 1)),
+        Parent::Of(id(registry, 77)),
+    ];
     let bad: Fields<'_> = &[("bad key", "")];
     for (parent, place) in parents
         .into_iter()
@@ -86,7 +91,7 @@ fn run(calls: &impl Calls, registry: &Registry, drain: &mut Drain) -> (Vec<Strin
         for fields in FIELDS.into_iter().chain([bad]) {
             let made = calls.span(registry, place, parent, fields);
             answers.push(format!("{made:?}"));
-            let inside = made.as_ref().ok().map(Span::enter);
+            let inside = made.as_ref().ok().map(Span::try_enter);
             answers.push(format!("{:?}", calls.event(registry, place, "message", fields)));
             drop(inside);
         }
@@ -154,7 +159,7 @@ fn another_registry_refuses_it() -> Result<(), Error> {
             Err(Error::OtherRegistry)
         );
         assert_eq!(
-            registry.new_span_at(&stranger, Parent::Of(id(9)), &[(" ", "")]),
+            registry.new_span_at(&stranger, Parent::Of(id(&registry, 9)), &[(" ", "")]),
             Err(Error::OtherRegistry)
         );
         assert_eq!(registry.event_at(&stranger, "m", &[]), Err(Error::OtherRegistry));
@@ -187,8 +192,8 @@ fn calls_at_it_are_refused_as_by_meta() -> Result<(), Error> {
     let (registry, mut drain) = compact().slots(1).ring(1).build()?;
     let place = registry.callsite(&info("a"))?;
     let make = |parent, fields| registry.new_span_at(&place, parent, fields);
-    assert_eq!(make(Parent::Of(id(1)), &[("", "")]), Err(Error::BadName));
-    assert_eq!(make(Parent::Of(id(1)), &[]), Err(Error::Unknown));
+    assert_eq!(make(Parent::Of(id(&registry, 1)), &[("", "")]), Err(Error::BadName));
+    assert_eq!(make(Parent::Of(id(&registry, 1)), &[]), Err(Error::Unknown));
     assert_eq!(registry.event_at(&place, "m", &[(" ", "")]), Err(Error::BadName));
     let a = make(Parent::Root, &[])?.expect("wanted");
     assert_eq!(make(Parent::Root, &[]), Err(Error::Full));
@@ -230,7 +235,7 @@ fn many_threads_share_one_callsite() -> Result<(), Error> {
                     let span = registry
                         .span_at(&place, Parent::Current, &[("thread", &thread)])
                         .expect("wanted");
-                    let _inside = span.enter().expect("not refused");
+                    let _inside = span.try_enter().expect("not refused");
                     registry.event_at(&place, &thread, &[]).expect("not refused");
                 }
             });

@@ -32,7 +32,7 @@ fn a_thread_writes_all_lines_until_the_registry_is_gone() -> Result<(), Error> {
     pause();
     let a = span(&registry, "a");
     pause();
-    a.in_scope(|| Ids(registry.clone()).event("m"))??;
+    a.in_scope(|| Ids(registry.clone()).event("m"))?;
     drop((a, registry));
     let (lines, out) = writing.join().expect("no panic").expect("no error");
     assert_eq!(lines, 5);

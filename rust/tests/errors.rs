@@ -1,5 +1,5 @@
 //! What refusals say.
-use span_registry::Error;
+use span_registry::{Differing, Error};
 
 #[test]
 fn each_refusal_has_its_text_and_number() {
@@ -16,6 +16,15 @@ fn each_refusal_has_its_text_and_number() {
         (Error::BadData, 11, "bad data"),
         (Error::TooManyThreads, 100, "too many threads"),
         (Error::OtherRegistry, 101, "other registry"),
+        (
+            Error::OtherLibrary {
+                what: Differing::Counts,
+                library: 48,
+                package: 40,
+            },
+            102,
+            "other library: its size of SpanCounts is 48, and this package was written for 40",
+        ),
     ];
     for (error, number, text) in table {
         assert_eq!((error.number(), error.to_string()), (number, text.to_owned()));

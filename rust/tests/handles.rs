@@ -2,7 +2,7 @@
 mod common;
 
 use common::{assert_empty, compact, id, span, texts, Ids};
-use span_registry::{Callsite, Drain, Entered, Error, Id, Parent, Registry, Span};
+use span_registry::{Callsite, Drain, Entered, Error, Parent, Registry, Span};
 use std::panic::{catch_unwind, AssertUnwindSafe};
 use std::thread;
 
@@ -22,7 +22,7 @@ fn clones_share_one_handle() -> Result<(), Error> {
     let (registry, mut drain) = compact().build()?;
     let a = span(&registry, "a");
     let clones: Vec<Span> = (0..10).map(|_| a.clone()).collect();
-    assert_eq!(registry.find(id(1)).expect("open").handles, 1);
+    assert_eq!(registry.find(id(&registry, 1)).expect("open").handles, 1);
     assert_eq!(registry.counts().calls, 1);
     assert!(!a.try_close().expect("not refused"));
     drop(clones);
@@ -36,12 +36,12 @@ fn a_clone_of_its_own_is_counted_and_may_be_refused() -> Result<(), Error> {
     let (registry, _drain) = compact().max_count(2).build()?;
     let a = span(&registry, "a");
     let b = a.try_clone()?;
-    assert_eq!(registry.find(id(1)).expect("open").handles, 2);
+    assert_eq!(registry.find(id(&registry, 1)).expect("open").handles, 2);
     assert_eq!(a.try_clone().map(|_| ()), Err(Error::CountFull));
     let _shared = a.clone();
     drop(b);
     drop(a.try_clone()?);
-    assert_eq!(registry.find(id(1)).expect("open").handles, 1);
+    assert_eq!(registry.find(id(&registry, 1)).expect("open").handles, 1);
     Ok(())
 }
 
@@ -68,8 +68,8 @@ fn handles_are_dropped_in_any_order() -> Result<(), Error> {
                 held[0].is_some() || held[1].is_some(),
                 held[2].is_some() || held[3].is_some(),
             );
-            assert_eq!(registry.find(id(2)).is_some(), b, "order {order}");
-            assert_eq!(registry.find(id(1)).is_some(), a || b, "order {order}");
+            assert_eq!(registry.find(id(&registry, 2)).is_some(), b, "order {order}");
+            assert_eq!(registry.find(id(&registry, 1)).is_some(), a || b, "order {order}");
         }
         let closes: Vec<_> = texts(&mut drain)
             .into_iter()
@@ -86,7 +86,8 @@ fn guards_are_dropped_in_any_order() -> Result<(), Error> {
     for order in 0..6usize {
         let (registry, mut drain) = compact().build()?;
         let (a, b) = (span(&registry, "a"), span(&registry, "b"));
-        let mut guards: Vec<Option<Entered<'_>>> = vec![Some(a.enter()?), Some(b.enter()?), Some(a.enter()?)];
+        let mut guards: Vec<Option<Entered<'_>>> =
+            vec![Some(a.try_enter()?), Some(b.try_enter()?), Some(a.try_enter()?)];
         assert_eq!(registry.current_span()?, b.id());
         let mut left = vec![0, 1, 2];
         for turn in [order / 2, order % 2, 0] {
@@ -110,7 +111,7 @@ fn a_span_outlives_its_registrys_name() -> Result<(), Error> {
     let a = span(&registry, "a");
     drop(registry);
     assert!(!drain.is_over());
-    a.in_scope(|| ())?;
+    a.try_in_scope(|| ())?;
     drop(a);
     assert!(drain.is_over());
     assert_eq!(
@@ -178,7 +179,7 @@ fn what_was_given_back_by_its_id_is_not_given_back_again() -> Result<(), Error> 
     let (registry, mut drain) = compact().build()?;
     let ids = Ids(registry.clone());
     let a = span(&registry, "a");
-    let inside = a.enter()?;
+    let inside = a.try_enter()?;
     assert_eq!((ids.exit(1), ids.close(1)), (Ok(false), Ok(true)));
     drop(inside);
     let (a, error) = a.try_close().expect_err("its handle is gone");
@@ -193,11 +194,13 @@ fn what_was_given_back_by_its_id_is_not_given_back_again() -> Result<(), Error> 
 }
 
 #[test]
-fn ids_show_their_number() {
+fn ids_show_their_number() -> Result<(), Error> {
+    let (registry, _drain) = compact().build()?;
     for none in [0, (1 << 56) + 1, u64::MAX] {
-        assert_eq!(Id::from_u64(none), None);
+        assert_eq!(registry.id(none), None);
     }
-    assert_eq!(id(1 << 56).into_u64(), 1 << 56);
-    assert_eq!(id(16_777_217).to_string(), "16777217");
-    assert_eq!(id(7).into_u64(), 7);
+    assert_eq!(id(&registry, 1 << 56).into_u64(), 1 << 56);
+    assert_eq!(id(&registry, 16_777_217).to_string(), "16777217");
+    assert_eq!(id(&registry, 7).into_u64(), 7);
+    Ok(())
 }

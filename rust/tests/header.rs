@@ -62,7 +62,8 @@ fn functions_of_c(header: &str) -> Declared {
     let prototypes = between(header, "uint32_t span_", ";").filter_map(|text| text.split_once('('));
     prototypes
         .map(|(name, parameters)| {
-            let parameters = list(parameters.trim().trim_end_matches(')'), ',');
+            let parameters =
+                list(parameters.trim().trim_end_matches(')'), ',').filter(|&parameter| parameter != "void");
             (
                 format!("span_{}", name.trim()),
                 parameters.map(|parameter| of_c(parameter).1).collect(),
@@ -115,14 +116,14 @@ fn structs_of_rust(raw: &str) -> Declared {
 #[test]
 fn the_functions_are_those_of_the_header() {
     let wanted = functions_of_c(&header());
-    assert_eq!(wanted.len(), 19, "{:?}", wanted.keys());
+    assert_eq!(wanted.len(), 21, "{:?}", wanted.keys());
     assert_eq!(functions_of_rust(&raw()), wanted);
 }
 
 #[test]
 fn the_structs_are_those_of_the_header() {
     let wanted = structs_of_c(&header());
-    assert_eq!(wanted.len(), 9, "{:?}", wanted.keys());
+    assert_eq!(wanted.len(), 10, "{:?}", wanted.keys());
     assert_eq!(structs_of_rust(&raw()), wanted);
     assert_eq!(raw().matches("#[repr(C)]").count(), wanted.len());
 }
@@ -130,9 +131,13 @@ fn the_structs_are_those_of_the_header() {
 #[test]
 fn the_constants_are_those_of_the_header() {
     let header = header();
+    let defined = header
+        .lines()
+        .filter_map(|line| line.strip_prefix("#define SPAN_")?.split_once(' '));
     let wanted: BTreeMap<&str, &str> = between(&header, "enum {", "}")
         .flat_map(|constants| list(constants, ','))
         .filter_map(|constant| constant.strip_prefix("SPAN_")?.split_once(" = "))
+        .chain(defined)
         .collect();
     let raw = raw();
     let ours: Vec<_> = between(&raw, "const ", ";")

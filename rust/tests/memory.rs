@@ -43,9 +43,9 @@ fn reading<T>(drain: &mut Drain, mut call: impl FnMut() -> Result<T, Error>) -> 
 /// Eight calls, some of which come to be owed, since the ring is small.
 fn round(registry: &Registry, drain: &mut Drain) {
     let outer = reading(drain, || registry.span(&info("outer"), Parent::Root, &[("k", "v")]));
-    let _in_outer = reading(drain, || outer.enter());
+    let _in_outer = reading(drain, || outer.try_enter());
     let inner = reading(drain, || registry.span(&info("inner"), Parent::Current, &[]));
-    reading(drain, || inner.record(&[("key", "value")]));
+    reading(drain, || inner.try_record(&[("key", "value")]));
     reading(drain, || Ids(registry.clone()).event("message"));
     let _shared = inner.clone();
     drop(reading(drain, || outer.try_clone()));

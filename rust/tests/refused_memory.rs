@@ -2,16 +2,19 @@
 //! then owe.
 //!
 //! The library takes its memory by three functions of the toolchain's shim. This program has its own in their place,
-//! which refuse one allocation.
+//! which refuse one allocation of all of the process: its tests run one at a time.
 mod common;
 
 use common::{assert_empty, compact, id, info, texts, Ids};
 use span_registry::{Drain, Error, Parent, Registry};
 use std::ffi::c_void;
+use std::io;
 use std::sync::atomic::{AtomicU64, Ordering};
+use std::sync::{Mutex, PoisonError};
 
 /// How many allocations come before the one that is refused.
 static BEFORE: AtomicU64 = AtomicU64::new(u64::MAX);
+static ALONE: Mutex<()> = Mutex::new(());
 
 #[repr(C)]
 pub struct Block {
@@ -130,16 +133,16 @@ fn run(registry: Registry, drain: &mut Drain) -> Calls {
         owed: 0,
     };
     let a = calls.make(|registry| registry.span(&info("a"), Parent::Root, &[("k", "v")]));
-    let in_a = calls.make(|_| a.enter());
+    let in_a = calls.make(|_| a.try_enter());
     let b = calls.make(|registry| registry.span(&info("b"), Parent::Current, &[]));
     let own = calls.make(|_| b.try_clone());
-    let in_b = calls.make(|_| b.enter());
-    calls.make(|_| b.record(&[("key", "value")]));
+    let in_b = calls.make(|_| b.try_enter());
+    calls.make(|_| b.try_record(&[("key", "value")]));
     calls.make(|registry| Ids(registry.clone()).event("m"));
     calls.drop(in_b);
     calls.drop(own);
     calls.drop(in_a);
-    assert_eq!(calls.registry.find(id(2)).expect("open").handles, 1);
+    assert_eq!(calls.registry.find(id(&calls.registry, 2)).expect("open").handles, 1);
     calls.drop(a.clone());
     calls.drop(b);
     calls.drop(a);
@@ -163,6 +166,7 @@ fn run(registry: Registry, drain: &mut Drain) -> Calls {
 
 #[test]
 fn each_refused_allocation_is_answered_and_changes_nothing() {
+    let _alone = ALONE.lock().unwrap_or_else(PoisonError::into_inner);
     let (mut of_build, mut of_calls, mut of_drops, mut of_lines) = (0, 0, 0, 0);
     for before in 0.. {
         BEFORE.store(before, Ordering::SeqCst);
@@ -184,4 +188,30 @@ fn each_refused_allocation_is_answered_and_changes_nothing() {
     }
     println!("refused: {of_build} starts, {of_calls} calls, {of_drops} drops, {of_lines} lines");
     assert!(of_build > 0 && of_calls > 0 && of_drops > 0 && of_lines > 0);
+}
+
+#[test]
+fn a_guard_tells_of_lines_that_are_missing() -> Result<(), Box<dyn std::error::Error>> {
+    let _alone = ALONE.lock().unwrap_or_else(PoisonError::into_inner);
+    let mut missing = 0;
+    for before in 0.. {
+        BEFORE.store(u64::MAX, Ordering::SeqCst);
+        let (registry, drain) = compact().build()?;
+        Ids(registry.clone()).event("m")?;
+        // From here on only the writer takes memory of the library.
+        BEFORE.store(before, Ordering::SeqCst);
+        match drain.spawn(io::sink())?.finish() {
+            Ok(lines) => assert_eq!(lines, 1),
+            Err(error) => {
+                assert_eq!(error.kind(), io::ErrorKind::OutOfMemory);
+                assert_eq!(error.to_string(), "lines written: 0, missing for want of memory: 1");
+                missing += 1;
+            }
+        }
+        if !is_spent() {
+            break;
+        }
+    }
+    assert!(missing > 0);
+    Ok(())
 }

@@ -39,13 +39,13 @@ fn a_spans_life_by_ids() -> Result<(), Error> {
 fn a_spans_life_by_handles() -> Result<(), Error> {
     let (registry, mut drain) = compact().build()?;
     let first = registry.span(&info("a"), Parent::Current, &[])?;
-    assert_eq!(first.id(), Some(id(1)));
+    assert_eq!(first.id(), Some(id(&registry, 1)));
     let second = first.try_clone()?;
-    let inside = first.enter()?;
+    let inside = first.try_enter()?;
     assert!(inside.is_first());
-    first.record(&[("k", "v")])?;
+    first.try_record(&[("k", "v")])?;
     registry.event(&Meta::event(Level::Info, "app"), "m", &[])?;
-    let found = registry.find(id(1)).expect("open");
+    let found = registry.find(id(&registry, 1)).expect("open");
     assert_eq!((found.handles, found.entries, found.count), (2, 1, 3));
     assert_eq!((found.parent, found.level), (None, Level::Info));
     assert!(!second.try_close().expect("not refused"));
@@ -64,7 +64,7 @@ fn two_layers_write_two_forms() -> Result<(), Error> {
         .layer(Layer::compact())
         .build()?;
     let span = registry.span(&info("a"), Parent::Current, &[("k", "1")])?;
-    span.record(&[("k", "2")])?;
+    span.try_record(&[("k", "2")])?;
     registry.event(&Meta::event(Level::Warn, "app"), "x\ny", &[])?;
     drop(span);
     let wanted = [
@@ -111,8 +111,8 @@ fn a_parent_closes_after_its_children() -> Result<(), Error> {
         .build()?;
     let ids = Ids(registry);
     assert_eq!(ids.make("a"), Ok(1));
-    assert_eq!(ids.make_under("b", Parent::Of(id(1))), Ok(2));
-    assert_eq!(ids.make_under("c", Parent::Of(id(2))), Ok(3));
+    assert_eq!(ids.make_under("b", Parent::Of(ids.id(1))), Ok(2));
+    assert_eq!(ids.make_under("c", Parent::Of(ids.id(2))), Ok(3));
     assert_eq!((ids.close(1), ids.close(2)), (Ok(false), Ok(false)));
     assert_eq!(ids.find(2), Some((1, 0, 0, 1)));
     assert_eq!(ids.close(3), Ok(true));
@@ -157,7 +157,7 @@ fn the_current_span_is_the_innermost_that_does_not_repeat() -> Result<(), Error>
         (ids.enter(1), ids.enter(2), ids.enter(1)),
         (Ok(true), Ok(true), Ok(false))
     );
-    assert_eq!(ids.0.current_span(), Ok(Some(id(2))));
+    assert_eq!(ids.0.current_span(), Ok(Some(ids.id(2))));
     assert_eq!(ids.make("c"), Ok(3));
     assert_eq!(ids.find(3), Some((2, 1, 0, 1)));
     assert_eq!(ids.make_under("d", Parent::Root), Ok(4));
@@ -176,7 +176,7 @@ fn each_layer_sees_the_spans_that_it_admits() -> Result<(), Error> {
     let other = ids
         .0
         .new_span(&Meta::new(Level::Info, "lib", "q"), Parent::Current, &[])?;
-    assert_eq!(other, Some(id(2)));
+    assert_eq!(other, Some(ids.id(2)));
     ids.enter(2)?;
     ids.make("c")?;
     ids.0.event(&Meta::event(Level::Info, "app"), "hi", &[("k", "v")])?;
@@ -227,9 +227,9 @@ fn a_span_that_no_layer_wants_is_disabled() -> Result<(), Error> {
     let span = registry.span(&info("a"), Parent::Current, &[])?;
     assert!(span.is_disabled());
     assert_eq!(span.id(), None);
-    span.record(&[("not a name", "v")])?;
-    assert!(!span.enter()?.is_first());
-    assert_eq!(span.in_scope(|| 7), Ok(7));
+    span.try_record(&[("not a name", "v")])?;
+    assert!(!span.try_enter()?.is_first());
+    assert_eq!(span.in_scope(|| 7), 7);
     assert!(span.try_clone()?.is_disabled());
     assert!(!span.clone().try_close().expect("not refused"));
     let under = registry.span(&Meta::new(Level::Error, "app", "b"), Parent::from(&span), &[])?;
@@ -246,9 +246,9 @@ fn of_several_refusals_the_first_in_order_is_answered() -> Result<(), Error> {
     let ids = Ids(registry);
     assert_eq!(ids.make("a"), Ok(1));
     let before = ids.0.counts();
-    assert_eq!(ids.make_under("a b", Parent::Of(id(1))), Err(Error::BadName));
-    assert_eq!(ids.make_under("b", Parent::Of(id(2))), Err(Error::Unknown));
-    assert_eq!(ids.make_under("b", Parent::Of(id(1))), Err(Error::CountFull));
+    assert_eq!(ids.make_under("a b", Parent::Of(ids.id(1))), Err(Error::BadName));
+    assert_eq!(ids.make_under("b", Parent::Of(ids.id(2))), Err(Error::Unknown));
+    assert_eq!(ids.make_under("b", Parent::Of(ids.id(1))), Err(Error::CountFull));
     assert_eq!(ids.make_under("b", Parent::Root), Err(Error::Full));
     assert_eq!(ids.clone_span(1), Err(Error::CountFull));
     assert_eq!(ids.enter(1), Err(Error::CountFull));
@@ -269,7 +269,7 @@ fn a_stale_id_finds_nothing() -> Result<(), Error> {
     assert_eq!(ids.make("b"), Ok(16_777_217));
     assert_eq!(ids.exit(1), Err(Error::Unknown));
     assert_eq!(ids.exit(16_777_217), Err(Error::NotEntered));
-    assert_eq!(ids.make_under("c", Parent::Of(id(1))), Err(Error::Unknown));
+    assert_eq!(ids.make_under("c", Parent::Of(ids.id(1))), Err(Error::Unknown));
     assert_eq!(
         (ids.close(1), ids.clone_span(1)),
         (Err(Error::Unknown), Err(Error::Unknown))
@@ -290,8 +290,12 @@ fn a_stale_id_finds_nothing() -> Result<(), Error> {
 fn ids_that_were_never_given_are_unknown() -> Result<(), Error> {
     let (registry, _drain) = Registry::builder().build()?;
     for number in [1, 1 << 24, (1 << 24) + 1, 1 << 56] {
-        assert_eq!(registry.try_close(id(number)), Err(Error::Unknown), "{number}");
-        assert_eq!(registry.find(id(number)), None, "{number}");
+        assert_eq!(
+            registry.try_close(id(&registry, number)),
+            Err(Error::Unknown),
+            "{number}"
+        );
+        assert_eq!(registry.find(id(&registry, number)), None, "{number}");
     }
     Ok(())
 }
@@ -328,14 +332,14 @@ fn limits_and_layers_have_their_ranges() {
         new().slots((1 << 24) + 1),
         new().max_count(0),
         new().workers(0),
-        new().workers(257),
+        new().workers(65_537),
         new().ring(0),
         new().ring(65_537),
     ] {
         assert_eq!(built(bad.clone()), Err(Error::BadLimits), "{bad:?}");
     }
     for good in [
-        new().slots(1).workers(256).ring(1),
+        new().slots(1).workers(65_536).ring(1),
         new().last_generation(0).max_count(1).ring(65_536),
     ] {
         assert_eq!(built(good.clone()), Ok(()), "{good:?}");

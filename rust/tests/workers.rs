@@ -176,7 +176,7 @@ fn the_end_of_a_thread_may_need_several_turns() -> Result<(), Error> {
         for (id, name) in [(1, "a"), (2, "b"), (3, "c")] {
             span_registry::retry(|| ids.make(name)).expect("new");
             span_registry::retry(|| ids.enter(id)).expect("enter");
-            ids.0.close_or_owe(common::id(id));
+            ids.0.close_or_owe(ids.id(id)).expect("it has a handle");
         }
     })
     .join_with(|| {
@@ -298,7 +298,7 @@ fn a_guard_that_outlives_its_threads_number_leaves_no_other_thread() -> Result<(
             if kept_first {
                 LATE.with_borrow(|late| assert!(late.is_none()));
             }
-            let guard = Some(a.enter().expect("enter"));
+            let guard = Some(a.try_enter().expect("enter"));
             LATE.set(Some(Late { guard, turn: late }));
         });
         while turn.load(Ordering::SeqCst) != 0 {
@@ -306,7 +306,7 @@ fn a_guard_that_outlives_its_threads_number_leaves_no_other_thread() -> Result<(
         }
         // Where the thread's number is free already, this thread gets it.
         let inside = thread::spawn(move || {
-            let inside = a.enter();
+            let inside = a.try_enter();
             let (is_inside, found) = (inside.is_ok(), registry.find(a.id().expect("wanted")));
             wait_for(&turn, 1, 2);
             let entries = registry.find(a.id().expect("wanted")).expect("open").entries;

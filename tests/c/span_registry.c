@@ -261,7 +261,7 @@ static void test_bad_data_of_registries(void) {
     for (long allowed = -1; allowed < 4; allowed++)
         check_bad_data_of_registries(allowed);
     CHECK(span_registry_new(&registry, &drain, &limits, many, 65, &rule, 0, bytes(""), 0) == SPAN_TOO_MANY_LAYERS);
-    limits.workers = 257;
+    limits.workers = 65537;
     CHECK(span_registry_new(&registry, &drain, &limits, many, 65, &rule, 0, bytes(""), 0) == SPAN_BAD_LIMITS);
     CHECK(registry.at == NULL && drain.at == NULL);
     CHECK(span_registry_new(&registry, &drain, &usual_limits, many, 64, &rule, 0, bytes(""), 0) == SPAN_OK);
@@ -447,7 +447,17 @@ static void test_reader_in_another_thread(void) {
     close_both();
 }
 
+static void test_abi(void) {
+    SpanSizes sizes;
+    CHECK(span_abi_version() == SPAN_ABI_VERSION);
+    CHECK(span_struct_sizes(&sizes) == SPAN_OK);
+    CHECK(sizes.limits == sizeof(SpanLimits) && sizes.layer == sizeof(SpanLayer) && sizes.rule == sizeof(SpanRule));
+    CHECK(sizes.meta == sizeof(SpanMeta) && sizes.field == sizeof(SpanField));
+    CHECK(sizes.found == sizeof(SpanFound) && sizes.counts == sizeof(SpanCounts));
+}
+
 int main(void) {
+    test_abi();
     test_life_of_a_span();
     test_lines();
     test_short_buffer();

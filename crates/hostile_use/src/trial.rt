@@ -13,7 +13,7 @@ pub(crate) trait Subject<A> {
     fn call(&mut self, act: &A) -> Result<Answer, Fault>;
 
     /// Adds all that can be looked at to a text.
-    fn look(&self, text: &mut String) -> Result<(), AllocError>;
+    fn look(&mut self, text: &mut String) -> Result<(), AllocError>;
 }
 
 /// A call: the words in which its answer is told, and whether it may take memory.
@@ -110,7 +110,7 @@ fn judge<R: Print>(
 }
 
 // All that can be looked at.
-fn look_at<A, S: Subject<A>>(alloc: Global, subject: &S) -> Result<String, AllocError> {
+fn look_at<A, S: Subject<A>>(alloc: Global, subject: &mut S) -> Result<String, AllocError> {
     let mut text = String::new(alloc);
     match subject.look(&mut text) {
         Ok(()) => Ok(text),
@@ -121,7 +121,7 @@ fn look_at<A, S: Subject<A>>(alloc: Global, subject: &S) -> Result<String, Alloc
 // Whether something else can be looked at than before.
 fn is_changed<A, S: Subject<A>>(
     alloc: Global,
-    subject: &S,
+    subject: &mut S,
     before: &str,
 ) -> Result<bool, AllocError> {
     Ok(look_at(alloc, subject)?.as_str() != before)

@@ -13,6 +13,7 @@ ghost use Rattle.span_forest.specs.Count.{total_held, total_handles, reference_c
 ghost use Rattle.span_core.specs.World.{empty_world, stack_of, entries_in, workers_with, IsCounted};
 ghost use Rattle.span_core.specs.History.{issued, IsLegal};
 ghost use Rattle.span_core.specs.ClosedSpans.{closed_in};
+ghost use mathlib.Core.List.{IsPrefix};
 
 mod calls;
 mod details;
@@ -35,7 +36,7 @@ use span_forest::laws::open_spans_are_counted;
 use span_forest::{Forest, Held, Span};
 use span_id::{Checked, Fault, Id, Limits};
 use span_layers::{Admitters, Filters, Rules};
-use span_outlet::Outlet;
+use span_outlet::{Drain, Outlet, Ring};
 use span_stack::SpanStack;
 use std::alloc::Global;
 use std::marker::Model;
@@ -288,6 +289,18 @@ impl<O: Outlet, A> Core<O, A> {
         ensures name { O.name result.now ≡ self.now.name }
     {
         &self.outlet
+    }
+}
+
+impl<A> Core<Ring, A> {
+    /// Shows that what the drain of this core's ring has taken is the beginning of what was sent. Nothing changes.
+    pub fn show<V>(&mut self, drain: &mut Drain<V>)
+        requires pair { Some drain.old.name ≡ self.old.name }
+        ensures taken { IsPrefix drain.old.taken self.old.sent }
+        ensures drain { drain.new ≡ drain.old }
+        ensures same { self.new ≡ self.old }
+    {
+        drain.show(&mut self.outlet);
     }
 }
 

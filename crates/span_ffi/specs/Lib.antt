@@ -1,4 +1,5 @@
 pub mod Status
+pub mod Abi
 pub mod Ends
 pub mod Data
 pub mod Registry

@@ -69,3 +69,16 @@ pub struct SpanCounts {
     pub open: u32,
     pub workers: u32,
 }
+
+/// How many bytes each of the other structs of numbers takes.
+#[repr(C)]
+#[derive(Clone, Copy)]
+pub struct SpanSizes {
+    pub limits: u32,
+    pub layer: u32,
+    pub rule: u32,
+    pub meta: u32,
+    pub field: u32,
+    pub found: u32,
+    pub counts: u32,
+}

@@ -1,5 +1,6 @@
 //! What C calls. Each function takes whatever C passes, tests it, and answers the number of a status.
 
+mod abi;
 mod callers;
 mod callsites;
 mod drain;

@@ -16,7 +16,9 @@ mod registry_handle;
 mod status;
 mod valid;
 
-pub use data::{SpanCounts, SpanField, SpanFound, SpanLayer, SpanLimits, SpanMeta, SpanRule};
+pub use data::{
+    SpanCounts, SpanField, SpanFound, SpanLayer, SpanLimits, SpanMeta, SpanRule, SpanSizes,
+};
 pub use drain_handle::SpanDrain;
 pub use registry_handle::SpanRegistry;
 pub use status::Status;

@@ -1,5 +1,5 @@
 //! What takes the batches out of a ring and writes the lines of their notes.
-ghost use Rattle.std.specs.Prelude.{◌≡◌, ◌^◌, ◌<◌, [], List, IfSome, IfNone, map, length, All};
+ghost use Rattle.std.specs.Prelude.{◌≡◌, ◌^◌, ◌<◌, ◌≤◌, [], List, IfSome, IfNone, map, length, All};
 ghost use mathlib.Core.List.{IsPrefix};
 ghost use Rattle.std.specs.Iterator.{YieldsFirstRef};
 ghost use Rattle.std.specs.Iterator.Runs.{YieldsRefsInOrder};
@@ -136,6 +136,18 @@ impl<V: Say> Drain<V> {
 }
 
 impl<V> Drain<V> {
+    /// Shows that what was taken is the beginning of what was sent. Nothing changes but how many places the ring knows to
+    /// be free. It needs both ends of the ring in one thread.
+    pub fn show(&mut self, ring: &mut Ring)
+        requires pair { ring.old.name ≡ self.old.name }
+        ensures taken { IsPrefix self.old.taken ring.old.sent }
+        ensures same { self.new ≡ self.old }
+        ensures free { ring.old.free ≤ ring.new.free }
+        ensures ring { ring.new ≡ record ring.old { free = ring.new.free } }
+    {
+        ring.look_beside(&mut self.consumer);
+    }
+
     /// The lines of the notes that were taken, in order, but for the notes that were missed. No line has the batch and
     /// the place of a note that was missed; where none was missed, these are the lines of what was taken.
     pub fn all(&self) -> &[Line]

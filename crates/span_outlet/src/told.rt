@@ -1,5 +1,5 @@
 //! The telling of notes, one after another.
-ghost use Rattle.std.specs.Prelude.{◌≡◌, ◌+◌, ◌-◌, ◌^◌, ◌<◌, ◌≤◌, ◌∷◌, [], Some, IfOk, IfSome, map, length, min};
+ghost use Rattle.std.specs.Prelude.{◌≡◌, ◌+◌, ◌-◌, ◌^◌, ◌<◌, ◌≤◌, ◌∷◌, [], Some, IfOk, IfSome, map, length, min, vec_capacity};
 ghost use Rattle.span_layers.specs.Note.{plain_note};
 ghost use Rattle.span_layers.specs.Text.{text_of};
 ghost use Rattle.span_outlet.specs.Lines.{line_of, plain_line};
@@ -40,9 +40,11 @@ pub(crate) struct Told {
 }
 
 /// Lets go of the lines. The buffers of their texts are kept for texts to come, as long as they are few and small, and
-/// the list keeps room for a few lines.
+/// the list keeps the room that it has for a few lines.
 pub(crate) fn recycle(lines: &mut Vec<Line>, spare: &mut Vec<Vec<u8>>)
-    ensures { lines.new.items ≡ [] }
+    ensures empty { lines.new.items ≡ [] }
+    ensures room { min 64 (vec_capacity lines.old) ≤ vec_capacity lines.new }
+    ensures no_more { vec_capacity lines.new ≤ vec_capacity lines.old }
 {
     while let Some(line) = lines.pop() {
         keep_buffer(spare, line);

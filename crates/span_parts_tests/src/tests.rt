@@ -1,7 +1,7 @@
 //! What no clause says: worked values from outside the crates, and each call once.
 mod compare;
-mod core_calls;
 mod forest;
+mod hooks;
 mod ids;
 mod layers;
 mod outlet;
@@ -9,4 +9,3 @@ mod recent;
 mod seats;
 mod slots;
 mod stack;
-mod values;

@@ -3,3 +3,7 @@ pub mod Totals
 pub mod Seats
 pub mod Free
 pub mod Workers
+pub mod NoCalls
+pub mod Own
+pub mod Exited
+pub mod Happens

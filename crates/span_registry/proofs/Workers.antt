@@ -18,7 +18,7 @@ one_more_new n workers worker len new before i d below =
     i below d
 
 -- what is left of the ledger of handles and of that of calls, and what the workers have of the former
-pub parts_left : (left before number : ℕ) → left + 2 ^ 55 ≡ before → before + number * 2 ^ 55 ≡ 2 ^ 64 - 1 → left + (number + 1) * 2 ^ 55 ≡ 2 ^ 64 - 1
+pub parts_left : (left before number : ℕ) → left + 2 ^ 47 ≡ before → before + number * 2 ^ 47 ≡ 2 ^ 64 - 1 → left + (number + 1) * 2 ^ 47 ≡ 2 ^ 64 - 1
 parts_left left before number split known = omega arith
 
 pub calls_left : (left before number workers : ℕ) → left + 1 ≡ before → before + number ≡ workers → left + (number + 1) ≡ workers
@@ -27,5 +27,5 @@ calls_left left before number workers split known = omega arith
 pub one_more_spare : (workers after : List WorkerView) (worker : WorkerView) → after ≡ workers ++ worker ∷ [] → sum_by (λ worker. worker.spare) after ≡ sum_by (λ worker. worker.spare) workers + worker.spare
 one_more_spare workers after worker is = ap (λ xs. sum_by (λ (worker : WorkerView). worker.spare) xs) is ∙ sum_by_push (λ (worker : WorkerView). worker.spare) workers worker
 
-pub spare_given : (sum before spare number : ℕ) → sum ≡ before + spare → spare ≡ 2 ^ 55 → before ≡ number * 2 ^ 55 → sum ≡ (number + 1) * 2 ^ 55
+pub spare_given : (sum before spare number : ℕ) → sum ≡ before + spare → spare ≡ 2 ^ 47 → before ≡ number * 2 ^ 47 → sum ≡ (number + 1) * 2 ^ 47
 spare_given sum before spare number more spare_is known = omega arith

@@ -20,7 +20,10 @@ pub use Rattle.span_core.specs.NextId
 pub use Rattle.span_core.specs.Core
 pub use Rattle.span_core.specs.Outcome
 pub use Rattle.span_core.specs.ClosedSpans
+pub use Rattle.span_core.specs.GivenBack
 pub use Rattle.span_core.specs.Handles
+-- What a worker has seen of the history.
+pub use Rattle.span_history.specs.Own
 -- What public clauses say of open spans, and the view of a handle.
 pub use Rattle.span_forest.specs.Node
 pub use Rattle.span_forest.specs.Spans
@@ -30,10 +33,12 @@ pub use Rattle.span_forest.specs.Release
 pub use Rattle.span_seats.specs.declared.view.HandleView
 -- What the lock adds.
 pub mod Setup
+pub mod Blanks
 pub mod Handle
 pub mod Worker
 pub mod Share
 pub mod Found
 pub mod Locked
 pub mod Report
+pub mod Happened
 pub mod inside

@@ -1,21 +1,57 @@
-//! What an accepted call moves in the two books and at its worker.
+//! What a call moves in the two books, at the keeper and at its worker.
 ghost use Rattle.std.specs.Prelude.{◌≡◌, ◌+◌, ◌-◌, ◌^◌, ◌<◌, ◌≤◌};
-ghost use Rattle.span_registry.specs.Worker.{WorkerView, after_call};
+ghost use mathlib.Core.List.{IsPrefix};
+ghost use Rattle.span_history.specs.Own.{IsFront};
+ghost use Rattle.span_registry.specs.Worker.{WorkerView, after_call, front_of, HasOneMore, HasNoMore};
+ghost use Rattle.span_registry.specs.inside.Called.{IsAsLong, IsOneLonger};
 
 use crate::handle::Handle;
 use crate::setup::Setup;
 use crate::worker::Worker;
+use span_core::Core;
+use span_history::Keeper;
 use span_id::Id;
+use span_outlet::Outlet;
 use span_seats::HandleSeat;
 use std::sync::ledger;
 use std::sync::ledger::{Book, Ledger};
 
-// One more accepted call of the worker.
-pub(crate) fn count_call<H: Ledger, C: Ledger>(calls: &mut Book<C>, worker: &mut Worker<H, C>)
-    requires { calls.old.total + 1 < 2 ^ 64 }
-    ensures total { calls.new.total ≡ calls.old.total + 1 }
-    ensures worker { worker.new ≡ after_call worker.old worker.old.spare }
+// The worker sees the history of all that the core sent, which the keeper knew.
+pub(crate) fn see<H: Ledger, C: Ledger, S: Setup, O: Outlet, A>(
+    keeper: &mut Keeper<S>,
+    core: &Core<O, A>,
+    worker: &mut Worker<H, C, S>,
+)
+    requires { IsAsLong S.limits S.rules keeper.old.history core.now }
+    ensures history { keeper.new.history ≡ core.now.sent }
+    ensures seen { IsFront (front_of worker.old) keeper.old.history }
+    ensures more { IsPrefix worker.old.seen worker.new.seen }
+    ensures own { HasNoMore worker.old worker.new }
+    ensures worker { worker.new ≡ record worker.old { seen = core.now.sent } }
 {
+    // (it says that what was sent is legal)
+    core.calls();
+    keeper.next(core.outlet(), &mut worker.front);
+}
+
+// One more accepted call of the worker, which it sees with the history so far.
+pub(crate) fn count_call<H: Ledger, C: Ledger, S: Setup, O: Outlet, A>(
+    calls: &mut Book<C>,
+    keeper: &mut Keeper<S>,
+    core: &Core<O, A>,
+    worker: &mut Worker<H, C, S>,
+)
+    requires room { calls.old.total + 1 < 2 ^ 64 }
+    requires longer { IsOneLonger S.limits S.rules worker.old.number keeper.old.history core.now }
+    ensures total { calls.new.total ≡ calls.old.total + 1 }
+    ensures history { keeper.new.history ≡ core.now.sent }
+    ensures seen { IsFront (front_of worker.old) keeper.old.history }
+    ensures more { IsPrefix worker.old.seen worker.new.seen }
+    ensures own { HasOneMore worker.old worker.new }
+    ensures worker { worker.new ≡ after_call worker.old worker.old.spare core.now.sent }
+{
+    core.calls();
+    keeper.next(core.outlet(), &mut worker.front);
     calls.audit(&mut worker.calls);
     calls.add(&mut worker.calls, 1);
     worker.accepted += 1;
@@ -24,7 +60,7 @@ pub(crate) fn count_call<H: Ledger, C: Ledger>(calls: &mut Book<C>, worker: &mut
 // A handle with this seat: one unit more in the book, on a part of the worker's.
 pub(crate) fn make_handle<H: Ledger, C: Ledger, S: Setup>(
     handles: &mut Book<H>,
-    worker: &mut Worker<H, C>,
+    worker: &mut Worker<H, C, S>,
     id: Id,
     seat: HandleSeat<S>,
 ) -> Handle<H, C, S>
@@ -47,9 +83,9 @@ pub(crate) fn make_handle<H: Ledger, C: Ledger, S: Setup>(
 }
 
 // A handle's unit leaves the book, and its part goes to the worker.
-pub(crate) fn take_back<H: Ledger, C: Ledger>(
+pub(crate) fn take_back<H: Ledger, C: Ledger, S: Setup>(
     handles: &mut Book<H>,
-    worker: &mut Worker<H, C>,
+    worker: &mut Worker<H, C, S>,
     unit: ledger::Share<H>,
 )
     requires unit { (unit.parts ≡ 1) × (unit.amount ≡ 1) }

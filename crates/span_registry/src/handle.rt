@@ -1,9 +1,10 @@
 //! Handles.
-ghost use Rattle.std.specs.Prelude.{◌≡◌, Some, IsSome};
+ghost use Rattle.std.specs.Prelude.{◌≡◌, [], Some, IsSome};
 ghost use Rattle.span_registry.specs.Share.{ShareView};
 
 use crate::setup::Setup;
 use crate::share::Share;
+use span_history::Fronts;
 use span_id::Id;
 use span_seats::{HandleSeat, TableName};
 use std::marker::Model;
@@ -46,8 +47,8 @@ impl<H: Ledger, C: Ledger, S: Setup> Handle<H, C, S> {
     }
 
     /// Gives the handle up without closing: its span stays open, and the share has one unit.
-    pub fn into_share(self) -> Share<H, C>
-        ensures { result ≡ record { units = 1; accepted = 0; handle_parts = 1; call_parts = 0 } }
+    pub fn into_share(self) -> Share<H, C, S>
+        ensures { result ≡ record { units = 1; accepted = 0; handle_parts = 1; call_parts = 0; seen = [] } }
     {
         let Handle {
             id: _,
@@ -60,6 +61,7 @@ impl<H: Ledger, C: Ledger, S: Setup> Handle<H, C, S> {
             accepted: 0,
             handles: unit,
             calls: no_calls,
+            seen: Fronts::none(),
         }
     }
 }

@@ -11,6 +11,7 @@
 //! (`span_outlet`) again.
 #![tactic(auto)]
 
+mod blanks;
 mod books;
 mod found;
 mod handle;
@@ -23,6 +24,7 @@ mod share;
 mod with_seats;
 mod worker;
 
+pub use blanks::Blanks;
 pub use found::Found;
 pub use handle::Handle;
 pub use locked::Locked;
@@ -35,5 +37,5 @@ pub use span_outlet::{
     Batch, Call, Drain, Kept, KnownEvent, Latest, LayerLines, Line, LineReader, Outlet, ParentOf,
     Reply, Ring, Step, Tap,
 };
-pub use span_seats::{SeatTable, TableName};
+pub use span_seats::TableName;
 pub use worker::Worker;

@@ -1,23 +1,27 @@
 //! Shares.
-ghost use Rattle.std.specs.Prelude.{◌≡◌, ◌+◌, ◌^◌, ◌<◌};
+ghost use Rattle.std.specs.Prelude.{◌≡◌, ◌+◌, ◌^◌, ◌<◌, ◌≤◌, length};
 ghost use Rattle.span_registry.specs.Share.{ShareView, joined};
 
+use crate::setup::Setup;
+use span_history::Fronts;
 use std::marker::Model;
 use std::sync::ledger;
 use std::sync::ledger::Ledger;
 
 /// What is left of workers and handles that are done: parts of the registry's two ledgers, with the handles that were
-/// given up unclosed and the calls that were accepted. All of them joined are the whole share.
+/// given up unclosed and the calls that were accepted, and what each of the workers had seen. All of them joined are the
+/// whole share.
 #[derive(Drop)]
-pub struct Share<H: Ledger, C: Ledger> {
+pub struct Share<H: Ledger, C: Ledger, S: Setup> {
     pub(crate) units: u64,
     pub(crate) accepted: u64,
     pub(crate) handles: ledger::Share<H>,
     pub(crate) calls: ledger::Share<C>,
+    pub(crate) seen: Fronts<S>,
 }
 
-impl<H: Ledger, C: Ledger> Model for Share<H, C> {
-    ghost use Rattle.std.specs.Prelude.{◌≡◌};
+impl<H: Ledger, C: Ledger, S: Setup> Model for Share<H, C, S> {
+    ghost use Rattle.std.specs.Prelude.{◌≡◌, ◌<◌, ◌≤◌, length};
     ghost use Rattle.span_registry.specs.Share.{ShareView};
 
     ghost Value = { ShareView };
@@ -27,12 +31,14 @@ impl<H: Ledger, C: Ledger> Model for Share<H, C> {
       accepted = s.accepted;
       handle_parts = s.handles.parts;
       call_parts = s.calls.parts;
+      seen = s.seen;
     } };
 
-    ghost invariant = { λ s. (s.handles.amount ≡ s.units) × (s.calls.amount ≡ s.accepted) };
+    ghost invariant = { λ s. (s.handles.amount ≡ s.units) × (s.calls.amount ≡ s.accepted)
+        × (length s.seen ≡ s.calls.parts) × (0 < s.calls.parts → C.parts ≤ 65536) };
 }
 
-impl<H: Ledger, C: Ledger> Share<H, C> {
+impl<H: Ledger, C: Ledger, S: Setup> Share<H, C, S> {
     /// How many handles were given up.
     pub fn units(&self) -> u64
         ensures { result ≡ self.now.units }
@@ -48,7 +54,7 @@ impl<H: Ledger, C: Ledger> Share<H, C> {
     }
 
     /// Both shares together. Both sums have to fit.
-    pub fn join(self, other: Share<H, C>) -> Share<H, C>
+    pub fn join(self, other: Share<H, C, S>) -> Share<H, C, S>
         requires units { self.units + other.units < 2 ^ 64 }
         requires accepted { self.accepted + other.accepted < 2 ^ 64 }
         ensures { result ≡ joined self other }
@@ -58,6 +64,7 @@ impl<H: Ledger, C: Ledger> Share<H, C> {
             accepted,
             mut handles,
             mut calls,
+            seen,
         } = self;
         handles.merge(other.handles);
         calls.merge(other.calls);
@@ -66,6 +73,7 @@ impl<H: Ledger, C: Ledger> Share<H, C> {
             accepted: accepted + other.accepted,
             handles,
             calls,
+            seen: seen.join(other.seen),
         }
     }
 }

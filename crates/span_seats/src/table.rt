@@ -11,17 +11,23 @@ use span_id::Fault;
 use std::alloc::Global;
 use std::marker::{Brand, Model, PhantomData};
 
-/// Names one table, so that the types tell the seats of different tables apart.
+/// Names the two tables of one registry, so that the types tell the seats of different registries apart.
 pub trait TableName {
     ghost use Rattle.atomic_table.specs.Seated.{TableId};
 
+    /// The table of the handles' seats.
     ghost table: { TableId };
+
+    /// The table of the history, whose seats are the workers' and the keeper's.
+    ghost history: { TableId };
 }
 
 impl TableName for Brand {
     ghost use Rattle.span_seats.specs.TableName.{no_table};
 
     ghost table = { no_table };
+
+    ghost history = { no_table };
 }
 
 pub(crate) type WordTable = Table<(), SeatView, u64, SeatRule, Global>;

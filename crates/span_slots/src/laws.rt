@@ -127,8 +127,8 @@ pub fn each_slot_has_one_id<T>(slots: &Slots<T>)
     let _opened = &slots.cells;
 }
 
-/// A walk by `id_from`, which begins at slot 0 and goes on at the slot after the one that was told, meets each id of the
-/// map once, and no other: by ascending slot.
+/// A walk by `id_from`, which begins at slot 0 and goes on at the slot after the one that was told, meets each id of
+/// the map once, and no other: by ascending slot.
 pub fn a_walk_meets_each_id_once<T>(slots: &Slots<T>)
     ensures all { ids_from slots.now.entries 0 ≡ map (λ e. e.0) slots.now.entries }
     ensures next { (slot id : ℕ) → id_from slots.now.entries slot ≡ Some id →

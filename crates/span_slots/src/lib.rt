@@ -137,8 +137,8 @@ impl<T: Drop> Slots<T> {
 
     /// The lowest id that has a value, by slots, from this slot on.
     ///
-    /// It looks at each slot that was ever used from there on, up to the one that it tells. So who asks for the slot after
-    /// the one that was told, again and again, meets each id once, and looks at each such slot once.
+    /// It looks at each slot that was ever used from there on, up to the one that it tells. So who asks for the slot
+    /// after the one that was told, again and again, meets each id once, and looks at each such slot once.
     pub fn id_from(&self, slot: u32) -> Option<Id>
         ensures { result ≡ id_from self.now.entries slot }
     {

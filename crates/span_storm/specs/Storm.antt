@@ -1,5 +1,5 @@
 -- What a storm is made with.
-use Rattle.std.specs.Prelude.{ℕ, Bool, List, codes}
+use Rattle.std.specs.Prelude.{◌≡◌, ℕ, Bool, List, codes}
 use Rattle.span_id.specs.declared.limits.Limits.{Limits}
 use Rattle.span_id.specs.declared.level.Level.TheVariants.{Info}
 use Rattle.span_id.specs.Meta.{PlainMeta}
@@ -35,6 +35,8 @@ storm_limits workers = record {
 -- and its lines are those of that history in the layers' forms, but for the notes that were missed.
 pub record IsStormEnd (limits : Limits) (rules : List Filter) (forms : List Form) (report : Report) : Type 0 where
   pub core : CoreView
+  pub limits_are : core.limits ≡ limits
+  pub rules_are : core.rules ≡ rules
   pub legal : IsLegal rules limits.workers core.sent core.world
   pub told : Tells core forms report
 

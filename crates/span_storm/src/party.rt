@@ -16,12 +16,12 @@ use std::thread::{Promise, PromisedHandle, Scope, Threads};
 
 /// What comes back of a worker that makes all its rounds.
 #[derive(Drop)]
-pub(crate) struct Back<H: Ledger, C: Ledger> {
-    worker: Snapshot<Worker<H, C>>,
+pub(crate) struct Back<H: Ledger, C: Ledger, S: Setup> {
+    worker: Snapshot<Worker<H, C, S>>,
     rounds: u32,
 }
 
-impl<H: Ledger, C: Ledger> Promise<Result<Share<H, C>, Stopped>> for Back<H, C> {
+impl<H: Ledger, C: Ledger, S: Setup> Promise<Result<Share<H, C, S>, Stopped>> for Back<H, C, S> {
     ghost use Rattle.std.specs.Prelude.{IfOk};
     ghost use Rattle.span_storm.specs.inside.Back.{ComesBack};
 
@@ -30,13 +30,13 @@ impl<H: Ledger, C: Ledger> Promise<Result<Share<H, C>, Stopped>> for Back<H, C> 
 
 /// A worker in its thread, if one could be made.
 #[derive(Drop)]
-pub(crate) struct Party<H: Ledger, C: Ledger> {
-    worker: Snapshot<Worker<H, C>>,
+pub(crate) struct Party<H: Ledger, C: Ledger, S: Setup> {
+    worker: Snapshot<Worker<H, C, S>>,
     rounds: u32,
-    running: Option<PromisedHandle<Result<Share<H, C>, Stopped>, Back<H, C>>>,
+    running: Option<PromisedHandle<Result<Share<H, C, S>, Stopped>, Back<H, C, S>>>,
 }
 
-impl<H: Ledger, C: Ledger> Model for Party<H, C> {
+impl<H: Ledger, C: Ledger, S: Setup> Model for Party<H, C, S> {
     ghost use Rattle.std.specs.Prelude.{◌≡◌, IfSome};
     ghost use Rattle.span_storm.specs.inside.Back.{PartyView};
 
@@ -48,9 +48,9 @@ impl<H: Ledger, C: Ledger> Model for Party<H, C> {
         (handle.promise.worker.value ≡ party.worker.value) × (handle.promise.rounds ≡ party.rounds)) };
 }
 
-impl<H: Ledger, C: Ledger> Party<H, C> {
+impl<H: Ledger, C: Ledger, S: Setup> Party<H, C, S> {
     /// What comes back of the worker, once its thread has ended.
-    pub(crate) fn join<R: Threads>(self, rt: &R) -> Result<Share<H, C>, Stopped>
+    pub(crate) fn join<R: Threads>(self, rt: &R) -> Result<Share<H, C, S>, Stopped>
         ensures { IfOk result (λ share. ComesBack self.worker self.rounds share) }
     {
         let Party {
@@ -80,9 +80,9 @@ pub(crate) fn start<
     registry: &'s Registry<H, C, S, Ring>,
     gate: &'s G,
     metas: &'s Metas,
-    worker: Worker<H, C>,
+    worker: Worker<H, C, S>,
     rounds: u32,
-) -> Party<H, C>
+) -> Party<H, C, S>
     requires { wants_jobs S.rules ≡ true }
     ensures { result ≡ record { worker = worker; rounds = rounds } }
 {
@@ -93,7 +93,7 @@ pub(crate) fn start<
     };
     let started = scope.spawn_with(
         promise,
-        move || -> Result<Share<H, C>, Stopped>
+        move || -> Result<Share<H, C, S>, Stopped>
             requires { wants_jobs S.rules ≡ true }
             ensures { IfOk result (λ share. ComesBack worker rounds share) }
         { work(rt, registry, gate, metas, worker, rounds) },

@@ -21,9 +21,9 @@ pub(crate) fn work<H: Ledger, C: Ledger, S: Setup, G: Gate, R: Wait>(
     registry: &Registry<H, C, S, Ring>,
     gate: &G,
     metas: &Metas,
-    worker: Worker<H, C>,
+    worker: Worker<H, C, S>,
     rounds: u32,
-) -> Result<Share<H, C>, Stopped>
+) -> Result<Share<H, C, S>, Stopped>
     requires { wants_jobs S.rules ≡ true }
     ensures { IfOk result (λ share. ComesBack worker rounds share) }
 {
@@ -40,7 +40,7 @@ fn make_rounds<H: Ledger, C: Ledger, S: Setup, G: Gate, R: Wait>(
     registry: &Registry<H, C, S, Ring>,
     gate: &G,
     metas: &Metas,
-    worker: &mut Worker<H, C>,
+    worker: &mut Worker<H, C, S>,
     rounds: u32,
 ) -> Result<(), Stopped>
     requires { wants_jobs S.rules ≡ true }
@@ -59,7 +59,7 @@ fn round<H: Ledger, C: Ledger, S: Setup, G: Gate, R: Wait>(
     registry: &Registry<H, C, S, Ring>,
     gate: &G,
     metas: &Metas,
-    worker: &mut Worker<H, C>,
+    worker: &mut Worker<H, C, S>,
 ) -> Result<(), Stopped>
     requires { wants_jobs S.rules ≡ true }
     ensures accepted { OnOk result (worker.new.accepted ≡ worker.old.accepted + 9) }
@@ -77,7 +77,7 @@ fn with_job<H: Ledger, C: Ledger, S: Setup, G: Gate, R: Wait>(
     registry: &Registry<H, C, S, Ring>,
     gate: &G,
     metas: &Metas,
-    worker: &mut Worker<H, C>,
+    worker: &mut Worker<H, C, S>,
     job: Held<H, C, S>,
 ) -> Result<(), Stopped>
     requires { wants_jobs S.rules ≡ true }
@@ -97,7 +97,7 @@ fn with_clone<H: Ledger, C: Ledger, S: Setup, G: Gate, R: Wait>(
     registry: &Registry<H, C, S, Ring>,
     gate: &G,
     metas: &Metas,
-    worker: &mut Worker<H, C>,
+    worker: &mut Worker<H, C, S>,
     job: &mut Handle<H, C, S>,
 ) -> Result<(), Stopped>
     requires { wants_jobs S.rules ≡ true }
@@ -117,7 +117,7 @@ fn inside<H: Ledger, C: Ledger, S: Setup, G: Gate, R: Wait>(
     registry: &Registry<H, C, S, Ring>,
     gate: &G,
     metas: &Metas,
-    worker: &mut Worker<H, C>,
+    worker: &mut Worker<H, C, S>,
     job: &mut Handle<H, C, S>,
 ) -> Result<(), Stopped>
     requires { wants_jobs S.rules ≡ true }
@@ -142,7 +142,10 @@ fn inside<H: Ledger, C: Ledger, S: Setup, G: Gate, R: Wait>(
 }
 
 // Asks whether the worker may make its next call: all calls before it were accepted.
-fn ask<H: Ledger, C: Ledger, G: Gate>(gate: &G, worker: &Worker<H, C>) -> Result<(), Stopped> {
+fn ask<H: Ledger, C: Ledger, S: Setup, G: Gate>(
+    gate: &G,
+    worker: &Worker<H, C, S>,
+) -> Result<(), Stopped> {
     let party = worker.number();
     if gate.before(party, worker.accepted().saturating_add(1)) {
         Ok(())
@@ -156,12 +159,12 @@ fn open<H: Ledger, C: Ledger, S: Setup, G: Gate, R: Wait>(
     rt: &R,
     registry: &Registry<H, C, S, Ring>,
     gate: &G,
-    worker: &mut Worker<H, C>,
+    worker: &mut Worker<H, C, S>,
     meta: &Meta,
     parent: ParentOf,
 ) -> Result<Held<H, C, S>, Stopped>
     requires { is_wanted S.rules (plain_meta meta.now) ≡ true }
-    ensures worker { OnOk result (worker.new ≡ after_call worker.old (worker.old.spare - 1)) }
+    ensures worker { OnOk result (worker.new ≡ after_call worker.old (worker.old.spare - 1) worker.new.seen) }
     ensures part { OnOk result (0 < worker.old.spare) }
 {
     ask(gate, worker)?;
@@ -177,10 +180,10 @@ fn clone_handle<H: Ledger, C: Ledger, S: Setup, G: Gate, R: Wait>(
     rt: &R,
     registry: &Registry<H, C, S, Ring>,
     gate: &G,
-    worker: &mut Worker<H, C>,
+    worker: &mut Worker<H, C, S>,
     handle: &mut Handle<H, C, S>,
 ) -> Result<Held<H, C, S>, Stopped>
-    ensures worker { OnOk result (worker.new ≡ after_call worker.old (worker.old.spare - 1)) }
+    ensures worker { OnOk result (worker.new ≡ after_call worker.old (worker.old.spare - 1) worker.new.seen) }
     ensures part { OnOk result (0 < worker.old.spare) }
 {
     ask(gate, worker)?;
@@ -195,10 +198,10 @@ fn close<H: Ledger, C: Ledger, S: Setup, G: Gate, R: Wait>(
     rt: &R,
     registry: &Registry<H, C, S, Ring>,
     gate: &G,
-    worker: &mut Worker<H, C>,
+    worker: &mut Worker<H, C, S>,
     held: Held<H, C, S>,
 ) -> Result<(), Stopped>
-    ensures { OnOk result (worker.new ≡ after_call worker.old (worker.old.spare + 1)) }
+    ensures { OnOk result (worker.new ≡ after_call worker.old (worker.old.spare + 1) worker.new.seen) }
 {
     ask(gate, worker)?;
     match registry.try_close(rt, worker, held.into_handle()) {

@@ -9,12 +9,12 @@ use crate::metas::Metas;
 use crate::threads::in_threads;
 use span_id::{Checked, Limits};
 use span_layers::{Filters, Layers, Say};
-use span_registry::{Drain, HANDLE_PARTS, Registry, Report, Ring, SeatTable, Setup};
+use span_registry::{Blanks, Drain, Registry, Report, Ring, Setup};
 use span_run::RunFault;
 use std::alloc::Global;
 use std::marker::Brand;
 use std::sync::Wait;
-use std::sync::ledger::{Blank, Ledger};
+use std::sync::ledger::Ledger;
 use std::thread::Threads;
 
 /// Has so many workers, 1 to 16, make so many rounds of nine calls, 1 to 400, on one registry with these layers, each
@@ -80,7 +80,7 @@ fn with_metas<G: Gate + Sync, R: Threads + Wait + Sync>(
         IsStormEnd checked.now (filters_in layers) (forms_in layers) report) }
     ensures faults { IfErr result IsStormFault }
 {
-    let Ok(table) = SeatTable::new(alloc, checked.limits().slots) else {
+    let Ok(blanks) = Blanks::new(alloc, checked) else {
         return Err(RunFault::Memory);
     };
     let Ok((ring, tap)) = Ring::pair(alloc, checked) else {
@@ -93,13 +93,10 @@ fn with_metas<G: Gate + Sync, R: Threads + Wait + Sync>(
         rounds,
         gate,
         metas,
-        checked,
         filters,
         ring,
         Drain::new(alloc, tap, tellers),
-        Blank::new(HANDLE_PARTS),
-        Blank::new(u64::from(checked.limits().workers)),
-        table,
+        blanks,
     )
 }
 
@@ -118,27 +115,30 @@ fn run<
     rounds: u32,
     gate: &G,
     metas: &Metas,
-    checked: &Checked,
     filters: Filters,
     ring: Ring,
     drain: Drain<V>,
-    handles: Blank,
-    calls: Blank,
-    table: SeatTable,
+    blanks: Blanks,
 ) -> Result<Report, RunFault>
-    requires workers { checked.now.workers ≤ 16 }
+    requires workers { S.limits.workers ≤ 16 }
     requires rounds { rounds ≤ 400 }
-    requires setup { (checked.now ≡ S.limits) × (filters.rules ≡ S.rules) × (Some ring.name ≡ S.ring) }
+    requires setup { (filters.rules ≡ S.rules) × ([] ≡ S.forms) × (Some ring.name ≡ S.ring) }
     requires wanted { wants_jobs S.rules ≡ true }
     requires ring { (ring.sent ≡ []) × (Some drain.name ≡ S.ring) }
-    requires handles { (handles.name ≡ H.name) × (handles.parts ≡ H.parts) × (H.parts ≡ HANDLE_PARTS) }
-    requires calls { (calls.name ≡ C.name) × (calls.parts ≡ C.parts) × (C.parts ≡ checked.now.workers) }
-    requires table { (table ≡ S.table) × (table.words ≡ checked.now.slots) }
-    ensures numbers { IfOk result (λ report. HasNumbers checked.now.workers rounds report) }
+    requires blanks { blanks ≡ record {
+      limits = S.limits;
+      handles = H.name;
+      handle_parts = H.parts;
+      calls = C.name;
+      call_parts = C.parts;
+      table = S.table;
+      history = S.history;
+    } }
+    ensures numbers { IfOk result (λ report. HasNumbers S.limits.workers rounds report) }
     ensures ended { IfOk result (λ report. IsStormEnd S.limits S.rules drain.forms report) }
     ensures faults { IfErr result IsStormFault }
 {
-    let made = Registry::<H, C, S, Ring>::new(alloc, checked, filters, ring, handles, calls, table);
+    let made = Registry::<H, C, S, Ring>::new(alloc, filters, ring, blanks);
     let Ok((registry, workers)) = made else {
         return Err(RunFault::Memory);
     };

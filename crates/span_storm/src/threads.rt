@@ -32,10 +32,10 @@ pub(crate) fn in_threads<
     registry: &Registry<H, C, S, Ring>,
     gate: &G,
     metas: &Metas,
-    workers: Vec<Worker<H, C>>,
+    workers: Vec<Worker<H, C, S>>,
     rounds: u32,
     drain: Drain<V>,
-) -> Result<(Share<H, C>, Drain<V>), Stopped>
+) -> Result<(Share<H, C, S>, Drain<V>), Stopped>
     requires { AreReady S.rules (vec_len workers) workers.items rounds }
     ensures { IfOk result (λ back. AreBothBack workers.items rounds drain back.0 back.1) }
 {
@@ -44,7 +44,7 @@ pub(crate) fn in_threads<
     thread::scope(
         thread::scope_env(),
         rt,
-        move |scope| -> Result<(Share<H, C>, Drain<V>), Stopped>
+        move |scope| -> Result<(Share<H, C, S>, Drain<V>), Stopped>
             requires { AreReady S.rules (vec_len workers) workers.items rounds }
             ensures { IfOk result (λ back. AreBothBack workers.items rounds drain back.0 back.1) }
         {
@@ -58,10 +58,10 @@ pub(crate) fn in_threads<
 }
 
 // The whole share and the drain, or the fault of the first that has one.
-fn both_back<H: Ledger, C: Ledger, V: Drop>(
-    whole: Result<Share<H, C>, Stopped>,
+fn both_back<H: Ledger, C: Ledger, S: Setup, V: Drop>(
+    whole: Result<Share<H, C, S>, Stopped>,
     drain: Result<Drain<V>, Stopped>,
-) -> Result<(Share<H, C>, Drain<V>), Stopped>
+) -> Result<(Share<H, C, S>, Drain<V>), Stopped>
     ensures whole { IfOk result (λ back. whole ≡ Ok back.0) }
     ensures drain { IfOk result (λ back. drain ≡ Ok back.1) }
 {
@@ -87,9 +87,9 @@ fn run_workers<
     registry: &'s Registry<H, C, S, Ring>,
     gate: &'s G,
     metas: &'s Metas,
-    workers: Vec<Worker<H, C>>,
+    workers: Vec<Worker<H, C, S>>,
     rounds: u32,
-) -> Result<Share<H, C>, Stopped>
+) -> Result<Share<H, C, S>, Stopped>
     requires { AreReady S.rules (vec_len workers) workers.items rounds }
     ensures { IfOk result (λ whole. HasAll workers.items rounds whole) }
 {
@@ -113,9 +113,9 @@ fn start_all<
     registry: &'s Registry<H, C, S, Ring>,
     gate: &'s G,
     metas: &'s Metas,
-    workers: Vec<Worker<H, C>>,
+    workers: Vec<Worker<H, C, S>>,
     rounds: u32,
-) -> Result<Vec<Party<H, C>>, Stopped>
+) -> Result<Vec<Party<H, C, S>>, Stopped>
     requires { wants_jobs S.rules ≡ true }
     ensures same { IfOk result (λ parties. map (λ party. party.worker) parties.items ≡ workers.items) }
     ensures rounds { IfOk result (λ parties. All (λ party. party.rounds ≡ rounds) parties.items) }
@@ -130,11 +130,11 @@ fn start_all<
 }
 
 // Joins the threads in the order of their workers, all of them, and puts what comes back together.
-fn join_all<H: Ledger, C: Ledger, R: Threads>(
+fn join_all<H: Ledger, C: Ledger, S: Setup, R: Threads>(
     rt: &R,
-    parties: Vec<Party<H, C>>,
+    parties: Vec<Party<H, C, S>>,
     rounds: u32,
-) -> Result<Share<H, C>, Stopped>
+) -> Result<Share<H, C, S>, Stopped>
     requires some { (0 < vec_len parties) × (vec_len parties ≤ 16) }
     requires rounds { rounds ≤ 400 }
     requires each { All (λ party. (party.rounds ≡ rounds) × (party.worker.accepted ≡ 0)) parties.items }
@@ -153,10 +153,10 @@ fn join_all<H: Ledger, C: Ledger, R: Threads>(
 }
 
 // What came back of two: both shares together, or the fault of the first that has one.
-fn both<H: Ledger, C: Ledger>(
-    one: Result<Share<H, C>, Stopped>,
-    other: Result<Share<H, C>, Stopped>,
-) -> Result<Share<H, C>, Stopped>
+fn both<H: Ledger, C: Ledger, S: Setup>(
+    one: Result<Share<H, C, S>, Stopped>,
+    other: Result<Share<H, C, S>, Stopped>,
+) -> Result<Share<H, C, S>, Stopped>
     requires { Fit one other }
     ensures { result ≡ both_shares one other }
 {

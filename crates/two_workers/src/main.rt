@@ -7,14 +7,13 @@ mod visits;
 use crate::visits::visits;
 use span_id::{Fault, Level, Limits, Meta, copy_text};
 use span_layers::{ByForm, ByRule, FmtSpan, Form, Hooks, Layer, Layers, Rule, Style};
-use span_registry::{HANDLE_PARTS, Kept, Line, Report, SeatTable};
+use span_registry::{Blanks, Kept, Line, Report};
 use std::alloc::Global;
 use std::io;
 use std::io::Write;
 use std::marker::Brand;
 use std::process::ExitCode;
 use std::sync::Wait;
-use std::sync::ledger::Blank;
 use std::thread::Threads;
 
 fn main(rt: HostRuntime) -> io::Result<ExitCode> {
@@ -76,19 +75,15 @@ fn visited<R: Threads + Wait + Sync>(
         workers: 3,
         ..Limits::default()
     };
-    let checked = limits.check()?;
-    let table = SeatTable::new(alloc, checked.limits().slots)?;
+    let blanks = Blanks::new(alloc, &limits.check()?)?;
     let (filters, tellers) = layers.split();
     visits::<Brand, Brand, Brand, _>(
         rt,
         alloc,
         request,
-        &checked,
         filters,
         Kept::new(alloc, tellers),
-        Blank::new(HANDLE_PARTS),
-        Blank::new(3),
-        table,
+        blanks,
     )
 }
 

@@ -2,15 +2,15 @@
 ghost use Rattle.std.specs.Prelude.{◌≡◌, ◌+◌, ◌≤◌, ◌∷◌, [], None, IfOk, vec_len};
 ghost use Rattle.two_workers.specs.Visit.{IsBack};
 
-use span_id::{Checked, Fault, Meta};
+use span_id::{Fault, Meta};
 use span_layers::{Admitters, ByForm, ByRule, Filters, Formatters};
 use span_registry::{
-    HANDLE_PARTS, Handle, Kept, Outlet, ParentOf, Registry, Report, SeatTable, Setup, Share, Worker,
+    Blanks, Handle, Kept, Outlet, ParentOf, Registry, Report, Setup, Share, Worker,
 };
 use std::alloc::Global;
 use std::snapshot::Snapshot;
 use std::sync::Wait;
-use std::sync::ledger::{Blank, Ledger};
+use std::sync::ledger::Ledger;
 use std::thread;
 use std::thread::{Promise, PromisedHandle, Scope, Threads};
 
@@ -19,11 +19,11 @@ type SpanRegistry<H, C, S> = Registry<H, C, S, Kept<Formatters<ByForm>>, Admitte
 
 /// What comes back of a visit.
 #[derive(Drop)]
-struct Back<H: Ledger, C: Ledger> {
-    worker: Snapshot<Worker<H, C>>,
+struct Back<H: Ledger, C: Ledger, S: Setup> {
+    worker: Snapshot<Worker<H, C, S>>,
 }
 
-impl<H: Ledger, C: Ledger> Promise<Worker<H, C>> for Back<H, C> {
+impl<H: Ledger, C: Ledger, S: Setup> Promise<Worker<H, C, S>> for Back<H, C, S> {
     ghost use Rattle.two_workers.specs.Visit.{IsBack};
 
     ghost kept_by = { λ back worker. IsBack back.worker.value worker };
@@ -40,32 +40,33 @@ pub fn visits<
     rt: &R,
     alloc: Global,
     request: &Meta,
-    checked: &Checked,
     filters: Filters<ByRule>,
     outlet: Kept<Formatters<ByForm>>,
-    handles: Blank,
-    calls: Blank,
-    table: SeatTable,
+    blanks: Blanks,
 ) -> Result<Report, Fault>
     requires sent { outlet.sent ≡ [] }
-    requires setup { (checked.now ≡ S.limits) × (filters.rules ≡ S.rules) × (None ≡ S.ring) }
-    requires workers { checked.now.workers ≡ 3 }
-    requires handles { (handles.name ≡ H.name) × (handles.parts ≡ H.parts) × (H.parts ≡ HANDLE_PARTS) }
-    requires calls { (calls.name ≡ C.name) × (calls.parts ≡ C.parts) × (C.parts ≡ 3) }
-    requires table { (table ≡ S.table) × (table.words ≡ checked.now.slots) }
+    requires setup { (filters.rules ≡ S.rules) × (outlet.forms ≡ S.forms) × (None ≡ S.ring) }
+    requires workers { S.limits.workers ≡ 3 }
+    requires blanks { blanks ≡ record {
+      limits = S.limits;
+      handles = H.name;
+      handle_parts = H.parts;
+      calls = C.name;
+      call_parts = C.parts;
+      table = S.table;
+      history = S.history;
+    } }
 {
-    let (registry, workers) = SpanRegistry::<H, C, S>::new(
-        alloc, checked, filters, outlet, handles, calls, table,
-    )?;
+    let (registry, workers) = SpanRegistry::<H, C, S>::new(alloc, filters, outlet, blanks)?;
     let (own, first, second) = three(workers);
     let whole = both(rt, &registry, request, own, first, second)?;
     Ok(registry.finish_kept(whole))
 }
 
 // The workers of a registry that has three.
-fn three<H: Ledger, C: Ledger>(
-    workers: Vec<Worker<H, C>>,
-) -> (Worker<H, C>, Worker<H, C>, Worker<H, C>)
+fn three<H: Ledger, C: Ledger, S: Setup>(
+    workers: Vec<Worker<H, C, S>>,
+) -> (Worker<H, C, S>, Worker<H, C, S>, Worker<H, C, S>)
     requires { vec_len workers ≡ 3 }
     ensures { workers.items ≡ result.0 ∷ result.1 ∷ result.2 ∷ [] }
 {
@@ -92,10 +93,10 @@ fn both<
     rt: &R,
     registry: &SpanRegistry<H, C, S>,
     request: &Meta,
-    own: Worker<H, C>,
-    first: Worker<H, C>,
-    second: Worker<H, C>,
-) -> Result<Share<H, C>, Fault>
+    own: Worker<H, C, S>,
+    first: Worker<H, C, S>,
+    second: Worker<H, C, S>,
+) -> Result<Share<H, C, S>, Fault>
     requires new { (own.accepted ≡ 0) × (first.accepted ≡ 0) × (second.accepted ≡ 0) }
     ensures handles { IfOk result (λ whole. whole.handle_parts ≡ own.spare + first.spare + second.spare) }
     ensures calls { IfOk result (λ whole. whole.call_parts ≡ 3) }
@@ -135,18 +136,18 @@ fn in_threads<
     rt: &R,
     registry: &SpanRegistry<H, C, S>,
     request: &Meta,
-    first: Worker<H, C>,
+    first: Worker<H, C, S>,
     one: &mut Handle<H, C, S>,
-    second: Worker<H, C>,
+    second: Worker<H, C, S>,
     other: &mut Handle<H, C, S>,
-) -> Result<(Worker<H, C>, Worker<H, C>), Fault>
+) -> Result<(Worker<H, C, S>, Worker<H, C, S>), Fault>
     ensures first { IfOk result (λ back. IsBack first back.0) }
     ensures second { IfOk result (λ back. IsBack second back.1) }
 {
     thread::scope(
         thread::scope_env(),
         rt,
-        move |scope| -> Result<(Worker<H, C>, Worker<H, C>), Fault>
+        move |scope| -> Result<(Worker<H, C, S>, Worker<H, C, S>), Fault>
             ensures first { IfOk result (λ back. IsBack first back.0) }
             ensures second { IfOk result (λ back. IsBack second back.1) }
         {
@@ -172,9 +173,9 @@ fn start<
     scope: &Scope<'s, E>,
     registry: &'s SpanRegistry<H, C, S>,
     request: &'s Meta,
-    worker: Worker<H, C>,
+    worker: Worker<H, C, S>,
     handle: &'s mut Handle<H, C, S>,
-) -> Result<PromisedHandle<Worker<H, C>, Back<H, C>>, Fault>
+) -> Result<PromisedHandle<Worker<H, C, S>, Back<H, C, S>>, Fault>
     ensures { IfOk result (λ running. running.promise.worker.value ≡ worker) }
 {
     let promise = Back {
@@ -182,7 +183,7 @@ fn start<
     };
     match scope.spawn_with(
         promise,
-        move || -> Worker<H, C>
+        move || -> Worker<H, C, S>
             ensures { IsBack worker result }
         { visit(rt, registry, request, worker, handle) },
     ) {
@@ -196,9 +197,9 @@ fn visit<H: Ledger, C: Ledger, S: Setup, R: Wait>(
     rt: &R,
     registry: &SpanRegistry<H, C, S>,
     request: &Meta,
-    worker: Worker<H, C>,
+    worker: Worker<H, C, S>,
     handle: &mut Handle<H, C, S>,
-) -> Worker<H, C>
+) -> Worker<H, C, S>
     ensures { IsBack worker result }
 {
     let mut worker = worker;
@@ -212,9 +213,9 @@ fn visit<H: Ledger, C: Ledger, S: Setup, R: Wait>(
 fn give_back<H: Ledger, C: Ledger, S: Setup, R: Wait>(
     rt: &R,
     registry: &SpanRegistry<H, C, S>,
-    worker: Worker<H, C>,
+    worker: Worker<H, C, S>,
     handle: Handle<H, C, S>,
-) -> Share<H, C>
+) -> Share<H, C, S>
     requires { worker.accepted ≤ 3 }
     ensures accepted { result.accepted ≤ 4 }
     ensures units { result.units ≤ 1 }

@@ -3,7 +3,7 @@ ghost use Rattle.std.specs.Prelude.{◌≡◌, [], IfOk};
 
 use crate::texts::Texts;
 use span_id::{Checked, Fault, Limits};
-use span_registry::{Ring, SeatTable, Tap};
+use span_registry::{Blanks, Ring, Tap};
 use std::alloc::Global;
 
 /// What a core over a ring is made of, beside its layers; the other end of the ring; and what the calls pass.
@@ -42,7 +42,7 @@ impl CoreParts {
 /// The same of a registry.
 pub struct Parts {
     pub core: CoreParts,
-    pub table: SeatTable,
+    pub blanks: Blanks,
 }
 
 impl Parts {
@@ -50,11 +50,11 @@ impl Parts {
     pub fn new(alloc: Global, limits: Limits, fields: u32) -> Result<Parts, Fault>
         ensures limits { IfOk result (λ parts. parts.core.checked ≡ limits) }
         ensures ring { IfOk result (λ parts. (parts.core.ring.sent ≡ []) × (parts.core.ring.name ≡ parts.core.tap)) }
-        ensures table { IfOk result (λ parts. parts.table.words ≡ parts.core.checked.slots) }
+        ensures blanks { IfOk result (λ parts. parts.blanks.limits ≡ limits) }
     {
         let checked = limits.check()?;
-        let table = SeatTable::new(alloc, checked.limits().slots)?;
+        let blanks = Blanks::new(alloc, &checked)?;
         let core = CoreParts::of(alloc, checked, fields)?;
-        Ok(Parts { core, table })
+        Ok(Parts { core, blanks })
     }
 }

@@ -82,7 +82,7 @@ fn by_callsite(layers: usize, fields: Fields<'_>) -> Result<Cost, Error> {
 
 fn by_spans(layers: usize) -> Result<Cost, Error> {
     let (registry, mut drain) = registry(layers)?;
-    let round = || registry.span(&META, Parent::Current, ONE)?.in_scope(|| ());
+    let round = || registry.span(&META, Parent::Current, ONE)?.try_in_scope(|| ());
     let rounds = || (0..ROUNDS).for_each(|_| round().expect("the ring has place"));
     Ok(measure(rounds, || drain.lines().for_each(drop)))
 }

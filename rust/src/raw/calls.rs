@@ -1,14 +1,13 @@
 //! The owner of a registry's handle.
 use super::{
-    span_registry_add_callsite, span_registry_clone_span, span_registry_counts, span_registry_current_span,
+    abi, span_registry_add_callsite, span_registry_clone_span, span_registry_counts, span_registry_current_span,
     span_registry_enter, span_registry_event, span_registry_event_at, span_registry_exit, span_registry_find,
     span_registry_free, span_registry_new, span_registry_new_span, span_registry_new_span_at, span_registry_record,
     span_registry_try_close, Lines, SpanCounts, SpanDrain, SpanFound, SpanLayer, SpanLimits, SpanMeta, SpanRegistry,
     SpanRule, CURRENT, ROOT, UNDER,
 };
 use crate::error::Error;
-use crate::level::Level;
-use crate::meta::{Found, Id, Meta, Parent};
+use crate::meta::{Meta, RawId, RawParent};
 use crate::packed::{length, Packed};
 
 /// What a registry is made of.
@@ -30,6 +29,7 @@ unsafe impl Send for Core {}
 
 impl Core {
     pub(crate) fn new(start: &Start<'_>) -> Result<(Core, Lines), Error> {
+        abi::check()?;
         let mut core = SpanRegistry::EMPTY;
         let mut drain = SpanDrain::EMPTY;
         // SAFETY: both handles are empty, and each pointer is of a value or of a slice with its length. Nothing that is
@@ -55,10 +55,10 @@ impl Core {
     pub(crate) fn new_span(
         &mut self,
         worker: u32,
-        parent: Parent,
+        parent: RawParent,
         meta: &Meta<'_>,
         packed: &Packed,
-    ) -> Result<Option<Id>, Error> {
+    ) -> Result<Option<RawId>, Error> {
         let meta = raw_meta(meta)?;
         let (kind, parent) = raw_parent(parent);
         let (fields, texts) = (packed.fields(), packed.texts());
@@ -80,7 +80,7 @@ impl Core {
             )
         };
         Error::of_status(status)?;
-        Ok(Id::from_u64(id))
+        Ok(RawId::from_u64(id))
     }
 
     /// The number of the callsite that is added. The texts are its name and its target.
@@ -100,10 +100,10 @@ impl Core {
     pub(crate) fn new_span_at(
         &mut self,
         worker: u32,
-        parent: Parent,
+        parent: RawParent,
         callsite: u32,
         packed: &Packed,
-    ) -> Result<Option<Id>, Error> {
+    ) -> Result<Option<RawId>, Error> {
         let (kind, parent) = raw_parent(parent);
         let (fields, texts) = (packed.fields(), packed.texts());
         let mut id = 0;
@@ -124,46 +124,46 @@ impl Core {
             )
         };
         Error::of_status(status)?;
-        Ok(Id::from_u64(id))
+        Ok(RawId::from_u64(id))
     }
 
-    pub(crate) fn clone_span(&mut self, worker: u32, id: Id) -> Result<(), Error> {
+    pub(crate) fn clone_span(&mut self, worker: u32, id: RawId) -> Result<(), Error> {
         // SAFETY: the handle is full and lent to this call alone.
-        Error::of_status(unsafe { span_registry_clone_span(&mut self.handle, worker, id.into_u64()) })
+        Error::of_status(unsafe { span_registry_clone_span(&mut self.handle, worker, id.get()) })
     }
 
     /// Whether the entry is no duplicate.
-    pub(crate) fn enter(&mut self, worker: u32, id: Id) -> Result<bool, Error> {
+    pub(crate) fn enter(&mut self, worker: u32, id: RawId) -> Result<bool, Error> {
         let mut first = 0;
         // SAFETY: the handle is full and lent to this call alone, and `first` is this call's.
-        Error::of_status(unsafe { span_registry_enter(&mut self.handle, worker, id.into_u64(), &mut first) })?;
+        Error::of_status(unsafe { span_registry_enter(&mut self.handle, worker, id.get(), &mut first) })?;
         Ok(first != 0)
     }
 
     /// Whether the span closed.
-    pub(crate) fn exit(&mut self, worker: u32, id: Id) -> Result<bool, Error> {
+    pub(crate) fn exit(&mut self, worker: u32, id: RawId) -> Result<bool, Error> {
         let mut closed = 0;
         // SAFETY: the handle is full and lent to this call alone, and `closed` is this call's.
-        Error::of_status(unsafe { span_registry_exit(&mut self.handle, worker, id.into_u64(), &mut closed) })?;
+        Error::of_status(unsafe { span_registry_exit(&mut self.handle, worker, id.get(), &mut closed) })?;
         Ok(closed != 0)
     }
 
     /// Whether the span closed.
-    pub(crate) fn try_close(&mut self, worker: u32, id: Id) -> Result<bool, Error> {
+    pub(crate) fn try_close(&mut self, worker: u32, id: RawId) -> Result<bool, Error> {
         let mut closed = 0;
         // SAFETY: the handle is full and lent to this call alone, and `closed` is this call's.
-        Error::of_status(unsafe { span_registry_try_close(&mut self.handle, worker, id.into_u64(), &mut closed) })?;
+        Error::of_status(unsafe { span_registry_try_close(&mut self.handle, worker, id.get(), &mut closed) })?;
         Ok(closed != 0)
     }
 
-    pub(crate) fn record(&mut self, worker: u32, id: Id, packed: &Packed) -> Result<(), Error> {
+    pub(crate) fn record(&mut self, worker: u32, id: RawId, packed: &Packed) -> Result<(), Error> {
         let (fields, texts) = (packed.fields(), packed.texts());
         // SAFETY: the handle is full and lent to this call alone, and each pointer is of a slice with its length.
         Error::of_status(unsafe {
             span_registry_record(
                 &mut self.handle,
                 worker,
-                id.into_u64(),
+                id.get(),
                 fields.as_ptr(),
                 fields.len(),
                 texts.as_ptr(),
@@ -210,25 +210,19 @@ impl Core {
         })
     }
 
-    pub(crate) fn find(&mut self, id: Id) -> Option<Found> {
+    pub(crate) fn find(&mut self, id: RawId) -> Option<SpanFound> {
         let mut found = SpanFound::default();
         // SAFETY: the handle is full and lent to this call alone, and `found` is this call's.
-        let status = unsafe { span_registry_find(&mut self.handle, id.into_u64(), &mut found) };
+        let status = unsafe { span_registry_find(&mut self.handle, id.get(), &mut found) };
         Error::of_status(status).ok()?;
-        Some(Found {
-            parent: Id::from_u64(found.parent),
-            handles: found.handles,
-            entries: found.entries,
-            count: found.count,
-            level: Level::of_verbosity(found.level)?,
-        })
+        Some(found)
     }
 
-    pub(crate) fn current_span(&mut self, worker: u32) -> Result<Option<Id>, Error> {
+    pub(crate) fn current_span(&mut self, worker: u32) -> Result<Option<RawId>, Error> {
         let mut id = 0;
         // SAFETY: the handle is full and lent to this call alone, and `id` is this call's.
         Error::of_status(unsafe { span_registry_current_span(&mut self.handle, worker, &mut id) })?;
-        Ok(Id::from_u64(id))
+        Ok(RawId::from_u64(id))
     }
 
     pub(crate) fn counts(&mut self) -> SpanCounts {
@@ -248,11 +242,11 @@ impl Drop for Core {
     }
 }
 
-fn raw_parent(parent: Parent) -> (u32, u64) {
+fn raw_parent(parent: RawParent) -> (u32, u64) {
     match parent {
-        Parent::Root => (ROOT, 0),
-        Parent::Current => (CURRENT, 0),
-        Parent::Of(id) => (UNDER, id.into_u64()),
+        RawParent::Root => (ROOT, 0),
+        RawParent::Current => (CURRENT, 0),
+        RawParent::Of(id) => (UNDER, id.get()),
     }
 }
 

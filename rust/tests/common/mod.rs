@@ -7,8 +7,9 @@ pub fn info(name: &str) -> Meta<'_> {
     Meta::new(Level::Info, "app", name)
 }
 
-pub fn id(number: u64) -> Id {
-    Id::from_u64(number).expect("not 0")
+/// The registry's id of this number.
+pub fn id(registry: &Registry, number: u64) -> Id {
+    registry.id(number).expect("not 0")
 }
 
 /// One worker and one compact layer that is told of everything.
@@ -33,6 +34,10 @@ pub fn layered(drain: &mut Drain) -> Vec<String> {
 pub struct Ids(pub Registry);
 
 impl Ids {
+    pub fn id(&self, number: u64) -> Id {
+        id(&self.0, number)
+    }
+
     pub fn make(&self, name: &str) -> Result<u64, Error> {
         self.make_under(name, Parent::Current)
     }
@@ -46,23 +51,23 @@ impl Ids {
     }
 
     pub fn close(&self, number: u64) -> Result<bool, Error> {
-        self.0.try_close(id(number))
+        self.0.try_close(self.id(number))
     }
 
     pub fn enter(&self, number: u64) -> Result<bool, Error> {
-        self.0.enter(id(number))
+        self.0.enter(self.id(number))
     }
 
     pub fn exit(&self, number: u64) -> Result<bool, Error> {
-        self.0.exit(id(number))
+        self.0.exit(self.id(number))
     }
 
     pub fn clone_span(&self, number: u64) -> Result<(), Error> {
-        self.0.clone_span(id(number))
+        self.0.clone_span(self.id(number))
     }
 
     pub fn record(&self, number: u64, fields: Fields<'_>) -> Result<(), Error> {
-        self.0.record(id(number), fields)
+        self.0.record(self.id(number), fields)
     }
 
     pub fn event(&self, message: &str) -> Result<(), Error> {
@@ -71,7 +76,7 @@ impl Ids {
 
     /// Parent (0: none), handles, entries, count.
     pub fn find(&self, number: u64) -> Option<(u64, u32, u32, u32)> {
-        let found = self.0.find(id(number))?;
+        let found = self.0.find(self.id(number))?;
         Some((
             found.parent.map_or(0, Id::into_u64),
             found.handles,

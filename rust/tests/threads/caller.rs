@@ -125,7 +125,7 @@ impl Caller {
     fn record(&mut self) {
         let Some(held) = self.take() else { return };
         let value = self.below(1000).to_string();
-        retry(|| held.span.record(&[("r", &value)])).expect("record");
+        retry(|| held.span.try_record(&[("r", &value)])).expect("record");
         self.tell(format!("record {} w{} {} r={value}", held.id, self.worker, held.path));
         self.held.push(held);
     }
@@ -176,7 +176,7 @@ impl Caller {
     }
 
     fn steps_inside(&mut self, held: &Held, inside: &[&Held]) {
-        let _guard = retry(|| held.span.enter()).expect("enter");
+        let _guard = retry(|| held.span.try_enter()).expect("enter");
         self.tell(format!("enter {} w{} {}", held.id, self.worker, held.path));
         let deeper = [inside, &[held]].concat();
         for _ in 0..self.below(6) {

@@ -72,6 +72,23 @@ thread_local! {
     static LEAVING: Cell<u64> = const { Cell::new(0) };
 }
 
+/// Leaves a span in the proved registry where the store's exit didn't come to it, also by a panic: it is a duplicate,
+/// there is no entry, or another subscriber is the default one now.
+struct Leaving<'a> {
+    registry: &'a ProvedRegistry,
+    id: &'a Id,
+    ours: span_registry::Id,
+}
+
+impl Drop for Leaving<'_> {
+    fn drop(&mut self) {
+        if LEAVING.replace(0) != 0 {
+            let is_closed = self.registry.call(|| self.registry.registry.exit(self.ours)).unwrap_or(false);
+            self.registry.ended(self.id, is_closed);
+        }
+    }
+}
+
 impl Default for ProvedRegistry {
     /// Room for 65,536 spans at once and for 256 threads.
     ///
@@ -87,7 +104,7 @@ fn slot_of(id: span_registry::Id) -> usize {
 }
 
 impl ProvedRegistry {
-    /// So many spans may be open at once (1 to 2^24), and so many threads may call (1 to 256).
+    /// So many spans may be open at once (1 to 2^24), and so many threads may call (1 to 65,536).
     pub fn new(slots: u32, threads: u32) -> Result<ProvedRegistry, Error> {
         let (registry, drain) = Registry::builder().slots(slots).workers(threads).ring(RING).build()?;
         let site = registry.callsite(&Meta::new(Level::Info, "", "span"))?;
@@ -229,13 +246,9 @@ impl Subscriber for ProvedRegistry {
     fn exit(&self, id: &Id) {
         let Some(ours) = self.ours(id) else { return };
         LEAVING.set(id.into_u64());
-        // Where the entry is no duplicate, the store gives its hold back by the whole stack's `try_close`.
+        let _leaving = Leaving { registry: self, id, ours: ours.id };
+        // Where the entry is no duplicate, the store gives its hold back by the default subscriber's `try_close`.
         self.store.exit(id);
-        if LEAVING.replace(0) != 0 {
-            // It is a duplicate, there is no entry, or another subscriber is the default one now.
-            let is_closed = self.call(|| self.registry.exit(ours.id)).unwrap_or(false);
-            self.ended(id, is_closed);
-        }
     }
 
     fn clone_span(&self, id: &Id) -> Id {

@@ -1,5 +1,6 @@
 //! The same text of the real registry and of the proved one, under many layers; and that nothing stays.
 use std::io::Write;
+use std::panic::{catch_unwind, AssertUnwindSafe};
 use std::sync::{Arc, Mutex};
 use tracing::{dispatcher, Dispatch, Level};
 use tracing_core::span::Id;
@@ -10,7 +11,7 @@ use tracing_subscriber::fmt::format::FmtSpan;
 use tracing_subscriber::layer::Context;
 use tracing_subscriber::prelude::*;
 use tracing_subscriber::registry::LookupSpan;
-use tracing_subscriber::{reload, Layer};
+use tracing_subscriber::{reload, Layer, Registry};
 
 #[derive(Clone, Default)]
 struct Out(Arc<Mutex<Vec<u8>>>);
@@ -194,6 +195,21 @@ fn many_threads_leave_nothing() {
     dispatcher::with_default(&dispatch, || drop(root));
     let counts = registry(&dispatch).registry().counts();
     assert_eq!((counts.open, counts.made), (0, 8001));
+}
+
+#[test]
+fn an_exit_that_panics_leaves_the_span() {
+    let (dispatch, _) = stack();
+    let span = dispatcher::with_default(&dispatch, || tracing::info_span!("a"));
+    let id = span.id().unwrap();
+    dispatch.enter(&id);
+    // The store asks the default subscriber, which knows no such span.
+    let other = Dispatch::new(Registry::default());
+    let left = catch_unwind(AssertUnwindSafe(|| dispatcher::with_default(&other, || dispatch.exit(&id))));
+    assert!(left.is_err());
+    assert_eq!(registry(&dispatch).registry().current_span().unwrap(), None);
+    dispatcher::with_default(&dispatch, || drop(span));
+    assert_eq!(registry(&dispatch).registry().counts().open, 0);
 }
 
 #[test]

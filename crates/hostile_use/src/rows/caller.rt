@@ -16,7 +16,7 @@ use std::sync::ledger::Ledger;
 /// The one worker of a registry and its handles: all parts of the ledger of handles.
 #[derive(Drop)]
 pub(crate) struct Caller<H: Ledger, C: Ledger, S: Setup> {
-    pub(crate) worker: Worker<H, C>,
+    pub(crate) worker: Worker<H, C, S>,
     pub(crate) hands: Hands<H, C, S>,
     ghost whole: { worker.spare + units_in hands.first + units_in hands.second ≡ 2 ^ 64 - 1 },
 }
@@ -52,7 +52,7 @@ impl<H: Ledger, C: Ledger, S: Setup> Caller<H, C, S> {
             Act::Exit(named) => self.exit(rt, registry, named.id()),
             Act::Close(named) => self.try_close(rt, registry, named.id()),
             Act::Event => self.event(rt, registry, &names.event, MESSAGE),
-            Act::Find(named) => find(rt, alloc, registry, named.id()),
+            Act::Find(named) => find(rt, alloc, registry, &mut self.worker, named.id()),
         }
     }
 
@@ -161,7 +161,7 @@ impl<H: Ledger, C: Ledger, S: Setup> Caller<H, C, S> {
 fn with_handle<H: Ledger, C: Ledger, S: Setup, O: Outlet, A: Admit, R: Wait>(
     rt: &R,
     registry: &Registry<H, C, S, O, A>,
-    worker: &mut Worker<H, C>,
+    worker: &mut Worker<H, C, S>,
     handle: &mut Handle<H, C, S>,
     call: Lent<'_>,
 ) -> Result<Answer, Fault>
@@ -177,9 +177,12 @@ fn find<H: Ledger, C: Ledger, S: Setup, O: Outlet, A: Admit, R: Wait>(
     rt: &R,
     alloc: Global,
     registry: &Registry<H, C, S, O, A>,
+    worker: &mut Worker<H, C, S>,
     id: Id,
-) -> Result<Answer, Fault> {
-    match registry.find(rt, alloc, id) {
+) -> Result<Answer, Fault>
+    ensures { worker.new.spare ≡ worker.old.spare }
+{
+    match registry.find(rt, alloc, worker, id) {
         Ok(Some(found)) => Ok(Answer::Found(found)),
         Ok(None) => Ok(Answer::Nothing),
         Err(fault) => Err(fault),
@@ -189,7 +192,7 @@ fn find<H: Ledger, C: Ledger, S: Setup, O: Outlet, A: Admit, R: Wait>(
 /// The one worker, with no handle.
 #[tactic(auto, unfolding(crate::specs::Units::units_in))]
 pub(crate) fn caller_of<H: Ledger, C: Ledger, S: Setup>(
-    workers: Vec<Worker<H, C>>,
+    workers: Vec<Worker<H, C, S>>,
 ) -> Caller<H, C, S>
     requires one { vec_len workers ≡ 1 }
     requires whole { sum_by (λ worker. worker.spare) workers.items ≡ 2 ^ 64 - 1 }

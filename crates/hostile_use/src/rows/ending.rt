@@ -15,7 +15,7 @@ pub(crate) fn whole<H: Ledger, C: Ledger, S: Setup, R: Print>(
     stage: &Stage<R>,
     caller: Caller<H, C, S>,
     is_told: bool,
-) -> Share<H, C>
+) -> Share<H, C, S>
     ensures handles { result.handle_parts ≡ 2 ^ 64 - 1 }
     ensures calls { result.call_parts ≡ 1 }
 {
@@ -36,9 +36,9 @@ pub(crate) fn whole<H: Ledger, C: Ledger, S: Setup, R: Print>(
 // A share with that of a handle.
 #[tactic(auto, unfolding(crate::specs::Units::units_in))]
 fn with<H: Ledger, C: Ledger, S: Setup>(
-    share: Share<H, C>,
+    share: Share<H, C, S>,
     held: Option<Held<H, C, S>>,
-) -> Share<H, C>
+) -> Share<H, C, S>
     requires few { share.units ≤ 1 }
     ensures handles { result.handle_parts ≡ share.handle_parts + units_in held }
     ensures calls { result.call_parts ≡ share.call_parts }

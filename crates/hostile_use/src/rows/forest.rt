@@ -137,7 +137,7 @@ impl<'t> Subject<Act> for OnForest<'t> {
         }
     }
 
-    fn look(&self, text: &mut String) -> Result<(), AllocError> {
+    fn look(&mut self, text: &mut String) -> Result<(), AllocError> {
         let forest = &self.forest;
         let len = u64::from(forest.len());
         add_numbers(text, &[len, forest.total(), forest.handles()])?;

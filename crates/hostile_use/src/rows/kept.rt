@@ -12,14 +12,13 @@ use crate::stage::Memory::Taken;
 use crate::stage::Stage;
 use crate::stop::Stop;
 use crate::trial::{Planned, perform};
-use span_id::Checked;
 use span_layers::{Admit, Filters, Say, Tellers};
 use span_outlet::Kept;
-use span_registry::{HANDLE_PARTS, Registry, SeatTable, Setup, Worker};
+use span_registry::{Blanks, HANDLE_PARTS, Registry, Setup, Worker};
 use std::alloc::Global;
 use std::marker::Brand;
 use std::sync::Wait;
-use std::sync::ledger::{Blank, Ledger};
+use std::sync::ledger::Ledger;
 
 // Each call once or twice.
 static EVERY_CALL: [Planned<'static, Act>; 10] = [
@@ -74,36 +73,27 @@ fn on_outlet<V: Say, R: Print + Wait>(
 ) -> Result<(), Stop>
     requires { outlet.sent ≡ [] }
 {
-    match limits_and_table(stage, alloc) {
-        Ok((checked, table)) => named::<Brand, Brand, Brand, V, R>(
-            stage,
-            alloc,
-            plan,
-            names,
-            &checked,
-            filters,
-            outlet,
-            Blank::new(HANDLE_PARTS),
-            Blank::new(1),
-            table,
+    match blanks(stage, alloc) {
+        Ok(blanks) => named::<Brand, Brand, Brand, V, R>(
+            stage, alloc, plan, names, filters, outlet, blanks,
         ),
         Err(stop) => Err(stop),
     }
 }
 
-// The limits of a registry with one worker, and its table of handles.
-fn limits_and_table<R: Print>(stage: &Stage<R>, alloc: Global) -> Result<(Checked, SeatTable), Stop>
-    ensures workers { IfOk result (λ made. made.0.workers ≡ 1) }
-    ensures table { IfOk result (λ made. made.1.words ≡ made.0.slots) }
+// The blanks of a registry with one worker.
+fn blanks<R: Print>(stage: &Stage<R>, alloc: Global) -> Result<Blanks, Stop>
+    ensures workers { IfOk result (λ blanks. blanks.limits.workers ≡ 1) }
+    ensures parts { IfOk result (λ blanks. (blanks.handle_parts ≡ HANDLE_PARTS) × (blanks.call_parts ≡ 1)) }
 {
     let Ok(checked) = one_worker(1024) else {
         return Err(Stop::Memory);
     };
     stage.begin(Taken);
-    let table = SeatTable::new(alloc, checked.limits().slots);
+    let blanks = Blanks::new(alloc, &checked);
     stage.over();
-    match table {
-        Ok(table) => Ok((checked, table)),
+    match blanks {
+        Ok(blanks) => Ok(blanks),
         Err(_) => Err(Stop::Memory),
     }
 }
@@ -114,24 +104,26 @@ fn named<H: Ledger, C: Ledger, S: Setup, V: Say, R: Print + Wait>(
     alloc: Global,
     plan: &[Planned<'_, Act>],
     names: &Names,
-    checked: &Checked,
     filters: Filters,
     outlet: Kept<V>,
-    handles: Blank,
-    calls: Blank,
-    table: SeatTable,
+    blanks: Blanks,
 ) -> Result<(), Stop>
     requires sent { outlet.sent ≡ [] }
-    requires setup { (checked.now ≡ S.limits) × (filters.rules ≡ S.rules) × (None ≡ S.ring) }
-    requires workers { checked.now.workers ≡ 1 }
-    requires handles { (handles.name ≡ H.name) × (handles.parts ≡ H.parts) × (H.parts ≡ HANDLE_PARTS) }
-    requires calls { (calls.name ≡ C.name) × (calls.parts ≡ C.parts) × (C.parts ≡ 1) }
-    requires table { (table ≡ S.table) × (table.words ≡ checked.now.slots) }
+    requires setup { (filters.rules ≡ S.rules) × (outlet.forms ≡ S.forms) × (None ≡ S.ring) }
+    requires workers { S.limits.workers ≡ 1 }
+    requires parts { (H.parts ≡ HANDLE_PARTS) × (C.parts ≡ 1) }
+    requires blanks { blanks ≡ record {
+      limits = S.limits;
+      handles = H.name;
+      handle_parts = H.parts;
+      calls = C.name;
+      call_parts = C.parts;
+      table = S.table;
+      history = S.history;
+    } }
 {
     stage.begin(Taken);
-    let made = Registry::<H, C, S, Kept<V>>::new(
-        alloc, checked, filters, outlet, handles, calls, table,
-    );
+    let made = Registry::<H, C, S, Kept<V>>::new(alloc, filters, outlet, blanks);
     stage.over();
     match made {
         Ok((registry, workers)) => called(stage, alloc, plan, names, registry, workers),
@@ -147,7 +139,7 @@ fn called<H: Ledger, C: Ledger, S: Setup, V: Say, A: Admit, R: Print + Wait>(
     plan: &[Planned<'_, Act>],
     names: &Names,
     registry: Registry<H, C, S, Kept<V>, A>,
-    workers: Vec<Worker<H, C>>,
+    workers: Vec<Worker<H, C, S>>,
 ) -> Result<(), Stop>
     requires parts { (H.parts ≡ HANDLE_PARTS) × (C.parts ≡ 1) }
     requires one { vec_len workers ≡ 1 }

@@ -157,7 +157,7 @@ impl<'n, V: Say> Subject<Ask> for OnCore<'n, V> {
         })
     }
 
-    fn look(&self, text: &mut String) -> Result<(), AllocError> {
+    fn look(&mut self, text: &mut String) -> Result<(), AllocError> {
         let core = &self.core;
         add_counts(text, core)?;
         add_lines(text, core.outlet().all())?;

@@ -124,7 +124,7 @@ impl<'n, V: Say, A: Admit> Subject<Ask> for OnLatest<'n, V, A> {
         }
     }
 
-    fn look(&self, text: &mut String) -> Result<(), AllocError> {
+    fn look(&mut self, text: &mut String) -> Result<(), AllocError> {
         let core = &self.core;
         add_counts(text, core)?;
         add_lines(text, core.outlet().lines())?;

@@ -10,7 +10,7 @@ use crate::trial::Subject;
 use span_id::{Checked, Fault, Id, Limits};
 use span_layers::Admit;
 use span_outlet::Outlet;
-use span_registry::{Registry, Setup};
+use span_registry::{Registry, Setup, Worker};
 use std::alloc::{AllocError, Global};
 use std::sync::Wait;
 use std::sync::ledger::Ledger;
@@ -44,13 +44,22 @@ impl<'r, 'n, H: Ledger, C: Ledger, S: Setup, O: Outlet, A: Admit, R: Wait> Subje
             .call(self.rt, self.alloc, &self.registry, self.names, *act)
     }
 
-    fn look(&self, text: &mut String) -> Result<(), AllocError> {
-        let worker = &self.caller.worker;
-        let number = u64::from(worker.number());
-        let (first, second) = self.caller.hands.ids();
-        add_numbers(text, &[number, worker.accepted(), first, second])?;
+    fn look(&mut self, text: &mut String) -> Result<(), AllocError> {
+        let caller = &mut self.caller;
+        let number = u64::from(caller.worker.number());
+        let accepted = caller.worker.accepted();
+        let (first, second) = caller.hands.ids();
+        add_numbers(text, &[number, accepted, first, second])?;
         for named in Named::ALL {
-            add_found(self.rt, self.alloc, &self.registry, named.id(), text)?;
+            let worker = &mut caller.worker;
+            add_found(
+                self.rt,
+                self.alloc,
+                &self.registry,
+                worker,
+                named.id(),
+                text,
+            )?;
         }
         Ok(())
     }
@@ -61,10 +70,13 @@ fn add_found<H: Ledger, C: Ledger, S: Setup, O: Outlet, A: Admit, R: Wait>(
     rt: &R,
     alloc: Global,
     registry: &Registry<H, C, S, O, A>,
+    worker: &mut Worker<H, C, S>,
     id: Id,
     text: &mut String,
-) -> Result<(), AllocError> {
-    match registry.find(rt, alloc, id) {
+) -> Result<(), AllocError>
+    ensures { worker.new.spare ≡ worker.old.spare }
+{
+    match registry.find(rt, alloc, worker, id) {
         Ok(found) => write!(text, "{found:?}\n"),
         Err(_) => Err(AllocError),
     }

@@ -14,14 +14,14 @@ use crate::stage::Stage;
 use crate::stop::Stop;
 use crate::texts::{add_lines, add_numbers};
 use crate::trial::{Planned, Subject, perform};
-use span_id::{Checked, Fault};
+use span_id::Fault;
 use span_layers::{Admit, Filters, Say, Tellers};
 use span_outlet::{Drain, Ring, Step, Tap};
-use span_registry::{HANDLE_PARTS, Registry, SeatTable, Setup, Worker};
+use span_registry::{Blanks, HANDLE_PARTS, Registry, Setup, Worker};
 use std::alloc::{AllocError, Global};
 use std::marker::Brand;
 use std::sync::Wait;
-use std::sync::ledger::{Blank, Ledger};
+use std::sync::ledger::Ledger;
 
 #[derive(Clone, Copy)]
 enum Ask {
@@ -57,7 +57,7 @@ impl<'r, 'n, H: Ledger, C: Ledger, S: Setup, V: Say, A: Admit, R: Wait> Subject<
         }
     }
 
-    fn look(&self, text: &mut String) -> Result<(), AllocError> {
+    fn look(&mut self, text: &mut String) -> Result<(), AllocError> {
         self.registry.look(text)?;
         add_numbers(text, &[self.drain.taken(), self.drain.refused()])?;
         add_lines(text, self.drain.all())
@@ -133,7 +133,7 @@ pub(crate) fn run<R: Print + Wait>(
     tellers: Tellers,
 ) -> Result<(), Stop> {
     match parts(stage, alloc, row) {
-        Ok((checked, ring, tap, table)) => {
+        Ok((ring, tap, blanks)) => {
             stage.begin(Untouched);
             let drain = Drain::new(alloc, tap, tellers);
             stage.over();
@@ -142,13 +142,10 @@ pub(crate) fn run<R: Print + Wait>(
                 alloc,
                 plan_of(row),
                 names,
-                &checked,
                 filters,
                 ring,
                 drain,
-                Blank::new(HANDLE_PARTS),
-                Blank::new(1),
-                table,
+                blanks,
             )
         }
         Err(stop) => Err(stop),
@@ -164,25 +161,21 @@ fn plan_of(row: Row) -> &'static [Planned<'static, Ask>] {
     }
 }
 
-// The limits of a registry with one worker, both ends of the ring, and the table of handles.
-fn parts<R: Print>(
-    stage: &Stage<R>,
-    alloc: Global,
-    row: Row,
-) -> Result<(Checked, Ring, Tap, SeatTable), Stop>
-    ensures workers { IfOk result (λ parts. parts.0.workers ≡ 1) }
-    ensures pair { IfOk result (λ parts. (parts.1.name ≡ parts.2) × (parts.1.sent ≡ [])) }
-    ensures table { IfOk result (λ parts. parts.3.words ≡ parts.0.slots) }
+// Both ends of the ring of a registry with one worker, and its blanks.
+fn parts<R: Print>(stage: &Stage<R>, alloc: Global, row: Row) -> Result<(Ring, Tap, Blanks), Stop>
+    ensures pair { IfOk result (λ parts. (parts.0.name ≡ parts.1) × (parts.0.sent ≡ [])) }
+    ensures workers { IfOk result (λ parts. parts.2.limits.workers ≡ 1) }
+    ensures parts { IfOk result (λ parts. (parts.2.handle_parts ≡ HANDLE_PARTS) × (parts.2.call_parts ≡ 1)) }
 {
     let Ok(checked) = one_worker(if row == Row::FullRing { 1 } else { 1024 }) else {
         return Err(Stop::Memory);
     };
     stage.begin(Taken);
     let ends = Ring::pair(alloc, &checked);
-    let table = SeatTable::new(alloc, checked.limits().slots);
+    let blanks = Blanks::new(alloc, &checked);
     stage.over();
-    match (ends, table) {
-        (Ok((ring, tap)), Ok(table)) => Ok((checked, ring, tap, table)),
+    match (ends, blanks) {
+        (Ok((ring, tap)), Ok(blanks)) => Ok((ring, tap, blanks)),
         _ => Err(Stop::Memory),
     }
 }
@@ -193,24 +186,28 @@ fn named<H: Ledger, C: Ledger, S: Setup, V: Say, R: Print + Wait>(
     alloc: Global,
     plan: &[Planned<'_, Ask>],
     names: &Names,
-    checked: &Checked,
     filters: Filters,
     ring: Ring,
     drain: Drain<V>,
-    handles: Blank,
-    calls: Blank,
-    table: SeatTable,
+    blanks: Blanks,
 ) -> Result<(), Stop>
     requires sent { ring.sent ≡ [] }
-    requires setup { (checked.now ≡ S.limits) × (filters.rules ≡ S.rules) }
+    requires setup { (filters.rules ≡ S.rules) × ([] ≡ S.forms) }
     requires pair { (Some ring.name ≡ S.ring) × (Some drain.name ≡ S.ring) }
-    requires workers { checked.now.workers ≡ 1 }
-    requires handles { (handles.name ≡ H.name) × (handles.parts ≡ H.parts) × (H.parts ≡ HANDLE_PARTS) }
-    requires calls { (calls.name ≡ C.name) × (calls.parts ≡ C.parts) × (C.parts ≡ 1) }
-    requires table { (table ≡ S.table) × (table.words ≡ checked.now.slots) }
+    requires workers { S.limits.workers ≡ 1 }
+    requires parts { (H.parts ≡ HANDLE_PARTS) × (C.parts ≡ 1) }
+    requires blanks { blanks ≡ record {
+      limits = S.limits;
+      handles = H.name;
+      handle_parts = H.parts;
+      calls = C.name;
+      call_parts = C.parts;
+      table = S.table;
+      history = S.history;
+    } }
 {
     stage.begin(Taken);
-    let made = Registry::<H, C, S, Ring>::new(alloc, checked, filters, ring, handles, calls, table);
+    let made = Registry::<H, C, S, Ring>::new(alloc, filters, ring, blanks);
     stage.over();
     match made {
         Ok((registry, workers)) => called(stage, alloc, plan, names, registry, workers, drain),
@@ -226,7 +223,7 @@ fn called<H: Ledger, C: Ledger, S: Setup, V: Say, A: Admit, R: Print + Wait>(
     plan: &[Planned<'_, Ask>],
     names: &Names,
     registry: Registry<H, C, S, Ring, A>,
-    workers: Vec<Worker<H, C>>,
+    workers: Vec<Worker<H, C, S>>,
     drain: Drain<V>,
 ) -> Result<(), Stop>
     requires pair { Some drain.name ≡ S.ring }

@@ -77,7 +77,7 @@ impl Subject<Act> for Slots<u32> {
         })
     }
 
-    fn look(&self, text: &mut String) -> Result<(), AllocError> {
+    fn look(&mut self, text: &mut String) -> Result<(), AllocError> {
         add_numbers(text, &[u64::from(self.len()), u64::from(self.free())])?;
         add_id(text, self.next_id())?;
         for slot in 0..3 {

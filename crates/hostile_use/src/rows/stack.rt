@@ -85,7 +85,7 @@ impl Subject<Act> for Reserved {
         })
     }
 
-    fn look(&self, text: &mut String) -> Result<(), AllocError> {
+    fn look(&mut self, text: &mut String) -> Result<(), AllocError> {
         add_stack(text, &self.stack)
     }
 }

@@ -1,7 +1,8 @@
-//! What each test compares with.
+//! What each test compares with, and ids by their numbers.
 //!
 //! An assertion is a branch of the function in which it stands, and each branch drops what that function owns. A call
 //! of these is no branch, and they own nothing, so tests call them.
+use span_id::Id;
 use std::fmt::{Debug, Display};
 use std::process::Abort;
 
@@ -15,12 +16,12 @@ pub(crate) fn same<T: PartialEq + Debug + Copy, D: Display + Copy>(
     assert_eq!(rt; answer, want, "of {of}");
 }
 
-/// The same where no word has to tell the case.
-pub(crate) fn equal<T: PartialEq + Debug + Copy>(rt: &impl Abort, answer: T, want: T) {
-    assert_eq!(rt; answer, want);
-}
-
 /// Whether this is so; `of` tells the case.
 pub(crate) fn holds<D: Display + Copy>(rt: &impl Abort, fact: bool, of: D) {
     assert!(rt; fact, "{of}");
+}
+
+/// The id of this number.
+pub(crate) fn id(rt: &impl Abort, number: u64) -> Id {
+    Id::from_u64(number).expect(rt, "an id")
 }

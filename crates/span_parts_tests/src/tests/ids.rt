@@ -1,6 +1,6 @@
 //! Ids in both layouts, limits, names, and shared fields.
 use crate::tests::compare::{holds, same};
-use crate::tests::values::field;
+use crate::values::field;
 use span_id::{Bits, Field, Fields, Id, Level, Limits, Meta, SharedMeta};
 use std::alloc::Global;
 use std::fmt::Display;
@@ -91,12 +91,12 @@ type LimitCase = ([u32; 5], bool);
 static LIMITS: [LimitCase; 10] = [
     ([1024, 4294967295, 4294967295, 4, 1024], true),
     ([1, 0, 1, 1, 1], true),
-    ([16777216, 4294967295, 4294967295, 256, 65536], true),
+    ([16777216, 4294967295, 4294967295, 65536, 65536], true),
     ([0, 0, 1, 1, 1], false),
     ([16777217, 0, 1, 1, 1], false),
     ([1, 0, 0, 1, 1], false),
     ([1, 0, 1, 0, 1], false),
-    ([1, 0, 1, 257, 1], false),
+    ([1, 0, 1, 65537, 1], false),
     ([1, 0, 1, 1, 0], false),
     ([1, 0, 1, 1, 65537], false),
 ];
@@ -122,7 +122,7 @@ fn checks_each_limit(rt: HostRuntime) {
 }
 
 fn fits(rt: &impl Abort, alloc: Global, name: &str, want: bool) {
-    let field = field(rt, alloc, name, "");
+    let field = field(alloc, name, "").expect(rt, "memory");
     let fit = (meta(rt, alloc, name).fit(), field.fit());
     same(rt, fit, (want, want), name);
 }
@@ -152,7 +152,7 @@ fn knows_names(rt: HostRuntime) {
 }
 
 fn field_has_a_copy(rt: &impl Abort, alloc: Global, key: &str, value: &str) {
-    let field = field(rt, alloc, key, value);
+    let field = field(alloc, key, value).expect(rt, "memory");
     let copy = field.copy(alloc).expect(rt, "memory");
     holds(rt, copy == field, value);
 }
@@ -175,7 +175,7 @@ fn copied(rt: &impl Abort, alloc: Global, values: &[&str]) -> Fields {
 
 // Adds a field with the key `k`.
 fn extend(rt: &impl Abort, alloc: Global, fields: &mut Fields, value: &str) {
-    let more = [field(rt, alloc, "k", value)];
+    let more = [field(alloc, "k", value).expect(rt, "memory")];
     fields.extend(alloc, &more).expect(rt, "memory");
 }
 
@@ -273,7 +273,8 @@ fn meta(rt: &impl Abort, alloc: Global, name: &str) -> Meta {
 fn list(rt: &impl Abort, alloc: Global, values: &[&str]) -> Vec<Field> {
     let mut list = Vec::new(alloc);
     for value in values {
-        list.push(field(rt, alloc, "k", value)).expect(rt, "memory");
+        let field = field(alloc, "k", value).expect(rt, "memory");
+        list.push(field).expect(rt, "memory");
     }
     list
 }

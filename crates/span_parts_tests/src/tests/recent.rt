@@ -1,6 +1,6 @@
 //! Copies of fields, in the memory of earlier ones: what is still owned is never written over. Metas that are shared.
 use crate::tests::compare::{holds, same};
-use crate::tests::values::{field, meta};
+use crate::values::{field, meta};
 use span_id::{Field, Fields, Level};
 use span_recent::{RecentFields, RecentMetas};
 use std::alloc::Global;
@@ -26,7 +26,7 @@ fn given(rt: &impl Abort, alloc: Global, number: usize) -> Vec<Field> {
         let text = "x".repeat(alloc, size_of(number)).expect(rt, "memory");
         let value = format!(in alloc; "{number}.{nth}{text}").expect(rt, "memory");
         let key = format!(in alloc; "k{nth}").expect(rt, "memory");
-        let field = field(rt, alloc, key.as_str(), value.as_str());
+        let field = field(alloc, key.as_str(), value.as_str()).expect(rt, "memory");
         list.push(field).expect(rt, "memory");
     }
     list
@@ -75,7 +75,7 @@ fn copies_that_are_kept_are_never_written_over(rt: HostRuntime) {
 // A copy of one field with a value of this length.
 fn sized(rt: &impl Abort, alloc: Global, recent: &mut RecentFields, size: usize) -> Fields {
     let value = "v".repeat(alloc, size).expect(rt, "memory");
-    let one = [field(rt, alloc, "k", value.as_str())];
+    let one = [field(alloc, "k", value.as_str()).expect(rt, "memory")];
     recent.copy(&one).expect(rt, "memory")
 }
 
@@ -130,7 +130,7 @@ fn is_copied_twice(
     size: usize,
 ) {
     let target = "t".repeat(alloc, size).expect(rt, "memory");
-    let meta = meta(rt, alloc, name, target.as_str(), Level::Info);
+    let meta = meta(alloc, name, target.as_str(), Level::Info).expect(rt, "memory");
     for _ in 0..2 {
         let copy = recent.share(&meta).expect(rt, "memory");
         holds(rt, *copy.as_meta() == meta, size);

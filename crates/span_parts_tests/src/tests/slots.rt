@@ -1,6 +1,5 @@
 //! Generations, retired slots, and the order in which slots are given.
-use crate::tests::compare::{holds, same};
-use crate::tests::values::id;
+use crate::tests::compare::{holds, id, same};
 use span_id::{Fault, Id, Limits};
 use span_slots::Slots;
 use std::alloc::Global;

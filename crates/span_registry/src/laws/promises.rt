@@ -1,28 +1,56 @@
-//! What a handle proves.
-ghost use Rattle.std.specs.Prelude.{◌≡◌, ◌≢◌, ℕ};
+//! The promise of the registry, and what a handle proves.
+ghost use Rattle.std.specs.Prelude.{◌≡◌, ◌≢◌, ◌^◌, ◌<◌, ◌≤◌, ℕ, length, Some, None, IsTrue, IfSome, IfNone};
 ghost use Rattle.span_forest.specs.declared.span.Holder.TheVariants.{Handle};
-ghost use Rattle.span_forest.specs.Spans.{IsOpen};
+ghost use Rattle.span_forest.specs.Node.{node_of};
+ghost use Rattle.span_forest.specs.Spans.{find, IsOpen};
+ghost use Rattle.span_forest.specs.Live.{stands_in};
+ghost use Rattle.span_forest.specs.Count.{total_handles};
 ghost use Rattle.span_forest.specs.Holders.{IsHeld};
 ghost use Rattle.span_id.specs.Id.{slot_of};
+ghost use Rattle.span_core.specs.World.{IsCounted};
+ghost use Rattle.span_core.specs.ClosedSpans.{closed_in};
 ghost use Rattle.span_core.specs.History.{IsLegal};
 
 use crate::handle::take_seat;
 use crate::locked::Locked;
 use crate::setup::Setup;
 use crate::with_seats;
+use span_core::laws::open_spans_were_made_and_not_closed;
+use span_forest::Span;
+use span_id::Id;
 use span_outlet::Outlet;
-use std::sync::ledger::Ledger;
+use std::sync::ledger::{Book, Ledger};
 
-/// Whenever the lock is free: the registry's limits, rules and ring are those that it was made with, and the batches sent
-/// are a legal history, which leaves this world. What else every core knows is known of [`Locked::core`].
+/// Whenever the lock is free, of any id: an open span's count is its handles, the workers that are inside it and its open
+/// children; it is positive and at most `max_count`, and the span's parent is open. A closed id finds nothing. The book
+/// of handles, which is lent too, is the sum of the handles of all open spans.
+pub fn the_promise<H: Ledger, C: Ledger, S: Setup, O: Outlet, A>(
+    locked: &Locked<H, C, S, O, A>,
+    id: Id,
+) -> (Option<&Span>, &Book<H>)
+    ensures absent { IfNone result.0 (find locked.now.world.spans id ≡ None) }
+    ensures found { IfSome result.0 (λ span. find locked.now.world.spans id ≡ Some (node_of span.now)) }
+    ensures counted { IfSome result.0 (λ span. IsCounted locked.now.world id span.now) }
+    ensures bounded { IfSome result.0 (λ span. span.now.count ≤ S.limits.max_count) }
+    ensures closed { IsTrue (stands_in id (closed_in locked.now.sent)) → result.0 ≡ None }
+    ensures ledgered { result.1.now.total ≡ total_handles locked.now.world.spans }
+{
+    open_spans_were_made_and_not_closed(&locked.core);
+    let span = locked.core.find(id);
+    (span, &locked.handles)
+}
+
+/// Whenever the lock is free: the registry's limits, rules, forms and ring are those that it was made with, and the
+/// batches sent are a legal history of at most 2^64 - 1 calls, which leaves this world. What else every core knows is known of [`Locked::core`].
 pub fn whenever_the_lock_is_free<H: Ledger, C: Ledger, S: Setup, O: Outlet, A>(
     locked: &Locked<H, C, S, O, A>,
 )
-    ensures setup { (locked.now.limits ≡ S.limits) × (locked.now.rules ≡ S.rules) × (locked.now.name ≡ S.ring) }
+    ensures setup { (locked.now.limits ≡ S.limits) × (locked.now.rules ≡ S.rules) × (locked.now.forms ≡ S.forms)
+        × (locked.now.name ≡ S.ring) }
     ensures legal { IsLegal S.rules S.limits.workers locked.now.sent locked.now.world }
+    ensures fits { length locked.now.sent < 2 ^ 64 }
 {
-    // The field brings what holds of the locked value to light.
-    let _core = &locked.core;
+    locked.core.calls();
 }
 
 /// A handle proves that its span is open: its id finds a span, of that generation, which has a handle. No other span is

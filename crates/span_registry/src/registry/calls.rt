@@ -1,11 +1,21 @@
 //! The calls, which take the lock.
-ghost use Rattle.std.specs.Prelude.{◌≡◌, ◌≢◌, ◌+◌, ◌-◌, ◌<◌, true, false, IfOk, IfErr, OnOk, OnErr, IfNone, OnSome};
+ghost use Rattle.std.specs.Prelude.{◌≡◌, ◌≢◌, ◌↔◌, ◌+◌, ◌-◌, ◌<◌, nat_lt, length, true, false, Some, None, IfOk, IfErr, OnOk, OnErr, IfSome, IfNone, IsSomeAnd, OnSome, MatchResult, MatchOption, IsTrue};
+ghost use Rattle.span_forest.specs.Spans.{find, IsOpen};
+ghost use Rattle.span_forest.specs.Count.{reference_count};
+ghost use Rattle.span_registry.specs.Found.{IsFound};
+ghost use Rattle.span_core.specs.Parent.{parent_found};
+ghost use Rattle.span_core.specs.NextId.{next_id};
 ghost use Rattle.span_id.specs.declared.fault.Fault.TheVariants.{Unknown, CountFull, BadName};
 ghost use Rattle.span_id.specs.Meta.{plain_meta, plain_fields};
-ghost use Rattle.span_outlet.specs.Request.{event, record_fields};
-ghost use Rattle.span_core.specs.Step.{is_wanted};
-ghost use Rattle.span_core.specs.Core.{is_named};
-ghost use Rattle.span_registry.specs.Worker.{after_call};
+ghost use Rattle.span_outlet.specs.Request.{event, told, record_fields, recorded, clone_span, cloned, new_span, made, enter, entered, exit, exited, try_close, released};
+ghost use Rattle.span_stack.specs.Stack.{without_last};
+ghost use Rattle.span_core.specs.World.{stack_of};
+ghost use Rattle.span_core.specs.GivenBack.{ClosesWhatNothingHolds};
+ghost use Rattle.span_core.specs.Step.{is_wanted, closed_by_exit};
+ghost use Rattle.span_core.specs.Core.{is_named, IsAccepted, IsRefused};
+ghost use mathlib.Core.List.{IsPrefix};
+ghost use Rattle.span_registry.specs.Worker.{after_call, HasOneMore, HasNoMore};
+ghost use Rattle.span_registry.specs.Happened.{Happened, closed_by_close};
 
 use crate::found::Found;
 use crate::handle::Handle;
@@ -32,18 +42,30 @@ impl<H: Ledger, C: Ledger, S: Setup, O: Outlet, A: Admit> Registry<H, C, S, O, A
     pub fn new_span<R: Wait>(
         &self,
         rt: &R,
-        worker: &mut Worker<H, C>,
+        worker: &mut Worker<H, C, S>,
         meta: &Meta,
         fields: &[Field],
         parent: ParentOf,
     ) -> Result<Option<Handle<H, C, S>>, Fault>
-        ensures worker { IfOk result (λ new. OnSome new (worker.new ≡ after_call worker.old (worker.old.spare - 1))) }
+        ensures seen { IsPrefix worker.old.seen worker.new.seen }
+        ensures own { MatchResult result
+            (λ new. MatchOption new (HasNoMore worker.old worker.new) (λ _. HasOneMore worker.old worker.new))
+            (λ _. HasNoMore worker.old worker.new) }
+        ensures happened { IfOk result (λ made_one. IfSome made_one (λ handle. Happened S.limits S.rules worker.old worker.new (λ old new.
+            IsAccepted old (new_span worker.old.number (plain_meta meta.now) (plain_fields fields.now)
+            (parent_found old.world worker.old.number parent)) (made handle.id) new
+            × (next_id old.limits.slots old.limits.last_generation old.sent ≡ Some handle.id)))) }
+        ensures was_refused { IfErr result (λ fault. 0 < worker.old.spare → Happened S.limits S.rules worker.old worker.new (λ old new.
+            IsRefused old (new_span worker.old.number (plain_meta meta.now) (plain_fields fields.now)
+            (parent_found old.world worker.old.number parent)) fault new)) }
+        ensures worker { IfOk result (λ new. OnSome new (worker.new ≡ after_call worker.old (worker.old.spare - 1) worker.new.seen)) }
         ensures part { OnOk result (0 < worker.old.spare) }
         ensures no_part { IfErr result (λ fault. worker.old.spare ≡ 0 → fault ≡ CountFull) }
         ensures not_wanted { IfOk result (λ new. IfNone new (
-            (is_wanted S.rules (plain_meta meta.now) ≡ false) × (worker.new ≡ worker.old))) }
+            (is_named (new_span worker.old.number (plain_meta meta.now) (plain_fields fields.now) None) ≡ true)
+            × (is_wanted S.rules (plain_meta meta.now) ≡ false) × (worker.new ≡ worker.old))) }
         ensures wanted { IfOk result (λ new. OnSome new (is_wanted S.rules (plain_meta meta.now) ≡ true)) }
-        ensures unchanged { OnErr result (worker.new ≡ worker.old) }
+        ensures unchanged { OnErr result (worker.new ≡ record worker.old { seen = worker.new.seen }) }
     {
         laws::new_span(&mut *self.locked.lock(rt), worker, meta, fields, parent)
     }
@@ -55,13 +77,19 @@ impl<H: Ledger, C: Ledger, S: Setup, O: Outlet, A: Admit> Registry<H, C, S, O, A
     pub fn event<R: Wait>(
         &self,
         rt: &R,
-        worker: &mut Worker<H, C>,
+        worker: &mut Worker<H, C, S>,
         meta: &Meta,
         message: &str,
         fields: &[Field],
     ) -> Result<(), Fault>
-        ensures worker { OnOk result (worker.new ≡ after_call worker.old worker.old.spare) }
-        ensures unchanged { OnErr result (worker.new ≡ worker.old) }
+        ensures seen { IsPrefix worker.old.seen worker.new.seen }
+        ensures own { MatchResult result (λ _. HasOneMore worker.old worker.new) (λ _. HasNoMore worker.old worker.new) }
+        ensures happened { OnOk result (Happened S.limits S.rules worker.old worker.new (λ old new.
+            IsAccepted old (event worker.old.number (plain_meta meta.now) message.now (plain_fields fields.now)) told new)) }
+        ensures was_refused { IfErr result (λ fault. Happened S.limits S.rules worker.old worker.new (λ old new.
+            IsRefused old (event worker.old.number (plain_meta meta.now) message.now (plain_fields fields.now)) fault new)) }
+        ensures worker { OnOk result (worker.new ≡ after_call worker.old worker.old.spare worker.new.seen) }
+        ensures unchanged { OnErr result (worker.new ≡ record worker.old { seen = worker.new.seen }) }
         ensures named { OnOk result (is_named
             (event worker.old.number (plain_meta meta.now) message.now (plain_fields fields.now)) ≡ true) }
         ensures bad_name { IfErr result (λ fault. fault ≡ BadName → is_named
@@ -79,14 +107,20 @@ impl<H: Ledger, C: Ledger, S: Setup, O: Outlet, A> Registry<H, C, S, O, A> {
     pub fn clone_span<R: Wait>(
         &self,
         rt: &R,
-        worker: &mut Worker<H, C>,
+        worker: &mut Worker<H, C, S>,
         handle: &mut Handle<H, C, S>,
     ) -> Result<Handle<H, C, S>, Fault>
+        ensures seen { IsPrefix worker.old.seen worker.new.seen }
+        ensures own { MatchResult result (λ _. HasOneMore worker.old worker.new) (λ _. HasNoMore worker.old worker.new) }
+        ensures happened { OnOk result (Happened S.limits S.rules worker.old worker.new (λ old new.
+            IsAccepted old (clone_span worker.old.number handle.old.id) cloned new)) }
+        ensures was_refused { IfErr result (λ fault. 0 < worker.old.spare → Happened S.limits S.rules worker.old worker.new (λ old new.
+            IsRefused old (clone_span worker.old.number handle.old.id) fault new)) }
         ensures id { IfOk result (λ clone. clone.id ≡ handle.old.id) }
-        ensures worker { OnOk result (worker.new ≡ after_call worker.old (worker.old.spare - 1)) }
+        ensures worker { OnOk result (worker.new ≡ after_call worker.old (worker.old.spare - 1) worker.new.seen) }
         ensures part { OnOk result (0 < worker.old.spare) }
         ensures no_part { IfErr result (λ fault. worker.old.spare ≡ 0 → fault ≡ CountFull) }
-        ensures unchanged { OnErr result (worker.new ≡ worker.old) }
+        ensures unchanged { OnErr result (worker.new ≡ record worker.old { seen = worker.new.seen }) }
         ensures never_unknown { IfErr result (λ fault. fault ≢ Unknown) }
         ensures keeps_id { handle.new.id ≡ handle.old.id }
         ensures no_names { IfErr result (λ fault. fault ≢ BadName) }
@@ -102,11 +136,17 @@ impl<H: Ledger, C: Ledger, S: Setup, O: Outlet, A> Registry<H, C, S, O, A> {
     pub fn enter<R: Wait>(
         &self,
         rt: &R,
-        worker: &mut Worker<H, C>,
+        worker: &mut Worker<H, C, S>,
         handle: &mut Handle<H, C, S>,
     ) -> Result<bool, Fault>
-        ensures worker { OnOk result (worker.new ≡ after_call worker.old worker.old.spare) }
-        ensures unchanged { OnErr result (worker.new ≡ worker.old) }
+        ensures seen { IsPrefix worker.old.seen worker.new.seen }
+        ensures own { MatchResult result (λ _. HasOneMore worker.old worker.new) (λ _. HasNoMore worker.old worker.new) }
+        ensures happened { IfOk result (λ first. Happened S.limits S.rules worker.old worker.new (λ old new.
+            IsAccepted old (enter worker.old.number handle.old.id) (entered first) new)) }
+        ensures was_refused { IfErr result (λ fault. Happened S.limits S.rules worker.old worker.new (λ old new.
+            IsRefused old (enter worker.old.number handle.old.id) fault new)) }
+        ensures worker { OnOk result (worker.new ≡ after_call worker.old worker.old.spare worker.new.seen) }
+        ensures unchanged { OnErr result (worker.new ≡ record worker.old { seen = worker.new.seen }) }
         ensures never_unknown { IfErr result (λ fault. fault ≢ Unknown) }
         ensures keeps_id { handle.new.id ≡ handle.old.id }
         ensures no_names { IfErr result (λ fault. fault ≢ BadName) }
@@ -119,9 +159,19 @@ impl<H: Ledger, C: Ledger, S: Setup, O: Outlet, A> Registry<H, C, S, O, A> {
     ///
     /// Refused in this order: `Unknown` where the span isn't open, `CountFull` where the number of accepted calls is at
     /// its greatest, `NotEntered` where the span doesn't stand in the worker's stack, `Backlog`, `Memory`.
-    pub fn exit<R: Wait>(&self, rt: &R, worker: &mut Worker<H, C>, id: Id) -> Result<bool, Fault>
-        ensures worker { OnOk result (worker.new ≡ after_call worker.old worker.old.spare) }
-        ensures unchanged { OnErr result (worker.new ≡ worker.old) }
+    pub fn exit<R: Wait>(&self, rt: &R, worker: &mut Worker<H, C, S>, id: Id) -> Result<bool, Fault>
+        ensures seen { IsPrefix worker.old.seen worker.new.seen }
+        ensures own { MatchResult result (λ _. HasOneMore worker.old worker.new) (λ _. HasNoMore worker.old worker.new) }
+        ensures happened { IfOk result (λ closed. Happened S.limits S.rules worker.old worker.new (λ old new.
+            IsAccepted old (exit worker.old.number id) (exited (closed_by_exit old.world worker.old.number id)) new
+            × (closed ≡ nat_lt 0 (length (closed_by_exit old.world worker.old.number id))))) }
+        ensures released { IfOk result (λ closed. Happened S.limits S.rules worker.old worker.new (λ old new.
+            ClosesWhatNothingHolds old (exit worker.old.number id) new × (IsTrue closed ↔ (find new.world.spans id ≡ None))
+            × (stack_of new.world worker.old.number ≡ without_last (stack_of old.world worker.old.number) id))) }
+        ensures was_refused { IfErr result (λ fault. Happened S.limits S.rules worker.old worker.new (λ old new.
+            IsRefused old (exit worker.old.number id) fault new)) }
+        ensures worker { OnOk result (worker.new ≡ after_call worker.old worker.old.spare worker.new.seen) }
+        ensures unchanged { OnErr result (worker.new ≡ record worker.old { seen = worker.new.seen }) }
         ensures no_names { IfErr result (λ fault. fault ≢ BadName) }
     {
         laws::exit(&mut *self.locked.lock(rt), worker, id)
@@ -134,11 +184,21 @@ impl<H: Ledger, C: Ledger, S: Setup, O: Outlet, A> Registry<H, C, S, O, A> {
     pub fn try_close<R: Wait>(
         &self,
         rt: &R,
-        worker: &mut Worker<H, C>,
+        worker: &mut Worker<H, C, S>,
         handle: Handle<H, C, S>,
     ) -> Result<bool, (Handle<H, C, S>, Fault)>
-        ensures worker { OnOk result (worker.new ≡ after_call worker.old (worker.old.spare + 1)) }
-        ensures unchanged { OnErr result (worker.new ≡ worker.old) }
+        ensures seen { IsPrefix worker.old.seen worker.new.seen }
+        ensures own { MatchResult result (λ _. HasOneMore worker.old worker.new) (λ _. HasNoMore worker.old worker.new) }
+        ensures happened { IfOk result (λ closed. Happened S.limits S.rules worker.old worker.new (λ old new.
+            IsAccepted old (try_close worker.old.number handle.id) (released (closed_by_close old.world handle.id)) new
+            × (closed ≡ nat_lt 0 (length (closed_by_close old.world handle.id))))) }
+        ensures released { IfOk result (λ closed. Happened S.limits S.rules worker.old worker.new (λ old new.
+            ClosesWhatNothingHolds old (try_close worker.old.number handle.id) new
+            × (IsTrue closed ↔ (find new.world.spans handle.id ≡ None)))) }
+        ensures was_refused { IfErr result (λ e. Happened S.limits S.rules worker.old worker.new (λ old new.
+            IsRefused old (try_close worker.old.number handle.id) e.1 new)) }
+        ensures worker { OnOk result (worker.new ≡ after_call worker.old (worker.old.spare + 1) worker.new.seen) }
+        ensures unchanged { OnErr result (worker.new ≡ record worker.old { seen = worker.new.seen }) }
         ensures never_unknown { IfErr result (λ e. e.1 ≢ Unknown) }
         ensures back { IfErr result (λ e. e.0.id ≡ handle.id) }
         ensures no_names { IfErr result (λ e. e.1 ≢ BadName) }
@@ -153,12 +213,18 @@ impl<H: Ledger, C: Ledger, S: Setup, O: Outlet, A> Registry<H, C, S, O, A> {
     pub fn record<R: Wait>(
         &self,
         rt: &R,
-        worker: &mut Worker<H, C>,
+        worker: &mut Worker<H, C, S>,
         handle: &mut Handle<H, C, S>,
         fields: &[Field],
     ) -> Result<(), Fault>
-        ensures worker { OnOk result (worker.new ≡ after_call worker.old worker.old.spare) }
-        ensures unchanged { OnErr result (worker.new ≡ worker.old) }
+        ensures seen { IsPrefix worker.old.seen worker.new.seen }
+        ensures own { MatchResult result (λ _. HasOneMore worker.old worker.new) (λ _. HasNoMore worker.old worker.new) }
+        ensures happened { OnOk result (Happened S.limits S.rules worker.old worker.new (λ old new.
+            IsAccepted old (record_fields worker.old.number handle.old.id (plain_fields fields.now)) recorded new)) }
+        ensures was_refused { IfErr result (λ fault. Happened S.limits S.rules worker.old worker.new (λ old new.
+            IsRefused old (record_fields worker.old.number handle.old.id (plain_fields fields.now)) fault new)) }
+        ensures worker { OnOk result (worker.new ≡ after_call worker.old worker.old.spare worker.new.seen) }
+        ensures unchanged { OnErr result (worker.new ≡ record worker.old { seen = worker.new.seen }) }
         ensures never_unknown { IfErr result (λ fault. fault ≢ Unknown) }
         ensures keeps_id { handle.new.id ≡ handle.old.id }
         ensures named { OnOk result (is_named
@@ -171,9 +237,24 @@ impl<H: Ledger, C: Ledger, S: Setup, O: Outlet, A> Registry<H, C, S, O, A> {
 
     /// The name, the parent and the numbers of the span of an id, if it is open. It is no call of the history. The only
     /// error is `Memory`, for the copy of the name.
-    pub fn find<R: Wait>(&self, rt: &R, alloc: Global, id: Id) -> Result<Option<Found>, Fault>
+    pub fn find<R: Wait>(
+        &self,
+        rt: &R,
+        alloc: Global,
+        worker: &mut Worker<H, C, S>,
+        id: Id,
+    ) -> Result<Option<Found>, Fault>
+        ensures seen { IsPrefix worker.old.seen worker.new.seen }
+        ensures own { HasNoMore worker.old worker.new }
+        ensures happened { IfOk result (λ answer. Happened S.limits S.rules worker.old worker.new (λ old new.
+            (new ≡ old) × IfNone answer (find old.world.spans id ≡ None)
+            × IfSome answer (λ found. IsSomeAnd (find old.world.spans id) (λ node.
+            IsFound node (reference_count old.world.spans id) found)))) }
+        ensures was_refused { OnErr result (Happened S.limits S.rules worker.old worker.new (λ old new.
+            (new ≡ old) × IsOpen old.world.spans id)) }
+        ensures worker { worker.new ≡ record worker.old { seen = worker.new.seen } }
         ensures memory { IfErr result (λ fault. fault ≡ Fault.Memory) }
     {
-        laws::find(alloc, &*self.locked.lock(rt), id)
+        laws::find(alloc, &mut *self.locked.lock(rt), worker, id)
     }
 }

@@ -16,15 +16,16 @@ impl<H: Ledger, C: Ledger, S: Setup, V: Say + Drop, A: Drop> Registry<H, C, S, K
     /// Ends the registry with the whole share: what all workers left and all handles that were given up, joined.
     ///
     /// The report counts what was open, held, accepted, made and closed, and has the lines that the outlet kept: all
-    /// of one legal history under this registry's limits and rules. No span was open exactly where no handle was given up
+    /// of one legal history under this registry's limits and rules, of which each worker of the share had seen a
+    /// beginning. No span was open exactly where no handle was given up
     /// and no stack has an entry.
-    pub fn finish_kept(self, share: Share<H, C>) -> Report
+    pub fn finish_kept(self, share: Share<H, C, S>) -> Report
         requires { IsWhole H.parts C.parts share }
         ensures units { result.handles ≡ share.units }
         ensures accepted { result.calls ≡ share.accepted }
         ensures empty { (result.left ≡ 0) ↔ ((result.handles ≡ 0) × (result.entries ≡ 0)) }
         ensures balance { result.made ≡ result.closed + result.left }
-        ensures ended { IsEnd S.limits S.rules result }
+        ensures ended { IsEnd S.limits S.rules S.forms share result }
     {
         laws::finish_kept(self.locked.into_inner(), share)
     }
@@ -35,14 +36,14 @@ impl<H: Ledger, C: Ledger, S: Setup, A: Drop> Registry<H, C, S, Ring, A> {
     ///
     /// The drain first takes what still stands in the ring. The lines are the drain's, of everything that was sent;
     /// those that it had stand first. It cannot fail: a note whose line memory is refused is counted as missed.
-    pub fn finish<V: Say + Drop>(self, share: Share<H, C>, drain: Drain<V>) -> Report
+    pub fn finish<V: Say + Drop>(self, share: Share<H, C, S>, drain: Drain<V>) -> Report
         requires whole { IsWhole H.parts C.parts share }
         requires pair { Some drain.name ≡ S.ring }
         ensures units { result.handles ≡ share.units }
         ensures accepted { result.calls ≡ share.accepted }
         ensures empty { (result.left ≡ 0) ↔ ((result.handles ≡ 0) × (result.entries ≡ 0)) }
         ensures balance { result.made ≡ result.closed + result.left }
-        ensures ended { IsDrainedEnd S.limits S.rules drain result }
+        ensures ended { IsDrainedEnd S.limits S.rules drain share result }
     {
         laws::finish(self.locked.into_inner(), share, drain)
     }

@@ -17,6 +17,9 @@ use span_layers::{Admitters, Formatters, Forms, Hooks, Layer, Layers, MAX_LAYERS
 use span_script::{NewLayer, Operation, Stage, Stop, operation_in_line};
 use std::alloc::Global;
 
+/// The greatest number of workers that a script may ask for.
+const MAX_WORKERS: u32 = 256;
+
 /// The limits that stand, the layers that were added, and the hooks for further layers, the next ones last.
 #[derive(Drop)]
 pub struct Setup<A, F> {
@@ -105,6 +108,9 @@ impl<A: Drop, F: Drop> Setup<A, F> {
             ≡ record { text = answer_text result; state = setup_state self.new } }
         ensures hooks { hooks_in self.new ≡ hooks_in self.old }
     {
+        if limits.workers > MAX_WORKERS {
+            return Answer::Refused(Fault::BadLimits);
+        }
         match limits.check() {
             Ok(checked) => {
                 self.checked = checked;

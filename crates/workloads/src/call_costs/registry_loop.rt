@@ -7,14 +7,14 @@ use crate::held::Held;
 use crate::order::Shape;
 use crate::parts::{CoreParts, Parts};
 use crate::texts::Texts;
-use span_id::{Checked, Fault, Limits};
+use span_id::{Fault, Limits};
 use span_layers::{Filters, Layers, Say};
 use span_outlet::LineReader;
-use span_registry::{HANDLE_PARTS, Handle, ParentOf, Registry, Ring, SeatTable, Setup, Worker};
+use span_registry::{Blanks, Handle, ParentOf, Registry, Ring, Setup, Worker};
 use std::alloc::Global;
 use std::marker::Brand;
 use std::sync::Wait;
-use std::sync::ledger::{Blank, Ledger};
+use std::sync::ledger::Ledger;
 
 /// Makes the rounds, each with its five calls at this depth, and answers what came of them.
 pub fn calls_on_registry<R: Wait>(
@@ -28,9 +28,9 @@ pub fn calls_on_registry<R: Wait>(
         ring: PLACES,
         ..Limits::default()
     };
-    let Parts { core, table } = Parts::new(alloc, limits, shape.fields)?;
+    let Parts { core, blanks } = Parts::new(alloc, limits, shape.fields)?;
     let CoreParts {
-        checked,
+        checked: _,
         texts,
         ring,
         tap,
@@ -41,13 +41,10 @@ pub fn calls_on_registry<R: Wait>(
         alloc,
         shape,
         &texts,
-        &checked,
         filters,
         ring,
         LineReader::new(alloc, tap, tellers),
-        Blank::new(HANDLE_PARTS),
-        Blank::new(1),
-        table,
+        blanks,
     )
 }
 
@@ -57,24 +54,25 @@ fn run<H: Ledger, C: Ledger, S: Setup, V: Say + Drop, R: Wait>(
     alloc: Global,
     shape: &Shape,
     texts: &Texts,
-    checked: &Checked,
     filters: Filters,
     ring: Ring,
     reader: LineReader<V>,
-    handles: Blank,
-    calls: Blank,
-    table: SeatTable,
+    blanks: Blanks,
 ) -> Result<Made, Fault>
-    requires workers { checked.now.workers ≡ 1 }
-    requires setup { (checked.now ≡ S.limits) × (filters.rules ≡ S.rules) × (Some ring.name ≡ S.ring) }
+    requires workers { S.limits.workers ≡ 1 }
+    requires setup { (filters.rules ≡ S.rules) × ([] ≡ S.forms) × (Some ring.name ≡ S.ring) }
     requires ring { ring.sent ≡ [] }
-    requires handles { (handles.name ≡ H.name) × (handles.parts ≡ H.parts) × (H.parts ≡ HANDLE_PARTS) }
-    requires calls { (calls.name ≡ C.name) × (calls.parts ≡ C.parts) × (C.parts ≡ checked.now.workers) }
-    requires table { (table ≡ S.table) × (table.words ≡ checked.now.slots) }
+    requires blanks { blanks ≡ record {
+      limits = S.limits;
+      handles = H.name;
+      handle_parts = H.parts;
+      calls = C.name;
+      call_parts = C.parts;
+      table = S.table;
+      history = S.history;
+    } }
 {
-    let (registry, mut workers) = Registry::<H, C, S, Ring>::new(
-        alloc, checked, filters, ring, handles, calls, table,
-    )?;
+    let (registry, mut workers) = Registry::<H, C, S, Ring>::new(alloc, filters, ring, blanks)?;
     let Some(worker) = workers.get_mut(0) else {
         unreachable!()
     };
@@ -86,7 +84,7 @@ fn run<H: Ledger, C: Ledger, S: Setup, V: Say + Drop, R: Wait>(
 fn make_rounds<H: Ledger, C: Ledger, S: Setup, V: Say, R: Wait>(
     rt: &R,
     registry: &Registry<H, C, S, Ring>,
-    worker: &mut Worker<H, C>,
+    worker: &mut Worker<H, C, S>,
     reader: &mut LineReader<V>,
     texts: &Texts,
     shape: &Shape,
@@ -111,7 +109,7 @@ fn make_rounds<H: Ledger, C: Ledger, S: Setup, V: Say, R: Wait>(
 fn stand<H: Ledger, C: Ledger, S: Setup, R: Wait>(
     rt: &R,
     registry: &Registry<H, C, S, Ring>,
-    worker: &mut Worker<H, C>,
+    worker: &mut Worker<H, C, S>,
     texts: &Texts,
 ) -> Result<(), Fault> {
     let fields = texts.fields.as_slice();
@@ -126,7 +124,7 @@ fn stand<H: Ledger, C: Ledger, S: Setup, R: Wait>(
 fn round<H: Ledger, C: Ledger, S: Setup, R: Wait>(
     rt: &R,
     registry: &Registry<H, C, S, Ring>,
-    worker: &mut Worker<H, C>,
+    worker: &mut Worker<H, C, S>,
     texts: &Texts,
 ) -> Result<(), Fault> {
     let fields = texts.fields.as_slice();
@@ -149,7 +147,7 @@ fn round<H: Ledger, C: Ledger, S: Setup, R: Wait>(
 fn visit<H: Ledger, C: Ledger, S: Setup, R: Wait>(
     rt: &R,
     registry: &Registry<H, C, S, Ring>,
-    worker: &mut Worker<H, C>,
+    worker: &mut Worker<H, C, S>,
     texts: &Texts,
     handle: &mut Handle<H, C, S>,
 ) -> Result<(), Fault> {

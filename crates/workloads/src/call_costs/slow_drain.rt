@@ -44,9 +44,9 @@ pub fn make_rounds<H: Ledger, C: Ledger, S: Setup, R: Wait>(
     rt: &R,
     registry: &Registry<H, C, S, Ring>,
     texts: &Texts,
-    worker: Worker<H, C>,
+    worker: Worker<H, C, S>,
     rounds: u32,
-) -> Result<Returned<H, C>, Fault>
+) -> Result<Returned<H, C, S>, Fault>
     ensures parts { IfOk result (λ returned. HasParts worker.spare returned.share) }
     ensures accepted { IfOk result (λ returned. returned.share.accepted ≡ worker.accepted + 3 * rounds) }
 {
@@ -66,7 +66,7 @@ fn round<H: Ledger, C: Ledger, S: Setup, R: Wait>(
     rt: &R,
     registry: &Registry<H, C, S, Ring>,
     texts: &Texts,
-    worker: &mut Worker<H, C>,
+    worker: &mut Worker<H, C, S>,
     backlogs: &mut u64,
 ) -> Result<(), Fault>
     ensures accepted { OnOk result (worker.new.accepted ≡ worker.old.accepted + 3) }
@@ -88,10 +88,10 @@ fn open<H: Ledger, C: Ledger, S: Setup, R: Wait>(
     rt: &R,
     registry: &Registry<H, C, S, Ring>,
     texts: &Texts,
-    worker: &mut Worker<H, C>,
+    worker: &mut Worker<H, C, S>,
     backlogs: &mut u64,
 ) -> Result<Held<H, C, S>, Fault>
-    ensures worker { OnOk result (worker.new ≡ after_call worker.old (worker.old.spare - 1)) }
+    ensures worker { OnOk result (worker.new ≡ after_call worker.old (worker.old.spare - 1) worker.new.seen) }
     ensures part { OnOk result (0 < worker.old.spare) }
 {
     for _ in rt.forever() {
@@ -110,10 +110,10 @@ fn tell<H: Ledger, C: Ledger, S: Setup, R: Wait>(
     rt: &R,
     registry: &Registry<H, C, S, Ring>,
     texts: &Texts,
-    worker: &mut Worker<H, C>,
+    worker: &mut Worker<H, C, S>,
     backlogs: &mut u64,
 ) -> Result<(), Fault>
-    ensures { OnOk result (worker.new ≡ after_call worker.old worker.old.spare) }
+    ensures { OnOk result (worker.new ≡ after_call worker.old worker.old.spare worker.new.seen) }
 {
     for _ in rt.forever() {
         match registry.event(rt, worker, &texts.meta, "a message", &[]) {
@@ -128,11 +128,11 @@ fn tell<H: Ledger, C: Ledger, S: Setup, R: Wait>(
 fn close<H: Ledger, C: Ledger, S: Setup, R: Wait>(
     rt: &R,
     registry: &Registry<H, C, S, Ring>,
-    worker: &mut Worker<H, C>,
+    worker: &mut Worker<H, C, S>,
     held: Held<H, C, S>,
     backlogs: &mut u64,
 ) -> Result<(), Fault>
-    ensures { OnOk result (worker.new ≡ after_call worker.old (worker.old.spare + 1)) }
+    ensures { OnOk result (worker.new ≡ after_call worker.old (worker.old.spare + 1) worker.new.seen) }
 {
     let mut held = held;
     for _ in rt.forever() {

@@ -18,7 +18,7 @@ use std::thread;
 /// A worker, its handles, the spans that it is inside, and what its calls were.
 #[derive(Drop)]
 pub struct Caller<H: Ledger, C: Ledger, S: Setup> {
-    worker: Worker<H, C>,
+    worker: Worker<H, C, S>,
     hands: Vec<Held<H, C, S>>,
     inside: Vec<Id>,
     tally: Tally,
@@ -29,10 +29,10 @@ pub fn work<H: Ledger, C: Ledger, S: Setup, R: Wait>(
     rt: &R,
     registry: &Registry<H, C, S, Ring>,
     texts: &Texts,
-    worker: Worker<H, C>,
+    worker: Worker<H, C, S>,
     rounds: u64,
     seed: u64,
-) -> Result<Returned<H, C>, Fault>
+) -> Result<Returned<H, C, S>, Fault>
     ensures { IfOk result (λ returned. HasParts worker.spare returned.share) }
 {
     let mut dice = Dice::new(seed, worker.number());
@@ -43,7 +43,7 @@ pub fn work<H: Ledger, C: Ledger, S: Setup, R: Wait>(
 
 impl<H: Ledger, C: Ledger, S: Setup> Caller<H, C, S> {
     // Holds nothing, and has room for as much as it may hold.
-    fn new(alloc: Global, worker: Worker<H, C>) -> Result<Caller<H, C, S>, Fault>
+    fn new(alloc: Global, worker: Worker<H, C, S>) -> Result<Caller<H, C, S>, Fault>
         ensures worker { IfOk result (λ caller. caller.worker ≡ worker) }
         ensures hands { IfOk result (λ caller. vec_len caller.hands ≡ 0) }
     {
@@ -82,7 +82,7 @@ impl<H: Ledger, C: Ledger, S: Setup> Caller<H, C, S> {
         rt: &R,
         registry: &Registry<H, C, S, Ring>,
         texts: &Texts,
-    ) -> Result<Returned<H, C>, Fault>
+    ) -> Result<Returned<H, C, S>, Fault>
         ensures { IfOk result (λ returned. HasParts (self.worker.spare + vec_len self.hands) returned.share) }
     {
         let mut caller = self;

@@ -4,19 +4,19 @@ ghost use Rattle.span_registry.specs.Share.{joined};
 
 use crate::ended::Tally;
 use span_id::Fault;
-use span_registry::Share;
+use span_registry::{Setup, Share};
 use std::sync::ledger::Ledger;
 
 /// What workers left, and what their calls were.
 #[derive(Drop)]
-pub struct Returned<H: Ledger, C: Ledger> {
-    pub share: Share<H, C>,
+pub struct Returned<H: Ledger, C: Ledger, S: Setup> {
+    pub share: Share<H, C, S>,
     pub tally: Tally,
 }
 
-impl<H: Ledger, C: Ledger> Returned<H, C> {
+impl<H: Ledger, C: Ledger, S: Setup> Returned<H, C, S> {
     /// Both together. Where their calls are more than a `u64` has room for, that is `CountFull`.
-    pub fn join(self, other: Returned<H, C>) -> Result<Returned<H, C>, Fault>
+    pub fn join(self, other: Returned<H, C, S>) -> Result<Returned<H, C, S>, Fault>
         requires { (self.share.units ≡ 0) × (other.share.units ≡ 0) }
         ensures { IfOk result (λ whole. whole.share ≡ joined self.share other.share) }
     {

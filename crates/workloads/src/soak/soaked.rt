@@ -1,5 +1,5 @@
 //! A whole run, from the making of its registry to its report.
-ghost use Rattle.std.specs.Prelude.{◌≡◌, ◌+◌, ◌↔◌, [], Some, IfOk};
+ghost use Rattle.std.specs.Prelude.{◌≡◌, ◌+◌, ◌<◌, ◌↔◌, [], Some, IfOk};
 ghost use Rattle.workloads.specs.Back.{IsMadeByNew};
 
 use crate::ended::Ended;
@@ -7,13 +7,13 @@ use crate::order::{Crew, Plan};
 use crate::parts::{CoreParts, Parts};
 use crate::soak::threads::in_threads;
 use crate::texts::Texts;
-use span_id::{Checked, Fault, Limits};
+use span_id::{Fault, Limits};
 use span_layers::{Filters, Layers, Say};
-use span_registry::{Drain, HANDLE_PARTS, Registry, Ring, SeatTable, Setup};
+use span_registry::{Blanks, Drain, Registry, Ring, Setup};
 use std::alloc::Global;
 use std::marker::Brand;
 use std::sync::Wait;
-use std::sync::ledger::{Blank, Ledger};
+use std::sync::ledger::Ledger;
 use std::thread::Threads;
 use std::time::Clock;
 
@@ -54,9 +54,9 @@ pub fn beside_a_drain<R: Threads + Wait + Clock + Sync>(
     ensures empty { IfOk result (λ ended. (ended.report.left ≡ 0) ↔ (ended.report.entries ≡ 0)) }
     ensures balance { IfOk result (λ ended. ended.report.made ≡ ended.report.closed + ended.report.left) }
 {
-    let Parts { core, table } = Parts::new(alloc, limits, plan.fields())?;
+    let Parts { core, blanks } = Parts::new(alloc, limits, plan.fields())?;
     let CoreParts {
-        checked,
+        checked: _,
         texts,
         ring,
         tap,
@@ -67,13 +67,10 @@ pub fn beside_a_drain<R: Threads + Wait + Clock + Sync>(
         alloc,
         plan,
         &texts,
-        &checked,
         filters,
         ring,
         Drain::new(alloc, tap, tellers),
-        Blank::new(HANDLE_PARTS),
-        Blank::new(u64::from(checked.limits().workers)),
-        table,
+        blanks,
     )
 }
 
@@ -89,27 +86,29 @@ fn run<
     alloc: Global,
     plan: Plan,
     texts: &Texts,
-    checked: &Checked,
     filters: Filters,
     ring: Ring,
     drain: Drain<V>,
-    handles: Blank,
-    calls: Blank,
-    table: SeatTable,
+    blanks: Blanks,
 ) -> Result<Ended, Fault>
-    requires setup { (checked.now ≡ S.limits) × (filters.rules ≡ S.rules) × (Some ring.name ≡ S.ring) }
+    requires workers { 0 < S.limits.workers }
+    requires setup { (filters.rules ≡ S.rules) × ([] ≡ S.forms) × (Some ring.name ≡ S.ring) }
     requires ring { (ring.sent ≡ []) × (Some drain.name ≡ S.ring) }
-    requires handles { (handles.name ≡ H.name) × (handles.parts ≡ H.parts) × (H.parts ≡ HANDLE_PARTS) }
-    requires calls { (calls.name ≡ C.name) × (calls.parts ≡ C.parts) × (C.parts ≡ checked.now.workers) }
-    requires table { (table ≡ S.table) × (table.words ≡ checked.now.slots) }
-    ensures calls { IfOk result (λ ended. IsMadeByNew plan checked.now.workers ended.report.calls) }
+    requires blanks { blanks ≡ record {
+      limits = S.limits;
+      handles = H.name;
+      handle_parts = H.parts;
+      calls = C.name;
+      call_parts = C.parts;
+      table = S.table;
+      history = S.history;
+    } }
+    ensures calls { IfOk result (λ ended. IsMadeByNew plan S.limits.workers ended.report.calls) }
     ensures handles { IfOk result (λ ended. ended.report.handles ≡ 0) }
     ensures empty { IfOk result (λ ended. (ended.report.left ≡ 0) ↔ (ended.report.entries ≡ 0)) }
     ensures balance { IfOk result (λ ended. ended.report.made ≡ ended.report.closed + ended.report.left) }
 {
-    let (registry, workers) = Registry::<H, C, S, Ring>::new(
-        alloc, checked, filters, ring, handles, calls, table,
-    )?;
+    let (registry, workers) = Registry::<H, C, S, Ring>::new(alloc, filters, ring, blanks)?;
     let (whole, drain) = in_threads(rt, &registry, texts, plan, workers, drain)?;
     Ok(Ended {
         report: registry.finish(whole.share, drain),

@@ -21,12 +21,12 @@ use std::time::Clock;
 
 /// The share that comes back of a worker has all its parts, and what it says of its calls is what the plan says.
 #[derive(Drop)]
-struct Back<H: Ledger, C: Ledger> {
+struct Back<H: Ledger, C: Ledger, S: Setup> {
     plan: Plan,
-    worker: Snapshot<Worker<H, C>>,
+    worker: Snapshot<Worker<H, C, S>>,
 }
 
-impl<H: Ledger, C: Ledger> Promise<Result<Returned<H, C>, Fault>> for Back<H, C> {
+impl<H: Ledger, C: Ledger, S: Setup> Promise<Result<Returned<H, C, S>, Fault>> for Back<H, C, S> {
     ghost use Rattle.std.specs.Prelude.{IfOk};
     ghost use Rattle.workloads.specs.Back.{ComesBack};
 
@@ -45,9 +45,9 @@ pub fn in_threads<
     registry: &Registry<H, C, S, Ring>,
     texts: &Texts,
     plan: Plan,
-    workers: Vec<Worker<H, C>>,
+    workers: Vec<Worker<H, C, S>>,
     drain: Drain<V>,
-) -> Result<(Returned<H, C>, Drain<V>), Fault>
+) -> Result<(Returned<H, C, S>, Drain<V>), Fault>
     requires some { 0 < vec_len workers }
     ensures whole { IfOk result (λ back. HasAll plan workers.items back.0.share) }
     ensures drain { IfOk result (λ back. back.1.name ≡ drain.name) }
@@ -57,7 +57,7 @@ pub fn in_threads<
     thread::scope(
         thread::scope_env(),
         rt,
-        move |scope| -> Result<(Returned<H, C>, Drain<V>), Fault>
+        move |scope| -> Result<(Returned<H, C, S>, Drain<V>), Fault>
             requires some { 0 < vec_len workers }
             ensures whole { IfOk result (λ back. HasAll plan workers.items back.0.share) }
             ensures drain { IfOk result (λ back. back.1.name ≡ drain.name) }
@@ -85,8 +85,8 @@ fn run_workers<
     registry: &'s Registry<H, C, S, Ring>,
     texts: &'s Texts,
     plan: Plan,
-    workers: Vec<Worker<H, C>>,
-) -> Result<Returned<H, C>, Fault>
+    workers: Vec<Worker<H, C, S>>,
+) -> Result<Returned<H, C, S>, Fault>
     requires some { 0 < vec_len workers }
     ensures { IfOk result (λ whole. HasAll plan workers.items whole.share) }
 {
@@ -117,8 +117,8 @@ fn start<
     registry: &'s Registry<H, C, S, Ring>,
     texts: &'s Texts,
     plan: Plan,
-    worker: Worker<H, C>,
-) -> Result<PromisedHandle<Result<Returned<H, C>, Fault>, Back<H, C>>, Fault>
+    worker: Worker<H, C, S>,
+) -> Result<PromisedHandle<Result<Returned<H, C, S>, Fault>, Back<H, C, S>>, Fault>
     ensures plan { IfOk result (λ running. running.promise.plan ≡ plan) }
     ensures worker { IfOk result (λ running. running.promise.worker.value ≡ worker) }
 {
@@ -128,7 +128,7 @@ fn start<
     };
     match scope.spawn_with(
         promise,
-        move || -> Result<Returned<H, C>, Fault>
+        move || -> Result<Returned<H, C, S>, Fault>
             ensures { IfOk result (λ returned. ComesBack plan worker returned.share) }
         { follow(rt, registry, texts, plan, worker) },
     ) {
@@ -143,8 +143,8 @@ fn follow<H: Ledger, C: Ledger, S: Setup, R: Wait>(
     registry: &Registry<H, C, S, Ring>,
     texts: &Texts,
     plan: Plan,
-    worker: Worker<H, C>,
-) -> Result<Returned<H, C>, Fault>
+    worker: Worker<H, C, S>,
+) -> Result<Returned<H, C, S>, Fault>
     ensures { IfOk result (λ returned. ComesBack plan worker returned.share) }
 {
     match plan {

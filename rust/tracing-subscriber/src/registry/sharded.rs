@@ -4,6 +4,7 @@
 mod close;
 mod lock;
 mod numbers;
+mod open;
 mod places;
 mod raw;
 mod refused;
@@ -11,12 +12,13 @@ mod spans;
 mod threads;
 
 pub(crate) use close::CloseGuard;
+pub use open::OpenSpan;
 
 use self::{
     raw::Held,
     refused::Refused,
     spans::{DataInner, Spans},
-    threads::{with_stack, Entered},
+    threads::{pop, push, with_stack, Entered},
 };
 use crate::{
     filter::{FilterId, FilterMap, FilterState},
@@ -38,8 +40,8 @@ use tracing_core::{
 /// parents, their metadata and what layers keep in their extensions. A span is there until its last handle was given
 /// back, all its children ended, and all layers were told of its close.
 ///
-/// No two spans of a process have one id, but for those of registries of which 8,191 others were made and dropped
-/// since.
+/// No two spans of a process have one id, but for those of a registry that was dropped, whose number is given again
+/// when the 8,190 others were. 8,191 registries may be there at once, and 51,380,224 spans in each.
 #[cfg(feature = "registry")]
 #[cfg_attr(docsrs, doc(cfg(all(feature = "registry", feature = "std"))))]
 #[derive(Debug)]
@@ -58,6 +60,10 @@ pub struct Data<'a> {
 }
 
 impl Default for Registry {
+    /// A registry without spans.
+    ///
+    /// # Panics
+    /// Where 8,191 registries are there.
     fn default() -> Self {
         Self { spans: Arc::new(Spans::new()), next_filter_id: 0 }
     }
@@ -79,7 +85,7 @@ impl Registry {
 
     #[inline(always)]
     fn current_id(&self) -> Option<Id> {
-        with_stack(&self.spans, |stack| stack.current()).flatten()
+        threads::current(&self.spans)
     }
 
     #[inline(always)]
@@ -176,9 +182,9 @@ impl Subscriber for Registry {
             if !self.spans.is_own(number) {
                 return Err(Refused::Unknown);
             }
-            if stack.push(id.clone()) {
+            if push(stack, id) {
                 self.spans.keep(number).map_err(|why| {
-                    stack.pop(id);
+                    pop(stack, id);
                     why
                 })?;
             }
@@ -190,7 +196,7 @@ impl Subscriber for Registry {
     }
 
     fn exit(&self, id: &span::Id) {
-        let is_released = with_stack(&self.spans, |stack| stack.pop(id)).unwrap_or(false);
+        let is_released = with_stack(&self.spans, |stack| pop(stack, id)).unwrap_or(false);
         if is_released {
             match self.spans.release(id.into_u64()) {
                 Ok(None) => {}

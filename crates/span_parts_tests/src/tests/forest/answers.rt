@@ -1,7 +1,6 @@
 //! Paths of layers, what closes with what, and refusals by limits.
-use crate::tests::compare::same;
+use crate::tests::compare::{id, same};
 use crate::tests::forest::fixtures::{Act, WIDE, forest, next_number, played, plays};
-use crate::tests::values::id;
 use span_forest::{Forest, Holder};
 use span_id::{Bits, Fault, Id};
 use std::alloc::Global;

@@ -1,7 +1,6 @@
 //! Fields of spans, and who owns them.
-use crate::tests::compare::same;
+use crate::tests::compare::{id, same};
 use crate::tests::forest::fixtures::{named, pair};
-use crate::tests::values::id;
 use span_forest::Forest;
 use span_id::{Bits, Field, Fields, Id};
 use std::alloc::Global;

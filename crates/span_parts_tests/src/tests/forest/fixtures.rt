@@ -1,6 +1,5 @@
 //! Forests, and what is asked of each.
-use crate::tests::compare::{holds, same};
-use crate::tests::values::id;
+use crate::tests::compare::{holds, id, same};
 use span_forest::{Forest, Held, Holder};
 use span_id::{Bits, Fault, Fields, Id, Level, Limits, Meta, SharedMeta};
 use std::alloc::{AllocError, Global};

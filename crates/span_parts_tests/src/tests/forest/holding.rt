@@ -1,7 +1,6 @@
 //! What keeps the spans of a chain and of a fan open.
-use crate::tests::compare::same;
+use crate::tests::compare::{id, same};
 use crate::tests::forest::fixtures::{Act, WIDE, forest, plays};
-use crate::tests::values::id;
 use span_forest::{Forest, Holder};
 use span_id::Fault;
 use std::process::Abort;

@@ -1,7 +1,6 @@
 //! A long chain, and as many roots as there are slots.
-use crate::tests::compare::{holds, same};
+use crate::tests::compare::{holds, id, same};
 use crate::tests::forest::fixtures::{forest, named, sizes};
-use crate::tests::values::id;
 use span_forest::{Forest, Holder};
 use span_id::{Bits, Fault, Fields, Id, SharedMeta};
 use std::alloc::Global;

@@ -1,7 +1,7 @@
 //! A root and its child, from the first call to the last, with each answer in its order.
-use crate::tests::compare::{holds, same};
+use crate::tests::compare::{holds, id, same};
 use crate::tests::forest::fixtures::{Act, are_listed, pair, plays};
-use crate::tests::values::{id, list};
+use crate::values::list;
 use span_forest::{Forest, Holder};
 use span_id::Fault;
 use std::alloc::Global;
@@ -9,7 +9,7 @@ use std::process::Abort;
 
 // Fields are written to a span.
 fn writes(rt: &impl Abort, alloc: Global, forest: &mut Forest, number: u64) {
-    let fields = list(rt, alloc, &[("k", "1")]);
+    let fields = list(alloc, &[("k", "1")]).expect(rt, "memory");
     let written = forest.write_fields(id(rt, number), fields.as_slice());
     same(rt, written, Ok(()), "the fields");
 }

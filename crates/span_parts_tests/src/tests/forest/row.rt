@@ -1,9 +1,8 @@
 //! Three spans below each other, with each answer of each call.
-use crate::tests::compare::same;
+use crate::tests::compare::{id, same};
 use crate::tests::forest::fixtures::{
     Act, are_listed, held, keep, next_number, played, plays, release,
 };
-use crate::tests::values::id;
 use span_forest::{Forest, Holder};
 use span_id::Fault;
 use std::alloc::Global;

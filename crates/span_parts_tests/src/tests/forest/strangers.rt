@@ -1,30 +1,13 @@
 //! Strangers' ids: ids of every kind that no span has.
-use crate::tests::compare::same;
+use crate::tests::compare::{id, same};
 use crate::tests::forest::fixtures::{add, forest, named};
-use crate::tests::values::id;
+use crate::values::STRANGERS;
 use span_forest::{Forest, Holder};
 use span_id::{Bits, Fault, Fields, Id};
 use std::alloc::Global;
 use std::process::Abort;
 
 const LIMITS: (u32, u32, u32) = (4, 1, 9);
-
-/// The closed ids of the retired slot, and one generation more of it; the closed id of the open span's slot, and one
-/// generation more than the open one's; the closed id of the free slot, and the id that it will give; the slot never
-/// used, one beyond the table, the last one of the layout, and the greatest id.
-pub(crate) const STRANGERS: [u64; 11] = [
-    1,
-    16777217,
-    33554433,
-    2,
-    33554434,
-    3,
-    16777219,
-    4,
-    5,
-    16777216,
-    72057594037927936,
-];
 
 // Adds a span of this number and closes it again.
 fn add_and_close(rt: &impl Abort, alloc: Global, forest: &mut Forest, number: u64) {

@@ -1,7 +1,8 @@
 //! As many layers as there may be, and one more.
 
+use crate::plans::{Plan, Wanted};
 use crate::tests::compare::same;
-use crate::tests::layers::fixtures::{Plan, Wanted, admission, layer};
+use crate::tests::layers::fixtures::{admission, layer};
 use span_id::{Fault, Level};
 use span_layers::{FmtSpan, Form, Layer, Layers, MAX_LAYERS};
 use std::alloc::Global;

@@ -1,7 +1,8 @@
 //! Which kinds of notes a layer wants.
 
+use crate::plans::EVERYTHING;
 use crate::tests::compare::{holds, same};
-use crate::tests::layers::fixtures::{EVERYTHING, add, layer};
+use crate::tests::layers::fixtures::{add_layer, layer};
 use bitflags::Flags;
 use span_layers::{Filters, FmtSpan, Kind, Layers};
 use std::alloc::Global;
@@ -24,7 +25,7 @@ fn every_set_of_kinds(rt: HostRuntime) {
 fn add_with(rt: &impl Abort, alloc: Global, layers: &mut Layers, bits: u8) {
     let mut layer = layer(rt, alloc, &EVERYTHING);
     layer.style.spans = FmtSpan::from_bits(bits).expect(rt, "a set of the four bits");
-    add(rt, layers, layer);
+    add_layer(rt, layers, layer);
 }
 
 // The layer of each number has the set of that number.

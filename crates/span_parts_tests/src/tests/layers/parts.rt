@@ -1,7 +1,9 @@
 //! The two parts of three layers.
 
+use crate::plans::{Plan, Wanted};
 use crate::tests::compare::{holds, same};
-use crate::tests::layers::fixtures::{Plan, Wanted, admission, layers, note, tells};
+use crate::tests::hooks::layers;
+use crate::tests::layers::fixtures::{admission, note, tells};
 use span_id::Level;
 use span_layers::{Filters, Form, Forms, Kind, Rules, Say};
 use std::alloc::Global;

@@ -1,8 +1,10 @@
 //! Layers with no closures answer as those whose closures call `admits` and `text`.
 
+use crate::plans::{Plan, Wanted, plain_layers};
 use crate::tests::compare::same;
-use crate::tests::layers::fixtures::{Plan, Wanted, admission, layers, note, plain_layers, tells};
-use crate::tests::values::meta;
+use crate::tests::hooks::layers;
+use crate::tests::layers::fixtures::{admission, note, tells};
+use crate::values::meta;
 use span_id::{Bits, Level};
 use span_layers::{Admit, ByRule, Filters, Form, Say};
 use std::alloc::Global;
@@ -22,9 +24,8 @@ fn bits<A: Admit>(
     target: &str,
     level: Level,
 ) -> Bits {
-    filters
-        .rules
-        .bits(admitters, &meta(rt, alloc, "a", target, level))
+    let meta = meta(alloc, "a", target, level).expect(rt, "memory");
+    filters.rules.bits(admitters, &meta)
 }
 
 /// A target and a level, and the bits of the layers that admit.
@@ -47,7 +48,7 @@ fn admit(rt: &impl Abort, alloc: Global, filters: &Filters<ByRule>, others: &Fil
 #[test]
 fn layers_without_closures_admit(rt: HostRuntime) {
     let alloc = rt.alloc();
-    let (filters, _) = plain_layers(&rt, alloc, &PLANS).split();
+    let (filters, _) = plain_layers(alloc, &PLANS).expect(&rt, "layers").split();
     let (others, _) = layers(&rt, alloc, &PLANS).split();
     for case in &CASES {
         admit(&rt, alloc, &filters, &others, case);
@@ -65,7 +66,7 @@ static TOLD: [(u32, &str); 2] = [
 #[test]
 fn layers_without_closures_tell(rt: HostRuntime) {
     let alloc = rt.alloc();
-    let (_, tellers) = plain_layers(&rt, alloc, &PLANS).split();
+    let (_, tellers) = plain_layers(alloc, &PLANS).expect(&rt, "layers").split();
     let (_, others) = layers(&rt, alloc, &PLANS).split();
     for (layer, want) in &TOLD {
         let form = tellers.forms.get(*layer).expect(&rt, "no layer");

@@ -1,7 +1,10 @@
 //! A layer whose closure is refused memory.
 
+use crate::plans::EVERYTHING;
 use crate::tests::compare::same;
-use crate::tests::layers::fixtures::{EVERYTHING, Refused, add_plan, note};
+use crate::tests::hooks::add_plan;
+use crate::tests::layers::fixtures::note;
+use crate::watch::Refused;
 use span_id::Fault;
 use span_layers::{Kind, Layers, Tellers};
 use std::alloc::Global;

@@ -1,8 +1,8 @@
 //! Which targets and levels a rule admits.
 
+use crate::plans::rule;
 use crate::tests::compare::same;
-use crate::tests::layers::fixtures::rule;
-use crate::tests::values::meta;
+use crate::values::meta;
 use span_id::Level;
 use span_layers::admits;
 use std::alloc::Global;
@@ -73,8 +73,8 @@ static BYTES: [Case; 5] = [
 
 fn is_judged(rt: &impl Abort, alloc: Global, case: &Case) {
     let (pairs, target, level, want) = *case;
-    let rule = rule(rt, alloc, pairs);
-    let meta = meta(rt, alloc, "a", target, level);
+    let rule = rule(alloc, pairs).expect(rt, "memory");
+    let meta = meta(alloc, "a", target, level).expect(rt, "memory");
     let of = (pairs.len(), level);
     same(rt, (of, admits(&rule, &meta)), (of, want), target);
 }

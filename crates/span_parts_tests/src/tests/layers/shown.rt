@@ -1,7 +1,8 @@
 //! How the rules of layers are shown: as a derived `Debug` shows the filters alone, whatever is kept beside them.
 
+use crate::plans::{Plan, Wanted, layer_with};
 use crate::tests::compare::same;
-use crate::tests::layers::fixtures::{Plan, Wanted, add, layer_with};
+use crate::tests::layers::fixtures::add_layer;
 use span_id::Level;
 use span_layers::{ByForm, ByRule, FmtSpan, Form, Hooks, Layer, Layers, Rule};
 use std::alloc::Global;
@@ -29,13 +30,13 @@ static PLANS: [Plan<'static>; 4] = [
 /// The layer of this number.
 fn layer_of(rt: &impl Abort, alloc: Global, number: usize) -> Layer<ByRule, ByForm> {
     let plan = &PLANS[number % PLANS.len()];
-    layer_with(rt, alloc, plan, Hooks::by_rule_and_form())
+    layer_with(alloc, plan, Hooks::by_rule_and_form()).expect(rt, "memory")
 }
 
 fn layers_of(rt: &impl Abort, alloc: Global, count: usize) -> Layers<ByRule, ByForm> {
     let mut layers = Layers::new(alloc);
     for number in 0..count {
-        add(rt, &mut layers, layer_of(rt, alloc, number));
+        add_layer(rt, &mut layers, layer_of(rt, alloc, number));
     }
     layers
 }

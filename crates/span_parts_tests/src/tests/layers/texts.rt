@@ -1,6 +1,6 @@
 //! Texts of notes, in both forms.
 
-use crate::tests::compare::same;
+use crate::tests::compare::{holds, same};
 use crate::tests::layers::fixtures::fields;
 use crate::tests::layers::rooms::{MOST_SPARE, has_no_more_room};
 use span_id::Level;

@@ -1,12 +1,14 @@
 //! Layers, and batches of few notes.
 ghost use Rattle.std.specs.Prelude.{◌≡◌, ◌+◌, ◌-◌, ◌^◌, ◌<◌, ◌≤◌, [], length};
 
-use crate::tests::compare::same;
-use crate::tests::layers::fixtures::{Refused, Wanted, add, add_plan, layer_with};
-use crate::tests::values::id;
+use crate::lines::{push_line, shown};
+use crate::plans::{Wanted, add};
+use crate::tests::compare::{id, same};
+use crate::tests::hooks::add_plan;
+use crate::watch::Refused;
 use span_id::{Fields, Level, Limits};
 use span_layers::{ByForm, ByRule, Form, Hooks, Kind, Layers, Note, Tellers};
-use span_outlet::{Batch, Call, Drain, Line, Outlet, Reply, Ring, Tap};
+use span_outlet::{Batch, Call, Drain, Outlet, Reply, Ring, Tap};
 use std::alloc::Global;
 use std::process::Abort;
 use std::sync::ArcStr;
@@ -27,8 +29,8 @@ pub(crate) fn plain_tellers(rt: &impl Abort, alloc: Global, forms: &[Form]) -> T
     let mut layers: Layers<ByRule, ByForm> = Layers::new(alloc);
     for form in forms {
         let plan = (*form, Wanted::All, "", Level::Trace);
-        let layer = layer_with(rt, alloc, &plan, Hooks::by_rule_and_form());
-        add(rt, &mut layers, layer);
+        let hooks = Hooks::by_rule_and_form();
+        add(alloc, &mut layers, &plan, hooks).expect(rt, "a layer");
     }
     layers.split().1
 }
@@ -119,18 +121,9 @@ fn note(rt: &impl Abort, alloc: Global, kind: Kind, layer: u32) -> Note {
     }
 }
 
-/// The number of the batch, the place, the layer and the text of each line.
-pub(crate) fn shown(rt: &impl Abort, alloc: Global, lines: &[Line]) -> String {
-    let mut all = Vec::new(alloc);
-    for line in lines {
-        push_line(rt, alloc, &mut all, line);
-    }
-    String::from_utf8(all).ok().expect(rt, "a text")
-}
-
 /// The lines of a drain, each with its numbers.
 pub(crate) fn are_lines<V>(rt: &impl Abort, alloc: Global, drain: &Drain<V>, want: &str) {
-    let lines = shown(rt, alloc, drain.all());
+    let lines = shown(alloc, drain.all()).expect(rt, "memory");
     same(rt, lines.as_str(), want, "all lines");
 }
 
@@ -142,24 +135,9 @@ pub(crate) fn are_lines_of<V>(
     layer: u32,
     want: &str,
 ) {
-    let mut all = Vec::new(alloc);
+    let mut all = String::new(alloc);
     for line in drain.lines(layer) {
-        push_line(rt, alloc, &mut all, line);
+        push_line(alloc, &mut all, line).expect(rt, "memory");
     }
-    let lines = String::from_utf8(all).ok().expect(rt, "a text");
-    same(rt, lines.as_str(), want, layer);
-}
-
-/// Writes the numbers and the text of a line, and a newline.
-pub(crate) fn push_line(rt: &impl Abort, alloc: Global, all: &mut Vec<u8>, line: &Line) {
-    let (batch, place, layer) = (line.batch, line.place, line.layer);
-    let numbers = format!(in alloc; "{batch} {place} {layer} ").expect(rt, "memory");
-    push(rt, all, numbers.as_bytes());
-    push(rt, all, line.text.as_slice());
-    push(rt, all, b"\n");
-}
-
-/// Writes these bytes behind the others.
-pub(crate) fn push(rt: &impl Abort, all: &mut Vec<u8>, bytes: &[u8]) {
-    all.extend_from_slice(bytes).expect(rt, "memory");
+    same(rt, all.as_str(), want, layer);
 }

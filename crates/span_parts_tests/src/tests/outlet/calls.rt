@@ -2,9 +2,9 @@
 ghost use Rattle.std.specs.Prelude.{◌≡◌, []};
 
 use crate::tests::compare::{holds, same};
-use crate::tests::layers::calls::{Calls, Digits, calls_since, no_calls, noting_layers};
-use crate::tests::layers::fixtures::Refused;
+use crate::tests::layers::calls::{Digits, no_calls, noting_layers};
 use crate::tests::outlet::batches::{pair, sends};
+use crate::watch::{Refused, Watch};
 use span_layers::{Form, Kind, Tellers};
 use span_outlet::{Drain, Kept, Latest, LineReader, Outlet, Ring, Tap};
 use std::alloc::Global;
@@ -19,8 +19,8 @@ static FOUR: [(Form, Digits); 4] = [
 ];
 
 // Tellers of four layers, whose closures write down their digits. Texts of new spans are refused memory.
-fn four_tellers(rt: &impl Abort, alloc: Global, calls: &Calls) -> Tellers {
-    noting_layers(rt, alloc, calls, &FOUR, Refused::At(Kind::OnNew)).1
+fn four_tellers(rt: &impl Abort, alloc: Global, calls: &Watch) -> Tellers {
+    noting_layers(rt, alloc, calls, &FOUR).1
 }
 
 // A call, the layers that are told, and the digits that are written down while the notes are.
@@ -46,21 +46,21 @@ const ALL: u64 = 1_234_213_331_242_112_341;
 const MISSED: u64 = 3;
 
 // Sends the batches of all cases. An outlet that writes has each batch written down as it is sent, and any other none.
-fn sends_all<O: Outlet>(rt: &impl Abort, alloc: Global, calls: &Calls, outlet: &mut O, writes: bool)
+fn sends_all<O: Outlet>(rt: &impl Abort, alloc: Global, calls: &Watch, outlet: &mut O, writes: bool)
     requires { O.sent outlet.old ≡ [] }
     ensures { O.name outlet.new ≡ O.name outlet.old }
 {
     for (kind, layers, digits) in &CASES {
         sends(rt, alloc, outlet, (*kind, layers), true);
         let want = if writes { *digits } else { 0 };
-        same(rt, calls_since(calls), want, *digits);
+        same(rt, calls.taken(), want, *digits);
     }
 }
 
 #[test]
 fn an_outlet_that_keeps_batches_asks_once(rt: HostRuntime) {
     let alloc = rt.alloc();
-    let calls = no_calls(&rt, alloc);
+    let calls = no_calls(&rt, alloc, Refused::At(Kind::OnNew));
     let mut kept = Kept::new(alloc, four_tellers(&rt, alloc, &calls));
     sends_all(&rt, alloc, &calls, &mut kept, true);
     same(&rt, kept.refused(), MISSED, "missed notes");
@@ -70,14 +70,14 @@ fn an_outlet_that_keeps_batches_asks_once(rt: HostRuntime) {
 #[test]
 fn an_outlet_that_has_the_last_lines_asks_once(rt: HostRuntime) {
     let alloc = rt.alloc();
-    let calls = no_calls(&rt, alloc);
+    let calls = no_calls(&rt, alloc, Refused::At(Kind::OnNew));
     let mut latest = Latest::new(alloc, four_tellers(&rt, alloc, &calls));
     sends_all(&rt, alloc, &calls, &mut latest, true);
     same(&rt, latest.refused(), MISSED, "missed notes");
 }
 
 // A ring of the batches of all cases, and its other end.
-fn sent(rt: &impl Abort, alloc: Global, calls: &Calls) -> (Ring, Tap)
+fn sent(rt: &impl Abort, alloc: Global, calls: &Watch) -> (Ring, Tap)
     ensures { result.0.name ≡ result.1 }
 {
     let (mut ring, tap) = pair(rt, alloc, 8);
@@ -88,12 +88,12 @@ fn sent(rt: &impl Abort, alloc: Global, calls: &Calls) -> (Ring, Tap)
 #[test]
 fn a_drain_asks_once(rt: HostRuntime) {
     let alloc = rt.alloc();
-    let calls = no_calls(&rt, alloc);
+    let calls = no_calls(&rt, alloc, Refused::At(Kind::OnNew));
     let (_ring, tap) = sent(&rt, alloc, &calls);
     let mut drain = Drain::new(alloc, tap, four_tellers(&rt, alloc, &calls));
     for (_, _, digits) in &CASES {
         holds(&rt, drain.step().is_some(), "a batch");
-        same(&rt, calls_since(&calls), *digits, *digits);
+        same(&rt, calls.taken(), *digits, *digits);
     }
     same(&rt, drain.refused(), MISSED, "missed notes");
 }
@@ -101,11 +101,11 @@ fn a_drain_asks_once(rt: HostRuntime) {
 #[test]
 fn a_drain_asks_once_for_what_is_left(rt: HostRuntime) {
     let alloc = rt.alloc();
-    let calls = no_calls(&rt, alloc);
+    let calls = no_calls(&rt, alloc, Refused::At(Kind::OnNew));
     let (mut ring, tap) = sent(&rt, alloc, &calls);
     let mut drain = Drain::new(alloc, tap, four_tellers(&rt, alloc, &calls));
     drain.last(&mut ring);
-    same(&rt, calls_since(&calls), ALL, "all batches");
+    same(&rt, calls.taken(), ALL, "all batches");
     same(&rt, drain.refused(), MISSED, "missed notes");
 }
 
@@ -116,14 +116,14 @@ static FILLED: [(u64, usize); 5] = [(123, 3), (4213, 4), (331, 3), (24, 2), (2_1
 #[test]
 fn a_reader_asks_once(rt: HostRuntime) {
     let alloc = rt.alloc();
-    let calls = no_calls(&rt, alloc);
+    let calls = no_calls(&rt, alloc, Refused::At(Kind::OnNew));
     let (_ring, tap) = sent(&rt, alloc, &calls);
     let mut reader = LineReader::new(alloc, tap, four_tellers(&rt, alloc, &calls));
     for (digits, lines) in &FILLED {
         holds(&rt, reader.fill(), "a line waits");
-        same(&rt, calls_since(&calls), *digits, *digits);
+        same(&rt, calls.taken(), *digits, *digits);
         gives(&rt, &mut reader, *lines);
-        same(&rt, calls_since(&calls), 0, *digits);
+        same(&rt, calls.taken(), 0, *digits);
     }
     holds(&rt, !reader.fill(), "no line waits");
     same(&rt, reader.refused(), MISSED, "missed notes");

@@ -1,8 +1,9 @@
 //! What a drain writes, when a ring has room, and that both ends cross threads.
 ghost use Rattle.std.specs.Prelude.{◌≡◌, []};
 
+use crate::lines::shown;
 use crate::tests::compare::same;
-use crate::tests::outlet::batches::{are_lines, are_lines_of, opened, sends, shown, tellers};
+use crate::tests::outlet::batches::{are_lines, are_lines_of, opened, sends, tellers};
 use span_layers::{Form, Kind, Say};
 use span_outlet::{Drain, Kept, Outlet, Ring, Step};
 use std::alloc::Global;
@@ -25,7 +26,7 @@ fn kept_lines(rt: &impl Abort, alloc: Global) -> String {
     let mut kept = Kept::new(alloc, tellers(rt, alloc, &FORMS));
     send_three(rt, alloc, &mut kept);
     same(rt, kept.refused(), 0, "refused");
-    shown(rt, alloc, kept.all())
+    shown(alloc, kept.all()).expect(rt, "memory")
 }
 
 // The lines of the drain are those that are kept.
@@ -125,8 +126,8 @@ fn three_batches_in_two_forms(rt: HostRuntime) {
 
 // The lines that are moved out of a drain are those that it had.
 fn moves_its_lines_out<V: Drop>(rt: &impl Abort, alloc: Global, drain: Drain<V>) {
-    let lines = shown(rt, alloc, drain.all());
-    let moved = shown(rt, alloc, drain.into_lines().as_slice());
+    let lines = shown(alloc, drain.all()).expect(rt, "memory");
+    let moved = shown(alloc, drain.into_lines().as_slice()).expect(rt, "memory");
     same(rt, moved.as_str(), lines.as_str(), "the lines moved out");
 }
 

@@ -1,8 +1,9 @@
 //! What the outlet that keeps the lines of the last batch has after each batch.
 ghost use Rattle.std.specs.Prelude.{◌≡◌, ◌+◌, ◌-◌, ◌^◌, ◌<◌, ◌≤◌, [], length};
 
+use crate::lines::shown;
 use crate::tests::compare::same;
-use crate::tests::outlet::batches::{sends, shown, tellers};
+use crate::tests::outlet::batches::{sends, tellers};
 use span_layers::{Form, Kind, Say};
 use span_outlet::Latest;
 use std::alloc::Global;
@@ -28,7 +29,7 @@ static STEPS: [Step; 6] = [
 
 // The outlet has these lines, got so many batches, and missed so many notes.
 fn has<V>(rt: &impl Abort, alloc: Global, latest: &Latest<V>, lines: &str, counts: (u64, u64)) {
-    let text = shown(rt, alloc, latest.lines());
+    let text = shown(alloc, latest.lines()).expect(rt, "memory");
     same(rt, text.as_str(), lines, "the lines of the last batch");
     let found = (latest.sent(), latest.refused());
     same(rt, found, counts, "sent and missed");

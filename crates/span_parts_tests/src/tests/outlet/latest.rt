@@ -1,8 +1,9 @@
 //! The outlet that has the lines of the last batch alone, beside the one that keeps all lines.
 ghost use Rattle.std.specs.Prelude.{◌≡◌, ◌+◌, ◌-◌, ◌^◌, ◌<◌, ◌≤◌, [], length};
 
+use crate::lines::shown;
 use crate::tests::compare::{holds, same};
-use crate::tests::outlet::batches::{batch_of, plain_tellers, send, sends, shown, tellers};
+use crate::tests::outlet::batches::{batch_of, plain_tellers, send, sends, tellers};
 use span_id::{Fields, Level};
 use span_layers::{Form, Kind, Note, Say, text};
 use span_outlet::{Kept, Latest, Line, Outlet};
@@ -34,8 +35,8 @@ fn send_both<V: Say, W: Say>(
     let before = kept.all().len();
     sends(rt, alloc, kept, call, true);
     sends(rt, alloc, latest, call, true);
-    let more = shown(rt, alloc, from(rt, kept.all(), before));
-    let last = shown(rt, alloc, latest.lines());
+    let more = shown(alloc, from(rt, kept.all(), before)).expect(rt, "memory");
+    let last = shown(alloc, latest.lines()).expect(rt, "memory");
     same(rt, last.as_str(), more.as_str(), "the last lines");
     same(rt, latest.refused(), kept.refused(), "missed notes");
 }

@@ -1,9 +1,10 @@
 //! What a line reader gives out.
 ghost use Rattle.std.specs.Prelude.{◌≡◌, []};
 
+use crate::lines::push_line;
+use crate::plans::{Plan, Wanted, plain_layers};
 use crate::tests::compare::same;
-use crate::tests::layers::fixtures::{Plan, Wanted, plain_layers};
-use crate::tests::outlet::batches::{pair, push_line, sends, tellers};
+use crate::tests::outlet::batches::{pair, sends, tellers};
 use span_id::Level;
 use span_layers::{ByForm, Form, Formatters, Kind, Say};
 use span_outlet::{LineReader, Ring};
@@ -24,15 +25,15 @@ fn opened(rt: &impl Abort, alloc: Global, places: u32, forms: &[Form]) -> (Ring,
 
 // What is read until no line waits, but at most so many lines.
 fn read<V: Say>(rt: &impl Abort, alloc: Global, reader: &mut LineReader<V>, most: usize) -> String {
-    let mut all = Vec::new(alloc);
+    let mut all = String::new(alloc);
     for _ in 0..most {
         if !reader.fill() {
             break;
         }
         let line = reader.next().expect(rt, "the line that waits is lost");
-        push_line(rt, alloc, &mut all, &line);
+        push_line(alloc, &mut all, &line).expect(rt, "memory");
     }
-    String::from_utf8(all).ok().expect(rt, "a text")
+    all
 }
 
 // The reader gives out these lines, of which there are less than nine.
@@ -266,7 +267,7 @@ fn plain(rt: &impl Abort, alloc: Global, places: u32) -> (Ring, PlainReader)
     ensures new { result.0.sent ≡ [] }
 {
     let (ring, tap) = pair(rt, alloc, places);
-    let (_, tellers) = plain_layers(rt, alloc, &PLANS).split();
+    let (_, tellers) = plain_layers(alloc, &PLANS).expect(rt, "layers").split();
     (ring, LineReader::new(alloc, tap, tellers))
 }
 

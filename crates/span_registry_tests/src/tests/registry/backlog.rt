@@ -26,7 +26,10 @@ const EVENT: Act = Act::Event {
 };
 
 // A layer that admits no call of these tests.
-const ELSEWHERE: Plan = (Form::Compact, FmtSpan::FULL, "elsewhere", Level::Trace);
+const ELSEWHERE: Plan = (Form::Compact, FmtSpan::FULL, &[("elsewhere", Level::Trace)]);
+
+// A layer that admits nothing.
+const NOTHING: Plan = (Form::Compact, FmtSpan::FULL, &[]);
 
 const FULL_RING: Ending = Ending {
     plans: &[],
@@ -69,27 +72,30 @@ const EVERY_ANSWER: &str = "\
 = closed
 ";
 
-const EVERY_CALL: Ending = Ending {
+// Once the ring is full, each call that has nothing else against it is refused for it.
+const EVERY_CALL: &[(u32, Act)] = &[
+    (0, Act::New("a")),
+    (0, Act::Step),
+    (0, Act::Enter(1)),
+    (0, Act::New("b")),
+    (0, Act::Clone(1)),
+    (0, Act::Enter(1)),
+    (0, Act::Exit(1)),
+    (0, Act::Record(1, &[("k", "v")])),
+    (0, EVENT),
+    (0, Act::Close(1)),
+    (0, Act::Exit(2)),
+    (0, Act::New("a b")),
+    (0, Act::Find(1)),
+    (0, Act::Step),
+    (0, Act::Exit(1)),
+    (0, Act::Step),
+    (0, Act::Close(1)),
+];
+
+const EVERY_CALL_TOLD: Ending = Ending {
     plans: &[EVERYTHING],
-    acts: &[
-        (0, Act::New("a")),
-        (0, Act::Step),
-        (0, Act::Enter(1)),
-        (0, Act::New("b")),
-        (0, Act::Clone(1)),
-        (0, Act::Enter(1)),
-        (0, Act::Exit(1)),
-        (0, Act::Record(1, &[("k", "v")])),
-        (0, EVENT),
-        (0, Act::Close(1)),
-        (0, Act::Exit(2)),
-        (0, Act::New("a b")),
-        (0, Act::Find(1)),
-        (0, Act::Step),
-        (0, Act::Exit(1)),
-        (0, Act::Step),
-        (0, Act::Close(1)),
-    ],
+    acts: EVERY_CALL,
     answers: EVERY_ANSWER,
     counts: "units 0 accepted 4\n",
     numbers: "left 0 handles 0 entries 0 calls 4 made 1 closed 1 refused 0",
@@ -98,10 +104,44 @@ const EVERY_CALL: Ending = Ending {
 
 #[test]
 fn every_call_meets_a_full_ring(rt: HostRuntime) {
-    ends(&rt, rt.alloc(), &EVERY_CALL);
+    ends(&rt, rt.alloc(), &EVERY_CALL_TOLD);
 }
 
-const NOT_WANTED: Ending = Ending {
+const EVERY_ANSWER_WITHOUT_NOTES: &str = "\
+= 1
+= told 0 refused 0
+= entered
+! backlog
+! backlog
+! backlog
+! backlog
+! backlog
+! backlog
+! backlog
+! unknown
+! bad name
+= a parent 0 handles 1 entries 1 count 2
+= told 0 refused 0
+= open
+= told 0 refused 0
+= closed
+";
+
+const EVERY_CALL_TOLD_TO_NONE: Ending = Ending {
+    plans: &[],
+    acts: EVERY_CALL,
+    answers: EVERY_ANSWER_WITHOUT_NOTES,
+    counts: "units 0 accepted 4\n",
+    numbers: "left 0 handles 0 entries 0 calls 4 made 1 closed 1 refused 0",
+    lines: "",
+};
+
+#[test]
+fn every_call_meets_a_full_ring_without_a_layer(rt: HostRuntime) {
+    ends(&rt, rt.alloc(), &EVERY_CALL_TOLD_TO_NONE);
+}
+
+const NOT_WANTED_HERE: Ending = Ending {
     plans: &[ELSEWHERE],
     acts: &[(0, EVENT), (0, Act::New("a")), (0, EVENT)],
     answers: "= told\n= not wanted\n! backlog\n",
@@ -112,5 +152,15 @@ const NOT_WANTED: Ending = Ending {
 
 #[test]
 fn a_span_that_is_not_wanted_needs_no_place(rt: HostRuntime) {
-    ends(&rt, rt.alloc(), &NOT_WANTED);
+    ends(&rt, rt.alloc(), &NOT_WANTED_HERE);
+}
+
+const NEVER_WANTED: Ending = Ending {
+    plans: &[NOTHING],
+    ..NOT_WANTED_HERE
+};
+
+#[test]
+fn an_empty_rule_admits_no_span(rt: HostRuntime) {
+    ends(&rt, rt.alloc(), &NEVER_WANTED);
 }

@@ -5,15 +5,13 @@ ghost use Rattle.span_registry.specs.Worker.{IsNew};
 
 use crate::tests::registry::layers::meta_of;
 use crate::tests::registry::same::same;
-use span_id::{Checked, Fault, Level, Limits, Meta};
+use span_id::{Fault, Level, Limits, Meta};
 use span_layers::{Filters, Layers, Say, Tellers};
-use span_registry::{
-    HANDLE_PARTS, Kept, ParentOf, Registry, Report, SeatTable, Setup, Share, Worker,
-};
+use span_registry::{Blanks, Kept, ParentOf, Registry, Report, Setup, Share, Worker};
 use std::alloc::Global;
 use std::marker::Brand;
 use std::sync::Wait;
-use std::sync::ledger::{Blank, Ledger};
+use std::sync::ledger::Ledger;
 
 /// One worker makes a span and closes it; the report has the lines.
 pub fn one_span<R: Wait>(
@@ -27,48 +25,39 @@ pub fn one_span<R: Wait>(
         workers: 1,
         ..Limits::default()
     };
-    let checked = limits.check()?;
-    let table = SeatTable::new(alloc, checked.limits().slots)?;
-    run::<Brand, Brand, Brand, _, _>(
-        rt,
-        alloc,
-        &checked,
-        filters,
-        Kept::new(alloc, tellers),
-        meta,
-        Blank::new(HANDLE_PARTS),
-        Blank::new(1),
-        table,
-    )
+    let blanks = Blanks::new(alloc, &limits.check()?)?;
+    let outlet = Kept::new(alloc, tellers);
+    run::<Brand, Brand, Brand, _, _>(rt, alloc, filters, outlet, meta, blanks)
 }
 
 fn run<H: Ledger, C: Ledger, S: Setup, V: Say, R: Wait>(
     rt: &R,
     alloc: Global,
-    checked: &Checked,
     filters: Filters,
     outlet: Kept<V>,
     meta: &Meta,
-    handles: Blank,
-    calls: Blank,
-    table: SeatTable,
+    blanks: Blanks,
 ) -> Result<Report, Fault>
     requires sent { outlet.sent ≡ [] }
-    requires setup { (checked.now ≡ S.limits) × (filters.rules ≡ S.rules) × (None ≡ S.ring) }
-    requires workers { checked.now.workers ≡ 1 }
-    requires handles { (handles.name ≡ H.name) × (handles.parts ≡ H.parts) × (H.parts ≡ HANDLE_PARTS) }
-    requires calls { (calls.name ≡ C.name) × (calls.parts ≡ C.parts) × (C.parts ≡ 1) }
-    requires table { (table ≡ S.table) × (table.words ≡ checked.now.slots) }
+    requires setup { (filters.rules ≡ S.rules) × (outlet.forms ≡ S.forms) × (None ≡ S.ring) }
+    requires workers { S.limits.workers ≡ 1 }
+    requires blanks { blanks ≡ record {
+      limits = S.limits;
+      handles = H.name;
+      handle_parts = H.parts;
+      calls = C.name;
+      call_parts = C.parts;
+      table = S.table;
+      history = S.history;
+    } }
 {
-    let (registry, workers) = Registry::<H, C, S, Kept<V>>::new(
-        alloc, checked, filters, outlet, handles, calls, table,
-    )?;
+    let (registry, workers) = Registry::<H, C, S, Kept<V>>::new(alloc, filters, outlet, blanks)?;
     let share = work(rt, &registry, only(workers), meta)?;
     Ok(registry.finish_kept(share))
 }
 
 // The worker of a registry that has one.
-fn only<H: Ledger, C: Ledger>(workers: Vec<Worker<H, C>>) -> Worker<H, C>
+fn only<H: Ledger, C: Ledger, S: Setup>(workers: Vec<Worker<H, C, S>>) -> Worker<H, C, S>
     requires one { vec_len workers ≡ 1 }
     requires new { (i : ℕ) (d : _) → i < 1 → IsNew i (slice_index_or workers.items i d) }
     ensures new { result.accepted ≡ 0 }
@@ -85,9 +74,9 @@ fn only<H: Ledger, C: Ledger>(workers: Vec<Worker<H, C>>) -> Worker<H, C>
 fn work<H: Ledger, C: Ledger, S: Setup, V: Say, R: Wait>(
     rt: &R,
     registry: &Registry<H, C, S, Kept<V>>,
-    worker: Worker<H, C>,
+    worker: Worker<H, C, S>,
     meta: &Meta,
-) -> Result<Share<H, C>, Fault>
+) -> Result<Share<H, C, S>, Fault>
     requires { worker.accepted ≡ 0 }
     ensures { IfOk result (λ share. IsWhole worker.spare 1 share) }
 {

@@ -8,14 +8,14 @@ use crate::tests::registry::on_registry::calls;
 use crate::tests::registry::same::same;
 use crate::tests::registry::steps::{NoDrain, Steps};
 use crate::tests::registry::threads::{Turn, take_turns};
-use span_id::{Checked, Limits};
+use span_id::Limits;
 use span_layers::{Filters, Say};
-use span_registry::{HANDLE_PARTS, Kept, Outlet, Registry, Report, SeatTable, Setup, Worker};
+use span_registry::{Blanks, HANDLE_PARTS, Kept, Outlet, Registry, Report, Setup, Worker};
 use std::alloc::{AllocError, Global};
 use std::marker::Brand;
 use std::process::Abort;
 use std::sync::Wait;
-use std::sync::ledger::{Blank, Ledger};
+use std::sync::ledger::Ledger;
 use std::thread::Threads;
 
 /// What is done with a registry before its end.
@@ -34,10 +34,10 @@ pub(crate) fn all_calls<H: Ledger, C: Ledger, S: Setup, O: Outlet, D: Steps, R: 
     alloc: Global,
     registry: &Registry<H, C, S, O>,
     drain: &mut D,
-    workers: Vec<Worker<H, C>>,
+    workers: Vec<Worker<H, C, S>>,
     acts: &[(u32, Act)],
     transcript: &mut Transcript,
-) -> Option<Part<H, C>>
+) -> Option<Part<H, C, S>>
     ensures name { D.name drain.new ≡ D.name drain.old }
 {
     let mut workers = workers;
@@ -66,10 +66,10 @@ fn perform<
     rt: &R,
     alloc: Global,
     registry: &Registry<H, C, S, O>,
-    workers: Vec<Worker<H, C>>,
+    workers: Vec<Worker<H, C, S>>,
     deed: Deed,
     transcript: &mut Transcript,
-) -> Option<Part<H, C>> {
+) -> Option<Part<H, C, S>> {
     match deed {
         Deed::Calls(acts) => {
             all_calls(rt, alloc, registry, &mut NoDrain, workers, acts, transcript)
@@ -95,27 +95,30 @@ fn named<
 >(
     rt: &R,
     alloc: Global,
-    checked: &Checked,
     filters: Filters,
     outlet: Kept<V>,
-    handles: Blank,
-    calls: Blank,
-    table: SeatTable,
+    blanks: Blanks,
     deed: Deed,
     transcript: &mut Transcript,
 ) -> Report
     requires sent { outlet.sent ≡ [] }
-    requires setup { (checked.now ≡ S.limits) × (filters.rules ≡ S.rules) × (S.ring ≡ None) }
-    requires handles { (handles.name ≡ H.name) × (handles.parts ≡ H.parts) × (H.parts ≡ HANDLE_PARTS) }
-    requires calls { (calls.name ≡ C.name) × (calls.parts ≡ C.parts) × (C.parts ≡ checked.now.workers) }
-    requires table { (table ≡ S.table) × (table.words ≡ checked.now.slots) }
+    requires setup { (filters.rules ≡ S.rules) × (outlet.forms ≡ S.forms) × (S.ring ≡ None) }
+    requires parts { H.parts ≡ HANDLE_PARTS }
+    requires blanks { blanks ≡ record {
+      limits = S.limits;
+      handles = H.name;
+      handle_parts = H.parts;
+      calls = C.name;
+      call_parts = C.parts;
+      table = S.table;
+      history = S.history;
+    } }
 {
-    let made = Registry::<H, C, S, Kept<V>>::new(
-        alloc, checked, filters, outlet, handles, calls, table,
-    );
+    let number = blanks.limits().limits().workers;
+    let made = Registry::<H, C, S, Kept<V>>::new(alloc, filters, outlet, blanks);
     let (registry, workers) = made.expect(rt, "memory");
     let whole = perform(rt, alloc, &registry, workers, deed, transcript);
-    finished(rt, registry, checked.limits().workers, whole)
+    finished(rt, registry, number, whole)
 }
 
 // Generic in what makes the texts.
@@ -131,19 +134,8 @@ fn begun<V: Say + Send, R: Threads + Wait + Abort + Sync>(
     requires { outlet.sent ≡ [] }
 {
     let checked = limits.check().expect(rt, "limits");
-    let table = SeatTable::new(alloc, limits.slots).expect(rt, "memory");
-    named::<Brand, Brand, Brand, V, R>(
-        rt,
-        alloc,
-        &checked,
-        filters,
-        outlet,
-        Blank::new(HANDLE_PARTS),
-        Blank::new(u64::from(limits.workers)),
-        table,
-        deed,
-        transcript,
-    )
+    let blanks = Blanks::new(alloc, &checked).expect(rt, "memory");
+    named::<Brand, Brand, Brand, V, R>(rt, alloc, filters, outlet, blanks, deed, transcript)
 }
 
 /// Makes a registry with these layers, does this with it, and ends it.

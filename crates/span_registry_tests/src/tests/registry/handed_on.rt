@@ -1,7 +1,7 @@
 //! Handles that one thread makes, a second enters and a third closes.
 use crate::tests::registry::ended::{Deed, Ended, has_numbers, run_to_end};
 use crate::tests::registry::jobs::Task;
-use crate::tests::registry::layers::{EVERYTHING, Plan};
+use crate::tests::registry::layers::{APP, EVERYTHING, Plan};
 use crate::tests::registry::same::{is_text, same};
 use crate::tests::registry::threads::Turn;
 use span_id::{Level, Limits};
@@ -41,13 +41,8 @@ fn are_handed_on(rt: &impl Abort, alloc: Global, ended: &Ended) {
 fn plans() -> [Plan<'static>; 3] {
     [
         EVERYTHING,
-        (
-            Form::Compact,
-            FmtSpan::NEW | FmtSpan::CLOSE,
-            "app",
-            Level::Info,
-        ),
-        (Form::Json, FmtSpan::ACTIVE, "app", Level::Info),
+        (Form::Compact, FmtSpan::NEW | FmtSpan::CLOSE, APP),
+        (Form::Json, FmtSpan::ACTIVE, APP),
     ]
 }
 

@@ -31,15 +31,18 @@ impl<H: Ledger, C: Ledger, S: Setup> Held<H, C, S> {
 
 /// A share, and its parts of the two ledgers.
 #[derive(Drop)]
-pub(crate) struct Part<H: Ledger, C: Ledger> {
-    share: Share<H, C>,
+pub(crate) struct Part<H: Ledger, C: Ledger, S: Setup> {
+    share: Share<H, C, S>,
     handle_parts: u64,
     call_parts: u64,
     ghost counted: { (share.handle_parts ≡ handle_parts) × (share.call_parts ≡ call_parts) },
 }
 
 // The parts of both ledgers that two parts have together, where these and all other sums fit.
-fn sums<H: Ledger, C: Ledger>(one: &Part<H, C>, other: &Part<H, C>) -> Option<(u64, u64)>
+fn sums<H: Ledger, C: Ledger, S: Setup>(
+    one: &Part<H, C, S>,
+    other: &Part<H, C, S>,
+) -> Option<(u64, u64)>
     ensures handles { IfSome result (λ sums. one.now.handle_parts + other.now.handle_parts ≡ sums.0) }
     ensures calls { IfSome result (λ sums. one.now.call_parts + other.now.call_parts ≡ sums.1) }
     ensures units { OnSome result (one.now.share.units + other.now.share.units < 2 ^ 64) }
@@ -52,9 +55,9 @@ fn sums<H: Ledger, C: Ledger>(one: &Part<H, C>, other: &Part<H, C>) -> Option<(u
     Some((handle_parts, call_parts))
 }
 
-impl<H: Ledger, C: Ledger> Part<H, C> {
+impl<H: Ledger, C: Ledger, S: Setup> Part<H, C, S> {
     /// What a worker leaves.
-    pub(crate) fn of_worker(worker: Worker<H, C>) -> Part<H, C> {
+    pub(crate) fn of_worker(worker: Worker<H, C, S>) -> Part<H, C, S> {
         let handle_parts = worker.spare();
         Part {
             share: worker.leave(),
@@ -64,7 +67,7 @@ impl<H: Ledger, C: Ledger> Part<H, C> {
     }
 
     /// A handle that is given up.
-    pub(crate) fn of_handle<S: Setup>(held: Held<H, C, S>) -> Part<H, C> {
+    pub(crate) fn of_handle(held: Held<H, C, S>) -> Part<H, C, S> {
         Part {
             share: held.into_handle().into_share(),
             handle_parts: 1,
@@ -73,7 +76,7 @@ impl<H: Ledger, C: Ledger> Part<H, C> {
     }
 
     /// Both together; all sums have to fit.
-    pub(crate) fn join(self, rt: &impl Abort, other: Part<H, C>) -> Part<H, C> {
+    pub(crate) fn join(self, rt: &impl Abort, other: Part<H, C, S>) -> Part<H, C, S> {
         let (handle_parts, call_parts) = sums(&self, &other).expect(rt, "sums that fit");
         Part {
             share: self.share.join(other.share),
@@ -84,11 +87,11 @@ impl<H: Ledger, C: Ledger> Part<H, C> {
 }
 
 // Notes the units and the accepted calls of a part on a line.
-fn note_counts<H: Ledger, C: Ledger>(
+fn note_counts<H: Ledger, C: Ledger, S: Setup>(
     rt: &impl Abort,
     alloc: Global,
     counts: &mut Vec<u8>,
-    part: &Part<H, C>,
+    part: &Part<H, C, S>,
 ) {
     let (units, accepted) = (part.share.units(), part.share.accepted());
     let line = format!(in alloc; "units {units} accepted {accepted}\n").expect(rt, "memory");
@@ -98,13 +101,13 @@ fn note_counts<H: Ledger, C: Ledger>(
 }
 
 // The parts so far with one more, whose counts are noted.
-fn with_part<H: Ledger, C: Ledger>(
+fn with_part<H: Ledger, C: Ledger, S: Setup>(
     rt: &impl Abort,
     alloc: Global,
     counts: &mut Vec<u8>,
-    whole: Option<Part<H, C>>,
-    part: Part<H, C>,
-) -> Option<Part<H, C>> {
+    whole: Option<Part<H, C, S>>,
+    part: Part<H, C, S>,
+) -> Option<Part<H, C, S>> {
     note_counts(rt, alloc, counts, &part);
     match whole {
         None => Some(part),
@@ -117,9 +120,9 @@ pub(crate) fn gather<H: Ledger, C: Ledger, S: Setup>(
     rt: &impl Abort,
     alloc: Global,
     counts: &mut Vec<u8>,
-    workers: Vec<Worker<H, C>>,
+    workers: Vec<Worker<H, C, S>>,
     held: Vec<Held<H, C, S>>,
-) -> Option<Part<H, C>> {
+) -> Option<Part<H, C, S>> {
     let mut whole = None;
     for worker in workers {
         whole = with_part(rt, alloc, counts, whole, Part::of_worker(worker));
@@ -131,11 +134,11 @@ pub(crate) fn gather<H: Ledger, C: Ledger, S: Setup>(
 }
 
 // The share of a registry with so many workers; these have to be all its parts.
-fn whole_share<H: Ledger, C: Ledger>(
+fn whole_share<H: Ledger, C: Ledger, S: Setup>(
     rt: &impl Abort,
     workers: u32,
-    whole: Option<Part<H, C>>,
-) -> Share<H, C>
+    whole: Option<Part<H, C, S>>,
+) -> Share<H, C, S>
     requires { (H.parts ≡ HANDLE_PARTS) × (C.parts ≡ workers) }
     ensures { IsWhole H.parts C.parts result }
 {
@@ -149,7 +152,7 @@ pub(crate) fn finished<H: Ledger, C: Ledger, S: Setup, V: Say, A: Admit>(
     rt: &impl Abort,
     registry: Registry<H, C, S, Kept<V>, A>,
     workers: u32,
-    whole: Option<Part<H, C>>,
+    whole: Option<Part<H, C, S>>,
 ) -> Report
     requires { (H.parts ≡ HANDLE_PARTS) × (C.parts ≡ workers) }
 {
@@ -161,7 +164,7 @@ pub(crate) fn drained<H: Ledger, C: Ledger, S: Setup, V: Say, A: Admit>(
     rt: &impl Abort,
     registry: Registry<H, C, S, Ring, A>,
     workers: u32,
-    whole: Option<Part<H, C>>,
+    whole: Option<Part<H, C, S>>,
     drain: Drain<V>,
 ) -> Report
     requires parts { (H.parts ≡ HANDLE_PARTS) × (C.parts ≡ workers) }

@@ -27,7 +27,7 @@ pub(crate) enum Task {
 /// A worker, the handles that it has, the spans that it is inside, and how many spans it closed.
 #[derive(Drop)]
 pub(crate) struct Station<H: Ledger, C: Ledger, S: Setup> {
-    pub(crate) worker: Worker<H, C>,
+    pub(crate) worker: Worker<H, C, S>,
     pub(crate) held: Vec<Held<H, C, S>>,
     pub(crate) inside: Vec<Id>,
     pub(crate) closed_by_close: u32,
@@ -80,7 +80,7 @@ fn make_calls<H: Ledger, C: Ledger, S: Setup, O: Outlet, R: Wait + Abort>(
     rt: &R,
     alloc: Global,
     registry: &Registry<H, C, S, O>,
-    worker: &mut Worker<H, C>,
+    worker: &mut Worker<H, C, S>,
     held: &mut Vec<Held<H, C, S>>,
     acts: &[Act],
 ) -> u32 {
@@ -98,7 +98,7 @@ fn make_job<H: Ledger, C: Ledger, S: Setup, O: Outlet, R: Wait + Abort>(
     rt: &R,
     alloc: Global,
     registry: &Registry<H, C, S, O>,
-    worker: &mut Worker<H, C>,
+    worker: &mut Worker<H, C, S>,
     held: &mut Vec<Held<H, C, S>>,
 ) {
     make_calls(rt, alloc, registry, worker, held, &[Act::Child("job", 0)]);

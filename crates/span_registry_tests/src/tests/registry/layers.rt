@@ -12,11 +12,17 @@ use span_layers::{
 use std::alloc::{AllocError, Global};
 use std::process::Abort;
 
-/// A layer in few words: its form, the kinds that it wants, and the one pair of its rule.
-pub(crate) type Plan<'a> = (Form, FmtSpan, &'a str, Level);
+/// A layer in few words: its form, the kinds that it wants, and the pairs of its rule.
+pub(crate) type Plan<'a> = (Form, FmtSpan, &'a [(&'a str, Level)]);
+
+/// The pairs of a rule that admits everything.
+pub(crate) const ALL: &[(&str, Level)] = &[("", Level::Trace)];
+
+/// The pairs of a rule that admits what the target `app` has up to INFO.
+pub(crate) const APP: &[(&str, Level)] = &[("app", Level::Info)];
 
 /// Lets everything in, and writes everything in the compact form.
-pub(crate) const EVERYTHING: Plan<'static> = (Form::Compact, FmtSpan::FULL, "", Level::Trace);
+pub(crate) const EVERYTHING: Plan<'static> = (Form::Compact, FmtSpan::FULL, ALL);
 
 fn hooks(alloc: Global) -> Result<Hooks, AllocError> {
     Ok(Hooks::new(
@@ -36,22 +42,23 @@ fn hooks(alloc: Global) -> Result<Hooks, AllocError> {
     ))
 }
 
-fn rule(rt: &impl Abort, alloc: Global, prefix: &str, level: Level) -> Rule {
-    let mut pairs = Vec::new(alloc);
-    pairs
-        .push((owned(rt, alloc, prefix), level))
-        .expect(rt, "memory");
-    Rule { pairs }
+fn rule(rt: &impl Abort, alloc: Global, pairs: &[(&str, Level)]) -> Rule {
+    let mut made = Vec::new(alloc);
+    for (prefix, level) in pairs {
+        let pair = (owned(rt, alloc, prefix), *level);
+        made.push(pair).expect(rt, "memory");
+    }
+    Rule { pairs: made }
 }
 
 fn layer(rt: &impl Abort, alloc: Global, plan: &Plan) -> Layer {
-    let (form, spans, prefix, level) = plan;
+    let (form, spans, pairs) = plan;
     Layer {
         style: Style {
             form: *form,
             spans: *spans,
         },
-        rule: rule(rt, alloc, prefix, *level),
+        rule: rule(rt, alloc, pairs),
         hooks: hooks(alloc).expect(rt, "memory"),
     }
 }

@@ -30,7 +30,7 @@ fn keep<H: Ledger, C: Ledger, S: Setup>(
 fn make<H: Ledger, C: Ledger, S: Setup, O: Outlet, R: Wait>(
     rt: &R,
     registry: &Registry<H, C, S, O>,
-    worker: &mut Worker<H, C>,
+    worker: &mut Worker<H, C, S>,
     held: &mut Vec<Held<H, C, S>>,
     parent: ParentOf,
     said: &Said,
@@ -49,7 +49,7 @@ fn make<H: Ledger, C: Ledger, S: Setup, O: Outlet, R: Wait>(
 fn tell<H: Ledger, C: Ledger, S: Setup, O: Outlet, R: Wait>(
     rt: &R,
     registry: &Registry<H, C, S, O>,
-    worker: &mut Worker<H, C>,
+    worker: &mut Worker<H, C, S>,
     message: &str,
     said: &Said,
 ) -> Answer {
@@ -85,7 +85,7 @@ fn lent<'a, H: Ledger, C: Ledger, S: Setup>(
 fn record<H: Ledger, C: Ledger, S: Setup, O: Outlet, R: Wait>(
     rt: &R,
     registry: &Registry<H, C, S, O>,
-    worker: &mut Worker<H, C>,
+    worker: &mut Worker<H, C, S>,
     held: &mut Vec<Held<H, C, S>>,
     number: u64,
     said: &Said,
@@ -103,7 +103,7 @@ fn record<H: Ledger, C: Ledger, S: Setup, O: Outlet, R: Wait>(
 fn clone_one<H: Ledger, C: Ledger, S: Setup, O: Outlet, R: Wait>(
     rt: &R,
     registry: &Registry<H, C, S, O>,
-    worker: &mut Worker<H, C>,
+    worker: &mut Worker<H, C, S>,
     held: &mut Vec<Held<H, C, S>>,
     number: u64,
 ) -> Answer {
@@ -120,7 +120,7 @@ fn clone_one<H: Ledger, C: Ledger, S: Setup, O: Outlet, R: Wait>(
 fn enter<H: Ledger, C: Ledger, S: Setup, O: Outlet, R: Wait>(
     rt: &R,
     registry: &Registry<H, C, S, O>,
-    worker: &mut Worker<H, C>,
+    worker: &mut Worker<H, C, S>,
     held: &mut Vec<Held<H, C, S>>,
     number: u64,
 ) -> Answer {
@@ -137,7 +137,7 @@ fn enter<H: Ledger, C: Ledger, S: Setup, O: Outlet, R: Wait>(
 fn give_back<H: Ledger, C: Ledger, S: Setup, O: Outlet, R: Wait>(
     rt: &R,
     registry: &Registry<H, C, S, O>,
-    worker: &mut Worker<H, C>,
+    worker: &mut Worker<H, C, S>,
     held: &mut Vec<Held<H, C, S>>,
     handle: Handle<H, C, S>,
 ) -> Answer {
@@ -151,7 +151,7 @@ fn give_back<H: Ledger, C: Ledger, S: Setup, O: Outlet, R: Wait>(
 fn close<H: Ledger, C: Ledger, S: Setup, O: Outlet, R: Wait>(
     rt: &R,
     registry: &Registry<H, C, S, O>,
-    worker: &mut Worker<H, C>,
+    worker: &mut Worker<H, C, S>,
     held: &mut Vec<Held<H, C, S>>,
     number: u64,
 ) -> Answer {
@@ -176,7 +176,7 @@ fn id_of<H: Ledger, C: Ledger, S: Setup>(held: &[Held<H, C, S>], number: u64) ->
 fn leave<H: Ledger, C: Ledger, S: Setup, O: Outlet, R: Wait>(
     rt: &R,
     registry: &Registry<H, C, S, O>,
-    worker: &mut Worker<H, C>,
+    worker: &mut Worker<H, C, S>,
     id: Option<Id>,
 ) -> Answer {
     let Some(id) = id else {
@@ -189,7 +189,7 @@ fn leave<H: Ledger, C: Ledger, S: Setup, O: Outlet, R: Wait>(
 }
 
 // What was counted of a worker.
-fn counted<H: Ledger, C: Ledger>(worker: &Worker<H, C>) -> Answer {
+fn counted<H: Ledger, C: Ledger, S: Setup>(worker: &Worker<H, C, S>) -> Answer {
     let out = HANDLE_PARTS.wrapping_sub(worker.spare());
     Answer::Counted(worker.accepted(), out)
 }
@@ -198,7 +198,7 @@ fn counted<H: Ledger, C: Ledger>(worker: &Worker<H, C>) -> Answer {
 fn pass<H: Ledger, C: Ledger, S: Setup, O: Outlet, R: Wait>(
     rt: &R,
     registry: &Registry<H, C, S, O>,
-    worker: &mut Worker<H, C>,
+    worker: &mut Worker<H, C, S>,
     held: &mut Vec<Held<H, C, S>>,
     act: &Act,
     said: &Said,
@@ -225,7 +225,7 @@ pub(crate) fn call<H: Ledger, C: Ledger, S: Setup, O: Outlet, R: Wait + Abort>(
     rt: &R,
     alloc: Global,
     registry: &Registry<H, C, S, O>,
-    worker: &mut Worker<H, C>,
+    worker: &mut Worker<H, C, S>,
     held: &mut Vec<Held<H, C, S>>,
     act: &Act,
 ) -> Answer {
@@ -268,10 +268,11 @@ fn note_found<H: Ledger, C: Ledger, S: Setup, O: Outlet, R: Wait + Abort>(
     rt: &R,
     alloc: Global,
     registry: &Registry<H, C, S, O>,
+    worker: &mut Worker<H, C, S>,
     id: Id,
     finds: &mut Vec<u8>,
 ) {
-    match registry.find(rt, alloc, id).expect(rt, "memory") {
+    match registry.find(rt, alloc, worker, id).expect(rt, "memory") {
         None => push_sight(rt, alloc, finds, None),
         Some(found) => push_sight(rt, alloc, finds, Some(&sight_of(&found))),
     }
@@ -283,7 +284,7 @@ fn note_act<H: Ledger, C: Ledger, S: Setup, O: Outlet, D: Steps, R: Wait + Abort
     alloc: Global,
     registry: &Registry<H, C, S, O>,
     drain: &mut D,
-    worker: &mut Worker<H, C>,
+    worker: &mut Worker<H, C, S>,
     held: &mut Vec<Held<H, C, S>>,
     act: &Act,
     transcript: &mut Transcript,
@@ -291,7 +292,9 @@ fn note_act<H: Ledger, C: Ledger, S: Setup, O: Outlet, D: Steps, R: Wait + Abort
     ensures name { D.name drain.new ≡ D.name drain.old }
 {
     match (looked_for(act), act) {
-        (Some(id), _) => note_found(rt, alloc, registry, id, &mut transcript.answers),
+        (Some(id), _) => {
+            note_found(rt, alloc, registry, worker, id, &mut transcript.answers);
+        }
         (None, Act::Step) => transcript.answer(rt, alloc, &Answer::Stepped(drain.step())),
         _ => {
             let answer = call(rt, alloc, registry, worker, held, act);
@@ -305,11 +308,12 @@ fn note_finds<H: Ledger, C: Ledger, S: Setup, O: Outlet, R: Wait + Abort>(
     rt: &R,
     alloc: Global,
     registry: &Registry<H, C, S, O>,
+    worker: &mut Worker<H, C, S>,
     transcript: &mut Transcript,
 ) {
     let Transcript { ids, finds, .. } = transcript;
     for id in ids.as_slice() {
-        note_found(rt, alloc, registry, *id, finds);
+        note_found(rt, alloc, registry, worker, *id, finds);
     }
 }
 
@@ -320,7 +324,7 @@ pub(crate) fn calls<H: Ledger, C: Ledger, S: Setup, O: Outlet, D: Steps, R: Wait
     alloc: Global,
     registry: &Registry<H, C, S, O>,
     drain: &mut D,
-    workers: &mut [Worker<H, C>],
+    workers: &mut [Worker<H, C, S>],
     held: &mut Vec<Held<H, C, S>>,
     acts: &[(u32, Act)],
     transcript: &mut Transcript,
@@ -332,6 +336,6 @@ pub(crate) fn calls<H: Ledger, C: Ledger, S: Setup, O: Outlet, D: Steps, R: Wait
             .get_mut(*number as usize)
             .expect(rt, "no such worker");
         note_act(rt, alloc, registry, drain, worker, held, act, transcript);
-        note_finds(rt, alloc, registry, transcript);
+        note_finds(rt, alloc, registry, worker, transcript);
     }
 }

@@ -1,7 +1,7 @@
 //! The same calls on a registry, through its handles, and on a core, through ids.
 use crate::tests::registry::acts::{Act, lines_text};
 use crate::tests::registry::ended::{Deed, Ended, run_to_end};
-use crate::tests::registry::layers::{EVERYTHING, Plan};
+use crate::tests::registry::layers::{ALL, APP, EVERYTHING, Plan};
 use crate::tests::registry::on_core::{Expected, core_answers};
 use crate::tests::registry::same::{is_text, same};
 use span_id::{Level, Limits};
@@ -177,8 +177,8 @@ L1 event 1 w0 a INFO hi k=v
 #[test]
 fn each_layer_has_its_own_path(rt: HostRuntime) {
     let plans = [
-        (Form::Compact, FmtSpan::NEW, "", Level::Trace),
-        (Form::Compact, FmtSpan::NEW, "app", Level::Info),
+        (Form::Compact, FmtSpan::NEW, ALL),
+        (Form::Compact, FmtSpan::NEW, APP),
     ];
     agree(&rt, rt.alloc(), &plans, &OWN_PATHS);
 }
@@ -198,12 +198,7 @@ const ENTERED_BY_ANOTHER: Script = Script {
 
 #[test]
 fn notes_name_the_worker_that_enters(rt: HostRuntime) {
-    let plan = (
-        Form::Compact,
-        FmtSpan::EXIT | FmtSpan::CLOSE,
-        "",
-        Level::Trace,
-    );
+    let plan = (Form::Compact, FmtSpan::EXIT | FmtSpan::CLOSE, ALL);
     agree(&rt, rt.alloc(), &[plan], &ENTERED_BY_ANOTHER);
 }
 
@@ -243,7 +238,7 @@ L1 close 1 w0 a k=1 k=2
 
 #[test]
 fn both_forms_with_fields(rt: HostRuntime) {
-    let plans = [(Form::Json, FmtSpan::FULL, "", Level::Trace), EVERYTHING];
+    let plans = [(Form::Json, FmtSpan::FULL, ALL), EVERYTHING];
     agree(&rt, rt.alloc(), &plans, &BOTH_FORMS);
 }
 
@@ -296,6 +291,6 @@ const WHOLE_CHAIN: Script = Script {
 
 #[test]
 fn another_worker_closes_a_whole_chain(rt: HostRuntime) {
-    let plan = (Form::Compact, FmtSpan::CLOSE, "", Level::Trace);
+    let plan = (Form::Compact, FmtSpan::CLOSE, ALL);
     agree(&rt, rt.alloc(), &[plan], &WHOLE_CHAIN);
 }

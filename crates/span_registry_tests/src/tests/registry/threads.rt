@@ -142,7 +142,7 @@ fn take_each_turn<
 // A worker with no handle.
 fn station_of<H: Ledger, C: Ledger, S: Setup>(
     alloc: Global,
-    worker: Worker<H, C>,
+    worker: Worker<H, C, S>,
 ) -> Station<H, C, S> {
     Station {
         worker,
@@ -156,7 +156,7 @@ fn station_of<H: Ledger, C: Ledger, S: Setup>(
 fn stations_of<H: Ledger, C: Ledger, S: Setup>(
     rt: &impl Abort,
     alloc: Global,
-    workers: Vec<Worker<H, C>>,
+    workers: Vec<Worker<H, C, S>>,
 ) -> Vec<Station<H, C, S>> {
     let mut stations = Vec::new(alloc);
     for worker in workers {
@@ -189,7 +189,7 @@ fn leave<H: Ledger, C: Ledger, S: Setup>(
     alloc: Global,
     counts: &mut Vec<u8>,
     stations: Vec<Station<H, C, S>>,
-) -> Option<Part<H, C>> {
+) -> Option<Part<H, C, S>> {
     let mut workers = Vec::new(alloc);
     for station in stations {
         workers.push(station.worker).expect(rt, "memory");
@@ -210,10 +210,10 @@ pub(crate) fn take_turns<
     rt: &R,
     alloc: Global,
     registry: &Registry<H, C, S, O>,
-    workers: Vec<Worker<H, C>>,
+    workers: Vec<Worker<H, C, S>>,
     turns: &[Turn],
     transcript: &mut Transcript,
-) -> Option<Part<H, C>> {
+) -> Option<Part<H, C, S>> {
     let stations: Vec<Station<H, C, S>> = stations_of(rt, alloc, workers);
     let stations = take_each_turn(rt, alloc, registry, stations, turns);
     note_closed(rt, alloc, stations.as_slice(), &mut transcript.answers);

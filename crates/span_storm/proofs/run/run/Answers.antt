@@ -4,17 +4,20 @@ use Rattle.span_layers.specs.declared.form.Form.{Form}
 use Rattle.span_layers.specs.Filter.{Filter}
 use Rattle.span_outlet.specs.Drain.{DrainView}
 use Rattle.span_registry.specs.declared.report.Report.{Report}
+use Rattle.span_registry.specs.Share.{ShareView}
 use Rattle.span_registry.specs.Report.{IsDrainedEnd, Tells}
 use Rattle.span_storm.specs.Storm.{IsStormEnd}
 use Rattle.span_storm.proofs.run.run.Goals as goal
 
 -- what a drained end says, without what the drain had before
-storm_end : (limits : Limits) (rules : List Filter) (forms : List Form) (drain : DrainView) (report : Report) → drain.forms ≡ forms → IsDrainedEnd limits rules drain report → IsStormEnd limits rules forms report
-storm_end limits rules forms drain report same end = record {
+storm_end : (limits : Limits) (rules : List Filter) (forms : List Form) (drain : DrainView) (share : ShareView) (report : Report) → drain.forms ≡ forms → IsDrainedEnd limits rules drain share report → IsStormEnd limits rules forms report
+storm_end limits rules forms drain share report same end = record {
   core = end.core;
+  limits_are = end.limits_are;
+  rules_are = end.rules_are;
   legal = end.legal;
   told = subst (λ f. Tells end.core f report) same end.told;
 }
 
 pub returns-in-Ok-back-clause-ended : goal.returns-in-Ok-back-clause-ended
-returns-in-Ok-back-clause-ended g c = storm_end _ _ _ _ _ c.in-Ok-back.ensures.drain.forms c.finish.ensures.ended
+returns-in-Ok-back-clause-ended g c = storm_end _ _ _ _ _ _ c.in-Ok-back.ensures.drain.forms c.finish.ensures.ended

@@ -8,8 +8,11 @@ use super::{
 };
 use std::{
     cell::Cell,
-    mem, ptr,
+    mem::{self, ManuallyDrop},
+    panic::{catch_unwind, AssertUnwindSafe},
+    ptr,
     sync::{atomic::Ordering, Mutex, MutexGuard, PoisonError},
+    thread,
 };
 use tracing_core::{
     dispatcher::{self, Dispatch},
@@ -21,7 +24,7 @@ thread_local! {
     /// The span of the release that goes through a stack of layers now, the innermost one; 0: none.
     static PASSING: Cell<u64> = const { Cell::new(0) };
     /// That span, where it is closing by that release.
-    static CLOSING: Cell<Option<Closing>> = const { Cell::new(None) };
+    static CLOSING: Cell<ManuallyDrop<Option<Closing>>> = const { Cell::new(ManuallyDrop::new(None)) };
     /// The span that is closing already and of which the layers are being told, until that comes to the registry; 0:
     /// none.
     static TOLD: Cell<u64> = const { Cell::new(0) };
@@ -33,14 +36,26 @@ pub(super) fn is_told(id: u64) -> bool {
     TOLD.with(|told| told.get() == id && told.replace(0) != 0)
 }
 
+/// Puts a span in the place of the one that is closing by the release that goes on.
+#[inline]
+fn replace_closing(closing: Option<Closing>) -> Option<Closing> {
+    ManuallyDrop::into_inner(CLOSING.with(|cell| cell.replace(ManuallyDrop::new(closing))))
+}
+
 /// Leaves a closing span to the outermost layer whose guard is in this call; gives it back where there is none.
 #[inline]
 pub(super) fn leave_to_layers(closing: Closing) -> Option<Closing> {
     if PASSING.with(Cell::get) != closing.id() {
         return Some(closing);
     }
-    CLOSING.with(|cell| cell.set(Some(closing)));
+    let _none = replace_closing(Some(closing));
     None
+}
+
+/// Does what a panic left: another one that it meets would end the process, and was heard of by the panic's hook.
+#[cold]
+fn while_panicking(work: impl FnOnce()) {
+    let _panicked = catch_unwind(AssertUnwindSafe(work));
 }
 
 /// Stands round a layer's part of a release. The outermost one of a release ends the span, if it is closing, when all
@@ -57,7 +72,10 @@ impl<'a> CloseGuard<'a> {
     #[inline]
     pub(super) fn new(spans: &'a Spans, id: u64, stack: &'a dyn Subscriber) -> Self {
         let passing = PASSING.with(|cell| cell.replace(id));
-        let before = (passing != id).then(|| (passing, CLOSING.with(Cell::take)));
+        let before = (passing != id).then(|| (passing, replace_closing(None)));
+        if before.is_some() && spans.looks.load(Ordering::Relaxed) > 0 {
+            spans.has_layers.store(true, Ordering::Relaxed);
+        }
         CloseGuard { spans, stack, before }
     }
 
@@ -70,8 +88,12 @@ impl Drop for CloseGuard<'_> {
     fn drop(&mut self) {
         let Some((id, closing)) = self.before.take() else { return };
         PASSING.with(|cell| cell.set(id));
-        if let Some(closing) = CLOSING.with(|cell| cell.replace(closing)) {
-            self.spans.close_up(closing, Some(self.stack));
+        if let Some(closing) = replace_closing(closing) {
+            if thread::panicking() {
+                while_panicking(|| self.spans.close_up(closing, Some(self.stack)));
+            } else {
+                self.spans.close_up(closing, Some(self.stack));
+            }
         }
         if self.spans.looks.load(Ordering::Relaxed) > 0 {
             self.spans.see_stack(self.stack);
@@ -88,7 +110,14 @@ struct CloseUp<'a> {
     ended: Vec<Held<'a, DataInner>>,
 }
 
-impl CloseUp<'_> {
+impl<'a> CloseUp<'a> {
+    /// Keeps data until all are told. Without memory for that it's dropped now.
+    fn keep(&mut self, data: Option<Held<'a, DataInner>>) {
+        if self.ended.try_reserve(1).is_ok() {
+            self.ended.extend(data);
+        }
+    }
+
     fn run(&mut self) {
         while let Some(closing) = self.next.take() {
             let (data, parent) = self.spans.end(closing);
@@ -98,7 +127,7 @@ impl CloseUp<'_> {
             };
             let id = parent.id();
             self.next = Some(parent);
-            self.ended.extend(data);
+            self.keep(data);
             if let Some(teller) = self.spans.teller(self.stack) {
                 teller.tell(id);
             }
@@ -110,9 +139,11 @@ impl CloseUp<'_> {
 }
 
 impl Drop for CloseUp<'_> {
-    /// What a panic of a layer left.
+    /// What a panic of a layer left. A span is taken out before anything can panic again: there is an end.
     fn drop(&mut self) {
-        self.run();
+        while self.next.is_some() || !self.ended.is_empty() {
+            while_panicking(|| self.run());
+        }
     }
 }
 
@@ -129,7 +160,8 @@ impl Spans {
     #[cold]
     fn close_parents(&self, data: Option<Held<'_, DataInner>>, parent: Closing, stack: Option<&dyn Subscriber>) {
         let id = parent.id();
-        let mut rest = CloseUp { spans: self, stack, next: Some(parent), ended: data.into_iter().collect() };
+        let mut rest = CloseUp { spans: self, stack, next: Some(parent), ended: Vec::new() };
+        rest.keep(data);
         if let Some(teller) = self.teller(stack) {
             teller.tell(id);
         }
@@ -149,8 +181,7 @@ impl Spans {
     pub(super) fn tell_and_close_up(&self, closing: Closing, stack: Option<&dyn Subscriber>) {
         let teller = self.teller(stack);
         if teller.is_none() && self.has_layers.load(Ordering::Relaxed) {
-            lock(&self.untold).push(closing);
-            self.looks.store(MOST_LOOKS, Ordering::Relaxed);
+            self.wait_to_be_told(Some(closing));
             return;
         }
         let id = closing.id();
@@ -172,48 +203,62 @@ impl Spans {
         stack.map(Teller::Stack).or_else(known)
     }
 
-    /// The default dispatcher, where this registry is in it.
+    /// The default dispatcher, where this registry is in it. `get_default` would ask for memory where there is none.
     fn default_dispatch(&self) -> Option<Dispatch> {
-        dispatcher::get_default(|dispatch| {
+        let found = dispatcher::get_current(|dispatch| {
             let registry = dispatch.downcast_ref::<Registry>()?;
             ptr::eq(&*registry.spans, self).then(|| dispatch.clone())
-        })
+        });
+        found.flatten()
     }
 
-    /// Keeps the default dispatcher for later, where this registry is in it and none was seen.
+    /// Keeps the default dispatcher for later, where this registry is in it and none was seen. The last look is left to
+    /// a release through layers.
     #[inline]
     pub(super) fn see_dispatch(&self) {
-        if self.looks.load(Ordering::Relaxed) > 0 {
-            self.look_for_dispatch();
+        if self.looks.load(Ordering::Relaxed) > 1 {
+            self.look_for_dispatch(1);
         }
     }
 
     #[cold]
-    fn look_for_dispatch(&self) {
-        self.looks.fetch_sub(1, Ordering::Relaxed);
+    fn look_for_dispatch(&self, rest: isize) {
+        let spend = |looks| if looks > rest { Some(looks - 1) } else { None };
+        let _is_spent = self.looks.fetch_update(Ordering::Relaxed, Ordering::Relaxed, spend);
         if let Some(dispatch) = self.default_dispatch() {
             self.set_dispatch(&dispatch);
-            self.tell_untold(None);
+            let untold = lock(&self.untold);
+            if untold.is_empty() {
+                self.looks.store(rest, Ordering::Relaxed);
+            }
         }
     }
 
     pub(super) fn set_dispatch(&self, dispatch: &Dispatch) {
         *lock(&self.dispatch) = Some(dispatch.downgrade());
-        self.looks.store(0, Ordering::Relaxed);
     }
 
-    /// A release went through these layers.
+    /// A release went through these layers. Where it ends in a panic, what waits is told by the next one.
     #[cold]
     fn see_stack(&self, stack: &dyn Subscriber) {
-        self.has_layers.store(true, Ordering::Relaxed);
-        self.tell_untold(Some(stack));
+        if !thread::panicking() {
+            self.look_for_dispatch(0);
+            self.tell_untold(stack);
+        }
     }
 
-    fn tell_untold(&self, stack: Option<&dyn Subscriber>) {
+    fn tell_untold(&self, stack: &dyn Subscriber) {
         let mut rest = Untold { spans: self, closing: mem::take(&mut *lock(&self.untold)) };
         while let Some(closing) = rest.closing.pop() {
-            self.tell_and_close_up(closing, stack);
+            self.tell_and_close_up(closing, Some(stack));
         }
+    }
+
+    /// The next release through layers tells them.
+    fn wait_to_be_told(&self, closing: impl IntoIterator<Item = Closing>) {
+        let mut untold = lock(&self.untold);
+        untold.extend(closing);
+        self.looks.store(MOST_LOOKS, Ordering::Relaxed);
     }
 }
 
@@ -225,7 +270,9 @@ struct Untold<'a> {
 
 impl Drop for Untold<'_> {
     fn drop(&mut self) {
-        lock(&self.spans.untold).append(&mut self.closing);
+        if !self.closing.is_empty() {
+            self.spans.wait_to_be_told(self.closing.drain(..));
+        }
     }
 }
 

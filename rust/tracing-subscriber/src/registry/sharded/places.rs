@@ -1,12 +1,17 @@
 //! The data of spans, by slot.
 use super::{
-    raw::{Clear, Held, Shared},
-    refused::Refused,
+    raw::{Held, Shared},
+    refused::{boxed, Refused},
 };
 use std::sync::{
     atomic::{AtomicU64, Ordering},
     OnceLock,
 };
+
+/// What is emptied when nobody reads it any longer, and filled again for another span.
+pub(super) trait Clear: Default + Send + Sync {
+    fn clear(&mut self);
+}
 
 /// A value with the id that it belongs to, 0 where it belongs to none.
 #[derive(Default)]
@@ -14,7 +19,18 @@ struct Place<T> {
     id: AtomicU64,
     value: Shared<T>,
     // Where this one is still read under an id that ended, the slot's next span has another place.
-    next: OnceLock<Box<Place<T>>>,
+    next: OnceLock<Box<[Place<T>; 1]>>,
+}
+
+impl<T: Clear> Place<T> {
+    #[cold]
+    fn next(&self) -> Result<&Place<T>, Refused> {
+        if let Some(next) = self.next.get() {
+            return Ok(&next[0]);
+        }
+        let next = boxed(Place::default())?;
+        Ok(&self.next.get_or_init(|| next)[0])
+    }
 }
 
 impl<T> Drop for Place<T> {
@@ -22,7 +38,7 @@ impl<T> Drop for Place<T> {
     fn drop(&mut self) {
         let mut next = self.next.take();
         while let Some(mut place) = next {
-            next = place.next.take();
+            next = place[0].next.take();
         }
     }
 }
@@ -47,7 +63,7 @@ impl<T: Clear> Places<T> {
             None => &self.new_row(row)?[at],
         };
         while !place.value.fill(&fill) {
-            place = place.next.get_or_init(Box::default);
+            place = place.next()?;
         }
         place.id.store(id, Ordering::Release);
         Ok(())
@@ -67,7 +83,7 @@ impl<T: Clear> Places<T> {
         let (row, at) = row_of(slot);
         let mut place = &self.rows[row].get()?[at];
         while place.id.load(Ordering::Acquire) != id {
-            place = place.next.get()?;
+            place = &place.next.get()?[0];
         }
         Some(place)
     }

@@ -1,6 +1,7 @@
 //! All unsafe code of the registry: the proved store by its C interface, and values that threads read without a lock.
 use super::{
     lock::Lock,
+    places::Clear,
     refused::{answer, Refused},
 };
 use std::{
@@ -20,6 +21,15 @@ struct Handle {
     at: *mut c_void,
 }
 
+/// `SpanStoreFound` of include/span_store.h.
+#[repr(C)]
+#[derive(Default)]
+pub(super) struct Found {
+    _of_its_start: [u64; 3],
+    pub(super) handles: u32,
+    pub(super) children: u32,
+}
+
 extern "C" {
     fn span_store_abi_version() -> u32;
     fn span_store_new(store: *mut Handle, slots: u32, last_generation: u32, max_count: u32) -> u32;
@@ -28,6 +38,8 @@ extern "C" {
     fn span_store_keep(store: *mut Handle, id: u64) -> u32;
     fn span_store_release(store: *mut Handle, id: u64, closing: *mut u32) -> u32;
     fn span_store_ended(store: *mut Handle, id: u64, parent: *mut u64) -> u32;
+    fn span_store_find(store: *mut Handle, id: u64, found: *mut Found) -> u32;
+    fn span_store_next(store: *mut Handle, id: u64, next: *mut u64) -> u32;
 }
 
 /// A proved store of spans, one call at a time. What its calls do is said in include/span_store.h.
@@ -44,10 +56,10 @@ unsafe impl Sync for Store {}
 // SAFETY, of each call below: the handle was filled by `span_store_new` and is emptied by the drop alone, `call` has
 // it for itself as long as the call lasts, and each number that is told is written to a variable of this call.
 impl Store {
-    pub(super) fn new(slots: u32, last_generation: u32) -> Result<Self, Refused> {
+    pub(super) fn new(slots: u32, last_generation: u32, max_count: u32) -> Result<Self, Refused> {
         assert_eq!(unsafe { span_store_abi_version() }, ABI_VERSION, "libspan_store_ffi.a is of another version");
         let mut handle = Handle { at: ptr::null_mut() };
-        answer(unsafe { span_store_new(&mut handle, slots, last_generation, u32::MAX) })?;
+        answer(unsafe { span_store_new(&mut handle, slots, last_generation, max_count) })?;
         Ok(Store { lock: Lock::default(), handle: UnsafeCell::new(handle) })
     }
 
@@ -86,17 +98,23 @@ impl Store {
         self.call(|handle| unsafe { span_store_ended(handle, id, &mut parent) })?;
         Ok(parent)
     }
+
+    pub(super) fn find(&self, id: u64) -> Result<Found, Refused> {
+        let mut found = Found::default();
+        self.call(|handle| unsafe { span_store_find(handle, id, &mut found) }).map(|()| found)
+    }
+
+    /// The span that is there and comes after an id, or the first one after 0; 0 where none is left.
+    pub(super) fn next(&self, id: u64) -> Result<u64, Refused> {
+        let mut next = 0;
+        self.call(|handle| unsafe { span_store_next(handle, id, &mut next) }).map(|()| next)
+    }
 }
 
 impl Drop for Store {
     fn drop(&mut self) {
         unsafe { span_store_free(self.handle.get()) };
     }
-}
-
-/// What is emptied when nobody reads it any longer, and filled again for another span.
-pub(super) trait Clear: Default + Send + Sync {
-    fn clear(&mut self);
 }
 
 /// `holds` of a value that one thread has to itself.

@@ -1,4 +1,5 @@
 //! Why the store refuses a call.
+use std::convert::TryFrom;
 
 /// Why a call is refused. Nothing changed by it then.
 #[derive(Clone, Copy, Debug, PartialEq, Eq)]
@@ -11,6 +12,14 @@ pub(super) enum Refused {
     Full,
     /// There is no memory, or a limit is out of its range.
     Other,
+}
+
+/// A value with memory of its own. `Box::new` would end the process where there is none.
+pub(super) fn boxed<T>(value: T) -> Result<Box<[T; 1]>, Refused> {
+    let mut one = Vec::new();
+    one.try_reserve_exact(1).map_err(|_| Refused::Other)?;
+    one.push(value);
+    <Box<[T; 1]>>::try_from(one.into_boxed_slice()).map_err(|_| Refused::Other)
 }
 
 /// What a status of include/span_store.h says.

@@ -5,18 +5,19 @@
 //! there that has a handle of its parent, which is given back when the child ended.
 use super::{
     numbers,
-    places::Places,
-    raw::{Clear, Held, Store},
-    refused::Refused,
+    places::{Clear, Places},
+    raw::{Found, Held, Store},
+    refused::{boxed, Refused},
     threads,
 };
 use crate::{filter::FilterMap, registry::extensions::ExtensionsInner, sync::RwLock};
 use std::{
-    fmt,
+    fmt, mem,
     num::NonZeroU64,
+    panic::RefUnwindSafe,
     sync::{
         atomic::{AtomicBool, AtomicIsize, AtomicUsize, Ordering},
-        Mutex, OnceLock,
+        Mutex, OnceLock, PoisonError,
     },
 };
 use tracing_core::{dispatcher::WeakDispatch, span::Id, Metadata};
@@ -35,20 +36,36 @@ const ROWS: usize = 4;
 const STORES: usize = SEATS * ROWS;
 /// How many slots the stores of each row have. Their memory is asked for at once, and taken slot by slot.
 const SLOTS: [u32; ROWS] = [1 << 16, 1 << 20, 1 << 20, 1 << 20];
+/// How many handles and children may hold a span.
+const GREATEST_COUNT: u32 = u32::MAX;
 
 /// How often a registry looks whether it is in the default dispatcher, until it was.
 pub(super) const MOST_LOOKS: isize = 4096;
 
 /// What layers read of a span.
-#[derive(Debug, Default)]
+#[derive(Debug)]
 pub(super) struct DataInner {
     pub(super) id: u64,
     pub(super) metadata: Option<&'static Metadata<'static>>,
     pub(super) parent: Option<Id>,
     /// The parent is in another store: this span has a handle of it.
-    is_apart: bool,
+    pub(super) is_apart: bool,
     pub(super) filter_map: FilterMap,
     pub(super) extensions: RwLock<ExtensionsInner>,
+}
+
+impl Default for DataInner {
+    fn default() -> Self {
+        DataInner {
+            id: 0,
+            metadata: None,
+            parent: None,
+            is_apart: false,
+            filter_map: FilterMap::default(),
+            // The crate's lock over parking_lot has no default.
+            extensions: RwLock::new(ExtensionsInner::new()),
+        }
+    }
 }
 
 impl Clear for DataInner {
@@ -76,13 +93,21 @@ struct Part {
 }
 
 /// A span that is closing: nothing holds it any longer, and no child of it is there. Whoever has this value ends it,
-/// when the layers were told: the value is made once for each span, can't be copied, and is given up by `Spans::end`.
+/// when the layers were told: the value is made once for each span, can't be copied, and is given up by `Spans::end`
+/// alone. What lets go of it in another way is a fault, which tests with debug assertions see.
 #[must_use]
 pub(super) struct Closing(NonZeroU64);
 
 impl Closing {
     pub(super) fn id(&self) -> u64 {
         self.0.get()
+    }
+}
+
+#[cfg(debug_assertions)]
+impl Drop for Closing {
+    fn drop(&mut self) {
+        assert!(std::thread::panicking(), "a span that is closing was not ended");
     }
 }
 
@@ -109,7 +134,7 @@ struct Made<'a> {
 
 pub(super) struct Spans {
     number: u64,
-    parts: [OnceLock<Box<Part>>; STORES],
+    parts: [OnceLock<Box<[Part; 1]>>; STORES],
     // The row in which a seat's store had room last, where the first one was full.
     rows: [AtomicUsize; SEATS],
     // The dispatcher of the whole stack of layers, once it was seen as a thread's default.
@@ -122,6 +147,9 @@ pub(super) struct Spans {
     pub(super) untold: Mutex<Vec<Closing>>,
 }
 
+// No panic of a layer's leaves a call of a store half done.
+impl RefUnwindSafe for Spans {}
+
 impl fmt::Debug for Spans {
     fn fmt(&self, f: &mut fmt::Formatter<'_>) -> fmt::Result {
         f.debug_struct("Spans").field("number", &self.number).finish()
@@ -130,6 +158,9 @@ impl fmt::Debug for Spans {
 
 impl Drop for Spans {
     fn drop(&mut self) {
+        // What waits for its end goes with its store.
+        let untold = self.untold.get_mut().unwrap_or_else(PoisonError::into_inner);
+        untold.drain(..).for_each(mem::forget);
         numbers::give_back(self.number);
     }
 }
@@ -137,7 +168,9 @@ impl Drop for Spans {
 impl Spans {
     pub(super) fn new() -> Self {
         Spans {
-            number: numbers::next().expect("more registries than there are numbers for"),
+            number: numbers::next().unwrap_or_else(|| {
+                panic!("Unable to make another registry: {} are there", numbers::GREATEST);
+            }),
             parts: std::array::from_fn(|_| OnceLock::new()),
             rows: std::array::from_fn(|_| AtomicUsize::new(1)),
             dispatch: Mutex::new(None),
@@ -158,7 +191,7 @@ impl Spans {
             return None;
         }
         let index = (id >> OWN_BITS) as usize % STORES;
-        let part = self.parts[index].get()?;
+        let [part] = &**self.parts[index].get()?;
         Some(Place { part, index, own: id % (1 << OWN_BITS) })
     }
 
@@ -170,8 +203,9 @@ impl Spans {
 
     #[cold]
     fn open(&self, index: usize) -> Result<&Part, Refused> {
-        let store = Store::new(SLOTS[index / SEATS], LAST_GENERATION)?;
-        Ok(self.parts[index].get_or_init(|| Box::new(Part { store, data: Places::default() })))
+        let store = Store::new(SLOTS[index / SEATS], LAST_GENERATION, GREATEST_COUNT)?;
+        let part = boxed(Part { store, data: Places::default() })?;
+        Ok(&self.parts[index].get_or_init(|| part)[0])
     }
 
     /// A new span with one handle, under a parent that is open, or under none. `fill` writes its data.
@@ -194,18 +228,17 @@ impl Spans {
             data.parent = parent.map(Id::from_u64);
             fill(data);
         });
-        if let Err(why) = filled {
-            self.take_back(made, parent);
-            return Err(why);
+        match filled {
+            Ok(()) => Ok(id),
+            Err(why) => Err(self.take_back(made, parent, why)),
         }
-        Ok(id)
     }
 
     #[inline(always)]
     fn add_root(&self) -> Result<Made<'_>, Refused> {
         let seat = threads::seat() % SEATS;
         let part = match self.parts[seat].get() {
-            Some(part) => part,
+            Some(part) => &part[0],
             None => self.open(seat)?,
         };
         match part.store.add(0) {
@@ -221,7 +254,7 @@ impl Spans {
         let own = (first..ROWS).chain(1..ROWS).map(|row| row * SEATS + seat);
         for index in own.chain(0..STORES) {
             let part = match self.parts[index].get() {
-                Some(part) => part,
+                Some(part) => &part[0],
                 None => self.open(index)?,
             };
             match part.store.add(0) {
@@ -244,20 +277,32 @@ impl Spans {
         match self.add_root() {
             Ok(made) => Ok(Made { is_apart: true, ..made }),
             Err(why) => {
-                let _is_open = self.release(parent);
+                self.leave(parent);
                 Err(why)
             }
         }
     }
 
-    /// Gives up a span that nobody knows yet.
+    /// Gives up a span that nobody knows yet. Its parent may be closing by that, where others let go of it meanwhile.
     #[cold]
-    fn take_back(&self, made: Made<'_>, parent: Option<u64>) {
+    fn take_back(&self, made: Made<'_>, parent: Option<u64>, why: Refused) -> Refused {
         let _is_closing = made.part.store.release(made.own);
-        let _parent = made.part.store.ended(made.own);
-        if let Some(parent) = parent.filter(|_| made.is_apart) {
-            let _is_open = self.release(parent);
+        match (made.part.store.ended(made.own), parent) {
+            (Ok(own), _) if own != 0 => {
+                if let Some(parent) = self.closing(made.index, own) {
+                    self.tell_and_close_up(parent, None);
+                }
+            }
+            (_, Some(parent)) if made.is_apart => self.leave(parent),
+            _ => {}
         }
+        why
+    }
+
+    /// A store tells that this span of it is closing.
+    #[inline]
+    fn closing(&self, index: usize, own: u64) -> Option<Closing> {
+        NonZeroU64::new(self.full_id(index, own)).map(Closing)
     }
 
     /// One more handle of a span that is open.
@@ -280,6 +325,7 @@ impl Spans {
     #[inline(always)]
     pub(super) fn end(&self, closing: Closing) -> (Option<Held<'_, DataInner>>, Option<Closing>) {
         let id = closing.id();
+        mem::forget(closing);
         let Some(place) = self.place(id) else { return (None, None) };
         let data = place.part.data.take(slot_of(place.own), id);
         let ended = place.part.store.ended(place.own);
@@ -291,7 +337,7 @@ impl Spans {
             }
             _ => match ended {
                 Ok(0) | Err(_) => None,
-                Ok(own) => NonZeroU64::new(self.full_id(place.index, own)).map(Closing),
+                Ok(own) => self.closing(place.index, own),
             },
         };
         (data, parent)
@@ -302,5 +348,20 @@ impl Spans {
     pub(super) fn data(&self, id: u64) -> Option<Held<'_, DataInner>> {
         let place = self.place(id)?;
         place.part.data.get(slot_of(place.own), id)
+    }
+
+    /// Shows each span that is there throughout, once, with what holds it in its store.
+    pub(super) fn each(&self, mut show: impl FnMut(&DataInner, Found)) {
+        for (index, part) in self.parts.iter().enumerate() {
+            let Some([part]) = part.get().map(|part| &**part) else { continue };
+            let mut own = 0;
+            while let Ok(next @ 1..) = part.store.next(own) {
+                own = next;
+                let data = part.data.get(slot_of(own), self.full_id(index, own));
+                if let (Some(data), Ok(found)) = (data, part.store.find(own)) {
+                    show(&data, found);
+                }
+            }
+        }
     }
 }

@@ -22,8 +22,10 @@ const FEW: usize = 8;
 static SEATS: AtomicUsize = AtomicUsize::new(0);
 
 thread_local! {
-    // It has no destructor, so that it is there to a thread's end.
+    // These have no destructor, so that they are there to a thread's end.
     static SEAT: Cell<usize> = const { Cell::new(NO_SEAT) };
+    // How many entries of the thread hold their span, in all registries; more, where a registry went with some.
+    static HOLDING: Cell<usize> = const { Cell::new(0) };
     static STACKS: RefCell<Stacks> = const { RefCell::new(Stacks(Vec::new())) };
 }
 
@@ -94,6 +96,35 @@ pub(super) fn with_stack<T>(spans: &Arc<Spans>, change: impl FnOnce(&mut SpanSta
         Some(change(&mut stacks.0[at].entered))
     });
     shown.ok().flatten()
+}
+
+/// Enters a span, and answers whether the entry holds it.
+#[inline]
+pub(super) fn push(stack: &mut SpanStack, id: &Id) -> bool {
+    let holds = stack.push(id.clone());
+    HOLDING.with(|holding| holding.set(holding.get() + usize::from(holds)));
+    holds
+}
+
+/// Leaves a span, and answers whether the entry held it.
+#[inline]
+pub(super) fn pop(stack: &mut SpanStack, id: &Id) -> bool {
+    let held = stack.pop(id);
+    HOLDING.with(|holding| holding.set(holding.get() - usize::from(held)));
+    held
+}
+
+/// The thread's current span in a registry.
+#[inline]
+pub(super) fn current(spans: &Spans) -> Option<Id> {
+    if HOLDING.with(Cell::get) == 0 {
+        return None;
+    }
+    let current = STACKS.try_with(|stacks| {
+        let stacks = stacks.try_borrow().ok()?;
+        stacks.0[stacks.at(spans)?].entered.current()
+    });
+    current.ok().flatten()
 }
 
 /// The thread's stack in a registry, as layers with a filter look through it.

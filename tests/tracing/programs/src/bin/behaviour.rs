@@ -268,6 +268,10 @@ fn parents(a: Site, b: Site) {
 }
 
 fn bad_ids(a: Site) {
+    let stack = Registry::default().with(Quiet);
+    // With no AssertUnwindSafe: a stack can be borrowed across a panic.
+    let closed = catch_unwind(|| stack.try_close(Id::from_u64(99)));
+    say("bad id: try_close of a stack that is no dispatcher's is refused", closed.is_err());
     let bad = Id::from_u64(77);
     let (dispatch, log) = one_layer();
     within(&dispatch, || {

@@ -6,8 +6,17 @@ use tracing::{dispatcher, Dispatch};
 use tracing_subscriber::prelude::*;
 use tracing_subscriber::Registry;
 
+/// The stack of the thread that closes it, whatever a main thread has here.
+const STACK: usize = 8 << 20;
+
 fn main() {
     let spans: u64 = std::env::args().nth(1).expect("how many spans").parse().expect("a number");
+    let thread = std::thread::Builder::new().stack_size(STACK).spawn(move || close(spans)).expect("a thread");
+    std::process::exit(i32::from(!thread.join().expect("it ends well")));
+}
+
+/// Whether all of so many close.
+fn close(spans: u64) -> bool {
     let judge = Judge::default();
     let dispatch = Dispatch::new(Registry::default().with(judge.clone()));
     dispatcher::with_default(&dispatch, || {
@@ -25,6 +34,6 @@ fn main() {
             faults.len(),
             is_there(&dispatch, &first)
         );
-        std::process::exit(i32::from(open > 0 || !faults.is_empty() || is_there(&dispatch, &first)));
-    });
+        open == 0 && faults.is_empty() && !is_there(&dispatch, &first)
+    })
 }

@@ -7,6 +7,7 @@ use tracing::{dispatcher, Dispatch, Span, Subscriber};
 use tracing_core::field::{Field, Visit};
 use tracing_core::span::Id;
 use tracing_core::Event;
+use tracing_subscriber::fmt::format::FmtSpan;
 use tracing_subscriber::layer::Context;
 use tracing_subscriber::prelude::*;
 use tracing_subscriber::registry::{LookupSpan, SpanRef};
@@ -176,9 +177,7 @@ fn under_a_late_reader() {
 struct Panics;
 impl<S: Subscriber> Layer<S> for Panics {
     fn on_close(&self, _: Id, _: Context<'_, S>) {
-        if !std::thread::panicking() {
-            panic!("a layer's own");
-        }
+        panic!("a layer's own");
     }
 }
 
@@ -193,6 +192,28 @@ fn where_a_layer_panics() {
     });
     say("9 a span of whose close a layer panics", is_there(&dispatch, &child_id));
     say("9 its parent", is_there(&dispatch, &parent));
+}
+
+/// At a thread's end the lines' own thread local, which is made after the registry's, is gone before the span is left.
+fn where_a_layers_thread_local_is_gone() {
+    let lines = tracing_subscriber::fmt::layer().with_writer(std::io::sink).with_span_events(FmtSpan::CLOSE);
+    let dispatch = Dispatch::new(Registry::default().with(lines));
+    let inside = dispatch.clone();
+    let thread = std::thread::spawn(move || {
+        dispatcher::with_default(&inside, || {
+            let parent = tracing::info_span!("parent");
+            let left = tracing::info_span!(parent: &parent, "left");
+            std::mem::forget(left.enter());
+            tracing::info!("told");
+            (parent.id().unwrap(), left.id().unwrap())
+        })
+    });
+    let (parent, left) = thread.join().unwrap();
+    say(
+        "11 a span that a thread left at its end, where a layer panics since its thread local is gone",
+        is_there(&dispatch, &left),
+    );
+    say("11 its parent", is_there(&dispatch, &parent));
 }
 
 fn by_an_exit() {
@@ -220,4 +241,5 @@ fn main() {
     under_a_late_reader();
     where_a_layer_panics();
     by_an_exit();
+    where_a_layers_thread_local_is_gone();
 }

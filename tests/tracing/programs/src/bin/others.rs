@@ -2,10 +2,14 @@
 //! the layers of each hear of each close of its own.
 use programs::{child, is_there, new, registry, root, site, Checks, Dice, Judge};
 use std::collections::HashSet;
-use tracing::{dispatcher, Dispatch};
+use std::panic::{catch_unwind, AssertUnwindSafe};
+use std::sync::atomic::{AtomicBool, Ordering};
+use tracing::{dispatcher, Dispatch, Subscriber};
 use tracing_core::span::Id;
+use tracing_subscriber::layer::Context;
 use tracing_subscriber::prelude::*;
-use tracing_subscriber::Registry;
+use tracing_subscriber::registry::LookupSpan;
+use tracing_subscriber::{Layer, Registry};
 
 fn stack() -> (Dispatch, Judge) {
     let judge = Judge::default();
@@ -76,9 +80,9 @@ fn ids_apart(checks: &mut Checks) {
     let (first, second) = (&stacks[0].0, &stacks[1].0);
     let id = new(first, site!("s"));
     let twin = new(second, site!("s"));
-    let refused = std::panic::catch_unwind(std::panic::AssertUnwindSafe(|| second.try_close(id.clone())));
+    let refused = catch_unwind(AssertUnwindSafe(|| second.try_close(id.clone())));
     checks.check("the other registry refuses the id", refused.is_err());
-    let refused = std::panic::catch_unwind(std::panic::AssertUnwindSafe(|| second.enter(&id)));
+    let refused = catch_unwind(AssertUnwindSafe(|| second.enter(&id)));
     checks.check("and to enter it", refused.is_err() && second.current_span().id().is_none());
     second.exit(&id);
     checks.check("nothing was taken from its own span", is_there(second, &twin) && is_there(first, &id));
@@ -91,14 +95,15 @@ trait CurrentIdIsNone {
 }
 impl CurrentIdIsNone for Registry {
     fn current_id_is_none(&self) -> bool {
-        tracing::Subscriber::current_span(self).id().is_none()
+        self.current_span().id().is_none()
     }
 }
 
 /// A registry that is nobody's default: its layers hear of what an exit closes by the next release that goes through
 /// them.
-fn never_the_default(checks: &mut Checks, spans: u64) {
+fn never_the_default(checks: &mut Checks, spans: u64, held: u64) {
     let (dispatch, judge) = stack();
+    let held: Vec<_> = (0..held).map(|_| root(&dispatch, site!("held"))).collect();
     let parent = root(&dispatch, site!("parent"));
     for _ in 0..spans {
         let id = child(&dispatch, site!("left"), &parent);
@@ -109,16 +114,56 @@ fn never_the_default(checks: &mut Checks, spans: u64) {
     dispatch.try_close(parent);
     dispatch.try_close(root(&dispatch, site!("last")));
     let (made, open, faults) = judge.verdict();
-    let is_right = made == spans + 2 && open == 0 && faults.is_empty();
+    let is_right = made == spans + 2 + held.len() as u64 && open == held.len() && faults.is_empty();
     checks.check(&format!("{made} made, {open} left open, {} faults", faults.len()), is_right);
+}
+
+/// A layer that panics when it is told of the close of a span `left`, once.
+#[derive(Default)]
+struct PanicsOnce(AtomicBool);
+
+impl<S: Subscriber + for<'a> LookupSpan<'a>> Layer<S> for PanicsOnce {
+    fn on_close(&self, id: Id, ctx: Context<'_, S>) {
+        let is_left = ctx.span(&id).map(|span| span.name()) == Some("left");
+        assert!(!is_left || !self.0.swap(false, Ordering::Relaxed), "a layer's own");
+    }
+}
+
+/// What waits to be told, where a layer panics when it is told of the first: the others are told later, and the
+/// release by which it was told is whole.
+fn where_a_layer_panics(checks: &mut Checks) {
+    let judge = Judge::default();
+    let dispatch = Dispatch::new(Registry::default().with(judge.clone()).with(PanicsOnce::default()));
+    let parent = root(&dispatch, site!("parent"));
+    let left: Vec<_> = (0..3).map(|_| child(&dispatch, site!("left"), &parent)).collect();
+    let other = root(&dispatch, site!("other"));
+    for id in &left {
+        dispatch.enter(id);
+        dispatch.try_close(id.clone());
+    }
+    dispatch.try_close(parent.clone());
+    left.iter().for_each(|id| dispatch.exit(id));
+    checks.check("they wait to be told", judge.verdict().1 == 5);
+    dispatch.downcast_ref::<PanicsOnce>().expect("it is there").0.store(true, Ordering::Relaxed);
+    dispatcher::with_default(&dispatch, || {
+        let closed = catch_unwind(AssertUnwindSafe(|| dispatch.try_close(other.clone())));
+        checks.check("the layer panics", closed.is_err());
+        checks.check("the release was done", !is_there(&dispatch, &other));
+        dispatch.try_close(root(&dispatch, site!("last")));
+    });
+    checks.check("none stays", !left.iter().chain([&parent]).any(|id| is_there(&dispatch, id)));
+    let (_, open, faults) = judge.verdict();
+    checks.check(&format!("{open} left open, faults {faults:?}"), open == 0 && faults.is_empty());
 }
 
 fn main() {
     std::panic::set_hook(Box::new(|_| {}));
     let mut checks = Checks::default();
     ids_apart(&mut checks);
-    never_the_default(&mut checks, 1);
-    never_the_default(&mut checks, 100_000);
+    never_the_default(&mut checks, 1, 0);
+    never_the_default(&mut checks, 1, 5_000);
+    never_the_default(&mut checks, 100_000, 0);
+    where_a_layer_panics(&mut checks);
     (1..=40).for_each(|seed| at_random(&mut checks, seed));
     checks.end();
 }

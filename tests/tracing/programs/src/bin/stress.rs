@@ -1,5 +1,6 @@
 //! Threads make, share, enter, clone and drop spans at random for so many seconds, also in the callbacks of a layer.
-//! Each span has to be told closed once, after its children, with its data there, and none may be left.
+//! Each span has to be told closed once, after its children, with its data there, and none may be left. Once a minute
+//! it says how far it is.
 //!
 //!     stress SECONDS [SEED [THREADS [ROUNDS]]]
 use programs::{lock, Dice, Judge};
@@ -179,7 +180,8 @@ fn main() {
     let mut seed = words.next().unwrap_or(1);
     let threads = words.next().unwrap_or(4);
     let rounds = words.next().unwrap_or(ROUNDS);
-    let end = Instant::now() + Duration::from_secs(seconds);
+    let start = Instant::now();
+    let (end, mut told) = (start + Duration::from_secs(seconds), start);
     let (mut turns, mut spans, mut left, mut faults) = (0, 0, 0, Vec::new());
     while turns == 0 || Instant::now() < end {
         let (made, open, wrong) = turn(seed, threads, rounds);
@@ -189,6 +191,10 @@ fn main() {
         (turns, spans, left) = (turns + 1, spans + made, left + open);
         faults.extend(wrong.into_iter().take(3));
         seed += 1;
+        if told.elapsed() >= Duration::from_secs(60) {
+            told = Instant::now();
+            println!("{} s: {turns} turns, {spans} spans, {left} left open", start.elapsed().as_secs());
+        }
     }
     println!("{turns} turns, {spans} spans, {left} left open, {} faults {faults:?}", faults.len());
     std::process::exit(i32::from(left > 0 || !faults.is_empty()));

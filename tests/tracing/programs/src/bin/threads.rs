@@ -1,4 +1,5 @@
-//! So many threads alive at once, each of which makes, enters and closes a span.
+//! So many threads alive at once, each of which makes, enters and closes a span. It ends with 77 where there can't be so
+//! many.
 //!
 //!     threads COUNT
 use programs::Judge;
@@ -11,19 +12,23 @@ fn main() {
     let judge = Judge::default();
     tracing_subscriber::registry().with(judge.clone()).init();
     let gate = Arc::new(Barrier::new(count));
-    let threads: Vec<_> = (0..count)
-        .map(|_| {
-            let gate = gate.clone();
-            let work = move || {
-                let done = std::panic::catch_unwind(|| drop(tracing::info_span!("s").entered()));
-                gate.wait();
-                done.is_ok()
-            };
-            std::thread::Builder::new().stack_size(64 << 10).spawn(work).expect("a thread")
-        })
-        .collect();
-    let done =
-        threads.into_iter().filter(|_| true).map(|thread| thread.join().unwrap()).filter(|is_done| *is_done).count();
+    let mut threads = Vec::with_capacity(count);
+    for at in 0..count {
+        let gate = gate.clone();
+        let work = move || {
+            let done = std::panic::catch_unwind(|| drop(tracing::info_span!("s").entered()));
+            gate.wait();
+            done.is_ok()
+        };
+        match std::thread::Builder::new().stack_size(64 << 10).spawn(work) {
+            Ok(thread) => threads.push(thread),
+            Err(why) => {
+                println!("there can be no more than {at} threads here: {why}");
+                std::process::exit(77);
+            }
+        }
+    }
+    let done = threads.into_iter().map(|thread| thread.join().unwrap()).filter(|is_done| *is_done).count();
     let (_, open, faults) = judge.verdict();
     println!("{done} of {count} threads made a span, {open} left open, {} faults", faults.len());
     std::process::exit(i32::from(done != count || open > 0 || !faults.is_empty()));

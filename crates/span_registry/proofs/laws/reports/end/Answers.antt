@@ -1,4 +1,6 @@
-use Rattle.std.proofs.Common.{sym, ◌∙◌}
+use Rattle.std.proofs.Common.{List, All, sym, subst, ◌∙◌}
+use Rattle.span_history.specs.Own.{IsFront}
+use Rattle.span_outlet.specs.Batch.{PlainBatch}
 use Rattle.span_registry.proofs.Free.{free_legal}
 use Rattle.span_registry.proofs.laws.reports.end.Goals as goal
 
@@ -10,3 +12,17 @@ returns-clause-handles g c = rw (← c.locked.view_is) (sym c.share.invariant.0 
 
 pub returns-clause-calls : goal.returns-clause-calls
 returns-clause-calls g c = rw (← c.locked.view_is) (sym c.share.invariant.1 ∙ c.audit-2.ensures ∙ c.locked.invariant.calls_are)
+
+pub returns-clause-emptied : goal.returns-clause-emptied
+returns-clause-emptied g c =
+    rw (← c.locked.view_is, ← c.share.view_is) (λ none entries. c.empty_where_nothing_is_held.ensures.counted (sym c.locked.invariant.handles_are ∙ sym c.audit.ensures ∙ c.share.invariant.0 ∙ none) entries)
+
+pub returns-clause-seen : goal.returns-clause-seen
+returns-clause-seen g c =
+    rw (← c.locked.view_is, ← c.share.view_is) (subst (λ (history : List PlainBatch). All (λ front. IsFront front history) c.share.inside.seen) c.locked.invariant.history_is c.show_all.ensures.fronts)
+
+pub returns-clause-forms : goal.returns-clause-forms
+returns-clause-forms g c = c.into_outlet.ensures.forms ∙ c.locked.invariant.forms_are
+
+pub returns-clause-setup : goal.returns-clause-setup
+returns-clause-setup g c = rw (← c.locked.view_is) (c.locked.invariant.limits_are, c.locked.invariant.rules_are, c.locked.invariant.ring_is)

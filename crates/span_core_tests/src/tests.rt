@@ -1,0 +1,20 @@
+//! The calls of a core run, with their answers and the lines of their notes.
+mod acts;
+mod answers;
+mod by_turns;
+mod chain;
+mod closing_lists;
+mod compare;
+mod deep_stack;
+mod holding;
+mod hooks;
+mod missed;
+mod on_a_ring;
+mod owners;
+mod play;
+mod rows;
+mod shared;
+mod sharing;
+mod strangers;
+mod told_again;
+mod workers;

@@ -1,0 +1,306 @@
+//! Workers that are inside many spans, in the same order and in others, and layers that admit few of them: events told
+//! far above the spans that these admit, and by two workers by turns. What is known of the one's stack isn't believed
+//! of the other's.
+use crate::tests::acts::{Act, perform};
+use crate::tests::answers::Answer;
+use crate::tests::play::{Play, ends, played};
+use span_core::Core;
+use span_id::{Level, Limits};
+use span_layers::Form;
+use span_outlet::Outlet;
+use span_parts_tests::plans::{Plan, Wanted};
+use std::alloc::Global;
+use std::process::Abort;
+
+const LIMITS: Limits = Limits {
+    slots: 400,
+    last_generation: 0,
+    max_count: 400,
+    workers: 1,
+    ring: 1,
+};
+
+// Whether the span of this id was made, and the worker then entered it for the first time.
+fn has_entered(made: &Answer, entered: &Answer, id: u64) -> bool {
+    match (made, entered) {
+        (Answer::Made(made), Answer::Entered(true)) => made.get() == id,
+        _ => false,
+    }
+}
+
+/// Makes and enters the spans with the ids from this one to another, each under the one before; how many of them were
+/// made and entered so.
+pub(crate) fn go_down<O: Outlet>(
+    rt: &impl Abort,
+    alloc: Global,
+    core: &mut Core<O>,
+    worker: u32,
+    (first, last): (u64, u64),
+) -> u64 {
+    let mut right = 0u64;
+    for id in first..last.saturating_add(1) {
+        let made = perform(rt, alloc, core, worker, &Act::New("p"));
+        let entered = perform(rt, alloc, core, worker, &Act::Enter(id));
+        right = right.saturating_add(u64::from(has_entered(&made, &entered, id)));
+    }
+    right
+}
+
+/// Enters the spans with the ids from this one to another; how many of them were entered for the first time.
+pub(crate) fn enter_all<O: Outlet>(
+    rt: &impl Abort,
+    alloc: Global,
+    core: &mut Core<O>,
+    worker: u32,
+    (first, last): (u64, u64),
+) -> u64 {
+    let mut right = 0u64;
+    for id in first..last.saturating_add(1) {
+        let entered = perform(rt, alloc, core, worker, &Act::Enter(id));
+        right = right.saturating_add(u64::from(matches!(entered, Answer::Entered(true))));
+    }
+    right
+}
+
+/// Leaves the spans with the ids from this one down to another; how many of them stayed open.
+pub(crate) fn come_up<O: Outlet>(
+    rt: &impl Abort,
+    alloc: Global,
+    core: &mut Core<O>,
+    worker: u32,
+    (first, last): (u64, u64),
+) -> u64 {
+    let mut right = 0u64;
+    for id in (last..first.saturating_add(1)).rev() {
+        let left = perform(rt, alloc, core, worker, &Act::Exit(id));
+        right = right.saturating_add(u64::from(matches!(left, Answer::Closed(false))));
+    }
+    right
+}
+
+const ROOT: Act<'static> = Act::NewWith {
+    name: "root",
+    target: "root",
+    level: Level::Info,
+    fields: &[],
+};
+
+const MID: Act<'static> = Act::NewWith {
+    name: "mid",
+    target: "mid",
+    level: Level::Info,
+    fields: &[],
+};
+
+const SEEK_ROOT: Act<'static> = Act::Event {
+    target: "root",
+    level: Level::Info,
+    message: "seek",
+    fields: &[],
+};
+
+const SEEK_MID: Act<'static> = Act::Event {
+    target: "mid",
+    level: Level::Info,
+    message: "seek",
+    fields: &[],
+};
+
+// The first layer admits most spans, the second and the third one each; of an event only the layer of its target is
+// told.
+const PLANS: [Plan<'static>; 3] = [
+    (Form::Compact, Wanted::None, "app", Level::Info),
+    (Form::Compact, Wanted::None, "root", Level::Info),
+    (Form::Compact, Wanted::None, "mid", Level::Info),
+];
+
+// The span 129 stands above 128 entries, and once the span 6 is left above 127. When it is left too, and all above 99,
+// it is entered again above 98 entries.
+static ACTS: [(u32, Act<'static>); 23] = [
+    (0, ROOT),
+    (0, Act::Enter(1)),
+    (0, Act::GoDown(2, 128)),
+    (0, MID),
+    (0, Act::Enter(129)),
+    (0, Act::GoDown(130, 300)),
+    (0, SEEK_ROOT),
+    (0, SEEK_MID),
+    (0, SEEK_ROOT),
+    (0, SEEK_MID),
+    (0, Act::Exit(300)),
+    (0, SEEK_ROOT),
+    (0, SEEK_MID),
+    (0, Act::Enter(129)),
+    (0, SEEK_MID),
+    (0, Act::Exit(129)),
+    (0, Act::Exit(6)),
+    (0, SEEK_MID),
+    (0, SEEK_ROOT),
+    (0, Act::ComeUp(299, 100)),
+    (0, SEEK_MID),
+    (0, Act::Enter(129)),
+    (0, SEEK_MID),
+];
+
+const ANSWERS: &str = "\
+= 1
+= entered
+= right 127
+= 129
+= entered
+= right 171
+L1 event 1 w0 root INFO seek
+= told
+L2 event 129 w0 mid INFO seek
+= told
+L1 event 1 w0 root INFO seek
+= told
+L2 event 129 w0 mid INFO seek
+= told
+= open
+L1 event 1 w0 root INFO seek
+= told
+L2 event 129 w0 mid INFO seek
+= told
+= again
+L2 event 129 w0 mid INFO seek
+= told
+= open
+= open
+L2 event 129 w0 mid INFO seek
+= told
+L1 event 1 w0 root INFO seek
+= told
+= right 200
+L2 event 0 w0 - INFO seek
+= told
+= entered
+L2 event 129 w0 mid INFO seek
+= told
+";
+
+#[test]
+fn a_layer_sees_through_a_deep_stack(rt: HostRuntime) {
+    let play = Play {
+        limits: LIMITS,
+        plans: &PLANS,
+        acts: &ACTS,
+        expected: ANSWERS,
+    };
+    let played = played(&rt, rt.alloc(), &play);
+    ends(&rt, &played, ANSWERS, (300, 0));
+}
+
+const TWO_WORKERS: Limits = Limits {
+    slots: 400,
+    last_generation: 0,
+    max_count: 400,
+    workers: 2,
+    ring: 1,
+};
+
+// In the stack of the worker 0 the span 1 is the lowest, and the span 129 stands above 128 entries; in that of the
+// worker 1 the span 129 is the lowest, and the span 1 stands above 99 entries. Each worker tells events alone for a
+// while, and then both by turns, also after the other one left a span.
+static ACTS_BY_TURNS: [(u32, Act<'static>); 33] = [
+    (0, ROOT),
+    (0, Act::Enter(1)),
+    (0, Act::GoDown(2, 128)),
+    (0, MID),
+    (0, Act::Enter(129)),
+    (0, Act::GoDown(130, 300)),
+    (1, Act::EnterAll(129, 129)),
+    (1, Act::EnterAll(2, 99)),
+    (1, Act::EnterAll(1, 1)),
+    (1, Act::EnterAll(100, 128)),
+    (1, Act::EnterAll(130, 300)),
+    (0, SEEK_MID),
+    (0, SEEK_ROOT),
+    (0, SEEK_ROOT),
+    (1, SEEK_MID),
+    (1, SEEK_ROOT),
+    (0, SEEK_MID),
+    (1, SEEK_MID),
+    (1, SEEK_ROOT),
+    (1, SEEK_MID),
+    (1, SEEK_MID),
+    (0, Act::Exit(300)),
+    (0, Act::Exit(129)),
+    (1, SEEK_MID),
+    (0, SEEK_MID),
+    (0, SEEK_ROOT),
+    (0, SEEK_MID),
+    (0, SEEK_ROOT),
+    (1, Act::Exit(1)),
+    (0, SEEK_ROOT),
+    (1, SEEK_ROOT),
+    (1, SEEK_MID),
+    (1, SEEK_ROOT),
+];
+
+const ANSWERS_BY_TURNS: &str = "\
+= 1
+= entered
+= right 127
+= 129
+= entered
+= right 171
+= right 1
+= right 98
+= right 1
+= right 29
+= right 171
+L2 event 129 w0 mid INFO seek
+= told
+L1 event 1 w0 root INFO seek
+= told
+L1 event 1 w0 root INFO seek
+= told
+L2 event 129 w1 mid INFO seek
+= told
+L1 event 1 w1 root INFO seek
+= told
+L2 event 129 w0 mid INFO seek
+= told
+L2 event 129 w1 mid INFO seek
+= told
+L1 event 1 w1 root INFO seek
+= told
+L2 event 129 w1 mid INFO seek
+= told
+L2 event 129 w1 mid INFO seek
+= told
+= open
+= open
+L2 event 129 w1 mid INFO seek
+= told
+L2 event 0 w0 - INFO seek
+= told
+L1 event 1 w0 root INFO seek
+= told
+L2 event 0 w0 - INFO seek
+= told
+L1 event 1 w0 root INFO seek
+= told
+= open
+L1 event 1 w0 root INFO seek
+= told
+L1 event 0 w1 - INFO seek
+= told
+L2 event 129 w1 mid INFO seek
+= told
+L1 event 0 w1 - INFO seek
+= told
+";
+
+#[test]
+fn each_worker_sees_through_its_own_stack(rt: HostRuntime) {
+    let play = Play {
+        limits: TWO_WORKERS,
+        plans: &PLANS,
+        acts: &ACTS_BY_TURNS,
+        expected: ANSWERS_BY_TURNS,
+    };
+    let played = played(&rt, rt.alloc(), &play);
+    ends(&rt, &played, ANSWERS_BY_TURNS, (300, 0));
+}

@@ -1,0 +1,4 @@
+pub mod Prefixes
+pub mod Moves
+pub mod Owning
+pub mod Shown

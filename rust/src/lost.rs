@@ -1,0 +1,164 @@
+//! What was lost by the calls that answer no error, by reason.
+#![forbid(unsafe_code)]
+use crate::error::Error;
+use crate::meta::{Fields, Meta, Parent};
+use crate::registry::Registry;
+use crate::span::Span;
+use std::fmt;
+use std::sync::atomic::{AtomicU64, Ordering};
+
+const REASONS: [&str; 9] = [
+    "unknown",
+    "count_full",
+    "full",
+    "bad_name",
+    "backlog",
+    "out_of_memory",
+    "too_many_threads",
+    "other_registry",
+    "other",
+];
+
+fn place_of(reason: Error) -> usize {
+    match reason {
+        Error::Unknown => 0,
+        Error::CountFull => 1,
+        Error::Full => 2,
+        Error::BadName => 3,
+        Error::Backlog => 4,
+        Error::OutOfMemory => 5,
+        Error::TooManyThreads => 6,
+        Error::OtherRegistry => 7,
+        _ => 8,
+    }
+}
+
+/// How many calls were lost: those of [`span!`](crate::span), [`event!`](crate::event), [`Span::enter`],
+/// [`Span::in_scope`] and [`Span::record`] that were refused, by reason.
+#[derive(Clone, Copy, Debug, Default, PartialEq, Eq, Hash)]
+pub struct Lost([u64; REASONS.len()]);
+
+impl Lost {
+    /// Of all reasons.
+    #[must_use]
+    pub fn calls(&self) -> u64 {
+        self.0.iter().sum()
+    }
+
+    /// For this reason. Those that no such call has are counted together.
+    #[must_use]
+    pub fn by(&self, reason: Error) -> u64 {
+        self.0[place_of(reason)]
+    }
+
+    /// Each reason for which calls were lost, by its name.
+    pub fn reasons(&self) -> impl Iterator<Item = (&'static str, u64)> {
+        REASONS.into_iter().zip(self.0).filter(|&(_, count)| count > 0)
+    }
+}
+
+/// `full=1 backlog=3`, or `nothing`.
+impl fmt::Display for Lost {
+    fn fmt(&self, f: &mut fmt::Formatter<'_>) -> fmt::Result {
+        if self.calls() == 0 {
+            return f.write_str("nothing");
+        }
+        for (place, (reason, count)) in self.reasons().enumerate() {
+            let blank = if place == 0 { "" } else { " " };
+            write!(f, "{blank}{reason}={count}")?;
+        }
+        Ok(())
+    }
+}
+
+/// The counters. They need no lock and no memory.
+#[derive(Default)]
+pub(crate) struct Losses([AtomicU64; REASONS.len()]);
+
+impl Losses {
+    #[cold]
+    fn lose(&self, reason: Error) {
+        self.0[place_of(reason)].fetch_add(1, Ordering::Relaxed);
+    }
+}
+
+/// What the macros and spans call, which answer no error.
+impl Registry {
+    /// What was lost so far. It takes no lock.
+    #[must_use]
+    pub fn lost(&self) -> Lost {
+        let mut lost = Lost::default();
+        for (number, count) in lost.0.iter_mut().zip(&self.shared().losses().0) {
+            *number = count.load(Ordering::Relaxed);
+        }
+        lost
+    }
+
+    /// The answer of a call; none where it was refused, which is counted.
+    pub(crate) fn or_lost<T>(&self, result: Result<T, Error>) -> Option<T> {
+        result.map_err(|reason| self.shared().losses().lose(reason)).ok()
+    }
+
+    /// For [`span!`](crate::span): a disabled span where it is refused.
+    #[doc(hidden)]
+    pub fn span_or_lost(&self, meta: &Meta<'_>, parent: Parent, fields: Fields<'_>) -> Span {
+        self.or_lost(self.span(meta, parent, fields)).unwrap_or_default()
+    }
+
+    /// For [`event!`](crate::event).
+    #[doc(hidden)]
+    pub fn event_or_lost(&self, meta: &Meta<'_>, message: &str, fields: Fields<'_>) {
+        self.or_lost(self.event(meta, message, fields));
+    }
+}
+
+#[cfg(test)]
+mod tests {
+    use super::{Losses, Lost, REASONS};
+    use crate::error::Error;
+    use crate::Registry;
+
+    #[test]
+    fn losses_are_counted_by_reason() -> Result<(), Error> {
+        let (registry, _drain) = Registry::builder().build()?;
+        assert_eq!(
+            (registry.lost(), registry.lost().to_string()),
+            (Lost::default(), "nothing".to_owned())
+        );
+        let reasons = [
+            Error::Unknown,
+            Error::CountFull,
+            Error::Full,
+            Error::BadName,
+            Error::Backlog,
+            Error::OutOfMemory,
+            Error::TooManyThreads,
+            Error::OtherRegistry,
+            Error::BadData,
+        ];
+        for (place, reason) in reasons.into_iter().enumerate() {
+            for _ in 0..=place {
+                assert_eq!(registry.or_lost::<()>(Err(reason)), None);
+            }
+        }
+        let lost = registry.lost();
+        for (place, (reason, count)) in reasons.into_iter().zip(1..).enumerate() {
+            assert_eq!((lost.by(reason), lost.0[place]), (count, count));
+        }
+        assert_eq!(lost.calls(), 45);
+        assert_eq!(lost.reasons().map(|(name, _)| name).collect::<Vec<_>>(), REASONS);
+        assert!(lost.to_string().starts_with("unknown=1 count_full=2 full=3 "));
+        Ok(())
+    }
+
+    #[test]
+    fn each_thread_counts() {
+        let losses = Losses::default();
+        std::thread::scope(|scope| {
+            for _ in 0..4 {
+                scope.spawn(|| (0..1000).for_each(|_| losses.lose(Error::Full)));
+            }
+        });
+        assert_eq!(losses.0[2].load(std::sync::atomic::Ordering::Relaxed), 4000);
+    }
+}
