@@ -17,7 +17,7 @@ pub const DEEPEST: usize = 4;
 #[derive(Drop)]
 pub struct Caller<H: Ledger, C: Ledger, S: Setup> {
     pub alloc: Global,
-    pub worker: Worker<H, C>,
+    pub worker: Worker<H, C, S>,
     pub inside: Vec<Held<H, C, S>>,
     pub dice: Dice,
     pub metas: Metas,

@@ -1,27 +1,25 @@
 //! What the registry is made of, beside its layers.
 ghost use Rattle.std.specs.Prelude.{◌≡◌, [], IfOk};
 
-use span_id::{Checked, Fault, Limits};
-use span_registry::{Ring, SeatTable, Tap};
+use span_id::{Fault, Limits};
+use span_registry::{Blanks, Ring, Tap};
 use std::alloc::Global;
 
 /// How many places the ring has. A request has fewer calls than that.
 pub const PLACES: u32 = 64;
 
-/// The limits, both ends of the ring, and the table of seats.
+/// Both ends of the ring, and the blanks, which have the limits.
 pub struct Parts {
-    pub checked: Checked,
     pub ring: Ring,
     pub tap: Tap,
-    pub table: SeatTable,
+    pub blanks: Blanks,
 }
 
 impl Parts {
     /// Those of a registry with one worker.
     pub fn new(alloc: Global) -> Result<Parts, Fault>
-        ensures workers { IfOk result (λ parts. parts.checked.workers ≡ 1) }
+        ensures workers { IfOk result (λ parts. parts.blanks.limits.workers ≡ 1) }
         ensures ring { IfOk result (λ parts. (parts.ring.sent ≡ []) × (parts.ring.name ≡ parts.tap)) }
-        ensures table { IfOk result (λ parts. parts.table.words ≡ parts.checked.slots) }
     {
         let limits = Limits {
             workers: 1,
@@ -29,13 +27,8 @@ impl Parts {
             ..Limits::default()
         };
         let checked = limits.check()?;
-        let table = SeatTable::new(alloc, checked.limits().slots)?;
+        let blanks = Blanks::new(alloc, &checked)?;
         let (ring, tap) = Ring::pair(alloc, &checked)?;
-        Ok(Parts {
-            checked,
-            ring,
-            tap,
-            table,
-        })
+        Ok(Parts { ring, tap, blanks })
     }
 }

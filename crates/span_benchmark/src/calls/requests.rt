@@ -6,14 +6,14 @@ use crate::calls::metas::Metas;
 use crate::calls::parts::{PLACES, Parts};
 use crate::dice::Dice;
 use crate::outcome::Outcome;
-use span_id::{Checked, Fault};
+use span_id::Fault;
 use span_layers::{Filters, Layers, Say};
 use span_outlet::LineReader;
-use span_registry::{HANDLE_PARTS, Registry, Ring, SeatTable, Setup};
+use span_registry::{Blanks, Registry, Ring, Setup};
 use std::alloc::Global;
 use std::marker::Brand;
 use std::sync::Wait;
-use std::sync::ledger::{Blank, Ledger};
+use std::sync::ledger::Ledger;
 
 /// Makes so many requests on a registry with these layers.
 pub fn on_registry<R: Wait>(
@@ -23,25 +23,17 @@ pub fn on_registry<R: Wait>(
     requests: u32,
     layers: Layers,
 ) -> Result<Outcome, Fault> {
-    let Parts {
-        checked,
-        ring,
-        tap,
-        table,
-    } = Parts::new(alloc)?;
+    let Parts { ring, tap, blanks } = Parts::new(alloc)?;
     let (filters, tellers) = layers.split();
     run::<Brand, Brand, Brand, _, _>(
         rt,
         alloc,
         seed,
         requests,
-        &checked,
         filters,
         ring,
         LineReader::new(alloc, tap, tellers),
-        Blank::new(HANDLE_PARTS),
-        Blank::new(1),
-        table,
+        blanks,
     )
 }
 
@@ -51,24 +43,25 @@ fn run<H: Ledger, C: Ledger, S: Setup, V: Say + Drop, R: Wait>(
     alloc: Global,
     seed: u32,
     requests: u32,
-    checked: &Checked,
     filters: Filters,
     ring: Ring,
     reader: LineReader<V>,
-    handles: Blank,
-    calls: Blank,
-    table: SeatTable,
+    blanks: Blanks,
 ) -> Result<Outcome, Fault>
-    requires workers { checked.now.workers ≡ 1 }
-    requires setup { (checked.now ≡ S.limits) × (filters.rules ≡ S.rules) × (Some ring.name ≡ S.ring) }
+    requires workers { S.limits.workers ≡ 1 }
+    requires setup { (filters.rules ≡ S.rules) × ([] ≡ S.forms) × (Some ring.name ≡ S.ring) }
     requires ring { ring.sent ≡ [] }
-    requires handles { (handles.name ≡ H.name) × (handles.parts ≡ H.parts) × (H.parts ≡ HANDLE_PARTS) }
-    requires calls { (calls.name ≡ C.name) × (calls.parts ≡ C.parts) × (C.parts ≡ checked.now.workers) }
-    requires table { (table ≡ S.table) × (table.words ≡ checked.now.slots) }
+    requires blanks { blanks ≡ record {
+      limits = S.limits;
+      handles = H.name;
+      handle_parts = H.parts;
+      calls = C.name;
+      call_parts = C.parts;
+      table = S.table;
+      history = S.history;
+    } }
 {
-    let (registry, mut workers) = Registry::<H, C, S, Ring>::new(
-        alloc, checked, filters, ring, handles, calls, table,
-    )?;
+    let (registry, mut workers) = Registry::<H, C, S, Ring>::new(alloc, filters, ring, blanks)?;
     let Some(worker) = workers.pop() else {
         unreachable!()
     };

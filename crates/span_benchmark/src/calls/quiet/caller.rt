@@ -24,7 +24,7 @@ const OF_SPAN: u32 = 4;
 /// A worker, and the program's spans that it is inside, of which layers want few.
 #[derive(Drop)]
 pub struct Caller<H: Ledger, C: Ledger, S: Setup> {
-    worker: Worker<H, C>,
+    worker: Worker<H, C, S>,
     // Those that a layer wants, root first.
     inside: Vec<Held<H, C, S>>,
     // Whether a layer wants the span, for each that the program is inside, root first.
@@ -38,7 +38,11 @@ pub struct Caller<H: Ledger, C: Ledger, S: Setup> {
 
 impl<H: Ledger, C: Ledger, S: Setup> Caller<H, C, S> {
     /// One that is inside no span.
-    pub fn new(alloc: Global, worker: Worker<H, C>, seed: u32) -> Result<Caller<H, C, S>, Fault> {
+    pub fn new(
+        alloc: Global,
+        worker: Worker<H, C, S>,
+        seed: u32,
+    ) -> Result<Caller<H, C, S>, Fault> {
         let mut dice = Dice::new(seed, 40);
         let metas = Metas::new(alloc, &mut dice)?;
         let reused = Reused::new(alloc, &mut dice)?;
