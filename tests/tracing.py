@@ -155,7 +155,10 @@ class Yard:
     def cargo(self, command, folder, *words):
         """Runs cargo, with one folder of what is built for all crates."""
         line = ["cargo", command, "--offline", "-j", str(self.jobs), *words]
-        environment = {**os.environ, "CARGO_TARGET_DIR": str(self.folder / "target"), "RUST_BACKTRACE": "0"}
+        # One test at a time: tests with dispatchers of their own in one process may switch off each other's call sites,
+        # since tracing-core asks the thread's default alone for their interest while it knows of one dispatcher only.
+        environment = {**os.environ, "CARGO_TARGET_DIR": str(self.folder / "target"), "RUST_BACKTRACE": "0",
+                       "RUST_TEST_THREADS": "1"}
         return subprocess.run(line, cwd=folder, env=environment, stdin=subprocess.DEVNULL, text=True,
                               stdout=subprocess.PIPE, stderr=subprocess.STDOUT)
 

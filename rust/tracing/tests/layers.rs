@@ -1,7 +1,7 @@
 //! The same text of the real registry and of the proved one, under many layers; and that nothing stays.
 use std::io::Write;
 use std::panic::{catch_unwind, AssertUnwindSafe};
-use std::sync::{Arc, Mutex};
+use std::sync::{Arc, Mutex, MutexGuard, PoisonError};
 use tracing::{dispatcher, Dispatch, Level};
 use tracing_core::span::Id;
 use tracing_core::Subscriber;
@@ -12,6 +12,13 @@ use tracing_subscriber::layer::Context;
 use tracing_subscriber::prelude::*;
 use tracing_subscriber::registry::LookupSpan;
 use tracing_subscriber::{reload, Layer, Registry};
+
+/// Held by each test to its end. Where a call site's interest is built anew, `tracing-core` may ask the thread's default
+/// dispatcher alone (it does while it knows of one only), and so have one test switch off what another is counting.
+fn alone() -> MutexGuard<'static, ()> {
+    static ALONE: Mutex<()> = Mutex::new(());
+    ALONE.lock().unwrap_or_else(PoisonError::into_inner)
+}
 
 #[derive(Clone, Default)]
 struct Out(Arc<Mutex<Vec<u8>>>);
@@ -85,6 +92,7 @@ macro_rules! same {
     ($name:ident, $work:expr, |$registry:ident, $out:ident| $stack:expr) => {
         #[test]
         fn $name() {
+            let _alone = alone();
             let (theirs, ours) = (Out::default(), Out::default());
             {
                 let ($registry, $out) = (tracing_subscriber::registry(), &theirs);
@@ -161,6 +169,7 @@ fn registry(dispatch: &Dispatch) -> &ProvedRegistry {
 
 #[test]
 fn a_layer_of_ones_own_with_extensions() {
+    let _alone = alone();
     let (dispatch, log) = stack();
     dispatcher::with_default(&dispatch, || {
         let parent = tracing::info_span!("a");
@@ -175,6 +184,7 @@ fn a_layer_of_ones_own_with_extensions() {
 
 #[test]
 fn many_threads_leave_nothing() {
+    let _alone = alone();
     let (dispatch, _) = stack();
     let root = dispatcher::with_default(&dispatch, || tracing::info_span!("root"));
     let rounds = || {
@@ -199,6 +209,7 @@ fn many_threads_leave_nothing() {
 
 #[test]
 fn an_exit_that_panics_leaves_the_span() {
+    let _alone = alone();
     let (dispatch, _) = stack();
     let span = dispatcher::with_default(&dispatch, || tracing::info_span!("a"));
     let id = span.id().unwrap();
@@ -214,6 +225,7 @@ fn an_exit_that_panics_leaves_the_span() {
 
 #[test]
 fn ids_are_found_while_spans_are_open() {
+    let _alone = alone();
     let (dispatch, _) = stack();
     dispatcher::with_default(&dispatch, || {
         let span = tracing::info_span!("a");
