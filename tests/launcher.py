@@ -19,7 +19,7 @@ import time
 from refused_memory import compiler
 
 TOP = os.path.dirname(os.path.dirname(os.path.realpath(__file__)))
-SOURCE = "crates/tracerun/src/command_line.rt"
+SOURCE = "crates/tracerun_command_line/src/lib.rt"
 VERSION = re.search(r'\.version\("(.*)"\)', open(f"{TOP}/{SOURCE}", encoding="utf-8").read())[1]
 PROGRAM = r"""
 #include <stdio.h>

@@ -1,10 +1,8 @@
 //! The program `tracerun`, which runs scripts of calls, and storms of workers, on the span registry.
 #![tactic(auto)]
 
-mod command_line;
 mod storms;
 
-use crate::command_line::orders::Order;
 use clap::Error;
 use span_layers::MAX_LAYERS;
 use span_replay::{Remains, replay_with_layers};
@@ -12,10 +10,12 @@ use span_run::{Counted, RunFault};
 use std::io;
 use std::io::{BufWriter, ErrorKind};
 use std::process::ExitCode;
+use tracerun_command_line::orders::Order;
+use tracerun_command_line::{order_of, status};
 
 fn main(rt: HostRuntime) -> io::Result<ExitCode> {
     let order = match words(&rt) {
-        Ok(words) => command_line::order_of(rt.alloc(), words.as_slice()),
+        Ok(words) => order_of(rt.alloc(), words.as_slice()),
         Err(error) if matches!(error.kind(), ErrorKind::OutOfMemory) => {
             return status_of(&rt, Err(RunFault::Memory));
         }
@@ -45,7 +45,7 @@ fn words(rt: &HostRuntime) -> io::Result<Vec<String>> {
 
 /// Tells on standard error why the words give no order.
 fn no_order(rt: &HostRuntime, error: &Error) -> io::Result<ExitCode> {
-    match command_line::status(error) {
+    match status(error) {
         3 => status_of(rt, Err(RunFault::Memory)),
         status => {
             rt.eprint(error)?;

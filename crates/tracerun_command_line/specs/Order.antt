@@ -1,7 +1,7 @@
 -- What the program can be asked to do.
 use Rattle.std.specs.Prelude.{◌≤◌}
-use Rattle.tracerun.specs.declared.command_line.orders.Order.{Order}
-use Rattle.tracerun.specs.declared.command_line.orders.Order.TheVariants.{Replay, Storm}
+use Rattle.tracerun_command_line.specs.declared.orders.Order.{Order}
+use Rattle.tracerun_command_line.specs.declared.orders.Order.TheVariants.{Replay, Storm}
 
 -- a storm has 1 to 16 workers and 1 to 400 rounds
 abbrev pub IsInRange : Order → Type 0

@@ -1,10 +1,12 @@
-//! The command line.
+//! The command line of the program `tracerun`: its words, read to an order.
+#![tactic(auto)]
+
 ghost use Rattle.std.specs.Prelude.{IfOk};
-ghost use Rattle.tracerun.specs.Order.{IsInRange};
+ghost use Rattle.tracerun_command_line.specs.Order.{IsInRange};
 
 pub mod orders;
 
-use crate::command_line::orders::Order;
+use crate::orders::Order;
 use clap::error::ErrorKind;
 use clap::{Arg, Command, Error, value_parser};
 use std::alloc::{AllocError, Global};
