@@ -1,5 +1,8 @@
 -- A worker's own calls, where the history is longer by one of them or the same.
 use Rattle.std.proofs.Common.{◌≡◌, ℕ, ◌+◌, List, [], ◌∷◌, ◌++◌, length, refl, sym, ap, ◌∙◌, subst}
+use Rattle.std.specs.Prelude.{take, drop}
+use Rattle.std.proofs.lemmas.List.{take-append-drop}
+use mathlib.Core.List.{IsPrefix}
 use Rattle.std.proofs.lemmas.List.{length-append}
 use Rattle.span_outlet.specs.Request.{worker_of}
 use Rattle.span_outlet.specs.Batch.{PlainBatch}
@@ -22,3 +25,7 @@ own_one_more worker seen before after batch same by sent = ap (own worker) sent 
 -- so many calls are its own
 pub one_more_counted : (worker accepted : ℕ) (seen after : List PlainBatch) (batch : PlainBatch) → accepted ≡ length (own worker seen) → own worker after ≡ own worker seen ++ batch ∷ [] → accepted + 1 ≡ length (own worker after)
 one_more_counted worker accepted seen after batch counted own_are = ap (λ n. n + 1) counted ∙ sym (ap length own_are ∙ length-append (own worker seen) (batch ∷ []))
+
+-- the first of a list are its beginning
+pub beginning : {X : Type 0} (first all same : List X) → first ≡ take (length first) all → all ≡ same → IsPrefix first same
+beginning first all same is are = (drop (length first) all, ap (λ xs. xs ++ drop (length first) all) is ∙ take-append-drop (length first) all ∙ are)

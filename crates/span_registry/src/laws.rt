@@ -21,7 +21,7 @@ pub use handles::{clone_span, try_close};
 pub use promises::{
     a_handles_span_is_open, the_promise, two_handles_have_two_numbers, whenever_the_lock_is_free,
 };
-pub use reports::{finish, finish_kept};
+pub use reports::{finish, finish_kept, finish_reading};
 pub use span_core::laws::{
     accepted_releases_close_what_nothing_holds, closes_are_announced_once,
     each_slot_has_one_open_span, empty_where_nothing_is_held, entries_are_counted_once,

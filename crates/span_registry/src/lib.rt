@@ -29,7 +29,7 @@ pub use found::Found;
 pub use handle::Handle;
 pub use locked::Locked;
 pub use registry::{HANDLE_PARTS, Registry};
-pub use report::Report;
+pub use report::{Counts, Report};
 pub use setup::Setup;
 pub use share::Share;
 pub use span_core::Core;

@@ -1,25 +1,24 @@
 //! The end of a registry.
 ghost use Rattle.std.specs.Prelude.{◌≡◌, ◌+◌, ◌↔◌, [], List, Some, map, length, All};
 ghost use mathlib.Core.List.{IsPrefix};
-ghost use Rattle.span_forest.specs.Count.{total_handles};
 ghost use Rattle.span_outlet.specs.Lines.{lines_of, plain_line};
 ghost use Rattle.span_outlet.specs.Kept.{AreTold, HasNoLine, NumberedNote, numbered};
+ghost use Rattle.span_outlet.specs.LineReader.{AreLeft};
 ghost use Rattle.span_core.specs.World.{entries_in};
-ghost use Rattle.span_core.specs.History.{issued, IsLegal};
-ghost use Rattle.span_core.specs.ClosedSpans.{closed_in};
+ghost use Rattle.span_core.specs.History.{IsLegal};
 ghost use Rattle.span_history.specs.Own.{IsFront};
 ghost use Rattle.span_registry.specs.Share.{IsWhole};
-ghost use Rattle.span_registry.specs.Report.{Tells};
+ghost use Rattle.span_registry.specs.Report.{AreCounts, Tells};
 
 use crate::locked::Locked;
-use crate::report::Report;
+use crate::report::{Counts, Report};
 use crate::setup::Setup;
 use crate::share::Share;
 use span_core::laws::{
     empty_where_nothing_is_held, entries_are_counted_once, made_spans_are_open_or_closed,
 };
 use span_layers::Say;
-use span_outlet::{Drain, Kept, Line, Outlet, Ring};
+use span_outlet::{Drain, Kept, Line, LineReader, Outlet, Ring};
 use std::sync::ledger;
 use std::sync::ledger::{Book, Ledger};
 
@@ -33,6 +32,7 @@ pub fn finish_kept<H: Ledger, C: Ledger, S: Setup, V: Say + Drop, A: Drop>(
     requires { IsWhole H.parts C.parts share }
     ensures setup { (locked.limits ≡ S.limits) × (locked.rules ≡ S.rules) × (locked.name ≡ S.ring) }
     ensures legal { IsLegal S.rules S.limits.workers locked.sent locked.world }
+    ensures fronts { length share.seen ≡ S.limits.workers }
     ensures seen { All (λ front. IsFront front locked.sent) share.seen }
     ensures told { Tells locked S.forms result }
     ensures units { result.handles ≡ share.units }
@@ -62,6 +62,7 @@ pub fn finish<H: Ledger, C: Ledger, S: Setup, V: Say + Drop, A: Drop>(
     requires pair { Some drain.name ≡ S.ring }
     ensures setup { (locked.limits ≡ S.limits) × (locked.rules ≡ S.rules) × (locked.name ≡ S.ring) }
     ensures legal { IsLegal S.rules S.limits.workers locked.sent locked.world }
+    ensures fronts { length share.seen ≡ S.limits.workers }
     ensures seen { All (λ front. IsFront front locked.sent) share.seen }
     ensures told { Tells locked drain.forms result }
     ensures taken { IsPrefix drain.taken locked.sent }
@@ -83,15 +84,38 @@ pub fn finish<H: Ledger, C: Ledger, S: Setup, V: Say + Drop, A: Drop>(
     counts.report(drain.into_lines(), refused)
 }
 
-// What a report counts beside the lines.
-#[derive(Drop)]
-struct Counts {
-    left: u32,
-    handles: u64,
-    entries: u64,
-    calls: u64,
-    made: u64,
-    closed: u64,
+/// Ends a registry whose outlet is a ring, with the whole share, beside the ring's line reader, from which nothing is
+/// taken. It counts as `finish_kept` does, and has no lines. The ring is handed back: what the reader has taken is the
+/// beginning of everything that was sent, and the rest is left in the ring, from which `LineReader::fill_beside` takes
+/// it.
+pub fn finish_reading<H: Ledger, C: Ledger, S: Setup, V, A: Drop>(
+    locked: Locked<H, C, S, Ring, A>,
+    share: Share<H, C, S>,
+    reader: &mut LineReader<V>,
+) -> (Counts, Ring)
+    requires whole { IsWhole H.parts C.parts share }
+    requires pair { Some reader.old.name ≡ S.ring }
+    ensures setup { (locked.limits ≡ S.limits) × (locked.rules ≡ S.rules) × (locked.name ≡ S.ring) }
+    ensures legal { IsLegal S.rules S.limits.workers locked.sent locked.world }
+    ensures fronts { length share.seen ≡ S.limits.workers }
+    ensures seen { All (λ front. IsFront front locked.sent) share.seen }
+    ensures counted { AreCounts locked result.0 }
+    ensures sent { result.1.sent ≡ locked.sent }
+    ensures times_full { result.1.times_full ≡ locked.times_full }
+    ensures ring { result.1.name ≡ reader.old.name }
+    ensures taken { IsPrefix reader.old.taken locked.sent }
+    ensures lines { AreLeft reader.old }
+    ensures same { reader.new ≡ reader.old }
+    ensures units { result.0.handles ≡ share.units }
+    ensures accepted { result.0.calls ≡ share.accepted }
+    ensures emptied { share.units ≡ 0 → entries_in locked.world.stacks ≡ 0 → locked.world.spans ≡ [] }
+    ensures empty { (result.0.left ≡ 0) ↔ ((result.0.handles ≡ 0) × (result.0.entries ≡ 0)) }
+    ensures balance { result.0.made ≡ result.0.closed + result.0.left }
+{
+    let (counts, mut ring) = end(locked, share);
+    let _left = reader.peek();
+    reader.behind(&mut ring);
+    (counts, ring)
 }
 
 impl Counts {
@@ -129,19 +153,16 @@ fn end<H: Ledger, C: Ledger, S: Setup, O: Outlet, A: Drop>(
     requires { IsWhole H.parts C.parts share }
     ensures setup { (locked.limits ≡ S.limits) × (locked.rules ≡ S.rules) × (locked.name ≡ S.ring) }
     ensures legal { IsLegal S.rules S.limits.workers locked.sent locked.world }
+    ensures fronts { length share.seen ≡ S.limits.workers }
     ensures seen { All (λ front. IsFront front locked.sent) share.seen }
-    ensures left { result.0.left ≡ length locked.world.spans }
-    ensures handles { result.0.handles ≡ total_handles locked.world.spans }
-    ensures entries { result.0.entries ≡ entries_in locked.world.stacks }
-    ensures calls { result.0.calls ≡ length locked.sent }
-    ensures made { result.0.made ≡ length (issued locked.sent) }
-    ensures closed { result.0.closed ≡ length (closed_in locked.sent) }
+    ensures counted { AreCounts locked result.0 }
     ensures units { result.0.handles ≡ share.units }
     ensures accepted { result.0.calls ≡ share.accepted }
     ensures emptied { share.units ≡ 0 → entries_in locked.world.stacks ≡ 0 → locked.world.spans ≡ [] }
     ensures empty { (result.0.left ≡ 0) ↔ ((result.0.handles ≡ 0) × (result.0.entries ≡ 0)) }
     ensures balance { result.0.made ≡ result.0.closed + result.0.left }
     ensures sent { O.sent result.1 ≡ locked.sent }
+    ensures times_full { O.times_full result.1 ≡ locked.times_full }
     ensures forms { O.forms result.1 ≡ S.forms }
     ensures name { O.name result.1 ≡ S.ring }
 {

@@ -1,15 +1,15 @@
 //! The end of a registry.
 ghost use Rattle.std.specs.Prelude.{◌≡◌, ◌+◌, ◌↔◌, Some};
 ghost use Rattle.span_registry.specs.Share.{IsWhole};
-ghost use Rattle.span_registry.specs.Report.{IsEnd, IsDrainedEnd};
+ghost use Rattle.span_registry.specs.Report.{IsEnd, IsDrainedEnd, IsReadingEnd};
 
 use crate::laws;
 use crate::registry::Registry;
-use crate::report::Report;
+use crate::report::{Counts, Report};
 use crate::setup::Setup;
 use crate::share::Share;
 use span_layers::Say;
-use span_outlet::{Drain, Kept, Ring};
+use span_outlet::{Drain, Kept, LineReader, Ring};
 use std::sync::ledger::Ledger;
 
 impl<H: Ledger, C: Ledger, S: Setup, V: Say + Drop, A: Drop> Registry<H, C, S, Kept<V>, A> {
@@ -17,8 +17,7 @@ impl<H: Ledger, C: Ledger, S: Setup, V: Say + Drop, A: Drop> Registry<H, C, S, K
     ///
     /// The report counts what was open, held, accepted, made and closed, and has the lines that the outlet kept: all
     /// of one legal history under this registry's limits and rules, of which each worker of the share had seen a
-    /// beginning. No span was open exactly where no handle was given up
-    /// and no stack has an entry.
+    /// beginning. No span was open exactly where no handle was given up and no stack has an entry.
     pub fn finish_kept(self, share: Share<H, C, S>) -> Report
         requires { IsWhole H.parts C.parts share }
         ensures units { result.handles ≡ share.units }
@@ -46,5 +45,27 @@ impl<H: Ledger, C: Ledger, S: Setup, A: Drop> Registry<H, C, S, Ring, A> {
         ensures ended { IsDrainedEnd S.limits S.rules drain share result }
     {
         laws::finish(self.locked.into_inner(), share, drain)
+    }
+
+    /// Ends the registry with the whole share, beside the line reader of its ring, and answers what `finish_kept` counts,
+    /// without lines, and the ring. So a run may be as long as it likes: nothing keeps its lines.
+    ///
+    /// Nothing is taken from the reader. All that was sent and that it has not taken is still in the ring: with both in
+    /// one thread `LineReader::fill_beside` takes it, and `next` gives its lines out; false means that everything was.
+    pub fn finish_reading<V>(
+        self,
+        share: Share<H, C, S>,
+        reader: &mut LineReader<V>,
+    ) -> (Counts, Ring)
+        requires whole { IsWhole H.parts C.parts share }
+        requires pair { Some reader.old.name ≡ S.ring }
+        ensures units { result.0.handles ≡ share.units }
+        ensures accepted { result.0.calls ≡ share.accepted }
+        ensures empty { (result.0.left ≡ 0) ↔ ((result.0.handles ≡ 0) × (result.0.entries ≡ 0)) }
+        ensures balance { result.0.made ≡ result.0.closed + result.0.left }
+        ensures ended { IsReadingEnd S.limits S.rules reader.old share result.0 result.1 }
+        ensures same { reader.new ≡ reader.old }
+    {
+        laws::finish_reading(self.locked.into_inner(), share, reader)
     }
 }

@@ -12,11 +12,11 @@ use Rattle.span_storm.proofs.run.run.Goals as goal
 -- what a drained end says, without what the drain had before
 storm_end : (limits : Limits) (rules : List Filter) (forms : List Form) (drain : DrainView) (share : ShareView) (report : Report) → drain.forms ≡ forms → IsDrainedEnd limits rules drain share report → IsStormEnd limits rules forms report
 storm_end limits rules forms drain share report same end = record {
-  core = end.core;
-  limits_are = end.limits_are;
-  rules_are = end.rules_are;
-  legal = end.legal;
-  told = subst (λ f. Tells end.core f report) same end.told;
+  core = end.end.core;
+  limits_are = end.end.ended.limits_are;
+  rules_are = end.end.ended.rules_are;
+  legal = end.end.ended.legal;
+  told = subst (λ f. Tells end.end.core f report) same end.end.told;
 }
 
 pub returns-in-Ok-back-clause-ended : goal.returns-in-Ok-back-clause-ended

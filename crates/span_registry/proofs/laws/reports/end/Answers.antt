@@ -1,4 +1,4 @@
-use Rattle.std.proofs.Common.{List, All, sym, subst, ◌∙◌}
+use Rattle.std.proofs.Common.{rules, List, All, sym, ap, subst, ◌∙◌}
 use Rattle.span_history.specs.Own.{IsFront}
 use Rattle.span_outlet.specs.Batch.{PlainBatch}
 use Rattle.span_registry.proofs.Free.{free_legal}
@@ -7,11 +7,19 @@ use Rattle.span_registry.proofs.laws.reports.end.Goals as goal
 pub returns-clause-legal : goal.returns-clause-legal
 returns-clause-legal g c = rw (← c.locked.view_is) (free_legal c.locked.invariant)
 
-pub returns-clause-handles : goal.returns-clause-handles
-returns-clause-handles g c = rw (← c.locked.view_is) (sym c.share.invariant.0 ∙ c.audit.ensures ∙ c.locked.invariant.handles_are)
+pub returns-clause-counted : goal.returns-clause-counted
+returns-clause-counted g c = rw (← c.locked.view_is) (record {
+  left = search rules;
+  handles = sym c.share.invariant.0 ∙ c.audit.ensures ∙ c.locked.invariant.handles_are;
+  entries = search rules;
+  calls = sym c.share.invariant.1 ∙ c.audit-2.ensures ∙ c.locked.invariant.calls_are;
+  made = search rules;
+  closed = search rules;
+})
 
-pub returns-clause-calls : goal.returns-clause-calls
-returns-clause-calls g c = rw (← c.locked.view_is) (sym c.share.invariant.1 ∙ c.audit-2.ensures ∙ c.locked.invariant.calls_are)
+pub returns-clause-fronts : goal.returns-clause-fronts
+returns-clause-fronts g c =
+    rw (← c.share.view_is) (c.share.invariant.2 ∙ ap (λ share. share.call_parts) c.share.view_is ∙ c.requires.calls ∙ c.locked.invariant.call_parts_are ∙ ap (λ l. l.workers) c.locked.invariant.limits_are)
 
 pub returns-clause-emptied : goal.returns-clause-emptied
 returns-clause-emptied g c =
