@@ -12,7 +12,7 @@ from clauses import Clause, Repository, definitions_of
 
 TOP = os.path.dirname(os.path.dirname(os.path.abspath(__file__)))
 PAGE = os.path.join(TOP, "docs", "THEOREM.md")
-MOST_DEFINITIONS, MOST_LINES = 50, 197
+MOST_DEFINITIONS, MOST_LINES = 50, 195
 
 # The headline, a sentence at a time, and the clauses that say it.
 HEADLINE = [

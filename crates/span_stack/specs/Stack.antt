@@ -35,8 +35,7 @@ top ids = slice_get (reverse ids) 0
 abbrev pub without_last : List ℕ → ℕ → List ℕ
 without_last [] id = []
 without_last (lowest ∷ above) id =
-    if has above id then lowest ∷ without_last above id
-    else (if lowest == id then above else lowest ∷ above)
+    if has above id then lowest ∷ without_last above id else (if lowest == id then above else lowest ∷ above)
 
 -- new is old without the last place of the id: above it the id doesn't stand
 pub record TakesLast (old : List ℕ) (id : ℕ) (new : List ℕ) : Type 0 where
