@@ -1,8 +1,8 @@
 -- The rule that admits everything wants a storm.
-use Rattle.std.proofs.Common.{◌≡◌, true, List, [], ◌∷◌, ◌++◌, refl, ap, ◌∙◌, codes, ℕ}
+use Rattle.std.proofs.Common.{◌≡◌, true, List, [], ◌∷◌, ◌++◌, refl, ap, ◌∙◌, ℕ}
 use Rattle.span_id.specs.declared.level.Level.TheVariants.{Trace}
 use Rattle.span_layers.specs.Filter.{Filter}
-use Rattle.span_layers.specs.Rule.{is_admitted, pairs_of}
+use Rattle.span_layers.specs.Rule.{is_admitted}
 use Rattle.span_storm.specs.Storm.{wants_jobs}
 
 one_layer : (spans : ℕ) → wants_jobs (record { pairs = ([], Trace) ∷ []; spans = spans } ∷ []) ≡ true

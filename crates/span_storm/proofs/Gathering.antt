@@ -1,13 +1,15 @@
 -- What is put together of workers that come back one after another.
 use Rattle.std.proofs.Common.{◌≡◌, ℕ, ◌+◌, ◌*◌, ◌<◌, ◌≤◌, ◌^◌, List, [], ◌∷◌, ◌++◌, length, get_or, refl, sym, ◌∙◌, ap, subst, append_assoc, arith}
-use Rattle.std.specs.Prelude.{sum_by, All, Result, Ok, Err, IfOk, map}
+use Rattle.std.specs.Prelude.{sum_by, All, Result, Ok, Err, IfOk, IfErr, map}
 use Rattle.std.proofs.lemmas.List.{map-append, length-map, get_or-map}
 use Rattle.std.proofs.lemmas.List.Sums.{sum_by-cons}
 use Rattle.std.proofs.lemmas.List.Elements.{All-head, All-tail, All-push}
+use Rattle.span_outlet.specs.Drain.{DrainView}
 use Rattle.span_registry.specs.Worker.{WorkerView}
 use Rattle.span_registry.specs.Share.{ShareView}
 use Rattle.span_storm.specs.declared.stopped.Stopped.{Stopped}
-use Rattle.span_storm.specs.inside.Back.{ComesBack, Gathers, HasAll, PartyView, both_shares, Fit}
+use Rattle.span_storm.specs.declared.stopped.Stopped.TheVariants.{Memory, Refused, Held}
+use Rattle.span_storm.specs.inside.Back.{AreBothBack, ComesBack, Gathers, HasAll, IsHeldAs, IsSameDrain, PartyView, both_shares, share_and_drain, Fit}
 
 -- ---- lists that grow
 
@@ -35,6 +37,29 @@ all_of_map f xs ys is P all k d lt =
 pub sum_of_map : {X Y : Type 0} (f : X → Y) (n : Y → ℕ) (xs : List X) → sum_by (λ x. n (f x)) xs ≡ sum_by n (map f xs)
 sum_of_map f n [] = refl
 sum_of_map f n (x ∷ xs) = sum_by-cons (λ x. n (f x)) x xs ∙ ap (λ k. n (f x) + k) (sum_of_map f n xs) ∙ sym (sum_by-cons n (f x) (map f xs))
+
+-- ---- who was held
+
+-- as a party of one kind, so as one of a wider kind
+held_wider : (P Q : ℕ → Type 0) → ((party : ℕ) → P party → Q party) → (stopped : Stopped) → IsHeldAs P stopped → IsHeldAs Q stopped
+held_wider P Q wider Memory held = tt
+held_wider P Q wider (Refused fault) held = tt
+held_wider P Q wider (Held party) held = wider party held
+
+pub stopped_wider : {T : Type 0} (P Q : ℕ → Type 0) → ((party : ℕ) → P party → Q party) → (r : Result T Stopped) → IfErr r (IsHeldAs P) → IfErr r (IsHeldAs Q)
+stopped_wider P Q wider (Ok _) held = tt
+stopped_wider P Q wider (Err stopped) held = held_wider P Q wider stopped held
+
+pub stopped_as_one : {T : Type 0} (n k : ℕ) (r : Result T Stopped) → k < n → IfErr r (IsHeldAs (λ party. party ≡ k)) → IfErr r (IsHeldAs (λ party. party < n))
+stopped_as_one n k r low held = stopped_wider (λ party. party ≡ k) (λ party. party < n) (λ party is. subst (λ x. x < n) (sym is) low) r held
+
+-- of two
+pub stopped_also : (P : ℕ → Type 0) (whole r next : Result ShareView Stopped) → next ≡ both_shares whole r → IfErr whole (IsHeldAs P) → IfErr r (IsHeldAs P) → IfErr next (IsHeldAs P)
+stopped_also P whole r next same a b = subst (λ x. IfErr x (IsHeldAs P)) (sym same) (either whole r a b) where
+  either : (whole r : Result ShareView Stopped) → IfErr whole (IsHeldAs P) → IfErr r (IsHeldAs P) → IfErr (both_shares whole r) (IsHeldAs P)
+  either (Err fault) r a b = a
+  either (Ok one) (Err fault) a b = b
+  either (Ok one) (Ok other) a b = tt
 
 -- ---- one worker more
 
@@ -111,3 +136,33 @@ has_all workers parties rounds (Ok share) same g =
       handle_parts = omega (arith, g.3, sum);
       call_parts = all;
     }
+
+-- ---- who was held, of all
+
+module _ (count : ℕ) (workers : List WorkerView) (parties : List PartyView) (same : map (λ party. party.worker) parties ≡ workers) (is : count ≡ length workers) where
+  as_many : length parties ≡ count
+  as_many = sym (length-map parties (λ party. party.worker)) ∙ ap length same ∙ sym is
+
+  pub numbers_of : All (λ worker. worker.number < count) workers → All (λ party. party.worker.number < length parties) parties
+  numbers_of all =
+      subst (λ k. All (λ (party : PartyView). party.worker.number < k) parties) (sym as_many)
+      (all_of_map (λ party. party.worker) parties workers same (λ worker. worker.number < count) all)
+
+  pub stopped_of : (r : Result ShareView Stopped) → IfErr r (IsHeldAs (λ party. party < length parties)) → IfErr r (IsHeldAs (λ party. party < count))
+  stopped_of r held = subst (λ k. IfErr r (IsHeldAs (λ party. party < k))) as_many held
+
+-- the workers and the drain, whose number is that of all workers
+module _ (whole : Result ShareView Stopped) (drain : Result DrainView Stopped) (r : Result (ShareView × DrainView) Stopped) (is : r ≡ share_and_drain whole drain) where
+  pub both_are_back : (workers : List WorkerView) (rounds : ℕ) (went : DrainView) → IfOk whole (HasAll workers rounds) → IfOk drain (IsSameDrain went) → IfOk r (λ back. AreBothBack workers rounds went back.0 back.1)
+  both_are_back workers rounds went a b = subst (λ x. IfOk x (λ back. AreBothBack workers rounds went back.0 back.1)) (sym is) (each whole drain a b) where
+    each : (whole : Result ShareView Stopped) (drain : Result DrainView Stopped) → IfOk whole (HasAll workers rounds) → IfOk drain (IsSameDrain went) → IfOk (share_and_drain whole drain) (λ back. AreBothBack workers rounds went back.0 back.1)
+    each (Err fault) drain a b = tt
+    each (Ok whole) (Err fault) a b = tt
+    each (Ok whole) (Ok drain) a b = record { whole = a; drain = b }
+
+  pub stopped_of_both : (count party : ℕ) → party ≡ count → IfErr whole (IsHeldAs (λ other. other < count)) → IfErr drain (IsHeldAs (λ other. other ≡ party)) → IfErr r (IsHeldAs (λ other. other ≤ count))
+  stopped_of_both count party last a b = subst (λ x. IfErr x (IsHeldAs (λ other. other ≤ count))) (sym is) (each whole drain a b) where
+    each : (whole : Result ShareView Stopped) (drain : Result DrainView Stopped) → IfErr whole (IsHeldAs (λ other. other < count)) → IfErr drain (IsHeldAs (λ other. other ≡ party)) → IfErr (share_and_drain whole drain) (IsHeldAs (λ other. other ≤ count))
+    each (Err stopped) drain a b = held_wider (λ other. other < count) (λ other. other ≤ count) (λ other low. omega (arith, low)) stopped a
+    each (Ok whole) (Err stopped) a b = held_wider (λ other. other ≡ party) (λ other. other ≤ count) (λ other same. omega (arith, same, last)) stopped b
+    each (Ok whole) (Ok drain) a b = tt

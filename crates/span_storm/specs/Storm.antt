@@ -1,10 +1,11 @@
 -- What a storm is made with.
-use Rattle.std.specs.Prelude.{◌≡◌, ℕ, Bool, List, codes}
+use Rattle.std.specs.Prelude.{◌≡◌, ℕ, ◌≤◌, Bool, List, codes, IsSomeAnd}
 use Rattle.span_id.specs.declared.limits.Limits.{Limits}
 use Rattle.span_id.specs.declared.level.Level.TheVariants.{Info}
 use Rattle.span_id.specs.Meta.{PlainMeta}
 use Rattle.span_layers.specs.Filter.{Filter}
 use Rattle.span_layers.specs.declared.form.Form.{Form}
+use Rattle.span_outlet.specs.Ring.{places_of}
 use Rattle.span_core.specs.Step.{is_wanted}
 use Rattle.span_core.specs.History.{IsLegal}
 use Rattle.span_core.specs.Core.{CoreView}
@@ -32,18 +33,21 @@ storm_limits workers = record {
 }
 
 -- The report of a storm with these limits and layers: it tells of a core whose batches are a legal history under them,
--- and its lines are those of that history in the layers' forms, but for the notes that were missed.
+-- which went through a ring with as many places as they say, and its lines are those of that history in the layers'
+-- forms, but for the notes that were missed.
 pub record IsStormEnd (limits : Limits) (rules : List Filter) (forms : List Form) (report : Report) : Type 0 where
   pub core : CoreView
   pub limits_are : core.limits ≡ limits
   pub rules_are : core.rules ≡ rules
+  pub ring : IsSomeAnd core.name (λ name. places_of name ≡ limits.ring)
   pub legal : IsLegal rules limits.workers core.sent core.world
   pub told : Tells core forms report
 
--- a storm ends early for want of memory, for a call that was refused, or for a party that was held
-abbrev pub IsStormFault : RunFault → Type 0
-IsStormFault Memory = Unit {0}
-IsStormFault (Refused fault) = Unit {0}
-IsStormFault (Held party) = Unit {0}
-IsStormFault (Script line reason) = ⊥
-IsStormFault (Device side) = ⊥
+-- A storm of so many workers ends early for want of memory, for a call that was refused, or for a party that was held:
+-- a worker by its number, or the drain by the number after theirs.
+abbrev pub IsStormFault : ℕ → RunFault → Type 0
+IsStormFault workers Memory = Unit {0}
+IsStormFault workers (Refused fault) = Unit {0}
+IsStormFault workers (Held party) = party ≤ workers
+IsStormFault workers (Script line reason) = ⊥
+IsStormFault workers (Device side) = ⊥

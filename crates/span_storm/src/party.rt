@@ -1,7 +1,7 @@
 //! The workers' threads.
-ghost use Rattle.std.specs.Prelude.{◌≡◌, true, IfOk, IfSome};
+ghost use Rattle.std.specs.Prelude.{◌≡◌, true, IfOk, IfErr, IfSome};
 ghost use Rattle.span_storm.specs.Storm.{wants_jobs};
-ghost use Rattle.span_storm.specs.inside.Back.{ComesBack, PartyView};
+ghost use Rattle.span_storm.specs.inside.Back.{ComesBack, IsHeldAs, PartyView};
 
 use crate::gate::Gate;
 use crate::metas::Metas;
@@ -14,7 +14,7 @@ use std::sync::Wait;
 use std::sync::ledger::Ledger;
 use std::thread::{Promise, PromisedHandle, Scope, Threads};
 
-/// What comes back of a worker that makes all its rounds.
+/// What comes back of a worker that makes all its rounds, and as what it stops otherwise.
 #[derive(Drop)]
 pub(crate) struct Back<H: Ledger, C: Ledger, S: Setup> {
     worker: Snapshot<Worker<H, C, S>>,
@@ -22,10 +22,11 @@ pub(crate) struct Back<H: Ledger, C: Ledger, S: Setup> {
 }
 
 impl<H: Ledger, C: Ledger, S: Setup> Promise<Result<Share<H, C, S>, Stopped>> for Back<H, C, S> {
-    ghost use Rattle.std.specs.Prelude.{IfOk};
-    ghost use Rattle.span_storm.specs.inside.Back.{ComesBack};
+    ghost use Rattle.std.specs.Prelude.{IfOk, IfErr};
+    ghost use Rattle.span_storm.specs.inside.Back.{ComesBack, IsHeldAs};
 
-    ghost kept_by = { λ back result. IfOk result (λ share. ComesBack back.worker.value back.rounds share) };
+    ghost kept_by = { λ back result. IfOk result (λ share. ComesBack back.worker.value back.rounds share)
+        × IfErr result (IsHeldAs (λ party. party ≡ back.worker.value.number)) };
 }
 
 /// A worker in its thread, if one could be made.
@@ -51,7 +52,8 @@ impl<H: Ledger, C: Ledger, S: Setup> Model for Party<H, C, S> {
 impl<H: Ledger, C: Ledger, S: Setup> Party<H, C, S> {
     /// What comes back of the worker, once its thread has ended.
     pub(crate) fn join<R: Threads>(self, rt: &R) -> Result<Share<H, C, S>, Stopped>
-        ensures { IfOk result (λ share. ComesBack self.worker self.rounds share) }
+        ensures back { IfOk result (λ share. ComesBack self.worker self.rounds share) }
+        ensures stopped { IfErr result (IsHeldAs (λ party. party ≡ self.worker.number)) }
     {
         let Party {
             worker: _,
@@ -95,7 +97,8 @@ pub(crate) fn start<
         promise,
         move || -> Result<Share<H, C, S>, Stopped>
             requires { wants_jobs S.rules ≡ true }
-            ensures { IfOk result (λ share. ComesBack worker rounds share) }
+            ensures back { IfOk result (λ share. ComesBack worker rounds share) }
+            ensures stopped { IfErr result (IsHeldAs (λ party. party ≡ worker.number)) }
         { work(rt, registry, gate, metas, worker, rounds) },
     );
     Party {

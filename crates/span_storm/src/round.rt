@@ -1,10 +1,10 @@
 //! What one worker does.
-ghost use Rattle.std.specs.Prelude.{◌≡◌, ◌+◌, ◌*◌, ◌-◌, ◌<◌, true, IfOk, OnOk};
+ghost use Rattle.std.specs.Prelude.{◌≡◌, ◌+◌, ◌*◌, ◌-◌, ◌<◌, true, IfOk, IfErr, OnOk};
 ghost use Rattle.span_id.specs.Meta.{plain_meta};
 ghost use Rattle.span_core.specs.Step.{is_wanted};
 ghost use Rattle.span_registry.specs.Worker.{after_call};
 ghost use Rattle.span_storm.specs.Storm.{wants_jobs};
-ghost use Rattle.span_storm.specs.inside.Back.{ComesBack};
+ghost use Rattle.span_storm.specs.inside.Back.{ComesBack, IsHeldAs};
 
 use crate::gate::Gate;
 use crate::held::Held;
@@ -25,7 +25,8 @@ pub(crate) fn work<H: Ledger, C: Ledger, S: Setup, G: Gate, R: Wait>(
     rounds: u32,
 ) -> Result<Share<H, C, S>, Stopped>
     requires { wants_jobs S.rules ≡ true }
-    ensures { IfOk result (λ share. ComesBack worker rounds share) }
+    ensures back { IfOk result (λ share. ComesBack worker rounds share) }
+    ensures stopped { IfErr result (IsHeldAs (λ party. party ≡ worker.number)) }
 {
     let mut worker = worker;
     match make_rounds(rt, registry, gate, metas, &mut worker, rounds) {
@@ -44,8 +45,10 @@ fn make_rounds<H: Ledger, C: Ledger, S: Setup, G: Gate, R: Wait>(
     rounds: u32,
 ) -> Result<(), Stopped>
     requires { wants_jobs S.rules ≡ true }
+    ensures number { OnOk result (worker.new.number ≡ worker.old.number) }
     ensures accepted { OnOk result (worker.new.accepted ≡ worker.old.accepted + 9 * rounds) }
     ensures spare { OnOk result (worker.new.spare ≡ worker.old.spare) }
+    ensures stopped { IfErr result (IsHeldAs (λ party. party ≡ worker.old.number)) }
 {
     for _ in 0..rounds {
         round(rt, registry, gate, metas, worker)?;
@@ -62,8 +65,10 @@ fn round<H: Ledger, C: Ledger, S: Setup, G: Gate, R: Wait>(
     worker: &mut Worker<H, C, S>,
 ) -> Result<(), Stopped>
     requires { wants_jobs S.rules ≡ true }
+    ensures number { OnOk result (worker.new.number ≡ worker.old.number) }
     ensures accepted { OnOk result (worker.new.accepted ≡ worker.old.accepted + 9) }
     ensures spare { OnOk result (worker.new.spare ≡ worker.old.spare) }
+    ensures stopped { IfErr result (IsHeldAs (λ party. party ≡ worker.old.number)) }
 {
     match open(rt, registry, gate, worker, &metas.job, ParentOf::Root) {
         Ok(job) => with_job(rt, registry, gate, metas, worker, job),
@@ -81,8 +86,10 @@ fn with_job<H: Ledger, C: Ledger, S: Setup, G: Gate, R: Wait>(
     job: Held<H, C, S>,
 ) -> Result<(), Stopped>
     requires { wants_jobs S.rules ≡ true }
+    ensures number { OnOk result (worker.new.number ≡ worker.old.number) }
     ensures accepted { OnOk result (worker.new.accepted ≡ worker.old.accepted + 8) }
     ensures spare { OnOk result (worker.new.spare ≡ worker.old.spare + 1) }
+    ensures stopped { IfErr result (IsHeldAs (λ party. party ≡ worker.old.number)) }
 {
     let mut job = job;
     match with_clone(rt, registry, gate, metas, worker, &mut job.handle) {
@@ -101,8 +108,10 @@ fn with_clone<H: Ledger, C: Ledger, S: Setup, G: Gate, R: Wait>(
     job: &mut Handle<H, C, S>,
 ) -> Result<(), Stopped>
     requires { wants_jobs S.rules ≡ true }
+    ensures number { OnOk result (worker.new.number ≡ worker.old.number) }
     ensures accepted { OnOk result (worker.new.accepted ≡ worker.old.accepted + 7) }
     ensures spare { OnOk result (worker.new.spare ≡ worker.old.spare) }
+    ensures stopped { IfErr result (IsHeldAs (λ party. party ≡ worker.old.number)) }
 {
     let other = clone_handle(rt, registry, gate, worker, job)?;
     match inside(rt, registry, gate, metas, worker, job) {
@@ -121,8 +130,10 @@ fn inside<H: Ledger, C: Ledger, S: Setup, G: Gate, R: Wait>(
     job: &mut Handle<H, C, S>,
 ) -> Result<(), Stopped>
     requires { wants_jobs S.rules ≡ true }
+    ensures number { OnOk result (worker.new.number ≡ worker.old.number) }
     ensures accepted { OnOk result (worker.new.accepted ≡ worker.old.accepted + 5) }
     ensures spare { OnOk result (worker.new.spare ≡ worker.old.spare) }
+    ensures stopped { IfErr result (IsHeldAs (λ party. party ≡ worker.old.number)) }
 {
     ask(gate, worker)?;
     if let Err(fault) = registry.enter(rt, worker, job) {
@@ -145,7 +156,9 @@ fn inside<H: Ledger, C: Ledger, S: Setup, G: Gate, R: Wait>(
 fn ask<H: Ledger, C: Ledger, S: Setup, G: Gate>(
     gate: &G,
     worker: &Worker<H, C, S>,
-) -> Result<(), Stopped> {
+) -> Result<(), Stopped>
+    ensures { IfErr result (IsHeldAs (λ party. party ≡ worker.now.number)) }
+{
     let party = worker.number();
     if gate.before(party, worker.accepted().saturating_add(1)) {
         Ok(())
@@ -166,6 +179,7 @@ fn open<H: Ledger, C: Ledger, S: Setup, G: Gate, R: Wait>(
     requires { is_wanted S.rules (plain_meta meta.now) ≡ true }
     ensures worker { OnOk result (worker.new ≡ after_call worker.old (worker.old.spare - 1) worker.new.seen) }
     ensures part { OnOk result (0 < worker.old.spare) }
+    ensures stopped { IfErr result (IsHeldAs (λ party. party ≡ worker.old.number)) }
 {
     ask(gate, worker)?;
     match registry.new_span(rt, worker, meta, &[], parent) {
@@ -185,6 +199,7 @@ fn clone_handle<H: Ledger, C: Ledger, S: Setup, G: Gate, R: Wait>(
 ) -> Result<Held<H, C, S>, Stopped>
     ensures worker { OnOk result (worker.new ≡ after_call worker.old (worker.old.spare - 1) worker.new.seen) }
     ensures part { OnOk result (0 < worker.old.spare) }
+    ensures stopped { IfErr result (IsHeldAs (λ party. party ≡ worker.old.number)) }
 {
     ask(gate, worker)?;
     match registry.clone_span(rt, worker, handle) {
@@ -201,7 +216,8 @@ fn close<H: Ledger, C: Ledger, S: Setup, G: Gate, R: Wait>(
     worker: &mut Worker<H, C, S>,
     held: Held<H, C, S>,
 ) -> Result<(), Stopped>
-    ensures { OnOk result (worker.new ≡ after_call worker.old (worker.old.spare + 1) worker.new.seen) }
+    ensures worker { OnOk result (worker.new ≡ after_call worker.old (worker.old.spare + 1) worker.new.seen) }
+    ensures stopped { IfErr result (IsHeldAs (λ party. party ≡ worker.old.number)) }
 {
     ask(gate, worker)?;
     match registry.try_close(rt, worker, held.into_handle()) {

@@ -1,6 +1,7 @@
 //! A whole storm, from the making of its registry to its report.
 ghost use Rattle.std.specs.Prelude.{◌≡◌, ◌+◌, ◌*◌, ◌<◌, ◌≤◌, ◌↔◌, [], Some, true, IfOk, IfErr};
 ghost use Rattle.span_layers.specs.Layers.{filters_in, forms_in};
+ghost use Rattle.span_outlet.specs.Ring.{places_of};
 ghost use Rattle.span_storm.specs.Storm.{IsStormEnd, IsStormFault, storm_limits, wants_jobs};
 ghost use Rattle.span_storm.specs.inside.Back.{HasNumbers};
 
@@ -46,7 +47,7 @@ pub fn storm<G: Gate + Sync, R: Threads + Wait + Sync>(
     ensures balance { IfOk result (λ report. report.made ≡ report.closed + report.left) }
     ensures ended { IfOk result (λ report.
         IsStormEnd (storm_limits workers) (filters_in layers) (forms_in layers) report) }
-    ensures faults { IfErr result IsStormFault }
+    ensures faults { IfErr result (IsStormFault workers) }
 {
     let limits = Limits {
         workers,
@@ -78,7 +79,7 @@ fn with_metas<G: Gate + Sync, R: Threads + Wait + Sync>(
     ensures numbers { IfOk result (λ report. HasNumbers checked.now.workers rounds report) }
     ensures ended { IfOk result (λ report.
         IsStormEnd checked.now (filters_in layers) (forms_in layers) report) }
-    ensures faults { IfErr result IsStormFault }
+    ensures faults { IfErr result (IsStormFault checked.now.workers) }
 {
     let Ok(blanks) = Blanks::new(alloc, checked) else {
         return Err(RunFault::Memory);
@@ -125,6 +126,7 @@ fn run<
     requires setup { (filters.rules ≡ S.rules) × ([] ≡ S.forms) × (Some ring.name ≡ S.ring) }
     requires wanted { wants_jobs S.rules ≡ true }
     requires ring { (ring.sent ≡ []) × (Some drain.name ≡ S.ring) }
+    requires places { places_of drain.name ≡ S.limits.ring }
     requires blanks { blanks ≡ record {
       limits = S.limits;
       handles = H.name;
@@ -136,7 +138,7 @@ fn run<
     } }
     ensures numbers { IfOk result (λ report. HasNumbers S.limits.workers rounds report) }
     ensures ended { IfOk result (λ report. IsStormEnd S.limits S.rules drain.forms report) }
-    ensures faults { IfErr result IsStormFault }
+    ensures faults { IfErr result (IsStormFault S.limits.workers) }
 {
     let made = Registry::<H, C, S, Ring>::new(alloc, filters, ring, blanks);
     let Ok((registry, workers)) = made else {

@@ -1,5 +1,7 @@
 //! Why a party of a storm stopped.
+ghost use Rattle.std.specs.Prelude.{◌≤◌, ℕ};
 ghost use Rattle.span_storm.specs.Storm.{IsStormFault};
+ghost use Rattle.span_storm.specs.inside.Back.{IsHeldAs};
 
 use span_id::Fault;
 use span_run::RunFault;
@@ -18,7 +20,7 @@ pub enum Stopped {
 impl Stopped {
     /// The fault with which the storm ends.
     pub(crate) fn fault(self) -> RunFault
-        ensures { IsStormFault result }
+        ensures { (workers : ℕ) → IsHeldAs (λ party. party ≤ workers) self → IsStormFault workers result }
     {
         match self {
             Stopped::Memory => RunFault::Memory,

@@ -1,7 +1,7 @@
 //! All threads of a storm, and what comes back of them.
-ghost use Rattle.std.specs.Prelude.{◌≡◌, ◌+◌, ◌*◌, ◌^◌, ◌<◌, ◌≤◌, true, IfOk, All, map, length, vec_len, sum_by, Ok};
+ghost use Rattle.std.specs.Prelude.{◌≡◌, ◌+◌, ◌*◌, ◌^◌, ◌<◌, ◌≤◌, true, IfOk, IfErr, All, map, length, vec_len, sum_by};
 ghost use Rattle.span_storm.specs.Storm.{wants_jobs};
-ghost use Rattle.span_storm.specs.inside.Back.{AreBothBack, AreReady, both_shares, Fit, Gathers, HasAll};
+ghost use Rattle.span_storm.specs.inside.Back.{AreBothBack, AreReady, both_shares, Fit, Gathers, HasAll, IsHeldAs, share_and_drain};
 
 use crate::draining::start_drain;
 use crate::gate::Gate;
@@ -37,7 +37,8 @@ pub(crate) fn in_threads<
     drain: Drain<V>,
 ) -> Result<(Share<H, C, S>, Drain<V>), Stopped>
     requires { AreReady S.rules (vec_len workers) workers.items rounds }
-    ensures { IfOk result (λ back. AreBothBack workers.items rounds drain back.0 back.1) }
+    ensures back { IfOk result (λ back. AreBothBack workers.items rounds drain back.0 back.1) }
+    ensures stopped { IfErr result (IsHeldAs (λ party. party ≤ vec_len workers)) }
 {
     let all_back = AtomicBool::new(false);
     let flag = &all_back;
@@ -46,7 +47,8 @@ pub(crate) fn in_threads<
         rt,
         move |scope| -> Result<(Share<H, C, S>, Drain<V>), Stopped>
             requires { AreReady S.rules (vec_len workers) workers.items rounds }
-            ensures { IfOk result (λ back. AreBothBack workers.items rounds drain back.0 back.1) }
+            ensures back { IfOk result (λ back. AreBothBack workers.items rounds drain back.0 back.1) }
+            ensures stopped { IfErr result (IsHeldAs (λ party. party ≤ vec_len workers)) }
         {
             let draining = start_drain(rt, scope, gate, workers.len() as u32, drain, flag);
             let whole = run_workers(rt, scope, alloc, registry, gate, metas, workers, rounds);
@@ -57,13 +59,12 @@ pub(crate) fn in_threads<
     )
 }
 
-// The whole share and the drain, or the fault of the first that has one.
+// The whole share and the drain, or the workers' fault, or that of the drain where they have none.
 fn both_back<H: Ledger, C: Ledger, S: Setup, V: Drop>(
     whole: Result<Share<H, C, S>, Stopped>,
     drain: Result<Drain<V>, Stopped>,
 ) -> Result<(Share<H, C, S>, Drain<V>), Stopped>
-    ensures whole { IfOk result (λ back. whole ≡ Ok back.0) }
-    ensures drain { IfOk result (λ back. drain ≡ Ok back.1) }
+    ensures { result ≡ share_and_drain whole drain }
 {
     match (whole, drain) {
         (Ok(whole), Ok(drain)) => Ok((whole, drain)),
@@ -91,7 +92,8 @@ fn run_workers<
     rounds: u32,
 ) -> Result<Share<H, C, S>, Stopped>
     requires { AreReady S.rules (vec_len workers) workers.items rounds }
-    ensures { IfOk result (λ whole. HasAll workers.items rounds whole) }
+    ensures back { IfOk result (λ whole. HasAll workers.items rounds whole) }
+    ensures stopped { IfErr result (IsHeldAs (λ party. party < vec_len workers)) }
 {
     let parties = start_all(rt, scope, alloc, registry, gate, metas, workers, rounds)?;
     join_all(rt, parties, rounds)
@@ -117,6 +119,7 @@ fn start_all<
     rounds: u32,
 ) -> Result<Vec<Party<H, C, S>>, Stopped>
     requires { wants_jobs S.rules ≡ true }
+    ensures memory { IfErr result (λ stopped. stopped ≡ Stopped.Memory) }
     ensures same { IfOk result (λ parties. map (λ party. party.worker) parties.items ≡ workers.items) }
     ensures rounds { IfOk result (λ parties. All (λ party. party.rounds ≡ rounds) parties.items) }
 {
@@ -138,8 +141,10 @@ fn join_all<H: Ledger, C: Ledger, S: Setup, R: Threads>(
     requires some { (0 < vec_len parties) × (vec_len parties ≤ 16) }
     requires rounds { rounds ≤ 400 }
     requires each { All (λ party. (party.rounds ≡ rounds) × (party.worker.accepted ≡ 0)) parties.items }
-    ensures { Gathers result (length parties.items) 0 (9 * rounds)
+    requires numbers { All (λ party. party.worker.number < length parties.items) parties.items }
+    ensures back { Gathers result (length parties.items) 0 (9 * rounds)
         (sum_by (λ party. party.worker.spare) parties.items) 0 }
+    ensures stopped { IfErr result (IsHeldAs (λ party. party < length parties.items)) }
 {
     let mut parties = parties.into_iter();
     let Some(first) = parties.next() else {

@@ -7,6 +7,7 @@ use Rattle.span_registry.specs.Share.{ShareView, joined}
 use Rattle.span_registry.specs.declared.report.Report.{Report}
 use Rattle.span_storm.specs.Storm.{wants_jobs}
 use Rattle.span_storm.specs.declared.stopped.Stopped.{Stopped}
+use Rattle.span_storm.specs.declared.stopped.Stopped.TheVariants.{Memory, Refused, Held}
 
 -- a worker that makes so many rounds
 pub record PartyView : Type 0 where
@@ -27,6 +28,13 @@ pub record AreReady (rules : List Filter) (count : ℕ) (workers : List WorkerVi
   pub few : count ≤ 16
   pub few_rounds : rounds ≤ 400
   pub new : All (λ worker. worker.accepted ≡ 0) workers
+  pub numbers : All (λ worker. worker.number < count) workers
+
+-- a party stopped, and if it was held, then as such a one
+abbrev pub IsHeldAs : (ℕ → Type 0) → Stopped → Type 0
+IsHeldAs P Memory = Unit {0}
+IsHeldAs P (Refused fault) = Unit {0}
+IsHeldAs P (Held party) = P party
 
 -- the shares of these workers together, each of which has come back
 pub record HasAll (workers : List WorkerView) (rounds : ℕ) (share : ShareView) : Type 0 where
@@ -48,6 +56,12 @@ both_shares (Err fault) other = Err fault
 both_shares (Ok one) (Err fault) = Err fault
 both_shares (Ok one) (Ok other) = Ok (joined one other)
 
+-- the whole share and the drain, or the workers' fault, or that of the drain where they have none
+abbrev pub share_and_drain : Result ShareView Stopped → Result DrainView Stopped → Result (ShareView × DrainView) Stopped
+share_and_drain (Err fault) drain = Err fault
+share_and_drain (Ok whole) (Err fault) = Err fault
+share_and_drain (Ok whole) (Ok drain) = Ok (whole, drain)
+
 -- the sums of two shares fit in a `u64`
 abbrev pub Fit : Result ShareView Stopped → Result ShareView Stopped → Type 0
 Fit one other = IfOk one (λ a. IfOk other (λ b. (a.units + b.units < 2 ^ 64) × (a.accepted + b.accepted < 2 ^ 64)))
@@ -59,6 +73,11 @@ pub record HasNumbers (workers rounds : ℕ) (report : Report) : Type 0 where
   pub handles : report.handles ≡ 0
   pub empty : (report.left ≡ 0) ↔ (report.entries ≡ 0)
   pub balance : report.made ≡ report.closed + report.left
+
+-- a drain in its thread, and its number as a party
+pub record DrainingView : Type 0 where
+  pub drain : DrainView
+  pub party : ℕ
 
 -- the drain of the same ring, which writes in the same forms
 pub record IsSameDrain (went back : DrainView) : Type 0 where

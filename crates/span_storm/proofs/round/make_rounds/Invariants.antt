@@ -2,4 +2,4 @@ use Rattle.std.proofs.Common.{◌≡◌, ◌+◌, ◌*◌}
 use Rattle.span_storm.proofs.round.make_rounds.Given as goal
 
 abbrev pub invariant-loop : goal.invariant-loop
-invariant-loop g l = (l.worker.accepted ≡ l.initial.worker.accepted + 9 * l.counter) × (l.worker.spare ≡ l.initial.worker.spare)
+invariant-loop g l = (l.worker.number ≡ l.initial.worker.number) × (l.worker.accepted ≡ l.initial.worker.accepted + 9 * l.counter) × (l.worker.spare ≡ l.initial.worker.spare)

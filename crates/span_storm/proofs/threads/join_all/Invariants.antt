@@ -1,7 +1,7 @@
-use Rattle.std.proofs.Common.{◌≡◌, ◌*◌, length}
-use Rattle.std.specs.Prelude.{sum_by}
+use Rattle.std.proofs.Common.{◌*◌, ◌<◌, length}
+use Rattle.std.specs.Prelude.{All, IfErr, sum_by}
 use Rattle.std.specs.Vec.Iter.{into_iter_items}
-use Rattle.span_storm.specs.inside.Back.{Gathers}
+use Rattle.span_storm.specs.inside.Back.{Gathers, IsHeldAs}
 use Rattle.span_storm.proofs.Gathering.{AreNew, spare_of}
 use Rattle.span_storm.proofs.threads.join_all.Given as goal
 
@@ -10,4 +10,6 @@ invariant-loop-party g l = record {
   new : AreNew l.rounds (into_iter_items l.party-iterator);
   gathers : Gathers l.whole (length l.fn.parties.items) (length (into_iter_items l.party-iterator)) (9 * l.rounds)
       (sum_by spare_of l.fn.parties.items) (sum_by spare_of (into_iter_items l.party-iterator));
+  numbers : All (λ party. party.worker.number < length l.fn.parties.items) (into_iter_items l.party-iterator);
+  stopped : IfErr l.whole (IsHeldAs (λ party. party < length l.fn.parties.items));
 }
