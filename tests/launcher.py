@@ -48,6 +48,7 @@ case $1-$RT in
         exit $status ;;
 esac
 [ "${PWD##*/}-$RT" != low-hangs ] || { echo "so far: 1 of 2 functions checked"; exec sleep 60; }
+[ "${PWD##*/}-$RT" != low-is_slow ] || while [ ! -e "$FAKE/go" ]; do sleep 0.1; done
 echo "rt: chose --jobs 4"
 echo "so far: 0 of 2 functions checked; the verdict comes last"
 [ "${PWD##*/}-$RT" != mid-hangs_later ] || exec sleep 60
@@ -75,6 +76,7 @@ class Clone:
 
     def __init__(self, folder, programs):
         self.at, self.fake, self.room = f"{folder}/clone", f"{folder}/fake", f"{folder}/room"
+        self.told = 0  # how many calls of rt were told of
         os.mkdir(folder)
         os.mkdir(self.room)
         for name in ("tracerun", "tools/prove.py", "tools/unproved.py", SOURCE, "crates/tracerun/src/main.rt"):
@@ -110,8 +112,8 @@ class Clone:
         """The calls of rt since this was asked last, and the folders of the crates where they were made."""
         path = f"{self.fake}/calls"
         found = open(path, encoding="utf-8").read().splitlines() if os.path.exists(path) else []
-        write(path, "")
-        return found
+        before, self.told = self.told, len(found)
+        return found[before:]
 
     def is_tidy(self):
         return os.listdir(self.room) == []
@@ -218,9 +220,19 @@ def proving(rows, clone):
     left = [it for it in os.listdir(f"{clone.fake}/cache/kozhumir/proving") if not it.endswith(".lock")]
     rows.wants("nothing is left", (clone.is_tidy(), left), (True, []))
     os.remove(f"{clone.at}/crates/tracerun/out/tracerun")
-    two = [clone.ended(it) for it in [clone.start("--prove") for _ in range(2)]]
-    told = ["waits for another --prove" in errors for _, errors, _ in two]
-    rows.wants("two that prove at once", ([it[0::2] for it in two], sum(told)), ([("", 0)] * 2, 1))
+    rows.wants("two that prove at once", two_at_once(clone), ([("", None, 0)] * 2, 1))
+
+
+def two_at_once(clone):
+    """How two that prove at once end, and how many of them say that they wait for the other one."""
+    with tempfile.TemporaryFile("w+") as errors:
+        two = [clone.start("--prove", rt="is_slow", stderr=errors) for _ in range(2)]
+        waiting = "waits for another --prove"
+        while waiting not in os.pread(errors.fileno(), 65536, 0).decode() and all(it.poll() is None for it in two):
+            time.sleep(0.1)
+        write(f"{clone.fake}/go", "")
+        ended = [clone.ended(it) for it in two]
+        return ended, os.pread(errors.fileno(), 65536, 0).decode().count(waiting)
 
 
 def proved(rows, clone):

@@ -117,8 +117,9 @@ class Count:
 
 def missing():
     """What isn't there of what is needed; none where all is."""
-    if shutil.which("cargo") is None:
-        return "Rust's command cargo is not on the PATH"
+    for command in ("cargo", "patch"):
+        if shutil.which(command) is None:
+            return f"the command {command} is not on the PATH"
     lacks = [package for package, folder in PACKAGES.items() if not list(REGISTRY.glob(folder))]
     return f"Debian's packages {', '.join(lacks)} aren't installed" if lacks else None
 
