@@ -1,12 +1,12 @@
 //! What every registry promises, in plain words: each function does nothing, and its contract is the promise.
-ghost use Rattle.std.specs.Prelude.{◌≡◌, ◌≢◌, ◌≤◌, ◌<◌, ◌+◌, ℕ, nat_lt, true, false, ◌&&◌, ◌↔◌, if◌then◌else◌, [], List, length, Option, Some, None, IsTrue, All, AllPairs, Contains, count_by};
+ghost use Rattle.std.specs.Prelude.{◌≡◌, ◌≢◌, ◌≤◌, ◌<◌, ◌+◌, ◌^◌, ℕ, nat_lt, true, false, ◌&&◌, ◌↔◌, if◌then◌else◌, [], List, length, Option, Some, None, IsTrue, All, AllPairs, Contains, count_by};
 ghost use Rattle.span_id.specs.Id.{slot_of, IsId};
 ghost use Rattle.span_id.specs.Meta.{KeyValue, PlainMeta};
 ghost use Rattle.span_layers.specs.Filter.{Filter, admission_set};
 ghost use Rattle.span_forest.specs.Node.{Node};
 ghost use Rattle.span_forest.specs.Spans.{find, IsOpen, parent_of};
 ghost use Rattle.span_forest.specs.declared.span.Holder.TheVariants.{Handle};
-ghost use Rattle.span_forest.specs.Count.{total_held, total_handles};
+ghost use Rattle.span_forest.specs.Count.{reference_count, total_held, total_handles};
 ghost use Rattle.span_forest.specs.Holders.{held_in};
 ghost use Rattle.span_forest.specs.declared.span.Holder.{Holder};
 ghost use Rattle.span_forest.specs.declared.holding.Held.{Held};
@@ -31,7 +31,7 @@ use span_forest::laws::{
     a_span_closes_with_the_last_that_keeps_it, each_slot_has_one_open_id,
     full_where_each_slot_is_used_up as full_where_no_slot_is_left,
     no_span_is_held_where_none_is_open as no_span_is_held_in_an_empty_forest,
-    open_slots_are_in_range, open_spans_are_kept_open,
+    open_slots_are_in_range, open_spans_are_counted, open_spans_are_kept_open,
 };
 use span_outlet::Outlet;
 
@@ -41,6 +41,15 @@ pub fn open_spans_are_a_live_forest<O: Outlet, A>(core: &Core<O, A>)
     ensures forest { IsForest core.now.world.spans }
     ensures live { (id : ℕ) → IsOpen core.now.world.spans id → is_live core.now.world.spans id ≡ true }
 {
+    core.calls();
+}
+
+/// No count is above the greatest one, whatever the id, and at most 2^64 - 1 calls were accepted.
+pub fn counts_and_calls_have_bounds<O: Outlet, A>(core: &Core<O, A>)
+    ensures counts { (id : ℕ) → reference_count core.now.world.spans id ≤ core.now.limits.max_count }
+    ensures calls { length core.now.sent < 2 ^ 64 }
+{
+    open_spans_are_counted(&core.forest);
     core.calls();
 }
 
