@@ -3,13 +3,15 @@
 
 usage: view.py [--program FILE] [--scripts N]
 A page has to be one file that loads nothing, with each entry of a worker and each span that the model knows: its name and
-parent, the calls that made and closed it, its counts, and what keeps it open where it is open. The last line is 'N passed, M failed'; the status is 0
-where nothing failed.
+parent, the calls that made and closed it, its counts, and what keeps it open where it is open. Where there is Chromium,
+it shows the pages with no error, and tells a span's life when it is clicked. The last line is 'N passed, M failed'; the
+status is 0 where nothing failed.
 """
 import argparse
 import html.parser
 import json
 import os
+import shutil
 import subprocess
 import sys
 import tempfile
@@ -23,6 +25,8 @@ from run_cases import PROGRAM, TOP
 EXAMPLES = os.path.join(TOP, "examples")
 LOADING = {"src", "href", "srcset", "data", "action", "poster"}  # attributes by which a page loads something
 DATA = '<script id="run" type="application/json">'
+BROWSERS = ["chromium", "chromium-browser", "google-chrome"]
+CLICK = '<script>document.querySelector("button.span").click()</script>'  # on the first span that is open
 VOID = {"meta", "br", "hr", "img", "link", "input"}  # elements without an end
 
 
@@ -175,6 +179,33 @@ def long_script(program):
     return None if run["left_out"] == wanted else f"left out: {run['left_out']}"
 
 
+def browsed(browser, program, name):
+    """What is wrong with the page of an example, which leaves spans open, in a browser: before a click, or after it."""
+    with open(os.path.join(EXAMPLES, name), "rb") as file:
+        page, *_ = viewed(program, file.read())
+    for text, wanted in ((page, "Open at the end"), (page + CLICK, "Its calls")):
+        with tempfile.TemporaryDirectory() as folder:
+            path = os.path.join(folder, "page.html")
+            with open(path, "w", encoding="utf-8") as file:
+                file.write(text)
+            words = ["--headless", "--no-sandbox", "--disable-gpu", f"--user-data-dir={folder}/profile",
+                     "--enable-logging=stderr", "--virtual-time-budget=1000", "--dump-dom", f"file://{path}"]
+            run = subprocess.run([browser, *words], capture_output=True, text=True, errors="replace", timeout=120)
+        said = [line for line in run.stderr.splitlines() if "CONSOLE" in line]
+        if said or wanted not in run.stdout:
+            return said[0] if said else f"it doesn't say {wanted!r}"
+    return None
+
+
+def in_a_browser(program):
+    browser = next(filter(None, map(shutil.which, BROWSERS)), None)
+    if browser is None:
+        print("not run: no browser of " + ", ".join(BROWSERS) + " is on the PATH")
+        return
+    for name in ("request.jsonl", "leak.jsonl"):
+        yield f"{name} in a browser", browsed(browser, program, name)
+
+
 def rows(given):
     for name in sorted(os.listdir(EXAMPLES)):
         if name.endswith(".jsonl"):
@@ -186,6 +217,7 @@ def rows(given):
         script = script_maker.make("view", number, model.OPS)
         if Known(script).layers < MOST_LAYERS:
             yield f"random script {number}", difference(given.program, script)
+    yield from in_a_browser(given.program)
 
 
 def main():
