@@ -4,7 +4,7 @@ ghost use Rattle.span_forest.specs.declared.span.Holder.TheVariants.{Handle};
 ghost use Rattle.span_forest.specs.Node.{node_of};
 ghost use Rattle.span_forest.specs.Spans.{find, IsOpen};
 ghost use Rattle.span_forest.specs.Live.{stands_in};
-ghost use Rattle.span_forest.specs.Count.{total_handles};
+ghost use Rattle.span_forest.specs.Count.{reference_count, total_handles};
 ghost use Rattle.span_forest.specs.Holders.{IsHeld};
 ghost use Rattle.span_id.specs.Id.{slot_of};
 ghost use Rattle.span_core.specs.World.{IsCounted};
@@ -15,7 +15,7 @@ use crate::handle::take_seat;
 use crate::locked::Locked;
 use crate::setup::Setup;
 use crate::with_seats;
-use span_core::laws::open_spans_were_made_and_not_closed;
+use span_core::laws::{counts_and_calls_have_bounds, open_spans_were_made_and_not_closed};
 use span_forest::Span;
 use span_id::Id;
 use span_outlet::Outlet;
@@ -41,16 +41,19 @@ pub fn the_promise<H: Ledger, C: Ledger, S: Setup, O: Outlet, A>(
 }
 
 /// Whenever the lock is free: the registry's limits, rules, forms and ring are those that it was made with, and the
-/// batches sent are a legal history of at most 2^64 - 1 calls, which leaves this world. What else every core knows is known of [`Locked::core`].
+/// batches sent are a legal history of at most 2^64 - 1 calls, which leaves this world. No count is above `max_count`.
+/// What else every core knows is known of [`Locked::core`].
 pub fn whenever_the_lock_is_free<H: Ledger, C: Ledger, S: Setup, O: Outlet, A>(
     locked: &Locked<H, C, S, O, A>,
 )
     ensures setup { (locked.now.limits ≡ S.limits) × (locked.now.rules ≡ S.rules) × (locked.now.forms ≡ S.forms)
         × (locked.now.name ≡ S.ring) }
     ensures legal { IsLegal S.rules S.limits.workers locked.now.sent locked.now.world }
+    ensures counts { (id : ℕ) → reference_count locked.now.world.spans id ≤ S.limits.max_count }
     ensures fits { length locked.now.sent < 2 ^ 64 }
 {
     locked.core.calls();
+    counts_and_calls_have_bounds(&locked.core);
 }
 
 /// A handle proves that its span is open: its id finds a span, of that generation, which has a handle. No other span is
