@@ -6,12 +6,13 @@
 //! event, all (span with an event in it), or shared (raw alone: a span under one that all threads share). LAYER: none
 //! (one that does nothing: without any, the original keeps what closed), line (it keeps a span's fields as text, and
 //! writes a line with the path for each event and close), look (it looks up the span and its parents each time), fmt
-//! (fmt::layer into a sink). DEPTH: so many spans stay entered below. Prints the nanoseconds of a round by the clock
-//! and by its processor, in the slowest thread of the best turn, and its allocations.
+//! (fmt::layer into a sink). DEPTH: so many spans stay entered below. Prints the nanoseconds of a round by the clock,
+//! from the first thread's start to the last one's end, and by its processor, in the thread that took most, each of the
+//! best turn, and its allocations.
 mod layers;
 
 use std::alloc::{GlobalAlloc, Layout, System};
-use std::sync::atomic::{AtomicU64, Ordering};
+use std::cell::Cell;
 use std::sync::{Barrier, Mutex, OnceLock};
 use std::time::{Duration, Instant};
 use tracing_core::field::Value;
@@ -19,21 +20,23 @@ use tracing_core::span::{Attributes, Id};
 use tracing_core::{dispatcher, metadata::Kind, Dispatch, Event, Field, Level, Metadata};
 use tracing_subscriber::prelude::*;
 
-/// Counts what is asked for.
+/// Counts what each thread asks for: threads that count together would wait for one another.
 struct Counting;
-static ASKED: AtomicU64 = AtomicU64::new(0);
+thread_local! {
+    static ASKED: Cell<u64> = const { Cell::new(0) };
+}
 
 // SAFETY: all is the system's own.
 unsafe impl GlobalAlloc for Counting {
     unsafe fn alloc(&self, layout: Layout) -> *mut u8 {
-        ASKED.fetch_add(1, Ordering::Relaxed);
+        ASKED.set(ASKED.get() + 1);
         System.alloc(layout)
     }
     unsafe fn dealloc(&self, at: *mut u8, layout: Layout) {
         System.dealloc(at, layout)
     }
     unsafe fn realloc(&self, at: *mut u8, layout: Layout, size: usize) -> *mut u8 {
-        ASKED.fetch_add(1, Ordering::Relaxed);
+        ASKED.set(ASKED.get() + 1);
         System.realloc(at, layout, size)
     }
 }
@@ -86,12 +89,25 @@ fn processor_time() -> Duration {
     Duration::new(time.seconds as u64, time.nanoseconds as u32)
 }
 
-/// What a turn took: of the clock and of its processor, in the slowest thread, and how much memory was asked for.
-#[derive(Clone, Copy, Default)]
+/// What a turn took: of the clock from the first thread's start to the last one's end, and in the thread with the most
+/// the time of its processor and how much memory was asked for.
+#[derive(Clone, Copy)]
 struct Took {
-    clock: Duration,
+    began: Instant,
+    ended: Instant,
     processor: Duration,
     asked: u64,
+}
+
+impl Took {
+    fn with(self, other: Took) -> Took {
+        Took {
+            began: self.began.min(other.began),
+            ended: self.ended.max(other.ended),
+            processor: self.processor.max(other.processor),
+            asked: self.asked.max(other.asked),
+        }
+    }
 }
 
 struct Order {
@@ -107,25 +123,22 @@ struct Clock<'a> {
     order: &'a Order,
     start: Barrier,
     shared: OnceLock<Id>,
-    best: Mutex<Vec<Took>>,
+    took: Mutex<Vec<Option<Took>>>,
 }
 
 impl Clock<'_> {
     fn run(&self, mut round: impl FnMut()) {
         for turn in 0..self.order.turns {
             self.start.wait();
-            let (began, had, asked) = (Instant::now(), processor_time(), ASKED.load(Ordering::Relaxed));
+            let (began, had, asked) = (Instant::now(), processor_time(), ASKED.get());
             for _ in 0..self.order.rounds {
                 round();
             }
-            let (clock, processor) = (began.elapsed(), processor_time() - had);
+            let (ended, processor, asked) = (Instant::now(), processor_time() - had, ASKED.get() - asked);
             self.start.wait();
-            let asked = ASKED.load(Ordering::Relaxed) - asked;
-            let mut best = self.best.lock().unwrap();
-            let took = &mut best[turn];
-            took.clock = took.clock.max(clock);
-            took.processor = took.processor.max(processor);
-            took.asked = took.asked.max(asked);
+            let mine = Took { began, ended, processor, asked };
+            let took = &mut self.took.lock().unwrap()[turn];
+            *took = Some(took.map_or(mine, |took| took.with(mine)));
         }
     }
 }
@@ -222,8 +235,8 @@ fn main() {
     let (depth, threads, turns) = (number(3), number(4), number(6));
     let order = Order { work: words[1].clone(), depth, threads, rounds: number(5) as u32, turns };
     let dispatch = dispatch_with(&words[2]);
-    let best = Mutex::new(vec![Took::default(); order.turns]);
-    let clock = Clock { order: &order, start: Barrier::new(order.threads), shared: OnceLock::new(), best };
+    let took = Mutex::new(vec![None; order.turns]);
+    let clock = Clock { order: &order, start: Barrier::new(order.threads), shared: OnceLock::new(), took };
     std::thread::scope(|scope| {
         for _ in 0..order.threads {
             scope.spawn(|| {
@@ -234,11 +247,12 @@ fn main() {
             });
         }
     });
-    let turns = clock.best.into_inner().unwrap();
+    let turns: Vec<Took> = clock.took.into_inner().unwrap().into_iter().flatten().collect();
     let rounds = f64::from(order.rounds);
-    let least =
-        |time: fn(&Took) -> Duration| turns.iter().map(time).min().unwrap_or_default().as_nanos() as f64 / rounds;
-    let asked = turns.last().map_or(0, |took| took.asked);
-    let (clock, processor) = (least(|took| took.clock), least(|took| took.processor));
-    println!("{clock:.1} ns {processor:.1} ns {:.2} allocations", asked as f64 / rounds / order.threads as f64);
+    let least = |time: fn(&Took) -> Duration| {
+        turns.iter().map(time).min().unwrap_or_default().as_nanos() as f64 / rounds
+    };
+    let (clock, processor) = (least(|took| took.ended - took.began), least(|took| took.processor));
+    let asked = turns.last().map_or(0, |took| took.asked) as f64 / rounds;
+    println!("{clock:.1} ns {processor:.1} ns {asked:.2} allocations");
 }

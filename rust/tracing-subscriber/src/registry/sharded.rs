@@ -45,6 +45,9 @@ use tracing_core::{
 #[cfg(feature = "registry")]
 #[cfg_attr(docsrs, doc(cfg(all(feature = "registry", feature = "std"))))]
 #[derive(Debug)]
+// In lines of the processors' caches of its own: the count of the dispatcher's handles, which lies before the stack of
+// layers and changes with each span of a macro, is in none of them.
+#[repr(align(128))]
 pub struct Registry {
     spans: Arc<Spans>,
     next_filter_id: u8,

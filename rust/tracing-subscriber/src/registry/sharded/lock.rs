@@ -13,10 +13,16 @@ const TAKEN: u32 = 1;
 /// It is taken, and a thread may sleep until it is free.
 const AWAITED: u32 = 2;
 
-/// How often it is looked at before a thread sleeps.
-const LOOKS: u32 = 100;
+/// How often it is looked at before a thread sleeps, and after how many pauses: four times as many each time, up to
+/// the most. Each look takes the lock's memory from the thread that has it, and with the lock goes all that it guards:
+/// so one thread does some calls in a row while the others wait, which is several times as fast as one call each.
+const LOOKS: u32 = 12;
+const FIRST_PAUSES: u32 = 16;
+const MOST_PAUSES: u32 = 512;
 
+/// Who looks at it takes nothing but the lock itself from the thread that has it: it has its own lines of the caches.
 #[derive(Default)]
+#[repr(align(128))]
 pub(super) struct Lock {
     state: AtomicU32,
     sleepers: Mutex<()>,
@@ -45,8 +51,10 @@ impl Lock {
 
     #[cold]
     fn wait(&self) {
+        let mut pauses = FIRST_PAUSES;
         for _ in 0..LOOKS {
-            hint::spin_loop();
+            (0..pauses).for_each(|_| hint::spin_loop());
+            pauses = (4 * pauses).min(MOST_PAUSES);
             if self.state.load(Ordering::Relaxed) == FREE && self.is_taken_now() {
                 return;
             }

@@ -13,8 +13,10 @@ pub(super) trait Clear: Default + Send + Sync {
     fn clear(&mut self);
 }
 
-/// A value with the id that it belongs to, 0 where it belongs to none.
+/// A value with the id that it belongs to, 0 where it belongs to none. It shares no line of the processors' caches with
+/// its neighbours, which other threads may have.
 #[derive(Default)]
+#[repr(align(128))]
 struct Place<T> {
     id: AtomicU64,
     value: Shared<T>,

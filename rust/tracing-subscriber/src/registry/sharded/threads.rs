@@ -62,15 +62,16 @@ impl Stacks {
 }
 
 impl Drop for Stacks {
+    /// A layer or a span's data that panics while a thread ends would end the process: it was heard of by the panic's
+    /// hook.
     fn drop(&mut self) {
         for stack in self.0.drain(..) {
-            if let Some(spans) = stack.spans.upgrade() {
-                for id in stack.entered.iter() {
-                    // A layer that panics while a thread ends would end the process: it was heard of by the panic's
-                    // hook.
-                    let _panicked = catch_unwind(AssertUnwindSafe(|| spans.leave(id.into_u64())));
-                }
+            let Some(spans) = stack.spans.upgrade() else { continue };
+            for id in stack.entered.iter() {
+                let _panicked = catch_unwind(AssertUnwindSafe(|| spans.leave(id.into_u64())));
             }
+            // The registry itself may end here.
+            let _panicked = catch_unwind(AssertUnwindSafe(|| drop(spans)));
         }
     }
 }

@@ -1,5 +1,5 @@
 //! Memory that is refused while a span is made, at each call of the allocator in turn: the panic says so, nothing is
-//! kept, and the next span is made.
+//! kept, and the next span is made; and that a registry's end asks for none.
 use programs::{child, is_there, registry, root, site, Checks, Quiet};
 use std::alloc::{GlobalAlloc, Layout, System};
 use std::panic::{catch_unwind, AssertUnwindSafe};
@@ -93,11 +93,21 @@ fn each_call(checks: &mut Checks, what: &str, ready: fn(&Dispatch) -> Ready<'_>)
     checks.check(&format!("{what}: memory was asked for"), calls > 0);
 }
 
+fn the_end_of_a_registry(checks: &mut Checks) {
+    let dispatch = Dispatch::new(Registry::default().with(Quiet));
+    let ids = [root(&dispatch, site!("closed")), root(&dispatch, site!("open"))];
+    dispatch.try_close(ids[0].clone());
+    BEFORE.store(0, Ordering::Relaxed);
+    drop(dispatch);
+    checks.check("a registry's end asks for no memory", BEFORE.swap(-1, Ordering::Relaxed) == 0);
+}
+
 fn main() {
     std::panic::set_hook(Box::new(|_| {}));
     // What tracing-core asks for, once a thread.
     dispatcher::get_default(|_| ());
     let mut checks = Checks::default();
+    the_end_of_a_registry(&mut checks);
     each_call(&mut checks, "the first span", nothing);
     each_call(&mut checks, "a span whose slot is read", a_reader);
     each_call(&mut checks, "a child beyond its parent's store", a_full_store);
