@@ -3,6 +3,7 @@ mod acts;
 mod backlog;
 mod caller;
 mod ended;
+mod ended_by_reading;
 mod ended_on_a_ring;
 mod endings;
 mod handed_on;

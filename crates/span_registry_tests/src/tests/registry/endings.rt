@@ -1,6 +1,7 @@
 //! Registries that end with handles given up, entries left or nothing.
 use crate::tests::registry::acts::{Act, numbered};
 use crate::tests::registry::ended::{Deed, Ended, has_numbers, run_to_end, with_workers};
+use crate::tests::registry::ended_by_reading::run_to_last_line;
 use crate::tests::registry::ended_on_a_ring::run_to_end_on_a_ring;
 use crate::tests::registry::layers::{EVERYTHING, Plan};
 use crate::tests::registry::same::is_text;
@@ -22,12 +23,15 @@ pub(crate) struct Ending<'a> {
     pub(crate) lines: &'a str,
 }
 
-// A registry of these limits ends so, whether its outlet keeps the lines or is a ring.
+// A registry of these limits ends so, whether its outlet keeps the lines, or is a ring whose lines a drain keeps or a
+// reader gives out.
 fn ends<R: Threads + Wait + Abort + Sync>(rt: &R, alloc: Global, limits: Limits, ending: &Ending) {
     let deed = Deed::Calls(ending.acts);
     let ended = run_to_end(rt, alloc, limits, ending.plans, deed);
     is_ending(rt, alloc, &ended, ending);
     ends_on_a_ring(rt, alloc, limits, ending);
+    let read = run_to_last_line(rt, alloc, limits, ending.plans, ending.acts);
+    is_ending(rt, alloc, &read, ending);
 }
 
 /// A registry over a ring, of these limits, ends so.

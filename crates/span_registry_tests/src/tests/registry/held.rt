@@ -3,8 +3,8 @@ ghost use Rattle.std.specs.Prelude.{◌≡◌, ◌+◌, ◌^◌, ◌<◌, Some, 
 ghost use Rattle.span_registry.specs.Share.{IsWhole};
 
 use span_layers::{Admit, Say};
-use span_outlet::{Drain, Kept, Ring};
-use span_registry::{HANDLE_PARTS, Handle, Registry, Report, Setup, Share, Worker};
+use span_outlet::{Drain, Kept, LineReader, Ring};
+use span_registry::{Counts, HANDLE_PARTS, Handle, Registry, Report, Setup, Share, Worker};
 use std::alloc::Global;
 use std::process::Abort;
 use std::sync::ledger::Ledger;
@@ -171,4 +171,19 @@ pub(crate) fn drained<H: Ledger, C: Ledger, S: Setup, V: Say, A: Admit>(
     requires pair { Some drain.name ≡ S.ring }
 {
     registry.finish(whole_share(rt, workers, whole), drain)
+}
+
+/// What a registry counts whose outlet is the ring of this reader, and the ring.
+pub(crate) fn counted<H: Ledger, C: Ledger, S: Setup, V, A: Admit>(
+    rt: &impl Abort,
+    registry: Registry<H, C, S, Ring, A>,
+    workers: u32,
+    whole: Option<Part<H, C, S>>,
+    reader: &mut LineReader<V>,
+) -> (Counts, Ring)
+    requires parts { (H.parts ≡ HANDLE_PARTS) × (C.parts ≡ workers) }
+    requires pair { Some reader.old.name ≡ S.ring }
+    ensures ring { result.1.name ≡ reader.new.name }
+{
+    registry.finish_reading(whole_share(rt, workers, whole), reader)
 }
