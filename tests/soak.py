@@ -1,5 +1,5 @@
 #!/usr/bin/env python3
-"""A long run: storms one after the other, and then random calls by 8 threads on one registry, beside a slow drain
+"""A long run: storms one after the other, and then random calls by 8 threads on one registry, beside a slow reader
 behind a ring of 4 places, where a call that is refused for want of a place is made again. No part of ./check.
 
 usage: soak.py [--minutes M] [--storms N] [--program FILE] [--workloads FILE] [--seed S]
@@ -112,7 +112,7 @@ def faults(run, rounds):
     if run.status != 0 or not numbers or run.refused() is None:
         yield f"status {run.status}, standard output\n{run.output}standard error\n{run.error}"
         return
-    wanted = {"closed": numbers["made"], "left": 0, "handles": 0, "entries": 0, "lines": 0, "missed": numbers["notes"]}
+    wanted = {"closed": numbers["made"], "left": 0, "handles": 0, "entries": 0, "lines": numbers["notes"], "missed": 0}
     for name, number in wanted.items():
         if numbers[name] != number:
             yield f"{name} is {numbers[name]} and not {number}"

@@ -1,4 +1,4 @@
-//! Loops of calls, to be timed from outside: on a core, on a registry, in a storm, and beside a slow drain.
+//! Loops of calls, to be timed from outside: on a core, on a registry, in a storm, and beside a slow reader.
 //!
 //! `workloads call-costs core LAYERS FIELDS DEPTH ROUNDS`, the same with `registry`,
 //! `workloads call-costs storm WORKERS ROUNDS`, `workloads call-costs chain LENGTH`, and
@@ -7,7 +7,7 @@
 pub mod chain;
 pub mod core_loop;
 pub mod registry_loop;
-pub mod slow_drain;
+pub mod slow_reader;
 mod words;
 
 use crate::call_costs::words::read_order;

@@ -1,6 +1,6 @@
 //! How a run ended.
 
-use span_registry::Report;
+use span_registry::Counts;
 
 /// How many notes the layer of a long run has to be told of the calls, and how often a call was refused for want of a
 /// place.
@@ -20,14 +20,18 @@ impl Tally {
     }
 }
 
-/// How a registry ended, and what its workers counted.
-#[derive(Drop)]
+/// How a registry ended whose lines a reader gave out: how many lines that were, how many notes were missed, and of how
+/// many calls the notes were read; and what the workers counted.
+#[derive(Clone, Copy)]
 pub struct Ended {
-    pub report: Report,
+    pub counts: Counts,
+    pub lines: u64,
+    pub missed: u64,
+    pub read: u64,
     pub tally: Tally,
 }
 
-/// The numbers of a run that was made: those of its report, as far as there is one, and what was counted.
+/// The numbers of a run that was made: those of its end, as far as there is one, and what was counted.
 #[derive(Clone, Copy)]
 pub struct Made {
     pub calls: u64,
@@ -61,17 +65,17 @@ impl Made {
 impl Ended {
     /// Its numbers.
     pub fn made(&self) -> Made {
-        let report = &self.report;
+        let counts = &self.counts;
         Made {
-            calls: report.calls,
-            made: report.made,
-            closed: report.closed,
-            left: report.left,
-            handles: report.handles,
-            entries: report.entries,
+            calls: counts.calls,
+            made: counts.made,
+            closed: counts.closed,
+            left: counts.left,
+            handles: counts.handles,
+            entries: counts.entries,
             notes: self.tally.notes,
-            lines: report.lines.len() as u64,
-            missed: report.refused,
+            lines: self.lines,
+            missed: self.missed,
             backlogs: self.tally.backlogs,
         }
     }

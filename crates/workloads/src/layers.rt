@@ -8,16 +8,6 @@ use span_id::{Fault, Level, copy_text};
 use span_layers::{Form, Hooks, Layer, Layers, Note, Rule, Style, text};
 use std::alloc::{AllocError, Global};
 
-/// What a layer does with the text of a note.
-#[derive(Clone, Copy)]
-pub enum Writing {
-    /// It makes the text so many times more, so that it takes longer.
-    More(u32),
-    /// It makes the text and throws it away, as if memory had been refused. So a drain counts the note as missed, and
-    /// its memory stays level however long the run is.
-    Thrown,
-}
-
 /// Adds a layer that admits everything.
 pub fn add(alloc: Global, layers: &mut Layers, style: Style, hooks: Hooks) -> Result<(), Fault> {
     let rule = everything(alloc)?;
@@ -34,31 +24,12 @@ fn everything(alloc: Global) -> Result<Rule, Fault> {
     Ok(Rule { pairs })
 }
 
-/// The text of a note, or none.
-pub fn write(
-    alloc: Global,
-    form: Form,
-    note: &Note,
-    writing: Writing,
-) -> Result<Vec<u8>, AllocError>
+/// The text of a note, made so many times more, so that it takes longer.
+pub fn write(alloc: Global, form: Form, note: &Note, more: u32) -> Result<Vec<u8>, AllocError>
     ensures { ForOk result (λ text. text.items ≡ text_of form (plain_note note.now)) }
 {
-    match writing {
-        Writing::More(times) => {
-            make_more(alloc, form, note, times)?;
-            text(alloc, form, note)
-        }
-        Writing::Thrown => {
-            make_more(alloc, form, note, 1)?;
-            Err(AllocError)
-        }
-    }
-}
-
-// Makes the text so many times.
-fn make_more(alloc: Global, form: Form, note: &Note, times: u32) -> Result<(), AllocError> {
-    for _ in 0..times {
+    for _ in 0..more {
         drop(text(alloc, form, note)?);
     }
-    Ok(())
+    text(alloc, form, note)
 }

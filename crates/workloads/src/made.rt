@@ -9,7 +9,7 @@ ghost use Rattle.workloads.specs.Order.{IsInRange};
 use crate::call_costs::chain::chain;
 use crate::call_costs::core_loop::calls_on_core;
 use crate::call_costs::registry_loop::calls_on_registry;
-use crate::call_costs::slow_drain::beside_a_slow_drain;
+use crate::call_costs::slow_reader::beside_a_slow_reader;
 use crate::ended::{Ended, Made};
 use crate::layers::{add, write};
 use crate::order::Order;
@@ -30,7 +30,7 @@ pub fn make<R: Threads + Wait + Clock + Sync>(
 ) -> Result<Made, Fault>
     requires { IsInRange order.now }
 {
-    let writing = order.writing();
+    let more = order.more();
     let style = Style {
         form: Form::Compact,
         spans: order.spans(),
@@ -48,7 +48,7 @@ pub fn make<R: Threads + Wait + Clock + Sync>(
             alloc,
             move |alloc: Global, form: Form, note: &Note| -> Result<Vec<u8>, AllocError>
                 ensures { ForOk result (λ text. text.items ≡ text_of form (plain_note note.now)) }
-            { write(alloc, form, note, writing) },
+            { write(alloc, form, note, more) },
         )?;
         add(alloc, &mut layers, style, Hooks::new(admit, say))?;
     }
@@ -70,7 +70,7 @@ fn make_with<R: Threads + Wait + Clock + Sync>(
         Order::Storm { workers, rounds } => in_a_storm(rt, alloc, *workers, *rounds),
         Order::Chain { length } => chain(alloc, *length, layers),
         Order::Slow { places, rounds } => {
-            numbers_of(beside_a_slow_drain(rt, alloc, *places, *rounds, layers))
+            numbers_of(beside_a_slow_reader(rt, alloc, *places, *rounds, layers))
         }
         Order::Soak(crew) => numbers_of(soak(rt, alloc, crew, layers)),
     }

@@ -5,7 +5,7 @@
 #![tactic(auto)]
 
 mod call_costs;
-mod draining;
+mod reading;
 mod ended;
 mod ending;
 mod held;

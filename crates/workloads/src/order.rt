@@ -1,7 +1,6 @@
 //! Which runs there are.
 
-use crate::draining::Pace;
-use crate::layers::Writing;
+use crate::reading::Pace;
 use span_layers::FmtSpan;
 
 /// How many layers there are, how many fields each span and event has, how deep the spans of the rounds stand (1 for
@@ -23,7 +22,7 @@ pub struct Crew {
     pub seed: u64,
 }
 
-/// What each worker of a registry does in its thread, beside a drain.
+/// What each worker of a registry does in its thread, beside a reader.
 #[derive(Clone, Copy)]
 pub enum Plan {
     /// So many random calls, and then it gives all back; the seed decides which calls.
@@ -41,7 +40,7 @@ impl Plan {
         }
     }
 
-    /// How the drain goes beside it.
+    /// How the reader goes beside it.
     pub fn pace(self) -> Pace {
         match self {
             Plan::Random { .. } => Pace::WithSleeps,
@@ -61,7 +60,7 @@ pub enum Order {
     Storm { workers: u32, rounds: u32 },
     /// A chain of so many spans, and its end.
     Chain { length: u32 },
-    /// Rounds beside a slow drain, through a ring of so many places.
+    /// Rounds beside a slow reader, through a ring of so many places.
     Slow { places: u32, rounds: u32 },
     /// A long run of random calls.
     Soak(Crew),
@@ -86,12 +85,11 @@ impl Order {
         }
     }
 
-    /// What the layers do with the text of a note. Those of a long run keep none.
-    pub fn writing(&self) -> Writing {
+    /// How many times more the layers make the text of a note.
+    pub fn more(&self) -> u32 {
         match self {
-            Order::Slow { .. } => Writing::More(200),
-            Order::Soak(_) => Writing::Thrown,
-            _ => Writing::More(0),
+            Order::Slow { .. } => 200,
+            _ => 0,
         }
     }
 }

@@ -1,4 +1,4 @@
-//! A long run: workers that make random calls on one registry, each in a thread of its own, beside a slow drain behind
+//! A long run: workers that make random calls on one registry, each in a thread of its own, beside a slow reader behind
 //! a ring of few places. What is refused for want of a place is called again, and in the end all is given back.
 //!
 //! `workloads soak WORKERS PLACES ROUNDS SEED`; with no more words a short run.

@@ -1,9 +1,10 @@
-//! Rounds of calls on a core over a ring, whose drain is in the same thread.
+//! Rounds of calls on a core over a ring, whose reader is in the same thread.
 ghost use Rattle.std.specs.Prelude.{◌≡◌, ◌<◌, IfOk};
 
 use crate::ended::Made;
 use crate::order::Shape;
 use crate::parts::CoreParts;
+use crate::reading::read_waiting;
 use crate::texts::Texts;
 use span_core::Core;
 use span_id::{Fault, Limits};
@@ -122,15 +123,6 @@ pub fn read_all<V: Say>(reader: &mut LineReader<V>) -> u64 {
             break;
         }
         lines = lines.saturating_add(read_waiting(reader));
-    }
-    lines
-}
-
-// Reads the lines that wait.
-fn read_waiting<V>(reader: &mut LineReader<V>) -> u64 {
-    let mut lines = 0u64;
-    while reader.next().is_some() {
-        lines = lines.saturating_add(1);
     }
     lines
 }

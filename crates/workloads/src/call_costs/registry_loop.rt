@@ -1,4 +1,4 @@
-//! The same rounds on a registry with its lock, whose drain is in the same thread.
+//! The same rounds on a registry with its lock, whose reader is in the same thread.
 ghost use Rattle.std.specs.Prelude.{◌≡◌, [], Some};
 
 use crate::call_costs::core_loop::{PLACES, read_all};

@@ -1,15 +1,16 @@
-//! A whole run, from the making of its registry to its report.
+//! A whole run, from the making of its registry to its last line.
 ghost use Rattle.std.specs.Prelude.{◌≡◌, ◌+◌, ◌<◌, ◌↔◌, [], Some, IfOk};
 ghost use Rattle.workloads.specs.Back.{IsMadeByNew};
 
 use crate::ended::Ended;
 use crate::order::{Crew, Plan};
 use crate::parts::{CoreParts, Parts};
+use crate::reading::{Reading, read_to_end};
 use crate::soak::threads::in_threads;
 use crate::texts::Texts;
 use span_id::{Fault, Limits};
 use span_layers::{Filters, Layers, Say};
-use span_registry::{Blanks, Drain, Registry, Ring, Setup};
+use span_registry::{Blanks, LineReader, Registry, Ring, Setup};
 use std::alloc::Global;
 use std::marker::Brand;
 use std::sync::Wait;
@@ -24,9 +25,10 @@ pub fn soak<R: Threads + Wait + Clock + Sync>(
     crew: &Crew,
     layers: Layers,
 ) -> Result<Ended, Fault>
-    ensures handles { IfOk result (λ ended. ended.report.handles ≡ 0) }
-    ensures empty { IfOk result (λ ended. (ended.report.left ≡ 0) ↔ (ended.report.entries ≡ 0)) }
-    ensures balance { IfOk result (λ ended. ended.report.made ≡ ended.report.closed + ended.report.left) }
+    ensures handles { IfOk result (λ ended. ended.counts.handles ≡ 0) }
+    ensures empty { IfOk result (λ ended. (ended.counts.left ≡ 0) ↔ (ended.counts.entries ≡ 0)) }
+    ensures balance { IfOk result (λ ended. ended.counts.made ≡ ended.counts.closed + ended.counts.left) }
+    ensures read { IfOk result (λ ended. ended.read ≡ ended.counts.calls) }
 {
     let limits = Limits {
         workers: crew.workers,
@@ -38,21 +40,22 @@ pub fn soak<R: Threads + Wait + Clock + Sync>(
         rounds: crew.rounds,
         seed: crew.seed,
     };
-    beside_a_drain(rt, alloc, limits, plan, layers)
+    beside_a_reader(rt, alloc, limits, plan, layers)
 }
 
 /// Has as many workers as the limits say follow the plan on one registry with these layers, and ends it.
-pub fn beside_a_drain<R: Threads + Wait + Clock + Sync>(
+pub fn beside_a_reader<R: Threads + Wait + Clock + Sync>(
     rt: &R,
     alloc: Global,
     limits: Limits,
     plan: Plan,
     layers: Layers,
 ) -> Result<Ended, Fault>
-    ensures calls { IfOk result (λ ended. IsMadeByNew plan limits.workers ended.report.calls) }
-    ensures handles { IfOk result (λ ended. ended.report.handles ≡ 0) }
-    ensures empty { IfOk result (λ ended. (ended.report.left ≡ 0) ↔ (ended.report.entries ≡ 0)) }
-    ensures balance { IfOk result (λ ended. ended.report.made ≡ ended.report.closed + ended.report.left) }
+    ensures calls { IfOk result (λ ended. IsMadeByNew plan limits.workers ended.counts.calls) }
+    ensures handles { IfOk result (λ ended. ended.counts.handles ≡ 0) }
+    ensures empty { IfOk result (λ ended. (ended.counts.left ≡ 0) ↔ (ended.counts.entries ≡ 0)) }
+    ensures balance { IfOk result (λ ended. ended.counts.made ≡ ended.counts.closed + ended.counts.left) }
+    ensures read { IfOk result (λ ended. ended.read ≡ ended.counts.calls) }
 {
     let Parts { core, blanks } = Parts::new(alloc, limits, plan.fields())?;
     let CoreParts {
@@ -69,7 +72,7 @@ pub fn beside_a_drain<R: Threads + Wait + Clock + Sync>(
         &texts,
         filters,
         ring,
-        Drain::new(alloc, tap, tellers),
+        LineReader::new(alloc, tap, tellers),
         blanks,
     )
 }
@@ -88,12 +91,12 @@ fn run<
     texts: &Texts,
     filters: Filters,
     ring: Ring,
-    drain: Drain<V>,
+    reader: LineReader<V>,
     blanks: Blanks,
 ) -> Result<Ended, Fault>
     requires workers { 0 < S.limits.workers }
     requires setup { (filters.rules ≡ S.rules) × ([] ≡ S.forms) × (Some ring.name ≡ S.ring) }
-    requires ring { (ring.sent ≡ []) × (Some drain.name ≡ S.ring) }
+    requires ring { (ring.sent ≡ []) × (Some reader.name ≡ S.ring) }
     requires blanks { blanks ≡ record {
       limits = S.limits;
       handles = H.name;
@@ -103,15 +106,22 @@ fn run<
       table = S.table;
       history = S.history;
     } }
-    ensures calls { IfOk result (λ ended. IsMadeByNew plan S.limits.workers ended.report.calls) }
-    ensures handles { IfOk result (λ ended. ended.report.handles ≡ 0) }
-    ensures empty { IfOk result (λ ended. (ended.report.left ≡ 0) ↔ (ended.report.entries ≡ 0)) }
-    ensures balance { IfOk result (λ ended. ended.report.made ≡ ended.report.closed + ended.report.left) }
+    ensures calls { IfOk result (λ ended. IsMadeByNew plan S.limits.workers ended.counts.calls) }
+    ensures handles { IfOk result (λ ended. ended.counts.handles ≡ 0) }
+    ensures empty { IfOk result (λ ended. (ended.counts.left ≡ 0) ↔ (ended.counts.entries ≡ 0)) }
+    ensures balance { IfOk result (λ ended. ended.counts.made ≡ ended.counts.closed + ended.counts.left) }
+    ensures read { IfOk result (λ ended. ended.read ≡ ended.counts.calls) }
 {
     let (registry, workers) = Registry::<H, C, S, Ring>::new(alloc, filters, ring, blanks)?;
-    let (whole, drain) = in_threads(rt, &registry, texts, plan, workers, drain)?;
+    let (whole, read) = in_threads(rt, &registry, texts, plan, workers, reader)?;
+    let Reading { mut reader, lines } = read;
+    let (counts, mut ring) = registry.finish_reading(whole.share, &mut reader);
+    let rest = read_to_end(&mut reader, &mut ring);
     Ok(Ended {
-        report: registry.finish(whole.share, drain),
+        counts,
+        lines: lines.saturating_add(rest),
+        missed: reader.refused(),
+        read: reader.taken(),
         tally: whole.tally,
     })
 }

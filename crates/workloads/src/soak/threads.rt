@@ -2,15 +2,15 @@
 ghost use Rattle.std.specs.Prelude.{◌≡◌, ◌<◌, IfOk, vec_len};
 ghost use Rattle.workloads.specs.Back.{ComesBack, HasAll};
 
-use crate::call_costs::slow_drain::make_rounds;
-use crate::draining::start_drain;
+use crate::call_costs::slow_reader::make_rounds;
+use crate::reading::{Reading, start_reading};
 use crate::order::Plan;
 use crate::soak::caller::work;
 use crate::soak::returned::Returned;
 use crate::texts::Texts;
 use span_id::Fault;
 use span_layers::Say;
-use span_registry::{Drain, Registry, Ring, Setup, Worker};
+use span_registry::{LineReader, Registry, Ring, Setup, Worker};
 use std::snapshot::Snapshot;
 use std::sync::Wait;
 use std::sync::atomic::{AtomicBool, Ordering};
@@ -33,7 +33,7 @@ impl<H: Ledger, C: Ledger, S: Setup> Promise<Result<Returned<H, C, S>, Fault>> f
     ghost kept_by = { λ back result. IfOk result (λ returned. ComesBack back.plan back.worker.value returned.share) };
 }
 
-/// Runs each worker in a thread of its own, and the drain in one beside them.
+/// Runs each worker in a thread of its own, and the reader in one beside them.
 pub fn in_threads<
     H: Ledger + Send + Sync,
     C: Ledger + Send + Sync,
@@ -46,27 +46,27 @@ pub fn in_threads<
     texts: &Texts,
     plan: Plan,
     workers: Vec<Worker<H, C, S>>,
-    drain: Drain<V>,
-) -> Result<(Returned<H, C, S>, Drain<V>), Fault>
+    reader: LineReader<V>,
+) -> Result<(Returned<H, C, S>, Reading<V>), Fault>
     requires some { 0 < vec_len workers }
     ensures whole { IfOk result (λ back. HasAll plan workers.items back.0.share) }
-    ensures drain { IfOk result (λ back. back.1.name ≡ drain.name) }
+    ensures reader { IfOk result (λ back. back.1.reader.name ≡ reader.name) }
 {
     let all_back = AtomicBool::new(false);
     let flag = &all_back;
     thread::scope(
         thread::scope_env(),
         rt,
-        move |scope| -> Result<(Returned<H, C, S>, Drain<V>), Fault>
+        move |scope| -> Result<(Returned<H, C, S>, Reading<V>), Fault>
             requires some { 0 < vec_len workers }
             ensures whole { IfOk result (λ back. HasAll plan workers.items back.0.share) }
-            ensures drain { IfOk result (λ back. back.1.name ≡ drain.name) }
+            ensures reader { IfOk result (λ back. back.1.reader.name ≡ reader.name) }
         {
-            let draining = start_drain(rt, scope, drain, plan.pace(), flag)?;
+            let reading = start_reading(rt, scope, reader, plan.pace(), flag)?;
             let whole = run_workers(rt, scope, registry, texts, plan, workers);
             flag.store(true, Ordering::SeqCst);
-            let drain = draining.join(rt);
-            Ok((whole?, drain))
+            let read = reading.join(rt);
+            Ok((whole?, read))
         },
     )
 }

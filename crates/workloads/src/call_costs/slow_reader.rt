@@ -1,4 +1,4 @@
-//! A worker that makes calls beside a slow drain, through a ring of few places: what it sees, and that nothing is lost.
+//! A worker that makes calls beside a slow reader, through a ring of few places: what it sees, and that nothing is lost.
 ghost use Rattle.std.specs.Prelude.{◌≡◌, ◌+◌, ◌*◌, ◌-◌, ◌<◌, IfOk, OnOk};
 ghost use Rattle.span_registry.specs.Worker.{after_call};
 ghost use Rattle.workloads.specs.Back.{HasParts};
@@ -7,7 +7,7 @@ use crate::ended::{Ended, Tally};
 use crate::held::Held;
 use crate::order::Plan;
 use crate::soak::returned::Returned;
-use crate::soak::soaked::beside_a_drain;
+use crate::soak::soaked::beside_a_reader;
 use crate::texts::Texts;
 use span_id::{Fault, Limits};
 use span_layers::Layers;
@@ -19,24 +19,24 @@ use std::thread;
 use std::thread::Threads;
 use std::time::Clock;
 
-/// Makes rounds of three calls through a ring of so many places, beside a drain in a thread of its own. A call that is
+/// Makes rounds of three calls through a ring of so many places, beside a reader in a thread of its own. A call that is
 /// refused for want of a place is made again until it is accepted.
-pub fn beside_a_slow_drain<R: Threads + Wait + Clock + Sync>(
+pub fn beside_a_slow_reader<R: Threads + Wait + Clock + Sync>(
     rt: &R,
     alloc: Global,
     places: u32,
     rounds: u32,
     layers: Layers,
 ) -> Result<Ended, Fault>
-    ensures calls { IfOk result (λ ended. ended.report.calls ≡ 3 * rounds) }
-    ensures handles { IfOk result (λ ended. ended.report.handles ≡ 0) }
+    ensures calls { IfOk result (λ ended. ended.counts.calls ≡ 3 * rounds) }
+    ensures handles { IfOk result (λ ended. ended.counts.handles ≡ 0) }
 {
     let limits = Limits {
         workers: 1,
         ring: places,
         ..Limits::default()
     };
-    beside_a_drain(rt, alloc, limits, Plan::Rounds(rounds), layers)
+    beside_a_reader(rt, alloc, limits, Plan::Rounds(rounds), layers)
 }
 
 /// What the worker does: it makes its rounds, and leaves.

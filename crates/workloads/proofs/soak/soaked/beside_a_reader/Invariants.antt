@@ -1,5 +1,5 @@
 use Rattle.std.specs.Prelude.{[], Some}
-use Rattle.workloads.proofs.soak.soaked.beside_a_drain.Given as goal
+use Rattle.workloads.proofs.soak.soaked.beside_a_reader.Given as goal
 
 abbrev pub ghosts-run-H-Ledger : goal.ghosts-run-H-Ledger
 ghosts-run-H-Ledger g a = record { name = a.blanks.handles; parts = a.blanks.handle_parts }
