@@ -5,7 +5,6 @@
 #![tactic(auto)]
 
 mod call_costs;
-mod reading;
 mod ended;
 mod ending;
 mod held;
@@ -14,6 +13,7 @@ mod made;
 mod numbers;
 mod order;
 mod parts;
+mod reading;
 mod soak;
 mod texts;
 

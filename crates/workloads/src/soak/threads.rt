@@ -3,8 +3,8 @@ ghost use Rattle.std.specs.Prelude.{◌≡◌, ◌<◌, IfOk, vec_len};
 ghost use Rattle.workloads.specs.Back.{ComesBack, HasAll};
 
 use crate::call_costs::slow_reader::make_rounds;
-use crate::reading::{Reading, start_reading};
 use crate::order::Plan;
+use crate::reading::{Reading, start_reading};
 use crate::soak::caller::work;
 use crate::soak::returned::Returned;
 use crate::texts::Texts;

@@ -81,7 +81,15 @@ fn named<H: Ledger, C: Ledger, S: Setup, R: Wait + Abort>(
     let number = blanks.limits().limits().workers;
     let made = Registry::<H, C, S, Ring>::new(alloc, filters, ring, blanks);
     let (registry, workers) = made.expect(rt, "memory");
-    let whole = all_calls(rt, alloc, &registry, &mut NoDrain, workers, acts, transcript);
+    let whole = all_calls(
+        rt,
+        alloc,
+        &registry,
+        &mut NoDrain,
+        workers,
+        acts,
+        transcript,
+    );
     let mut reader = reader;
     let mut lines = Vec::new(alloc);
     if reader.fill() {
