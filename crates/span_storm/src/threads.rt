@@ -1,7 +1,8 @@
 //! All threads of a storm, and what comes back of them.
 ghost use Rattle.std.specs.Prelude.{◌≡◌, ◌+◌, ◌*◌, ◌^◌, ◌<◌, ◌≤◌, true, IfOk, IfErr, All, map, length, vec_len, sum_by};
 ghost use Rattle.span_storm.specs.Storm.{wants_jobs};
-ghost use Rattle.span_storm.specs.inside.Back.{AreBothBack, AreReady, both_shares, Fit, Gathers, HasAll, IsHeldAs, share_and_drain};
+ghost use Rattle.span_storm.specs.inside.Back.{AreBothBack, AreReady, both_shares, Fit, Gathers, HasAll};
+ghost use Rattle.span_storm.specs.inside.Back.{IsHeldAs, share_and_drain};
 
 use crate::draining::start_drain;
 use crate::gate::Gate;
