@@ -6,7 +6,7 @@ use crate::tests::registry::held::{Part, finished, gather};
 use crate::tests::registry::layers::{Plan, layers};
 use crate::tests::registry::on_registry::calls;
 use crate::tests::registry::same::same;
-use crate::tests::registry::steps::{NoDrain, Steps};
+use crate::tests::registry::steps::NoDrain;
 use crate::tests::registry::threads::{Turn, take_turns};
 use span_id::Limits;
 use span_layers::{Filters, Say};
@@ -28,25 +28,22 @@ pub(crate) enum Deed<'a> {
     InThreads(&'a [Turn]),
 }
 
-/// The calls, and the parts of the workers and of the handles that are left.
-pub(crate) fn all_calls<H: Ledger, C: Ledger, S: Setup, O: Outlet, D: Steps, R: Wait + Abort>(
+// The calls, and the parts of the workers and of the handles that are left.
+fn all_calls<H: Ledger, C: Ledger, S: Setup, O: Outlet, R: Wait + Abort>(
     rt: &R,
     alloc: Global,
     registry: &Registry<H, C, S, O>,
-    drain: &mut D,
     workers: Vec<Worker<H, C, S>>,
     acts: &[(u32, Act)],
     transcript: &mut Transcript,
-) -> Option<Part<H, C, S>>
-    ensures name { D.name drain.new ≡ D.name drain.old }
-{
+) -> Option<Part<H, C, S>> {
     let mut workers = workers;
     let mut held = Vec::new(alloc);
     calls(
         rt,
         alloc,
         registry,
-        drain,
+        &mut NoDrain,
         workers.as_mut_slice(),
         &mut held,
         acts,
@@ -71,9 +68,7 @@ fn perform<
     transcript: &mut Transcript,
 ) -> Option<Part<H, C, S>> {
     match deed {
-        Deed::Calls(acts) => {
-            all_calls(rt, alloc, registry, &mut NoDrain, workers, acts, transcript)
-        }
+        Deed::Calls(acts) => all_calls(rt, alloc, registry, workers, acts, transcript),
         Deed::InThreads(turns) => take_turns(rt, alloc, registry, workers, turns, transcript),
     }
 }

@@ -2,17 +2,65 @@
 ghost use Rattle.std.specs.Prelude.{◌≡◌, [], Some};
 
 use crate::tests::registry::acts::{Act, Transcript};
-use crate::tests::registry::ended::{Ended, all_calls};
-use crate::tests::registry::held::drained;
+use crate::tests::registry::ended::Ended;
+use crate::tests::registry::held::{Held, Part, drained, gather};
 use crate::tests::registry::layers::{Plan, layers};
+use crate::tests::registry::on_registry::calls;
 use span_id::Limits;
 use span_layers::Filters;
-use span_registry::{Blanks, Drain, HANDLE_PARTS, Registry, Report, Ring, Setup};
+use span_registry::{Blanks, Drain, HANDLE_PARTS, Registry, Report, Ring, Setup, Worker};
 use std::alloc::Global;
 use std::marker::Brand;
 use std::process::Abort;
 use std::sync::Wait;
 use std::sync::ledger::Ledger;
+
+// These calls and steps of the drain; then the first worker sees what the drain has taken, which changes nothing else.
+fn calls_and_a_look<H: Ledger, C: Ledger, S: Setup, R: Wait + Abort>(
+    rt: &R,
+    alloc: Global,
+    registry: &Registry<H, C, S, Ring>,
+    drain: &mut Drain,
+    workers: &mut [Worker<H, C, S>],
+    held: &mut Vec<Held<H, C, S>>,
+    acts: &[(u32, Act)],
+    transcript: &mut Transcript,
+)
+    requires pair { Some drain.old.name ≡ S.ring }
+    ensures name { drain.new.name ≡ drain.old.name }
+{
+    calls(rt, alloc, registry, drain, workers, held, acts, transcript);
+    let first = workers.first_mut().expect(rt, "a worker");
+    registry.drained(rt, first, drain);
+}
+
+// The calls, with a look of the first worker at the drain midway and at their end, and the parts of the workers and of
+// the handles that are left.
+fn all_calls<H: Ledger, C: Ledger, S: Setup, R: Wait + Abort>(
+    rt: &R,
+    alloc: Global,
+    registry: &Registry<H, C, S, Ring>,
+    drain: &mut Drain,
+    workers: Vec<Worker<H, C, S>>,
+    acts: &[(u32, Act)],
+    transcript: &mut Transcript,
+) -> Option<Part<H, C, S>>
+    requires pair { Some drain.old.name ≡ S.ring }
+    ensures name { drain.new.name ≡ drain.old.name }
+{
+    let mut workers = workers;
+    let mut held = Vec::new(alloc);
+    let (before, after) = acts.split_at(acts.len() / 2);
+    let all = workers.as_mut_slice();
+    calls_and_a_look(
+        rt, alloc, registry, drain, all, &mut held, before, transcript,
+    );
+    let all = workers.as_mut_slice();
+    calls_and_a_look(
+        rt, alloc, registry, drain, all, &mut held, after, transcript,
+    );
+    gather(rt, alloc, &mut transcript.counts, workers, held)
+}
 
 // Generic in the names, which the caller picks.
 fn named<H: Ledger, C: Ledger, S: Setup, R: Wait + Abort>(
