@@ -28,8 +28,8 @@ pub(crate) enum Deed<'a> {
     InThreads(&'a [Turn]),
 }
 
-// The calls, and the parts of the workers and of the handles that are left.
-fn all_calls<H: Ledger, C: Ledger, S: Setup, O: Outlet, R: Wait + Abort>(
+/// The calls, and the parts of the workers and of the handles that are left.
+pub(crate) fn all_calls<H: Ledger, C: Ledger, S: Setup, O: Outlet, R: Wait + Abort>(
     rt: &R,
     alloc: Global,
     registry: &Registry<H, C, S, O>,

@@ -5,7 +5,6 @@ use crate::tests::registry::acts::{Act, Transcript};
 use crate::tests::registry::ended::{Ended, all_calls};
 use crate::tests::registry::held::counted;
 use crate::tests::registry::layers::{Plan, layers};
-use crate::tests::registry::steps::NoDrain;
 use span_id::Limits;
 use span_layers::{Filters, Say};
 use span_registry::{
@@ -81,15 +80,7 @@ fn named<H: Ledger, C: Ledger, S: Setup, R: Wait + Abort>(
     let number = blanks.limits().limits().workers;
     let made = Registry::<H, C, S, Ring>::new(alloc, filters, ring, blanks);
     let (registry, workers) = made.expect(rt, "memory");
-    let whole = all_calls(
-        rt,
-        alloc,
-        &registry,
-        &mut NoDrain,
-        workers,
-        acts,
-        transcript,
-    );
+    let whole = all_calls(rt, alloc, &registry, workers, acts, transcript);
     let mut reader = reader;
     let mut lines = Vec::new(alloc);
     if reader.fill() {
