@@ -30,6 +30,7 @@ pub use Rattle.span_forest.specs.Spans
 pub use Rattle.span_forest.specs.Count
 pub use Rattle.span_forest.specs.Holders
 pub use Rattle.span_forest.specs.Release
+pub use Rattle.span_forest.specs.Holding
 pub use Rattle.span_seats.specs.declared.view.HandleView
 -- What the lock adds.
 pub mod Setup

@@ -5,6 +5,7 @@ ghost use Rattle.span_registry.specs.Worker.{IsNew};
 mod beside;
 mod calls;
 mod finish;
+mod questions;
 
 use crate::blanks::Blanks;
 use crate::locked::Locked;
