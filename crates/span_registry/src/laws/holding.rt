@@ -48,8 +48,8 @@ pub fn open_spans<H: Ledger, C: Ledger, S: Setup, O: Outlet, A>(
     locked.core.open_spans()
 }
 
-/// What keeps all open spans open: the spans that have handles or entries of their own, with how many, by ascending slot.
-/// There are none exactly where no span is open. It is no call of the history. The only error is `Memory`.
+/// What keeps all open spans open: the spans that have handles or entries of their own, with how many, by ascending
+/// slot. There are none exactly where no span is open. It is no call of the history. The only error is `Memory`.
 pub fn held_spans<H: Ledger, C: Ledger, S: Setup, O: Outlet, A>(
     locked: &mut Locked<H, C, S, O, A>,
     worker: &mut Worker<H, C, S>,
@@ -123,8 +123,8 @@ pub fn workers_inside<H: Ledger, C: Ledger, S: Setup, O: Outlet, A>(
 }
 
 /// Where no call was accepted after the list of all that is held was asked for, the registry ends with no span left
-/// exactly where that list is empty: what is counted is of a core whose history begins with the one that was known then,
-/// and is no longer.
+/// exactly where that list is empty: what is counted is of a core whose history begins with the one that was known
+/// then, and is no longer.
 pub fn no_span_is_left_where_none_is_held()
     ensures { (rules : List Filter) (workers : ℕ) (history : List PlainBatch) (world : World) (core : CoreView)
         (counts : Counts) →

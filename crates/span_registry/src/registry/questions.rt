@@ -39,8 +39,8 @@ impl<H: Ledger, C: Ledger, S: Setup, O: Outlet, A> Registry<H, C, S, O, A> {
     }
 
     /// What keeps all open spans open: the spans that have handles or entries of their own, with how many, by ascending
-    /// slot. There are none exactly where no span is open. `finish` cannot fail, so this is asked for before it. It is no
-    /// call of the history. Under the lock it looks at each slot that was ever used. The only error is `Memory`.
+    /// slot. There are none exactly where no span is open. `finish` can't fail, so this is asked for before it. It is
+    /// no call of the history. Under the lock it looks at each slot that was ever used. The only error is `Memory`.
     pub fn held_spans<R: Wait>(
         &self,
         rt: &R,
@@ -81,9 +81,9 @@ impl<H: Ledger, C: Ledger, S: Setup, O: Outlet, A> Registry<H, C, S, O, A> {
         laws::holders_of(&mut *self.locked.lock(rt), worker, id)
     }
 
-    /// The workers that are inside a span, by their numbers. A worker that entered it more than once is one entry, and
-    /// has to leave it as often. It is no call of the history. Under the lock it goes through the stacks of all workers.
-    /// The only error is `Memory`.
+    /// The workers that are inside a span, by their numbers, as many as it has entries. A worker that entered it more
+    /// than once is one entry, and has to leave it as often. It is no call of the history. Under the lock it goes
+    /// through the stacks of all workers. The only error is `Memory`.
     pub fn workers_inside<R: Wait>(
         &self,
         rt: &R,
