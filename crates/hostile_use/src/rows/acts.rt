@@ -19,6 +19,10 @@ pub(crate) enum Act {
     /// With `MESSAGE`.
     Event,
     Find(Named),
+    OpenSpans,
+    HeldSpans,
+    HoldersOf(Named),
+    WorkersInside(Named),
 }
 
 /// The message of each event.

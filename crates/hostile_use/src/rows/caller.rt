@@ -2,7 +2,7 @@
 ghost use Rattle.std.specs.Prelude.{◌≡◌, ◌+◌, ◌-◌, ◌^◌, vec_len, sum_by};
 ghost use Rattle.hostile_use.specs.Units.{units_in};
 
-use crate::answer::{Answer, done, yes_or_no};
+use crate::answer::{Answer, done, holders, spans, workers, yes_or_no};
 use crate::rows::acts::{Act, MESSAGE, Names};
 use crate::rows::held::{Hands, Held};
 use span_id::{Fault, Field, Id, Meta};
@@ -53,6 +53,14 @@ impl<H: Ledger, C: Ledger, S: Setup> Caller<H, C, S> {
             Act::Close(named) => self.try_close(rt, registry, named.id()),
             Act::Event => self.event(rt, registry, &names.event, MESSAGE),
             Act::Find(named) => find(rt, alloc, registry, &mut self.worker, named.id()),
+            Act::OpenSpans => spans(registry.open_spans(rt, &mut self.worker)),
+            Act::HeldSpans => holders(registry.held_spans(rt, &mut self.worker)),
+            Act::HoldersOf(named) => {
+                holders(registry.holders_of(rt, &mut self.worker, named.id()))
+            }
+            Act::WorkersInside(named) => {
+                workers(registry.workers_inside(rt, &mut self.worker, named.id()))
+            }
         }
     }
 

@@ -21,17 +21,22 @@ use std::sync::Wait;
 use std::sync::ledger::Ledger;
 
 // Each call once or twice.
-static EVERY_CALL: [Planned<'static, Act>; 10] = [
+static EVERY_CALL: [Planned<'static, Act>; 15] = [
     ("new a", Taken, Act::New(Called::A, Apart)),
     ("clone 1", Taken, Act::Clone(One)),
     ("enter 1", Taken, Act::Enter(One)),
     ("record 1", Taken, Act::Record(One)),
     ("event m", Taken, Act::Event),
     ("find 1", Taken, Act::Find(One)),
+    ("open spans", Taken, Act::OpenSpans),
+    ("held spans", Taken, Act::HeldSpans),
+    ("holders of 1", Taken, Act::HoldersOf(One)),
+    ("workers inside 1", Taken, Act::WorkersInside(One)),
     ("close 1", Taken, Act::Close(One)),
     ("exit 1", Taken, Act::Exit(One)),
     ("close 1", Taken, Act::Close(One)),
     ("find 1", Taken, Act::Find(One)),
+    ("holders of 1", Taken, Act::HoldersOf(One)),
 ];
 
 // A handle that is given up.

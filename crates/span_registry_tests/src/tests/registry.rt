@@ -1,5 +1,6 @@
 //! The calls of a registry run, with their answers and their reports.
 mod acts;
+mod asked;
 mod backlog;
 mod caller;
 mod ended;

@@ -37,6 +37,8 @@ pub(crate) enum Act<'a> {
         fields: Fields<'a>,
     },
     Find(u64),
+    /// What holds all spans and what holds this one.
+    Ask(u64),
     /// What was counted of the worker.
     Count,
     /// A step of the drain, where there is one.
@@ -65,6 +67,7 @@ pub(crate) fn said_by(rt: &impl Abort, alloc: Global, act: &Act) -> Said {
         | Act::Exit(_)
         | Act::Close(_)
         | Act::Find(_)
+        | Act::Ask(_)
         | Act::Count
         | Act::Step => said_of(rt, alloc, ("", ""), Level::Info, &[]),
     }
@@ -86,6 +89,7 @@ pub(crate) fn parent_of(act: &Act) -> ParentOf {
         | Act::Record(..)
         | Act::Event { .. }
         | Act::Find(_)
+        | Act::Ask(_)
         | Act::Count
         | Act::Step => ParentOf::Current,
     }
@@ -94,7 +98,7 @@ pub(crate) fn parent_of(act: &Act) -> ParentOf {
 /// The id that a look is for.
 pub(crate) fn looked_for(act: &Act) -> Option<Id> {
     match act {
-        Act::Find(number) => Id::from_u64(*number),
+        Act::Find(number) | Act::Ask(number) => Id::from_u64(*number),
         _ => None,
     }
 }

@@ -4,6 +4,7 @@ ghost use Rattle.std.specs.Prelude.{◌≡◌, ◌<◌, []};
 use crate::tests::registry::acts::{
     Act, Answer, Sight, Transcript, lines_text, looked_for, parent_of, push_sight, said_by,
 };
+use crate::tests::registry::asked::{Asked, push_asked};
 use crate::tests::registry::layers::{Plan, Said, layers};
 use crate::tests::registry::same::{is_text, same};
 use span_id::{Checked, Fault, Id, Limits};
@@ -93,6 +94,7 @@ fn pass<O: Outlet>(core: &mut Core<O>, worker: u32, act: &Act, said: &Said) -> A
         | Act::Exit(_)
         | Act::Close(_)
         | Act::Find(_)
+        | Act::Ask(_)
         | Act::Count
         | Act::Step => Answer::Refused(Fault::Unknown),
     }
@@ -126,7 +128,7 @@ fn call<O: Outlet>(
             hold_numbered(core, worker, act, *number)
         }
         // A look that names no id.
-        Act::Find(_) => Answer::Refused(Fault::Unknown),
+        Act::Find(_) | Act::Ask(_) => Answer::Refused(Fault::Unknown),
         Act::Step | Act::Count => Answer::Stepped(None),
         Act::New(_) | Act::Child(..) | Act::Make { .. } | Act::Record(..) | Act::Event { .. } => {
             give(rt, alloc, core, worker, act)
@@ -155,6 +157,23 @@ fn note_found<O: Outlet>(
     push_sight(rt, alloc, finds, Some(&sight));
 }
 
+// What holds all spans, and what holds this one, as a registry would.
+fn note_asked<O: Outlet>(
+    rt: &impl Abort,
+    alloc: Global,
+    core: &Core<O>,
+    id: Id,
+    answers: &mut Vec<u8>,
+) {
+    let asked = Asked {
+        open: core.open_spans().expect(rt, "memory"),
+        held: core.held_spans().expect(rt, "memory"),
+        holders: core.holders_of(id),
+        inside: core.workers_inside(id).expect(rt, "memory"),
+    };
+    push_asked(rt, alloc, answers, &asked);
+}
+
 // A call or a look.
 fn note_act<O: Outlet>(
     rt: &impl Abort,
@@ -164,9 +183,10 @@ fn note_act<O: Outlet>(
     act: &Act,
     transcript: &mut Transcript,
 ) {
-    match looked_for(act) {
-        Some(id) => note_found(rt, alloc, core, id, &mut transcript.answers),
-        None => {
+    match (looked_for(act), act) {
+        (Some(id), Act::Ask(_)) => note_asked(rt, alloc, core, id, &mut transcript.answers),
+        (Some(id), _) => note_found(rt, alloc, core, id, &mut transcript.answers),
+        (None, _) => {
             let answer = call(rt, alloc, core, worker, act);
             transcript.answer(rt, alloc, &answer);
         }

@@ -4,6 +4,7 @@ ghost use Rattle.std.specs.Prelude.{◌≡◌};
 use crate::tests::registry::acts::{
     Act, Answer, NEWEST, Sight, Transcript, looked_for, parent_of, push_sight, said_by,
 };
+use crate::tests::registry::asked::{Asked, push_asked};
 use crate::tests::registry::held::Held;
 use crate::tests::registry::layers::Said;
 use crate::tests::registry::steps::Steps;
@@ -215,6 +216,7 @@ fn pass<H: Ledger, C: Ledger, S: Setup, O: Outlet, R: Wait>(
         | Act::Exit(_)
         | Act::Close(_)
         | Act::Find(_)
+        | Act::Ask(_)
         | Act::Count
         | Act::Step => Answer::Refused(Fault::Unknown),
     }
@@ -236,7 +238,7 @@ pub(crate) fn call<H: Ledger, C: Ledger, S: Setup, O: Outlet, R: Wait + Abort>(
         Act::Close(number) => close(rt, registry, worker, held, *number),
         Act::Count => counted(worker),
         // A look that names no id.
-        Act::Find(_) => Answer::Refused(Fault::Unknown),
+        Act::Find(_) | Act::Ask(_) => Answer::Refused(Fault::Unknown),
         Act::Step => Answer::Stepped(None),
         Act::New(_) | Act::Child(..) | Act::Make { .. } | Act::Record(..) | Act::Event { .. } => {
             let said = said_by(rt, alloc, act);
@@ -278,6 +280,24 @@ fn note_found<H: Ledger, C: Ledger, S: Setup, O: Outlet, R: Wait + Abort>(
     }
 }
 
+// What holds all spans, and what holds this one.
+fn note_asked<H: Ledger, C: Ledger, S: Setup, O: Outlet, R: Wait + Abort>(
+    rt: &R,
+    alloc: Global,
+    registry: &Registry<H, C, S, O>,
+    worker: &mut Worker<H, C, S>,
+    id: Id,
+    answers: &mut Vec<u8>,
+) {
+    let asked = Asked {
+        open: registry.open_spans(rt, worker).expect(rt, "memory"),
+        held: registry.held_spans(rt, worker).expect(rt, "memory"),
+        holders: registry.holders_of(rt, worker, id),
+        inside: registry.workers_inside(rt, worker, id).expect(rt, "memory"),
+    };
+    push_asked(rt, alloc, answers, &asked);
+}
+
 // A call, a look or a step of the drain.
 fn note_act<H: Ledger, C: Ledger, S: Setup, O: Outlet, D: Steps, R: Wait + Abort>(
     rt: &R,
@@ -292,6 +312,9 @@ fn note_act<H: Ledger, C: Ledger, S: Setup, O: Outlet, D: Steps, R: Wait + Abort
     ensures name { D.name drain.new ≡ D.name drain.old }
 {
     match (looked_for(act), act) {
+        (Some(id), Act::Ask(_)) => {
+            note_asked(rt, alloc, registry, worker, id, &mut transcript.answers);
+        }
         (Some(id), _) => {
             note_found(rt, alloc, registry, worker, id, &mut transcript.answers);
         }

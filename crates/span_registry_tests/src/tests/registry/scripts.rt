@@ -122,6 +122,62 @@ fn a_second_entry_is_not_current(rt: HostRuntime) {
     agree(&rt, rt.alloc(), &[], &SECOND_ENTRY);
 }
 
+const ASKED: Script = Script {
+    acts: &[
+        (0, Act::Ask(1)),
+        (0, Act::New("a")),
+        (0, Act::Child("b", 1)),
+        (0, Act::Child("c", 0)),
+        (0, Act::Clone(2)),
+        (1, Act::Enter(2)),
+        (0, Act::Enter(2)),
+        (0, Act::Enter(2)),
+        (0, Act::Close(1)),
+        (0, Act::Ask(1)),
+        (0, Act::Ask(2)),
+        (1, Act::Ask(3)),
+        (0, Act::Close(2)),
+        (0, Act::Close(2)),
+        (0, Act::Exit(2)),
+        (1, Act::Exit(2)),
+        (0, Act::Ask(1)),
+        (0, Act::Exit(2)),
+        (1, Act::Ask(1)),
+        (0, Act::Close(3)),
+        (1, Act::Ask(3)),
+    ],
+    answers: "\
+= open held holders ! unknown inside
+= 1
+= 2
+= 3
+= cloned
+= entered
+= entered
+= again
+= open
+= open 1 2 3 held 2:2/2 3:1/0 holders 2:2/2 inside
+= open 1 2 3 held 2:2/2 3:1/0 holders 2:2/2 inside 0 1
+= open 1 2 3 held 2:2/2 3:1/0 holders 3:1/0 inside
+= open
+= open
+= open
+= open
+= open 1 2 3 held 2:0/1 3:1/0 holders 2:0/1 inside
+= closed
+= open 3 held 3:1/0 holders ! unknown inside
+= closed
+= open held holders ! unknown inside
+",
+    lines: "",
+};
+
+// A span is open as long as something is listed for it, here its child, which one worker has entered twice.
+#[test]
+fn what_holds_a_span_is_listed(rt: HostRuntime) {
+    agree(&rt, rt.alloc(), &[], &ASKED);
+}
+
 const OWN_PATHS: Script = Script {
     acts: &[
         (0, Act::New("a")),
