@@ -12,7 +12,7 @@ use Rattle.span_registry.specs.Worker.{WorkerView, front_of}
 
 -- It happened, in a registry that was made with these limits and rules, and the worker was so before and is so after:
 -- there was a core, with a legal history that begins with all that the worker had seen and has no other calls of its
--- own, and this step left a core whose history is all that the worker has then seen.
+-- own, and this step left a core whose legal history is all that the worker has then seen.
 pub record Happened
     (limits : Limits) (rules : List Filter) (before after : WorkerView) (step : CoreView → CoreView → Type 0)
     : Type 0 where
@@ -24,6 +24,7 @@ pub record Happened
   pub seen_before : IsFront (front_of before) old.sent
   pub step_is : step old new
   pub seen_after : after.seen ≡ new.sent
+  pub legal_after : IsLegal rules limits.workers new.sent new.world
 
 -- the spans that close where a handle is given back
 abbrev pub closed_by_close : World → ℕ → List ℕ

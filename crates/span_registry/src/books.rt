@@ -1,6 +1,7 @@
 //! What a call moves in the two books, at the keeper and at its worker.
 ghost use Rattle.std.specs.Prelude.{◌≡◌, ◌+◌, ◌-◌, ◌^◌, ◌<◌, ◌≤◌};
 ghost use mathlib.Core.List.{IsPrefix};
+ghost use Rattle.span_core.specs.History.{IsLegal};
 ghost use Rattle.span_history.specs.Own.{IsFront};
 ghost use Rattle.span_registry.specs.Worker.{WorkerView, after_call, front_of, HasOneMore, HasNoMore};
 ghost use Rattle.span_registry.specs.inside.Called.{IsAsLong, IsOneLonger};
@@ -28,6 +29,7 @@ pub(crate) fn see<H: Ledger, C: Ledger, S: Setup, O: Outlet, A>(
     ensures more { IsPrefix worker.old.seen worker.new.seen }
     ensures own { HasNoMore worker.old worker.new }
     ensures worker { worker.new ≡ record worker.old { seen = core.now.sent } }
+    ensures legal { IsLegal S.rules S.limits.workers core.now.sent core.now.world }
 {
     // (it says that what was sent is legal)
     core.calls();
@@ -49,6 +51,7 @@ pub(crate) fn count_call<H: Ledger, C: Ledger, S: Setup, O: Outlet, A>(
     ensures more { IsPrefix worker.old.seen worker.new.seen }
     ensures own { HasOneMore worker.old worker.new }
     ensures worker { worker.new ≡ after_call worker.old worker.old.spare core.now.sent }
+    ensures legal { IsLegal S.rules S.limits.workers core.now.sent core.now.world }
 {
     core.calls();
     keeper.next(core.outlet(), &mut worker.front);
