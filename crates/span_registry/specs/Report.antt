@@ -1,10 +1,12 @@
 -- What is counted at the end of a registry, and what a report tells.
-use Rattle.std.specs.Prelude.{◌≡◌, List, [], length, map, All, Some}
+use Rattle.std.specs.Prelude.{◌≡◌, ℕ, ◌^◌, ◌≤◌, ◌<◌, List, [], length, map, All}
 use mathlib.Core.List.{IsPrefix}
+use Rattle.span_id.specs.Id.{slot_of}
 use Rattle.span_id.specs.declared.limits.Limits.{Limits}
 use Rattle.span_layers.specs.declared.form.Form.{Form}
 use Rattle.span_layers.specs.Filter.{Filter}
-use Rattle.span_forest.specs.Count.{total_handles}
+use Rattle.span_forest.specs.Spans.{IsOpen}
+use Rattle.span_forest.specs.Count.{reference_count, total_handles}
 use Rattle.span_history.specs.Own.{IsFront}
 use Rattle.span_outlet.specs.Lines.{plain_line}
 use Rattle.span_outlet.specs.Kept.{AreKept, numbered}
@@ -46,13 +48,19 @@ pub record Tells (core : CoreView) (forms : List Form) (report : Report) : Type 
   pub counts : AreCounts core (counts_of report)
   pub lines : AreKept forms (numbered core.sent) (map plain_line report.lines.items) report.refused
 
+-- this core kept these limits: each count is at most the greatest, each open span is in one of the slots, and the calls
+-- can be counted
+pub record IsWithin (limits : Limits) (core : CoreView) : Type 0 where
+  pub counts : (id : ℕ) → reference_count core.world.spans id ≤ limits.max_count
+  pub slots : (id : ℕ) → IsOpen core.world.spans id → slot_of id < limits.slots
+  pub calls : length core.sent < 2 ^ 64
+
 -- A registry which was made with these limits and rules ended with this share, the whole one, and this core: the core's
--- batches are a legal history under them, of which each worker had seen a beginning with all its own calls, and its spans
--- are none where no handle was given up and no stack has an entry.
+-- batches are a legal history under them, of which each worker had seen a beginning with all its own calls, it kept the
+-- limits, and its spans are none where no handle was given up and no stack has an entry.
 pub record HasEnded (limits : Limits) (rules : List Filter) (share : ShareView) (core : CoreView) : Type 0 where
-  pub limits_are : core.limits ≡ limits
-  pub rules_are : core.rules ≡ rules
   pub legal : IsLegal rules limits.workers core.sent core.world
+  pub within : IsWithin limits core
   pub fronts : length share.seen ≡ limits.workers
   pub seen_are : All (λ front. IsFront front core.sent) share.seen
   pub emptied : share.units ≡ 0 → entries_in core.world.stacks ≡ 0 → core.world.spans ≡ []
@@ -71,7 +79,6 @@ pub record IsDrainedEnd
     (limits : Limits) (rules : List Filter) (drain : DrainView) (share : ShareView) (report : Report)
     : Type 0 where
   pub end : IsEnd limits rules drain.forms share report
-  pub ring_is : end.core.name ≡ Some drain.name
   pub taken : IsPrefix drain.taken end.core.sent
   pub first : IsPrefix drain.lines (map plain_line report.lines.items)
 
@@ -86,7 +93,6 @@ pub record IsReadingEnd
   pub ended : HasEnded limits rules share core
   pub counted : AreCounts core counts
   pub sent : ring.sent ≡ core.sent
-  pub times_full : ring.times_full ≡ core.times_full
   pub ring_is : ring.name ≡ reader.name
   pub taken : IsPrefix reader.taken core.sent
   pub lines : AreLeft reader

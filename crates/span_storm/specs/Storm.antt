@@ -1,16 +1,15 @@
 -- What a storm is made with.
-use Rattle.std.specs.Prelude.{◌≡◌, ℕ, ◌≤◌, Bool, List, codes, IsSomeAnd}
+use Rattle.std.specs.Prelude.{ℕ, ◌≤◌, Bool, List, codes}
 use Rattle.span_id.specs.declared.limits.Limits.{Limits}
 use Rattle.span_id.specs.declared.level.Level.TheVariants.{Info}
 use Rattle.span_id.specs.Meta.{PlainMeta}
 use Rattle.span_layers.specs.Filter.{Filter}
 use Rattle.span_layers.specs.declared.form.Form.{Form}
-use Rattle.span_outlet.specs.Ring.{places_of}
 use Rattle.span_core.specs.Step.{is_wanted}
 use Rattle.span_core.specs.History.{IsLegal}
 use Rattle.span_core.specs.Core.{CoreView}
 use Rattle.span_registry.specs.declared.report.Report.{Report}
-use Rattle.span_registry.specs.Report.{Tells}
+use Rattle.span_registry.specs.Report.{IsWithin, Tells}
 use Rattle.span_run.specs.declared.fault.RunFault.{RunFault}
 use Rattle.span_run.specs.declared.fault.RunFault.TheVariants.{Script, Memory, Device, Refused, Held}
 
@@ -32,15 +31,13 @@ storm_limits workers = record {
   ring = 65536;
 }
 
--- The report of a storm with these limits and layers: it tells of a core whose batches are a legal history under them,
--- which went through a ring with as many places as they say, and its lines are those of that history in the layers'
--- forms, but for the notes that were missed.
+-- The report of a storm with these limits and layers: it tells of a core which kept the limits and whose batches are a
+-- legal history under them, and its lines are those of that history in the layers' forms, but for the notes that were
+-- missed.
 pub record IsStormEnd (limits : Limits) (rules : List Filter) (forms : List Form) (report : Report) : Type 0 where
   pub core : CoreView
-  pub limits_are : core.limits ≡ limits
-  pub rules_are : core.rules ≡ rules
-  pub ring : IsSomeAnd core.name (λ name. places_of name ≡ limits.ring)
   pub legal : IsLegal rules limits.workers core.sent core.world
+  pub within : IsWithin limits core
   pub told : Tells core forms report
 
 -- A storm of so many workers ends early for want of memory, for a call that was refused, or for a party that was held:

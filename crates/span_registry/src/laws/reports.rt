@@ -8,14 +8,15 @@ ghost use Rattle.span_core.specs.World.{entries_in};
 ghost use Rattle.span_core.specs.History.{IsLegal};
 ghost use Rattle.span_history.specs.Own.{IsFront};
 ghost use Rattle.span_registry.specs.Share.{IsWhole};
-ghost use Rattle.span_registry.specs.Report.{AreCounts, Tells};
+ghost use Rattle.span_registry.specs.Report.{AreCounts, IsWithin, Tells};
 
 use crate::locked::Locked;
 use crate::report::{Counts, Report};
 use crate::setup::Setup;
 use crate::share::Share;
 use span_core::laws::{
-    empty_where_nothing_is_held, entries_are_counted_once, made_spans_are_open_or_closed,
+    counts_and_calls_have_bounds, each_slot_has_one_open_span, empty_where_nothing_is_held,
+    entries_are_counted_once, made_spans_are_open_or_closed,
 };
 use span_layers::Say;
 use span_outlet::{Drain, Kept, Line, LineReader, Outlet, Ring};
@@ -32,6 +33,7 @@ pub fn finish_kept<H: Ledger, C: Ledger, S: Setup, V: Say + Drop, A: Drop>(
     requires { IsWhole H.parts C.parts share }
     ensures setup { (locked.limits ≡ S.limits) × (locked.rules ≡ S.rules) × (locked.name ≡ S.ring) }
     ensures legal { IsLegal S.rules S.limits.workers locked.sent locked.world }
+    ensures within { IsWithin S.limits locked }
     ensures fronts { length share.seen ≡ S.limits.workers }
     ensures seen { All (λ front. IsFront front locked.sent) share.seen }
     ensures told { Tells locked S.forms result }
@@ -62,6 +64,7 @@ pub fn finish<H: Ledger, C: Ledger, S: Setup, V: Say + Drop, A: Drop>(
     requires pair { Some drain.name ≡ S.ring }
     ensures setup { (locked.limits ≡ S.limits) × (locked.rules ≡ S.rules) × (locked.name ≡ S.ring) }
     ensures legal { IsLegal S.rules S.limits.workers locked.sent locked.world }
+    ensures within { IsWithin S.limits locked }
     ensures fronts { length share.seen ≡ S.limits.workers }
     ensures seen { All (λ front. IsFront front locked.sent) share.seen }
     ensures told { Tells locked drain.forms result }
@@ -97,6 +100,7 @@ pub fn finish_reading<H: Ledger, C: Ledger, S: Setup, V, A: Drop>(
     requires pair { Some reader.old.name ≡ S.ring }
     ensures setup { (locked.limits ≡ S.limits) × (locked.rules ≡ S.rules) × (locked.name ≡ S.ring) }
     ensures legal { IsLegal S.rules S.limits.workers locked.sent locked.world }
+    ensures within { IsWithin S.limits locked }
     ensures fronts { length share.seen ≡ S.limits.workers }
     ensures seen { All (λ front. IsFront front locked.sent) share.seen }
     ensures counted { AreCounts locked result.0 }
@@ -153,6 +157,7 @@ fn end<H: Ledger, C: Ledger, S: Setup, O: Outlet, A: Drop>(
     requires { IsWhole H.parts C.parts share }
     ensures setup { (locked.limits ≡ S.limits) × (locked.rules ≡ S.rules) × (locked.name ≡ S.ring) }
     ensures legal { IsLegal S.rules S.limits.workers locked.sent locked.world }
+    ensures within { IsWithin S.limits locked }
     ensures fronts { length share.seen ≡ S.limits.workers }
     ensures seen { All (λ front. IsFront front locked.sent) share.seen }
     ensures counted { AreCounts locked result.0 }
@@ -188,6 +193,8 @@ fn end<H: Ledger, C: Ledger, S: Setup, O: Outlet, A: Drop>(
     empty_where_nothing_is_held(&core);
     entries_are_counted_once(&core);
     made_spans_are_open_or_closed(&core);
+    counts_and_calls_have_bounds(&core);
+    each_slot_has_one_open_span(&core);
     let counts = Counts {
         left: core.len(),
         handles: units,

@@ -1,4 +1,7 @@
-use Rattle.std.proofs.Common.{rules, List, All, sym, ap, subst, ◌∙◌}
+use Rattle.std.proofs.Common.{rules, ◌≤◌, ◌<◌, List, All, sym, ap, subst, ◌∙◌}
+use Rattle.span_id.specs.Id.{slot_of}
+use Rattle.span_id.specs.declared.limits.Limits.{Limits}
+use Rattle.span_forest.specs.Count.{reference_count}
 use Rattle.span_history.specs.Own.{IsFront}
 use Rattle.span_outlet.specs.Batch.{PlainBatch}
 use Rattle.span_registry.proofs.Free.{free_legal}
@@ -34,3 +37,13 @@ returns-clause-forms g c = c.into_outlet.ensures.forms ∙ c.locked.invariant.fo
 
 pub returns-clause-setup : goal.returns-clause-setup
 returns-clause-setup g c = rw (← c.locked.view_is) (c.locked.invariant.limits_are, c.locked.invariant.rules_are, c.locked.invariant.ring_is)
+
+pub returns-clause-within : goal.returns-clause-within
+returns-clause-within g c =
+    let bounds = c.counts_and_calls_have_bounds.ensures in
+    let limits_are = c.locked.invariant.limits_are in
+    rw (← c.locked.view_is) (record {
+      counts = λ id. subst (λ (l : Limits). reference_count c.locked.inside.core.world.spans id ≤ l.max_count) limits_are (bounds.counts id);
+      slots = λ id is. subst (λ (l : Limits). slot_of id < l.slots) limits_are (c.each_slot_has_one_open_span.ensures.in_range id is);
+      calls = bounds.calls;
+    })

@@ -1,4 +1,3 @@
-use Rattle.std.proofs.Common.{sym, ◌∙◌}
 use Rattle.span_registry.proofs.registry.finish.Registry+H+C+S+Ring+A.finish.Goals as goal
 
 pub returns-clause-ended : goal.returns-clause-ended
@@ -8,16 +7,14 @@ returns-clause-ended g c =
       end = record {
         core = c.into_inner.result;
         ended = record {
-          limits_are = made.setup.0;
-          rules_are = made.setup.1;
           legal = made.legal;
+          within = made.within;
           fronts = made.fronts;
           seen_are = made.seen;
           emptied = made.emptied;
         };
         told = made.told;
       };
-      ring_is = made.setup.2 ∙ sym c.requires.pair;
       taken = made.taken;
       first = made.first;
     }
