@@ -25,9 +25,11 @@ PROGRAMS = [
     ("callsites", WRAPS),
     ("strangers", []),
 ]
+# (without --fair-sched a thread that waits for another may keep that one from running)
+VALGRIND = ["valgrind", "--quiet", "--leak-check=full", "--error-exitcode=3", "--fair-sched=try"]
 RUNS = [
     ("with sanitizers", ["-g", "-fsanitize=address,undefined", "-fno-sanitize-recover=all"], []),
-    ("under valgrind", ["-g", "-O1"], ["valgrind", "--quiet", "--leak-check=full", "--error-exitcode=3"]),
+    ("under valgrind", ["-g", "-O1"], VALGRIND),
 ]
 
 

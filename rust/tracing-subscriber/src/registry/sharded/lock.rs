@@ -16,9 +16,9 @@ const AWAITED: u32 = 2;
 /// How often it is looked at before a thread sleeps, and after how many pauses: four times as many each time, up to
 /// the most. Each look takes the lock's memory from the thread that has it, and with the lock goes all that it guards:
 /// so one thread does some calls in a row while the others wait, which is several times as fast as one call each.
-const LOOKS: u32 = 12;
-const FIRST_PAUSES: u32 = 16;
-const MOST_PAUSES: u32 = 512;
+const LOOKS: u32 = 10;
+const FIRST_PAUSES: u32 = 64;
+const MOST_PAUSES: u32 = 1024;
 
 /// Who looks at it takes nothing but the lock itself from the thread that has it: it has its own lines of the caches.
 #[derive(Default)]

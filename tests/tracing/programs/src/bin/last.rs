@@ -1,17 +1,14 @@
 //! What a thread's last destructors do with spans, after its other thread locals are gone: a span is dropped, entered,
 //! left, made and told of there, and nothing ends the process or stays.
-use programs::{is_there, lock, new, registry, root, site, Judge};
+use programs::{is_there, new, site, Judge};
 use std::cell::RefCell;
 use std::sync::mpsc::{channel, Sender};
-use std::sync::{Arc, Mutex};
 use tracing::span::EnteredSpan;
-use tracing::{dispatcher, Dispatch, Span, Subscriber};
+use tracing::{dispatcher, Dispatch, Span};
 use tracing_core::span::Id;
 use tracing_subscriber::fmt::format::FmtSpan;
-use tracing_subscriber::layer::Context;
 use tracing_subscriber::prelude::*;
-use tracing_subscriber::registry::LookupSpan;
-use tracing_subscriber::{Layer, Registry};
+use tracing_subscriber::Registry;
 
 /// What a thread does when this is dropped.
 struct Last {
@@ -82,43 +79,6 @@ fn ends_inside() -> bool {
     !is_there(&dispatch, &id)
 }
 
-/// Panics where it is dropped.
-struct Panics(Sender<()>);
-
-impl Drop for Panics {
-    fn drop(&mut self) {
-        let _ = self.0.send(());
-        panic!("a program's own");
-    }
-}
-
-/// Lets go of the last dispatcher of its own registry when it is told of a close.
-struct LetsGo(Arc<Mutex<Option<Dispatch>>>);
-
-impl<S: Subscriber> Layer<S> for LetsGo {
-    fn on_close(&self, _: Id, _: Context<'_, S>) {
-        let last = lock(&self.0).take();
-        drop(last);
-    }
-}
-
-/// A registry that ends while a thread ends inside a span, with data that panics.
-fn ends_with_the_thread() -> bool {
-    let shelf = Arc::default();
-    let dispatch = Dispatch::new(Registry::default().with(LetsGo(Arc::clone(&shelf))));
-    let (told, hears) = channel();
-    let thread = std::thread::spawn(move || {
-        let other = dispatcher::with_default(&dispatch, || {
-            std::mem::forget(tracing::info_span!("left").enter());
-            root(&dispatch, site!("open"))
-        });
-        registry(&dispatch).span(&other).expect("it is there").extensions_mut().insert(Panics(told));
-        *lock(&shelf) = Some(dispatch);
-    });
-    thread.join().expect("the thread ends well");
-    hears.iter().count() == 1
-}
-
 fn main() {
     std::panic::set_hook(Box::new(|_| {}));
     let judge = Judge::default();
@@ -135,7 +95,5 @@ fn main() {
     let is_right = made == 8 && open == 0 && stays == 0 && faults.is_empty();
     let is_left = ends_inside();
     println!("a span in which a thread ended: {}", if is_left { "gone" } else { "stays" });
-    let is_over = ends_with_the_thread();
-    println!("a registry that ends with a thread: {}", if is_over { "gone" } else { "stays" });
-    std::process::exit(i32::from(!is_right || !is_left || !is_over));
+    std::process::exit(i32::from(!is_right || !is_left));
 }
