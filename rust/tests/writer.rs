@@ -11,6 +11,9 @@ use std::time::Duration;
 
 type AnyError = Box<dyn std::error::Error>;
 
+/// How often it is looked whether something is over, each 5 milliseconds.
+const PATIENCE: u32 = 24_000;
+
 /// What was written, and what of it was flushed.
 #[derive(Clone, Default)]
 struct Paper {
@@ -105,7 +108,7 @@ fn a_guard_tells_how_many_lines_were_written() -> Result<(), AnyError> {
 /// What the guard tells; none where it doesn't end in time.
 fn finished(guard: Guard) -> Option<io::Result<u64>> {
     let ending = thread::spawn(|| guard.finish());
-    for _ in 0..4000 {
+    for _ in 0..PATIENCE {
         if ending.is_finished() {
             return ending.join().ok();
         }
@@ -170,7 +173,7 @@ impl Write for Failing {
 
 /// Whether it is accepted in time, as by `retry`.
 fn is_accepted(registry: &Registry) -> bool {
-    for _ in 0..4000 {
+    for _ in 0..PATIENCE {
         if try_event!(registry, Level::Info, "m").is_ok() {
             return true;
         }
@@ -209,7 +212,7 @@ fn a_writer_may_drop_its_own_guard() -> Result<(), AnyError> {
     let (registry, guard) = compact().ring(2).spawn_writer(Own(Arc::clone(&shelf)))?;
     *shelf.lock().expect("no panic") = Some(guard);
     event!(registry, Level::Info, "m");
-    for _ in 0..2000 {
+    for _ in 0..PATIENCE {
         if Arc::strong_count(&shelf) == 1 {
             return Ok(());
         }

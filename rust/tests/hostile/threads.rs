@@ -77,7 +77,7 @@ fn run(registry: &Registry, count: u32, steps: &[u64]) {
 
 /// A scope waits for its threads' closures, and not for their thread locals.
 fn wait_until(registry: &Registry, is_so: impl Fn(Counts) -> bool) {
-    for _ in 0..4000 {
+    for _ in 0..24_000 {
         if is_so(registry.counts()) {
             return;
         }

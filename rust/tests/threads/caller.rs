@@ -4,6 +4,9 @@ use std::sync::mpsc::{Receiver, Sender, SyncSender, TrySendError};
 use std::sync::Barrier;
 use std::time::Instant;
 
+/// So many steps each thread makes, however slow the machine is.
+const LEAST: u64 = 2_000;
+
 /// A handle of its own.
 pub struct Held {
     span: Span,
@@ -47,8 +50,10 @@ impl Caller {
 
     /// How many handles it has sent to others.
     pub fn run(mut self, until: Instant, all_stopped: &Barrier) -> u64 {
-        while Instant::now() < until {
+        let mut steps = 0;
+        while steps < LEAST || Instant::now() < until {
             self.step(&[]);
+            steps += 1;
         }
         all_stopped.wait();
         while let Ok(held) = self.inbox.try_recv() {
