@@ -1,9 +1,11 @@
 //! Two registries, each with the other as the default one: no release of one takes a handle of the other's spans, and
 //! the layers of each hear of each close of its own.
-use programs::{child, is_there, new, registry, root, site, Checks, Dice, Judge};
+use programs::{child, is_there, lock, new, registry, root, site, Checks, Dice, Judge};
 use std::collections::HashSet;
 use std::panic::{catch_unwind, AssertUnwindSafe};
 use std::sync::atomic::{AtomicBool, Ordering};
+use std::sync::mpsc::{channel, Sender};
+use std::sync::{Arc, Mutex};
 use tracing::{dispatcher, Dispatch, Subscriber};
 use tracing_core::span::Id;
 use tracing_subscriber::layer::Context;
@@ -156,10 +158,48 @@ fn where_a_layer_panics(checks: &mut Checks) {
     checks.check(&format!("{open} left open, faults {faults:?}"), open == 0 && faults.is_empty());
 }
 
+/// Panics where it is dropped.
+struct Panics(Sender<()>);
+
+impl Drop for Panics {
+    fn drop(&mut self) {
+        let _ = self.0.send(());
+        panic!("a program's own");
+    }
+}
+
+/// Lets go of the last dispatcher of its own registry when it is told of a close.
+struct LetsGo(Arc<Mutex<Option<Dispatch>>>);
+
+impl<S: Subscriber> Layer<S> for LetsGo {
+    fn on_close(&self, _: Id, _: Context<'_, S>) {
+        let last = lock(&self.0).take();
+        drop(last);
+    }
+}
+
+/// A registry that ends while a thread ends inside a span of it, with data that panics.
+fn ends_with_a_thread(checks: &mut Checks) {
+    let shelf = Arc::default();
+    let dispatch = Dispatch::new(Registry::default().with(LetsGo(Arc::clone(&shelf))));
+    let (told, hears) = channel();
+    let thread = std::thread::spawn(move || {
+        let open = dispatcher::with_default(&dispatch, || {
+            std::mem::forget(tracing::info_span!("left").enter());
+            root(&dispatch, site!("open"))
+        });
+        registry(&dispatch).span(&open).expect("it is there").extensions_mut().insert(Panics(told));
+        *lock(&shelf) = Some(dispatch);
+    });
+    checks.check("the thread ends well", thread.join().is_ok());
+    checks.check("and the registry with it", hears.try_iter().count() == 1);
+}
+
 fn main() {
     std::panic::set_hook(Box::new(|_| {}));
     let mut checks = Checks::default();
     ids_apart(&mut checks);
+    ends_with_a_thread(&mut checks);
     never_the_default(&mut checks, 1, 0);
     never_the_default(&mut checks, 1, 5_000);
     never_the_default(&mut checks, 100_000, 0);
