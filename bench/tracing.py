@@ -2,8 +2,9 @@
 
     bench/tracing.py instructions   of a round, by callgrind: the difference of two runs, which no load changes
     bench/tracing.py allocations    of a round
-    bench/tracing.py clock          nanoseconds of a round by 1, 2, 4 and 8 threads at once, of the clock and of the
-                                    processor, the two by turns, the least of so many turns each; on a quiet machine
+    bench/tracing.py clock          nanoseconds of a round by 1, 2, 4 and 8 threads at once, of the clock from the first
+                                    thread's start to the last one's end, and of the processor, the two by turns, the
+                                    least of so many turns each; on a quiet machine
     bench/tracing.py benches        the crate's own four benches, with a stand-in for criterion: nanoseconds of the
                                     clock, as above
 
@@ -41,6 +42,7 @@ TIMED = [
     ("raw", "span", "none", 1),
     ("raw", "span", "none", 100),
     ("raw", "shared", "none", 0),
+    ("raw", "shared", "line", 0),
     ("raw", "clone", "none", 1),
     ("raw", "event", "none", 1),
     ("macros", "span", "none", 1),
