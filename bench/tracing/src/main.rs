@@ -249,9 +249,8 @@ fn main() {
     });
     let turns: Vec<Took> = clock.took.into_inner().unwrap().into_iter().flatten().collect();
     let rounds = f64::from(order.rounds);
-    let least = |time: fn(&Took) -> Duration| {
-        turns.iter().map(time).min().unwrap_or_default().as_nanos() as f64 / rounds
-    };
+    let least =
+        |time: fn(&Took) -> Duration| turns.iter().map(time).min().unwrap_or_default().as_nanos() as f64 / rounds;
     let (clock, processor) = (least(|took| took.ended - took.began), least(|took| took.processor));
     let asked = turns.last().map_or(0, |took| took.asked) as f64 / rounds;
     println!("{clock:.1} ns {processor:.1} ns {asked:.2} allocations");
