@@ -46,7 +46,7 @@ def taken(counts):
 
 
 def resident(pid):
-    """The memory of a process in kB; None where it has ended."""
+    """The memory in kB of a run of the project's own program, which this script started; None where it has ended."""
     try:
         with open(f"/proc/{pid}/status", encoding="ascii") as file:
             found = re.search(r"^VmRSS:\s+(\d+) kB$", file.read(), re.MULTILINE)

@@ -86,7 +86,7 @@ class Proof:
 
     def begin(self, jobs, niceness, copy):
         def alone():
-            # (in this session, since nice counts nothing beside another one)
+            # (setpgid and not setsid, across which nice counts nothing)
             os.setpgid(0, 0)
             os.nice(niceness)
 
