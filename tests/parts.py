@@ -3,10 +3,10 @@
 
 usage: parts.py [--quick]
 
-A part that needs nothing begins beside `rt ci`. The others come after it, one after the other, on the programs that it
-leaves in crates/NAME/out/. A part whose program or library wasn't made failed; one whose tool isn't on the PATH isn't
-run, and says so. With --quick nothing is proved, and the parts that QUICK lists run side by side. The last line is
-'N passed, M failed', the sums of what the parts say in such a line.
+A part that needs nothing begins beside `rt ci`. Those on the programs that it leaves in crates/NAME/out/ run beside
+`rt lib`, and those on the libraries after it, each kind one after the other. A part whose program or library wasn't
+made failed; one whose tool isn't on the PATH isn't run, and says so. With --quick nothing is proved, and the parts that
+QUICK lists run side by side. The last line is 'N passed, M failed', the sums of what the parts say in such a line.
 """
 import contextlib
 import os
@@ -195,8 +195,15 @@ def why_not(part, built):
     return "", 0
 
 
+def able(parts, built):
+    """The parts that can run, and how those ended that can't."""
+    why = {part: why_not(part, built) for part in parts}
+    left_out = [Ended(part.name, [said], 0, failed) for part, (said, failed) in why.items() if said]
+    return [part for part, (said, _) in why.items() if not said], left_out
+
+
 def all_parts(runs):
-    """Runs each part, and gives it when it has ended and been shown."""
+    """Runs each part, and gives it when it has ended and been shown. What needs no library runs beside the others."""
     beside, thread = runs.beside([it for it in PARTS if not it.needs])
     print(f"== {GATE.name}", flush=True)
     gate = runs.run(GATE)
@@ -204,27 +211,31 @@ def all_parts(runs):
     yield gate
     yield from map(shown, (edits_made(gate.lines), who_may_wait(proved, kept)))
     built = {*proved, *kept}
+    needing = [it for it in PARTS if it.needs]
+    on_libraries = [it for it in needing if set(LIBRARIES) & set(it.needs.split())]
+    on_programs, left_out = able([it for it in needing if it not in on_libraries], built)
+    yield from map(shown, left_out)
+    ended, other_thread = runs.beside(on_programs)
     for name, part in LIBRARIES.items():
         print(f"== {part.name}", flush=True)
         library = runs.run(part)
         yield library
         built -= {name} if library.failed else set()
-    thread.join()
-    yield from map(shown, beside)
-    for part in (it for it in PARTS if it.needs):
-        why, failed = why_not(part, built)
-        if why:
-            yield shown(Ended(part.name, [why], 0, failed))
-            continue
+    for it in (thread, other_thread):
+        it.join()
+    yield from map(shown, beside + ended)
+    on_libraries, left_out = able(on_libraries, built)
+    yield from map(shown, left_out)
+    for part in on_libraries:
         print(f"== {part.name}", flush=True)
         yield runs.run(part)
 
 
 def quick_parts(runs):
     """The parts that need no proof."""
-    left_out = [(part, *why_not(part, ())) for part in QUICK]
-    begun = [runs.beside([part]) for part, why, _ in left_out if not why]
-    yield from (shown(Ended(part.name, [why], 0, failed)) for part, why, failed in left_out if why)
+    parts, left_out = able(QUICK, ())
+    begun = [runs.beside([part]) for part in parts]
+    yield from map(shown, left_out)
     for ended, thread in begun:
         thread.join()
         yield from map(shown, ended)
