@@ -37,7 +37,8 @@ class Part(NamedTuple):
 
 
 GATE = Part("the gate", "", "rt ci")
-LIBRARIES = {it: Part(f"the static library {it}", "", "rt lib", f"crates/{it}") for it in ("span_ffi", "span_store_ffi")}
+LIBRARIES = {it: Part(f"the static library {it}", "", "rt lib", f"crates/{it}")
+             for it in ("span_ffi", "span_store_ffi")}
 ALONE = [
     Part("the page of the theorem", "", "python3 tests/theorem.py"),
     Part("the model on the worked cases", "", "python3 tests/test_model.py"),
