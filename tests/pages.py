@@ -1,0 +1,104 @@
+#!/usr/bin/env python3
+"""Looks at the pages: how many words each has, that each relative link leads somewhere, that a thing is said once.
+
+usage: pages.py [--words]
+
+A page may have as many words as MOST says. A link names a file, and a heading of it where it goes on with '#'. No
+sentence of more than eight words stands in two pages; code and quoted lines are not looked at. With --words it prints
+what each page has, may have and is to come to. The last line is 'N passed, M failed'.
+"""
+import re
+import sys
+from pathlib import Path
+
+TOP = Path(__file__).resolve().parent.parent
+PAGES = ("*.md", "docs/*.md", "crates/*/*.md", "rust/*.md", "rust/*/*.md", "bench/*.md", "tests/*.md", "examples/*.md")
+WORDS_OF_A_SENTENCE = 8
+
+# Of each page the most words that it may have, and how many it is to come to.
+MOST = {
+}
+
+
+def read_pages():
+    paths = sorted({path for pattern in PAGES for path in TOP.glob(pattern)})
+    return {path.relative_to(TOP).as_posix(): path.read_text(encoding="utf-8") for path in paths}
+
+
+def prose(text):
+    """The page without its comments and its blocks of code."""
+    text = re.sub(r"<!--.*?-->", "", text, flags=re.S)
+    text = re.sub(r"^```.*?^```", "", text, flags=re.S | re.M)
+    return re.sub(r"^    .*$", "", text, flags=re.M)
+
+
+def lengths(pages):
+    """A page that isn't listed may have no word, and a listed one is there."""
+    for name in sorted({*pages, *MOST}):
+        most, found = MOST.get(name, (0, 0))[0], len(pages.get(name, "").split())
+        yield 0 < found <= most, f"{name} has {found} words, and may have {most}"
+
+
+def anchors(text):
+    """The names by which links go to the page's headings: small letters, no points, '-' for a blank."""
+    heads = re.findall(r"^#+ +(.*?) *$", prose(text), flags=re.M)
+    shown = (re.sub(r"\[([^]]*)\]\([^)]*\)", r"\1", head) for head in heads)
+    return {re.sub(r"[^\w\- ]", "", head.lower()).replace(" ", "-") for head in shown}
+
+
+def links(pages):
+    for name, text in pages.items():
+        for target in re.findall(r"\]\(([^)\s]+)\)", prose(text)):
+            if re.match(r"[a-z]+:", target):
+                continue
+            path, _, anchor = target.partition("#")
+            to = (TOP / name).parent.joinpath(path).resolve() if path else TOP / name
+            is_there = to.is_relative_to(TOP) and to.exists()
+            if is_there and anchor:
+                is_there = anchor in anchors(pages.get(to.relative_to(TOP).as_posix(), ""))
+            yield is_there, f"{name}: the link {target} leads nowhere"
+
+
+def sentences(text):
+    """The sentences of the page's lines and of the cells of its tables, without marks."""
+    lines = [line for line in prose(text).splitlines() if not line.startswith(">")]
+    for part in (cell for line in lines for cell in line.split("|")):
+        for sentence in re.split(r"(?<=[.:;?!])\s+", part):
+            words = re.findall(r"[\w'`._/:-]+", sentence)
+            if len(words) > WORDS_OF_A_SENTENCE:
+                yield " ".join(words)
+
+
+def repeated(pages):
+    where = {}
+    for name, text in pages.items():
+        for sentence in set(sentences(text)):
+            where.setdefault(sentence, []).append(name)
+    for sentence, names in where.items():
+        yield len(names) == 1, f"in {' and '.join(names)}: {sentence}"
+
+
+def show_words(pages):
+    rows = {name: (len(pages.get(name, "").split()), *most) for name, most in MOST.items()}
+    rows["in all"] = tuple(map(sum, zip(*rows.values())))
+    print(f"{'page':44}{'has':>8}{'may have':>10}{'to come to':>12}")
+    for name, (found, most, aim) in rows.items():
+        print(f"{name:44}{found:8,}{most:10,}{aim:12,}")
+
+
+def main():
+    if sys.argv[1:] not in ([], ["--words"]):
+        sys.exit(__doc__)
+    pages, passed, failed = read_pages(), 0, 0
+    for is_good, said in (*lengths(pages), *links(pages), *repeated(pages)):
+        passed, failed = passed + is_good, failed + (not is_good)
+        if not is_good:
+            print(f"FAILED {said}")
+    if sys.argv[1:]:
+        show_words(pages)
+    print(f"{passed} passed, {failed} failed")
+    return 1 if failed else 0
+
+
+if __name__ == "__main__":
+    sys.exit(main())
