@@ -8,6 +8,7 @@ cases in tests/cases. The last line is 'N passed, M failed'; the status is 0 whe
 """
 import argparse
 import os
+import re
 import subprocess
 import sys
 
@@ -61,7 +62,8 @@ STORM_HELP = [
     "Example:",
     STORM_EXAMPLE,
 ]
-VERSION = ["tracerun 0.1.0"]
+with open(os.path.join(TOP, "crates/tracerun_command_line/src/lib.rt"), encoding="utf-8") as source:
+    VERSION = ["tracerun " + re.search(r'\.version\("(.*)"\)', source.read())[1]]
 
 # The words, and all that standard error says.
 REQUESTS = [
