@@ -17,6 +17,28 @@ WORDS_OF_A_SENTENCE = 8
 
 # Of each page the most words that it may have, and how many it is to come to.
 MOST = {
+    "README.md": (950, 900), "CHANGELOG.md": (300, 250), "bench/README.md": (550, 400),
+    "crates/hostile_use/README.md": (350, 300), "crates/span_benchmark/README.md": (200, 150),
+    "crates/span_core/README.md": (650, 500), "crates/span_core_tests/README.md": (100, 100),
+    "crates/span_ffi/README.md": (400, 300), "crates/span_forest/README.md": (250, 150),
+    "crates/span_history/README.md": (200, 150), "crates/span_id/README.md": (200, 150),
+    "crates/span_json/README.md": (100, 100), "crates/span_known/README.md": (150, 150),
+    "crates/span_layers/README.md": (300, 200), "crates/span_outlet/README.md": (750, 400),
+    "crates/span_parts_tests/README.md": (150, 150), "crates/span_recent/README.md": (150, 150),
+    "crates/span_registry/CALLING.md": (1150, 900), "crates/span_registry/README.md": (600, 500),
+    "crates/span_registry_tests/README.md": (100, 100), "crates/span_replay/README.md": (250, 150),
+    "crates/span_run/README.md": (150, 150), "crates/span_run_tests/README.md": (50, 50),
+    "crates/span_script/README.md": (200, 150), "crates/span_seats/README.md": (300, 200),
+    "crates/span_slots/README.md": (200, 150), "crates/span_stack/README.md": (150, 150),
+    "crates/span_store/README.md": (300, 250), "crates/span_store_ffi/README.md": (200, 150),
+    "crates/span_storm/README.md": (350, 200), "crates/tracerun/README.md": (150, 150),
+    "crates/tracerun_command_line/README.md": (150, 150), "crates/two_workers/README.md": (150, 150),
+    "crates/workloads/README.md": (400, 250), "docs/BENCHMARKS.md": (1650, 1500), "docs/CONTRIBUTING.md": (2050, 2050),
+    "docs/DECISIONS.md": (3700, 3500), "docs/FORMATS.md": (2050, 2000), "docs/FROM_TRACING.md": (1850, 1300),
+    "docs/LAYERS.md": (1100, 1000), "docs/MODEL.md": (3050, 1500), "docs/PERF.md": (3000, 900),
+    "docs/PROMISES.md": (2250, 900), "docs/PROOFS.md": (2300, 2000), "docs/THEOREM.md": (4200, 700),
+    "examples/README.md": (400, 250), "rust/README.md": (1550, 1200), "rust/tracing-subscriber/README.md": (1750, 1000),
+    "rust/tracing/README.md": (450, 250), "tests/README.md": (350, 350),
 }
 
 
