@@ -4,8 +4,9 @@
 usage: pages.py [--words]
 
 A page may have as many words as MOST says, blocks of code aside. A link names a file, and where it goes on with '#' a
-heading of it. No sentence of more than eight words stands in two pages; code and quoted lines are not looked at. With
---words it prints what each page has, may have and is to come to. The last line is 'N passed, M failed'.
+heading of it. No sentence of more than eight words stands in two pages, and none of README.md has more than thirty.
+Code and quoted lines are not looked at. With --words it prints what each page has, may have and is to come to. The
+last line is 'N passed, M failed'.
 """
 import re
 import sys
@@ -14,6 +15,7 @@ from pathlib import Path
 TOP = Path(__file__).resolve().parent.parent
 PAGES = ("*.md", "docs/*.md", "crates/*/*.md", "rust/*.md", "rust/*/*.md", "bench/*.md", "tests/*.md", "examples/*.md")
 WORDS_OF_A_SENTENCE = 8
+WORDS_OF_A_SENTENCE_IN_README = 30
 
 # Of each page the most words that it may have, and how many it is to come to: 0 where it is to be a part of another
 # page, or made by a script.
@@ -105,6 +107,12 @@ def repeated(pages):
         yield len(names) == 1, f"in {' and '.join(names)}: {sentence}"
 
 
+def long_sentences(pages):
+    for sentence in sentences(pages["README.md"]):
+        is_short = len(sentence.split()) <= WORDS_OF_A_SENTENCE_IN_README
+        yield is_short, f"README.md has a sentence of over {WORDS_OF_A_SENTENCE_IN_README} words: {sentence}"
+
+
 def show_words(pages):
     rows = {name: (words_of(pages.get(name, "")), *most) for name, most in MOST.items()}
     rows["in all"] = tuple(map(sum, zip(*rows.values())))
@@ -117,7 +125,7 @@ def main():
     if sys.argv[1:] not in ([], ["--words"]):
         sys.exit(__doc__)
     pages, passed, failed = read_pages(), 0, 0
-    for is_good, said in (*lengths(pages), *links(pages), *repeated(pages)):
+    for is_good, said in (it for look in (lengths, links, repeated, long_sentences) for it in look(pages)):
         passed, failed = passed + is_good, failed + (not is_good)
         if not is_good:
             print(f"FAILED {said}")
