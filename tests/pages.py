@@ -82,7 +82,7 @@ def links(pages):
                 continue
             path, _, anchor = target.partition("#")
             to = (TOP / name).parent.joinpath(path).resolve() if path else TOP / name
-            is_there = to.is_relative_to(TOP) and to.exists()
+            is_there = TOP in (to, *to.parents) and to.exists()
             if is_there and anchor:
                 is_there = anchor in anchors(pages.get(to.relative_to(TOP).as_posix(), ""))
             yield is_there, f"{name}: the link {target} leads nowhere"
