@@ -2,7 +2,7 @@
 #![forbid(unsafe_code)]
 use crate::directives::Targets;
 use crate::drain::Drain;
-use crate::error::Error;
+use crate::error::{Error, Limit};
 use crate::level::{FmtSpan, Form, Level};
 use crate::packed::{length, reserve};
 use crate::raw::{Core, SpanLayer, SpanLimits, SpanRule, Start};
@@ -106,7 +106,8 @@ impl RegistryBuilder {
         self
     }
 
-    /// How many threads may call at once: 1 to 65536, by default 4. Threads that have ended don't count.
+    /// How many threads may call at once: 1 to 65536, by default 4. Threads that have ended don't count. Of 65536 one is
+    /// no thread's: as one worker more the registry tells of itself.
     pub fn workers(mut self, workers: u32) -> RegistryBuilder {
         self.limits.workers = workers;
         self
@@ -130,9 +131,10 @@ impl RegistryBuilder {
     ///
     /// The drain has to be read also where there is no layer: each accepted call takes a place of the ring.
     pub fn build(self) -> Result<(Registry, Drain), Error> {
+        let limits = self.checked_limits()?;
         let packed = PackedLayers::of(&self.layers)?;
         let (core, lines) = Core::new(&Start {
-            limits: self.limits,
+            limits,
             layers: &packed.layers,
             rules: &packed.rules,
             texts: &packed.texts,
@@ -140,6 +142,19 @@ impl RegistryBuilder {
         let shared = Arc::new(Shared::new(State::new(core)?));
         let drain = Drain::of(lines, Arc::clone(&shared), self.layers.len());
         Ok((Registry::of(shared), drain))
+    }
+
+    // Those of the proved registry, which has a worker more.
+    fn checked_limits(&self) -> Result<SpanLimits, Error> {
+        let limits = self.limits;
+        Limit::Slots.check(limits.slots)?;
+        Limit::MaxCount.check(limits.max_count)?;
+        Limit::Workers.check(limits.workers)?;
+        Limit::Ring.check(limits.ring)?;
+        Ok(SpanLimits {
+            workers: (limits.workers + 1).min(Limit::Workers.most()),
+            ..limits
+        })
     }
 }
 

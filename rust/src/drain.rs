@@ -143,7 +143,7 @@ impl Drain {
         DrainCounts { batches, missed }
     }
 
-    // Where the ring is empty, what is owed can be done, and may give lines. It is asked before each look for a line
+    // Where the ring is empty, what is owed can be done, and what was lost told, and both may give lines. It is asked before each look for a line
     // whether to go on: batches without one may come for ever.
     fn next_ready(&mut self, goes_on: impl Fn(&mut Lines) -> bool) -> Option<(usize, usize)> {
         while self.ready.is_none() && goes_on(&mut self.lines) {
@@ -151,14 +151,25 @@ impl Drain {
             match self.lines.next(&mut self.buffer[..room]) {
                 Next::Line { layer, length } => self.ready = Some((layer as usize, length)),
                 Next::Long { length } => self.buffer.resize(length + 1, 0),
-                Next::None if !self.shared.owes() => return None,
-                Next::None => match self.shared.with(|state| state.settle()) {
-                    Err(error) if error != crate::Error::Backlog => return None,
-                    _ => {}
-                },
+                Next::None if !self.settles() => return None,
+                Next::None => {}
             }
         }
         self.ready
+    }
+
+    // Whether something was owed or lost, and some of it was done or told now.
+    fn settles(&self) -> bool {
+        if !self.shared.owes() && !self.shared.losses().is_untold() {
+            return false;
+        }
+        self.shared.with(|state| {
+            let before = state.calls();
+            if state.settle().is_ok() {
+                self.shared.tell(state);
+            }
+            state.calls() > before
+        })
     }
 
     fn write_out(&mut self, outs: &mut impl Outs) -> io::Result<u64> {
@@ -177,12 +188,23 @@ impl Drain {
         Ok(lines)
     }
 
-    // The lines of the calls that were accepted or are owed by now, each of which puts one batch into the ring.
+    // The lines of the calls that were accepted or are owed by now, and of what was lost.
     fn write_rest(&mut self, outs: &mut impl Outs) -> io::Result<u64> {
-        let last = self.shared.with(|state| state.calls_by_now());
-        let lines = self.write_while(outs, |lines| lines.counts().0 <= last)?;
+        let mut lines = self.write_sent(outs)?;
+        if self.shared.losses().is_untold() {
+            lines += self.write_sent(outs)?;
+        }
         outs.flush()?;
         Ok(lines)
+    }
+
+    // Each call puts one batch into the ring.
+    fn write_sent(&mut self, outs: &mut impl Outs) -> io::Result<u64> {
+        let last = self.shared.with(|state| {
+            self.shared.tell(state);
+            state.calls_by_now()
+        });
+        self.write_while(outs, |lines| lines.counts().0 <= last)
     }
 
     fn run_out(&mut self, outs: &mut impl Outs, stop: &AtomicBool) -> io::Result<u64> {

@@ -1,5 +1,7 @@
 //! Why a call was refused.
 #![forbid(unsafe_code)]
+use crate::meta::Fields;
+use crate::names::is_name;
 use crate::raw;
 use std::fmt;
 
@@ -8,6 +10,8 @@ use std::fmt;
 /// Of several reasons the first in the order `BadName`, `Unknown`, `CountFull`, `Full`, `NotEntered`, `Backlog` is
 /// answered; want of memory may come before any of them. While something is owed (see [`Span`](crate::Span)), what
 /// stands in the way of that comes before all others but `OtherRegistry`.
+///
+/// Its text begins with the registry's own word for the refusal, and then says what to do.
 #[derive(Clone, Copy, Debug, PartialEq, Eq, Hash)]
 #[non_exhaustive]
 pub enum Error {
@@ -23,11 +27,11 @@ pub enum Error {
     TooManyLayers,
     /// A span's, an event's or a callsite's name, or a field's key, is empty, over 64 bytes, or has a byte outside ASCII
     /// letters, digits, `_`, `.` and `-`.
-    BadName,
+    BadName(BadName),
     /// The ring is full: nobody read the [`Drain`](crate::Drain) for so many calls. The same call may succeed later.
     Backlog,
     /// A limit is outside its range.
-    BadLimits,
+    BadLimits(BadLimit),
     /// Memory was refused. The same call may succeed later.
     OutOfMemory,
     /// A text has 4 GiB or more.
@@ -48,6 +52,82 @@ pub enum Error {
     /// A status that no right use of the C interface gets: a fault of this crate, or of the library that it was built
     /// with.
     Other(u32),
+}
+
+/// The beginning of a text that was refused as a name or a key.
+#[derive(Clone, Copy, PartialEq, Eq, Hash)]
+pub struct BadName {
+    // How many bytes of it are here; they are UTF-8.
+    length: u8,
+    is_cut: bool,
+    bytes: [u8; BadName::KEPT],
+}
+
+impl BadName {
+    const KEPT: usize = 22;
+
+    /// Its first bytes, as far as they are kept: 22 at most.
+    #[must_use]
+    pub fn text(&self) -> &str {
+        std::str::from_utf8(&self.bytes[..usize::from(self.length)]).unwrap_or_default()
+    }
+}
+
+impl fmt::Debug for BadName {
+    fn fmt(&self, f: &mut fmt::Formatter<'_>) -> fmt::Result {
+        write!(f, "{:?}{}", self.text(), if self.is_cut { ".." } else { "" })
+    }
+}
+
+/// A limit that is outside its range.
+#[derive(Clone, Copy, Debug, PartialEq, Eq, Hash)]
+pub struct BadLimit {
+    /// Which it is.
+    pub limit: Limit,
+    /// What was asked for.
+    pub value: u32,
+}
+
+/// A limit of a registry, by the name of the builder's method.
+#[derive(Clone, Copy, Debug, PartialEq, Eq, Hash)]
+#[allow(missing_docs)]
+pub enum Limit {
+    Slots,
+    MaxCount,
+    Workers,
+    Ring,
+}
+
+impl Limit {
+    /// The builder's method that sets it.
+    #[must_use]
+    pub fn name(self) -> &'static str {
+        match self {
+            Limit::Slots => "slots",
+            Limit::MaxCount => "max_count",
+            Limit::Workers => "workers",
+            Limit::Ring => "ring",
+        }
+    }
+
+    /// The greatest that may be asked for; the least is 1.
+    #[must_use]
+    pub fn most(self) -> u32 {
+        match self {
+            Limit::Slots => 1 << 24,
+            Limit::MaxCount => u32::MAX,
+            Limit::Workers | Limit::Ring => 65_536,
+        }
+    }
+
+    /// Refused where it is outside its range.
+    pub(crate) fn check(self, value: u32) -> Result<(), Error> {
+        if (1..=self.most()).contains(&value) {
+            Ok(())
+        } else {
+            Err(Error::BadLimits(BadLimit { limit: self, value }))
+        }
+    }
 }
 
 /// What a library may have otherwise than this package: the version of the interface, or the size of a struct. It is
@@ -76,6 +156,33 @@ impl fmt::Display for Differing {
 }
 
 impl Error {
+    /// The refusal of this text as a name.
+    #[must_use]
+    pub fn bad_name(text: &str) -> Error {
+        let mut length = text.len().min(BadName::KEPT);
+        while !text.is_char_boundary(length) {
+            length -= 1;
+        }
+        let mut bytes = [0; BadName::KEPT];
+        bytes[..length].copy_from_slice(&text.as_bytes()[..length]);
+        Error::BadName(BadName {
+            // At most 22.
+            length: length as u8,
+            is_cut: length < text.len(),
+            bytes,
+        })
+    }
+
+    /// The same; where it is a bad name, it says which of these it was: the first that is none.
+    #[cold]
+    pub(crate) fn naming(self, name: Option<&str>, fields: Fields<'_>) -> Error {
+        let Error::BadName(_) = self else {
+            return self;
+        };
+        let mut names = name.into_iter().chain(fields.iter().map(|(key, _)| *key));
+        Error::bad_name(names.find(|name| !is_name(name)).unwrap_or_default())
+    }
+
     /// The number of this refusal in the C interface. This crate's own `TooManyThreads` has 100, `OtherRegistry` 101,
     /// and `OtherLibrary` 102.
     #[must_use]
@@ -86,9 +193,9 @@ impl Error {
             Error::Full => raw::FULL,
             Error::NotEntered => raw::NOT_ENTERED,
             Error::TooManyLayers => raw::TOO_MANY_LAYERS,
-            Error::BadName => raw::BAD_NAME,
+            Error::BadName(_) => raw::BAD_NAME,
             Error::Backlog => raw::BACKLOG,
-            Error::BadLimits => raw::BAD_LIMITS,
+            Error::BadLimits(_) => raw::BAD_LIMITS,
             Error::OutOfMemory => raw::OUT_OF_MEMORY,
             Error::BadData => raw::BAD_DATA,
             Error::TooManyThreads => 100,
@@ -104,7 +211,7 @@ impl Error {
         matches!(self, Error::Backlog | Error::OutOfMemory)
     }
 
-    /// What a status of the C interface means.
+    /// What a status of the C interface means; of a bad name without saying which.
     pub(crate) fn of_status(status: u32) -> Result<(), Error> {
         Err(match status {
             raw::OK => return Ok(()),
@@ -113,9 +220,8 @@ impl Error {
             raw::FULL => Error::Full,
             raw::NOT_ENTERED => Error::NotEntered,
             raw::TOO_MANY_LAYERS => Error::TooManyLayers,
-            raw::BAD_NAME => Error::BadName,
+            raw::BAD_NAME => Error::bad_name(""),
             raw::BACKLOG => Error::Backlog,
-            raw::BAD_LIMITS => Error::BadLimits,
             raw::OUT_OF_MEMORY => Error::OutOfMemory,
             raw::BAD_DATA => Error::BadData,
             other => Error::Other(other),
@@ -126,18 +232,31 @@ impl Error {
 impl fmt::Display for Error {
     fn fmt(&self, f: &mut fmt::Formatter<'_>) -> fmt::Result {
         f.write_str(match *self {
-            Error::Unknown => "unknown",
-            Error::CountFull => "count full",
-            Error::Full => "full",
-            Error::NotEntered => "not entered",
-            Error::TooManyLayers => "too many layers",
-            Error::BadName => "bad name",
-            Error::Backlog => "backlog",
-            Error::BadLimits => "bad limits",
+            Error::Unknown => "unknown: no open span has this id, or all its handles were given back",
+            Error::CountFull => "count full: the span has max_count handles, threads inside and open children",
+            Error::Full => "full: each slot has an open span; ask for more with `RegistryBuilder::slots`",
+            Error::NotEntered => "not entered: the thread isn't inside this span",
+            Error::TooManyLayers => "too many layers: at most 64",
+            Error::BadName(name) => {
+                let rule = "1 to 64 ASCII letters, digits, `_`, `.` and `-`";
+                return write!(
+                    f,
+                    "bad name: {name:?} has to be {rule}; put the rest into a field's value"
+                );
+            }
+            Error::Backlog => "backlog: the ring is full; read the drain, or ask for more with `RegistryBuilder::ring`",
+            Error::BadLimits(BadLimit { limit, value }) => {
+                return write!(
+                    f,
+                    "bad limits: `{}({value})` has to be 1 to {}",
+                    limit.name(),
+                    limit.most()
+                );
+            }
             Error::OutOfMemory => "out of memory",
-            Error::BadData => "bad data",
-            Error::TooManyThreads => "too many threads",
-            Error::OtherRegistry => "other registry",
+            Error::BadData => "bad data: a text has 4 GiB or more",
+            Error::TooManyThreads => "too many threads: ask for more with `RegistryBuilder::workers`",
+            Error::OtherRegistry => "other registry: the callsite, id or span is none of this registry",
             Error::OtherLibrary { what, library, package } => {
                 return write!(
                     f,
@@ -153,28 +272,34 @@ impl std::error::Error for Error {}
 
 #[cfg(test)]
 mod tests {
-    use super::Error;
+    use super::{BadLimit, Error, Limit};
     use crate::raw;
 
     /// The refusals of the C interface, each with the number that it has there.
-    const REFUSALS: [(u32, Error); 9] = [
-        (1, Error::Unknown),
-        (2, Error::CountFull),
-        (3, Error::Full),
-        (4, Error::NotEntered),
-        (5, Error::TooManyLayers),
-        (6, Error::BadName),
-        (7, Error::Backlog),
-        (8, Error::BadLimits),
-        (10, Error::OutOfMemory),
-    ];
+    fn refusals() -> [(u32, Error); 9] {
+        let limit = BadLimit {
+            limit: Limit::Ring,
+            value: 0,
+        };
+        [
+            (1, Error::Unknown),
+            (2, Error::CountFull),
+            (3, Error::Full),
+            (4, Error::NotEntered),
+            (5, Error::TooManyLayers),
+            (6, Error::bad_name("a b")),
+            (7, Error::Backlog),
+            (8, Error::BadLimits(limit)),
+            (10, Error::OutOfMemory),
+        ]
+    }
 
     #[test]
-    fn a_refusal_has_its_number_and_the_librarys_text() {
-        for (number, error) in REFUSALS {
+    fn a_refusal_has_its_number_and_begins_with_the_librarys_word() {
+        for (number, error) in refusals() {
             assert_eq!(error.number(), number);
-            assert_eq!(Error::of_status(number), Err(error));
-            assert_eq!(error.to_string(), raw::status_text(number), "number {number}");
+            let (text, word) = (error.to_string(), raw::status_text(number));
+            assert!(text.starts_with(&word), "{text:?} and {word:?}");
         }
     }
 
@@ -187,5 +312,24 @@ mod tests {
             assert!(![Error::TooManyThreads, Error::OtherRegistry].contains(&error));
             assert!(!matches!(error, Error::OtherLibrary { .. }));
         }
+    }
+
+    #[test]
+    fn a_bad_name_is_told_as_far_as_it_is_kept() {
+        let text = |name| Error::bad_name(name).to_string();
+        assert!(text("GET /users").starts_with("bad name: \"GET /users\" has to be 1 to 64"));
+        let long = format!("{}\u{e9}", "n".repeat(21));
+        assert!(text(&long).contains(&format!("{:?}..", "n".repeat(21))));
+        assert_ne!(Error::bad_name("a b"), Error::bad_name("a c"));
+    }
+
+    #[test]
+    fn the_first_name_that_is_none_is_told() {
+        let fields = [("k", ""), ("a key", ""), ("", "")];
+        let bad = Error::bad_name("");
+        assert_eq!(bad.naming(Some("a b"), &fields), Error::bad_name("a b"));
+        assert_eq!(bad.naming(Some("a"), &fields), Error::bad_name("a key"));
+        assert_eq!(bad.naming(None, &fields[2..]), Error::bad_name(""));
+        assert_eq!(Error::Full.naming(Some("a b"), &[]), Error::Full);
     }
 }

@@ -18,6 +18,7 @@ mod level;
 mod lost;
 mod macros;
 mod meta;
+mod names;
 mod owed;
 mod packed;
 #[allow(unsafe_code)]
@@ -33,7 +34,7 @@ pub use builder::{Layer, RegistryBuilder};
 pub use callsite::Callsite;
 pub use directives::{ParseError, Targets};
 pub use drain::{Drain, DrainCounts, Line};
-pub use error::{Differing, Error};
+pub use error::{BadLimit, BadName, Differing, Error, Limit};
 pub use level::{FmtSpan, Form, Level};
 pub use lost::Lost;
 pub use meta::{Counts, Fields, Found, Id, Meta, Parent};

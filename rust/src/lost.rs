@@ -5,7 +5,10 @@ use crate::meta::{Fields, Meta, Parent};
 use crate::registry::Registry;
 use crate::span::Span;
 use std::fmt;
-use std::sync::atomic::{AtomicU64, Ordering};
+use std::sync::atomic::{AtomicBool, AtomicU64, Ordering};
+
+/// The target of the events at `WARN` by which the registry tells of itself.
+pub(crate) const TARGET: &str = "span_registry";
 
 const REASONS: [&str; 9] = [
     "unknown",
@@ -24,7 +27,7 @@ fn place_of(reason: Error) -> usize {
         Error::Unknown => 0,
         Error::CountFull => 1,
         Error::Full => 2,
-        Error::BadName => 3,
+        Error::BadName(_) => 3,
         Error::Backlog => 4,
         Error::OutOfMemory => 5,
         Error::TooManyThreads => 6,
@@ -35,6 +38,9 @@ fn place_of(reason: Error) -> usize {
 
 /// How many calls were lost: those of [`span!`](crate::span), [`event!`](crate::event), [`Span::enter`],
 /// [`Span::in_scope`] and [`Span::record`] that were refused, by reason.
+///
+/// Layers that admit `WARN` of the target `span_registry` are told of what is new, once there is room again, as an event
+/// `lost` with a field for each reason, by a worker that is no thread: `event 0 w8 - WARN lost backlog=3`.
 #[derive(Clone, Copy, Debug, Default, PartialEq, Eq, Hash)]
 pub struct Lost([u64; REASONS.len()]);
 
@@ -55,6 +61,15 @@ impl Lost {
     pub fn reasons(&self) -> impl Iterator<Item = (&'static str, u64)> {
         REASONS.into_iter().zip(self.0).filter(|&(_, count)| count > 0)
     }
+
+    /// What was lost since `before`, which was told earlier.
+    pub(crate) fn since(&self, before: &Lost) -> Lost {
+        let mut lost = *self;
+        for (number, before) in lost.0.iter_mut().zip(before.0) {
+            *number -= before;
+        }
+        lost
+    }
 }
 
 /// `full=1 backlog=3`, or `nothing`.
@@ -73,12 +88,34 @@ impl fmt::Display for Lost {
 
 /// The counters. They need no lock and no memory.
 #[derive(Default)]
-pub(crate) struct Losses([AtomicU64; REASONS.len()]);
+pub(crate) struct Losses {
+    counts: [AtomicU64; REASONS.len()],
+    // Whether something was lost since that was last told.
+    is_untold: AtomicBool,
+}
 
 impl Losses {
     #[cold]
     fn lose(&self, reason: Error) {
-        self.0[place_of(reason)].fetch_add(1, Ordering::Relaxed);
+        self.counts[place_of(reason)].fetch_add(1, Ordering::Relaxed);
+        self.is_untold.store(true, Ordering::Release);
+    }
+
+    pub(crate) fn so_far(&self) -> Lost {
+        let mut lost = Lost::default();
+        for (number, count) in lost.0.iter_mut().zip(&self.counts) {
+            *number = count.load(Ordering::Relaxed);
+        }
+        lost
+    }
+
+    #[inline]
+    pub(crate) fn is_untold(&self) -> bool {
+        self.is_untold.load(Ordering::Acquire)
+    }
+
+    pub(crate) fn set_untold(&self, is_untold: bool) {
+        self.is_untold.store(is_untold, Ordering::Release);
     }
 }
 
@@ -87,11 +124,7 @@ impl Registry {
     /// What was lost so far. It takes no lock.
     #[must_use]
     pub fn lost(&self) -> Lost {
-        let mut lost = Lost::default();
-        for (number, count) in lost.0.iter_mut().zip(&self.shared().losses().0) {
-            *number = count.load(Ordering::Relaxed);
-        }
-        lost
+        self.shared().losses().so_far()
     }
 
     /// The answer of a call; none where it was refused, which is counted.
@@ -129,7 +162,7 @@ mod tests {
             Error::Unknown,
             Error::CountFull,
             Error::Full,
-            Error::BadName,
+            Error::bad_name("a b"),
             Error::Backlog,
             Error::OutOfMemory,
             Error::TooManyThreads,
@@ -152,6 +185,19 @@ mod tests {
     }
 
     #[test]
+    fn what_is_new_is_told() {
+        let losses = Losses::default();
+        assert!(!losses.is_untold());
+        losses.lose(Error::Full);
+        let before = losses.so_far();
+        losses.set_untold(false);
+        losses.lose(Error::Full);
+        losses.lose(Error::Backlog);
+        assert!(losses.is_untold());
+        assert_eq!(losses.so_far().since(&before).to_string(), "full=1 backlog=1");
+    }
+
+    #[test]
     fn each_thread_counts() {
         let losses = Losses::default();
         std::thread::scope(|scope| {
@@ -159,6 +205,6 @@ mod tests {
                 scope.spawn(|| (0..1000).for_each(|_| losses.lose(Error::Full)));
             }
         });
-        assert_eq!(losses.0[2].load(std::sync::atomic::Ordering::Relaxed), 4000);
+        assert_eq!(losses.so_far().by(Error::Full), 4000);
     }
 }

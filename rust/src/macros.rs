@@ -33,7 +33,8 @@ macro_rules! span {
 /// # let (registry, _drain) = span_registry::Registry::builder().build()?;
 /// use span_registry::{try_span, Error, Level};
 /// let request = try_span!(registry, Level::Info, "request", method = "GET")?;
-/// assert_eq!(try_span!(registry, Level::Info, "GET /users").map(drop), Err(Error::BadName));
+/// let refused = try_span!(registry, Level::Info, "GET /users").expect_err("a blank and a slash");
+/// assert_eq!(refused, Error::bad_name("GET /users"));
 /// # Ok(())
 /// # }
 /// ```

@@ -73,12 +73,14 @@ impl Registry {
         &self.user.shared
     }
 
-    // What is owed comes first, then the thread's number, then the call.
+    // What is owed comes first, then the thread's number, then the call, and then, where there is room, what was lost.
     pub(crate) fn call<T>(&self, call: impl FnOnce(&mut State, u32) -> Result<T, Error>) -> Result<T, Error> {
         self.shared().with(|state| {
             state.settle()?;
             let worker = workers::number(self.shared(), state)?;
-            call(state, worker)
+            let answer = call(state, worker)?;
+            self.shared().tell(state);
+            Ok(answer)
         })
     }
 

@@ -52,6 +52,23 @@ impl Shared {
         &self.losses
     }
 
+    /// Tells what was lost since the last telling, if there is anything and the ring has room.
+    #[inline]
+    pub(crate) fn tell(&self, state: &mut State) {
+        if self.losses.is_untold() {
+            self.tell_now(state);
+        }
+    }
+
+    #[cold]
+    fn tell_now(&self, state: &mut State) {
+        // What is lost from here on is told the next time.
+        self.losses.set_untold(false);
+        if state.tell(self.losses.so_far()).is_err() {
+            self.losses.set_untold(true);
+        }
+    }
+
     /// Whether something is owed, told without the lock.
     pub(crate) fn owes(&self) -> bool {
         self.owes.load(Ordering::Acquire)

@@ -1,6 +1,8 @@
 //! What lies under the lock: the proved registry, what is owed to it, and which workers' numbers are taken.
 #![forbid(unsafe_code)]
 use crate::error::Error;
+use crate::level::Level;
+use crate::lost::{Lost, TARGET};
 use crate::meta::{Counts, Fields, Meta, RawId, RawParent};
 use crate::owed::{Owed, Owing};
 use crate::packed::Packed;
@@ -10,13 +12,15 @@ pub(crate) struct State {
     core: Core,
     packed: Packed,
     owing: Owing,
-    // Which workers' numbers threads have.
+    // Which workers' numbers threads have. The core has one worker more, the outsider, which is inside of no span.
     taken: Vec<bool>,
+    // What was lost when that was last told.
+    told: Lost,
 }
 
 impl State {
     pub(crate) fn new(mut core: Core) -> Result<State, Error> {
-        let workers = core.counts().workers as usize;
+        let workers = core.counts().workers as usize - 1;
         let mut taken = Vec::new();
         taken.try_reserve_exact(workers).map_err(|_| Error::OutOfMemory)?;
         taken.resize(workers, false);
@@ -25,6 +29,7 @@ impl State {
             packed: Packed::default(),
             owing: Owing::new(workers)?,
             taken,
+            told: Lost::default(),
         })
     }
 
@@ -113,14 +118,16 @@ impl State {
     ) -> Result<Option<RawId>, Error> {
         self.owing.reserve_span()?;
         self.packed.pack(&[meta.name, meta.target], fields)?;
-        let id = self.core.new_span(worker, parent, meta, &self.packed)?;
+        let id = self.core.new_span(worker, parent, meta, &self.packed);
+        let id = id.map_err(|error| error.naming(Some(meta.name), fields))?;
         Ok(id.inspect(|&id| self.owing.made(id)))
     }
 
     /// Its number.
     pub(crate) fn add_callsite(&mut self, meta: &Meta<'_>) -> Result<u32, Error> {
         self.packed.pack(&[meta.name, meta.target], &[])?;
-        self.core.add_callsite(meta, &self.packed)
+        let number = self.core.add_callsite(meta, &self.packed);
+        number.map_err(|error| error.naming(Some(meta.name), &[]))
     }
 
     pub(crate) fn new_span_at(
@@ -132,7 +139,8 @@ impl State {
     ) -> Result<Option<RawId>, Error> {
         self.owing.reserve_span()?;
         self.packed.pack(&[], fields)?;
-        let id = self.core.new_span_at(worker, parent, callsite, &self.packed)?;
+        let id = self.core.new_span_at(worker, parent, callsite, &self.packed);
+        let id = id.map_err(|error| error.naming(None, fields))?;
         Ok(id.inspect(|&id| self.owing.made(id)))
     }
 
@@ -170,7 +178,8 @@ impl State {
 
     pub(crate) fn record(&mut self, worker: u32, id: RawId, fields: Fields<'_>) -> Result<(), Error> {
         self.packed.pack(&[], fields)?;
-        self.core.record(worker, id, &self.packed)
+        let recorded = self.core.record(worker, id, &self.packed);
+        recorded.map_err(|error| error.naming(None, fields))
     }
 
     pub(crate) fn event(
@@ -181,7 +190,8 @@ impl State {
         fields: Fields<'_>,
     ) -> Result<(), Error> {
         self.packed.pack(&[meta.name, meta.target, message], fields)?;
-        self.core.event(worker, meta, message, &self.packed)
+        let told = self.core.event(worker, meta, message, &self.packed);
+        told.map_err(|error| error.naming(Some(meta.name), fields))
     }
 
     pub(crate) fn event_at(
@@ -192,7 +202,32 @@ impl State {
         fields: Fields<'_>,
     ) -> Result<(), Error> {
         self.packed.pack(&[message], fields)?;
-        self.core.event_at(worker, callsite, message, &self.packed)
+        let told = self.core.event_at(worker, callsite, message, &self.packed);
+        told.map_err(|error| error.naming(None, fields))
+    }
+
+    /// Tells what was lost since the last telling, as the outsider, if the ring has room. It takes memory, unlike the
+    /// losses themselves.
+    pub(crate) fn tell(&mut self, lost: Lost) -> Result<(), Error> {
+        let news = lost.since(&self.told);
+        if news.calls() == 0 {
+            // It was told before its thread said so.
+            return Ok(());
+        }
+        let counts: Vec<(&str, String)> = news
+            .reasons()
+            .map(|(reason, count)| (reason, count.to_string()))
+            .collect();
+        let fields: Vec<(&str, &str)> = counts.iter().map(|(reason, count)| (*reason, &**count)).collect();
+        self.event(self.outsider(), &Meta::event(Level::Warn, TARGET), "lost", &fields)?;
+        self.told = lost;
+        Ok(())
+    }
+
+    // The worker that is no thread.
+    fn outsider(&self) -> u32 {
+        // A registry has at most 65,536 workers.
+        self.taken.len() as u32
     }
 
     pub(crate) fn current_span(&mut self, worker: u32) -> Result<Option<RawId>, Error> {
@@ -212,14 +247,19 @@ impl State {
             calls: counts.calls,
             held: counts.held,
             owed: self.owing.len(),
-            workers: counts.workers,
+            workers: counts.workers - 1,
             threads: self.taken.iter().map(|&taken| u32::from(taken)).sum(),
         }
     }
 
-    /// How many calls were accepted, with those at most that are owed.
+    /// How many calls were accepted.
+    pub(crate) fn calls(&mut self) -> u64 {
+        self.core.counts().calls
+    }
+
+    /// The same, with those at most that are owed.
     pub(crate) fn calls_by_now(&mut self) -> u64 {
-        self.core.counts().calls + self.owing.calls()
+        self.calls() + self.owing.calls()
     }
 
     pub(crate) fn owes(&self) -> bool {

@@ -21,7 +21,7 @@ fn each_call_is_refused_while_the_ring_is_full() -> Result<(), Error> {
     assert_eq!(ids.event("m"), Err(Error::Backlog));
     assert_eq!(ids.close(1), Err(Error::Backlog));
     assert_eq!(ids.exit(2), Err(Error::Unknown));
-    assert_eq!(ids.make("a b"), Err(Error::BadName));
+    assert_eq!(ids.make("a b"), Err(Error::bad_name("a b")));
     assert_eq!(ids.find(1), Some((0, 1, 1, 2)));
     assert_eq!(drain.line(), None);
     assert_eq!(ids.exit(1), Ok(false));

@@ -177,9 +177,9 @@ fn what_no_span_could_have_is_refused_at_once() -> Result<(), Error> {
     let longest = "n".repeat(64);
     let too_long = "n".repeat(65);
     for name in ["", "two words", "\u{e9}", &too_long] {
-        assert_eq!(registry.callsite(&info(name)), Err(Error::BadName), "{name:?}");
+        assert_eq!(registry.callsite(&info(name)), Err(Error::bad_name(name)), "{name:?}");
         let by_meta = registry.span(&info(name), Parent::Root, &[]).map(drop);
-        assert_eq!(by_meta, Err(Error::BadName), "{name:?}");
+        assert_eq!(by_meta, Err(Error::bad_name(name)), "{name:?}");
     }
     let place = registry.callsite(&info(&longest))?;
     registry.span_at(&place, Parent::Root, &[])?;
@@ -192,9 +192,12 @@ fn calls_at_it_are_refused_as_by_meta() -> Result<(), Error> {
     let (registry, mut drain) = compact().slots(1).ring(1).build()?;
     let place = registry.callsite(&info("a"))?;
     let make = |parent, fields| registry.new_span_at(&place, parent, fields);
-    assert_eq!(make(Parent::Of(id(&registry, 1)), &[("", "")]), Err(Error::BadName));
+    assert_eq!(
+        make(Parent::Of(id(&registry, 1)), &[("", "")]),
+        Err(Error::bad_name(""))
+    );
     assert_eq!(make(Parent::Of(id(&registry, 1)), &[]), Err(Error::Unknown));
-    assert_eq!(registry.event_at(&place, "m", &[(" ", "")]), Err(Error::BadName));
+    assert_eq!(registry.event_at(&place, "m", &[(" ", "")]), Err(Error::bad_name(" ")));
     let a = make(Parent::Root, &[])?.expect("wanted");
     assert_eq!(make(Parent::Root, &[]), Err(Error::Full));
     assert_eq!(registry.event_at(&place, "m", &[]), Err(Error::Backlog));

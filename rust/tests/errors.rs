@@ -1,21 +1,33 @@
 //! What refusals say.
-use span_registry::{Differing, Error};
+use span_registry::{BadLimit, Differing, Error, Limit};
 
 #[test]
 fn each_refusal_has_its_text_and_number() {
+    let limit = BadLimit {
+        limit: Limit::Ring,
+        value: 70_000,
+    };
     let table = [
-        (Error::Unknown, 1, "unknown"),
-        (Error::CountFull, 2, "count full"),
-        (Error::Full, 3, "full"),
-        (Error::NotEntered, 4, "not entered"),
-        (Error::TooManyLayers, 5, "too many layers"),
-        (Error::BadName, 6, "bad name"),
-        (Error::Backlog, 7, "backlog"),
-        (Error::BadLimits, 8, "bad limits"),
+        (Error::Unknown, 1, "unknown: no open span has this id"),
+        (Error::CountFull, 2, "count full: the span has max_count"),
+        (Error::Full, 3, "full: each slot has an open span; ask for more with"),
+        (Error::NotEntered, 4, "not entered: the thread isn't inside"),
+        (Error::TooManyLayers, 5, "too many layers: at most 64"),
+        (
+            Error::bad_name("a b"),
+            6,
+            "bad name: \"a b\" has to be 1 to 64 ASCII letters",
+        ),
+        (Error::Backlog, 7, "backlog: the ring is full; read the drain"),
+        (
+            Error::BadLimits(limit),
+            8,
+            "bad limits: `ring(70000)` has to be 1 to 65536",
+        ),
         (Error::OutOfMemory, 10, "out of memory"),
-        (Error::BadData, 11, "bad data"),
-        (Error::TooManyThreads, 100, "too many threads"),
-        (Error::OtherRegistry, 101, "other registry"),
+        (Error::BadData, 11, "bad data: a text has 4 GiB"),
+        (Error::TooManyThreads, 100, "too many threads: "),
+        (Error::OtherRegistry, 101, "other registry: the callsite, id or span"),
         (
             Error::OtherLibrary {
                 what: Differing::Counts,
@@ -27,7 +39,8 @@ fn each_refusal_has_its_text_and_number() {
         ),
     ];
     for (error, number, text) in table {
-        assert_eq!((error.number(), error.to_string()), (number, text.to_owned()));
+        assert_eq!(error.number(), number);
+        assert!(error.to_string().starts_with(text), "{error}");
         let passes = [Error::Backlog, Error::OutOfMemory].contains(&error);
         assert_eq!(error.may_pass(), passes, "{text}");
     }
@@ -38,6 +51,6 @@ fn a_refusal_is_an_error_like_others() {
     fn fails() -> Result<(), Box<dyn std::error::Error + Send + Sync>> {
         Err(Error::Full)?
     }
-    assert_eq!(fails().expect_err("it fails").to_string(), "full");
+    assert!(fails().expect_err("it fails").to_string().starts_with("full: "));
     assert!(Error::Other(14).to_string().starts_with("status 14"));
 }

@@ -8,35 +8,75 @@ use std::sync::Mutex;
 use std::thread;
 
 #[test]
-fn what_is_refused_is_counted_by_reason() -> Result<(), Error> {
+fn what_is_refused_is_counted_by_reason_and_told_once_there_is_room() -> Result<(), Error> {
     let (other, _other_drain) = compact().build()?;
     let stranger = span!(other, Level::Info, "stranger");
     let (registry, mut drain) = compact().slots(1).max_count(2).ring(3).build()?;
-    assert!(span!(registry, Level::Info, "GET /users").is_disabled());
-    assert!(span!(registry, parent: &stranger, Level::Info, "a").is_disabled());
     let a = span!(registry, Level::Info, "a");
-    assert!(span!(registry, parent: span_registry::Parent::Root, Level::Info, "b").is_disabled());
-    a.record(&[("no key", "")]);
     let own = a.try_clone()?;
-    assert!(!a.enter().is_first());
     event!(registry, Level::Info, "1");
     // The ring is full.
+    assert!(span!(registry, Level::Info, "GET /users").is_disabled());
+    assert!(span!(registry, parent: &stranger, Level::Info, "a").is_disabled());
+    assert!(span!(registry, parent: span_registry::Parent::Root, Level::Info, "b").is_disabled());
+    a.record(&[("no key", "")]);
+    assert!(!a.enter().is_first());
     event!(registry, Level::Info, { k = 2 }, "2");
     assert_eq!(a.record(&[("k", "v")]).in_scope(|| 3), 3);
     let lost = registry.lost();
-    assert_eq!(
-        lost.to_string(),
-        "count_full=2 full=1 bad_name=2 backlog=2 other_registry=1"
-    );
+    let reasons = "count_full=2 full=1 bad_name=2 backlog=2 other_registry=1";
+    assert_eq!(lost.to_string(), reasons);
     assert_eq!(
         (lost.calls(), lost.by(Error::Backlog), lost.by(Error::Unknown)),
         (8, 2, 0)
     );
     assert_eq!(registry.clone().lost(), lost);
     assert_eq!(other.lost().calls(), 0);
-    assert_eq!(texts(&mut drain), ["new 1 w0 a", "event 0 w0 - INFO 1"]);
+    let told = format!("event 0 w1 - WARN lost {reasons}");
+    assert_eq!(texts(&mut drain), ["new 1 w0 a", "event 0 w0 - INFO 1", &told]);
+    // What is told is new.
+    a.record(&[("", "")]);
+    event!(registry, Level::Info, "3");
+    let wanted = ["event 0 w0 - INFO 3", "event 0 w1 - WARN lost bad_name=1"];
+    assert_eq!(texts(&mut drain), wanted);
+    assert_eq!(texts(&mut drain), [""; 0]);
     drop((a, own));
     assert_empty(&registry);
+    Ok(())
+}
+
+#[test]
+fn losses_are_told_to_layers_that_admit_them() -> Result<(), Error> {
+    let layers = ["app=trace", "error", "span_registry=warn"].map(|targets| targets.parse().expect("targets"));
+    let new = Registry::builder().workers(2).ring(3);
+    let builder = layers.into_iter().fold(new, |builder, targets| {
+        builder.layer(span_registry::Layer::json().with_targets(targets))
+    });
+    let (registry, mut drain) = builder.build()?;
+    let a = span(&registry, "a");
+    a.record(&[("", "")]);
+    let inside = a.try_enter()?;
+    drop(inside);
+    let lines: Vec<_> = drain.lines().map(|line| (line.layer, line.text)).collect();
+    let told = concat!(
+        r#"{"fields":[["bad_name","1"]],"id":0,"kind":"event","level":"WARN","message":"lost","path":"-","#,
+        r#""worker":2}"#
+    );
+    assert_eq!(lines[2], (2, told.to_owned()));
+    assert_eq!(lines.iter().filter(|(layer, _)| *layer > 0).count(), 1);
+    Ok(())
+}
+
+#[test]
+fn what_was_lost_is_written_at_the_end() -> Result<(), Box<dyn std::error::Error>> {
+    let (registry, mut drain) = compact().build()?;
+    let a = span!(registry, Level::Info, "a");
+    assert!(span!(registry, Level::Info, "a b").is_disabled());
+    let mut out = Vec::new();
+    drain.run_until(&mut out, &std::sync::atomic::AtomicBool::new(true))?;
+    let out = String::from_utf8(out)?;
+    assert_eq!(out, "new 1 w0 a\nevent 0 w1 - WARN lost bad_name=1\n");
+    drop(a);
     Ok(())
 }
 
@@ -99,7 +139,12 @@ fn threads_without_a_number_lose_and_go_on() -> Result<(), Error> {
     });
     assert_eq!(registry.lost().to_string(), "too_many_threads=3");
     drop(a);
-    assert_eq!(texts(&mut drain), ["new 1 w0 a", "close 1 w0 a"]);
+    let wanted = [
+        "new 1 w0 a",
+        "close 1 w0 a",
+        "event 0 w1 - WARN lost too_many_threads=3",
+    ];
+    assert_eq!(texts(&mut drain), wanted);
     Ok(())
 }
 

@@ -2,7 +2,7 @@
 mod common;
 
 use common::{assert_empty, compact, id, info, layered, texts, Ids};
-use span_registry::{Error, FmtSpan, Layer, Level, Meta, Parent, Registry, Targets};
+use span_registry::{BadLimit, Error, FmtSpan, Layer, Level, Limit, Meta, Parent, Registry, Targets};
 
 const LIFE: [&str; 6] = [
     "new 1 w0 a",
@@ -246,7 +246,10 @@ fn of_several_refusals_the_first_in_order_is_answered() -> Result<(), Error> {
     let ids = Ids(registry);
     assert_eq!(ids.make("a"), Ok(1));
     let before = ids.0.counts();
-    assert_eq!(ids.make_under("a b", Parent::Of(ids.id(1))), Err(Error::BadName));
+    assert_eq!(
+        ids.make_under("a b", Parent::Of(ids.id(1))),
+        Err(Error::bad_name("a b"))
+    );
     assert_eq!(ids.make_under("b", Parent::Of(ids.id(2))), Err(Error::Unknown));
     assert_eq!(ids.make_under("b", Parent::Of(ids.id(1))), Err(Error::CountFull));
     assert_eq!(ids.make_under("b", Parent::Root), Err(Error::Full));
@@ -254,7 +257,10 @@ fn of_several_refusals_the_first_in_order_is_answered() -> Result<(), Error> {
     assert_eq!(ids.enter(1), Err(Error::CountFull));
     assert_eq!(ids.exit(2), Err(Error::Unknown));
     assert_eq!(ids.exit(1), Err(Error::NotEntered));
-    assert_eq!(ids.record(1, &[("k", "v"), ("a key", "v")]), Err(Error::BadName));
+    assert_eq!(
+        ids.record(1, &[("k", "v"), ("a key", "v")]),
+        Err(Error::bad_name("a key"))
+    );
     assert_eq!(ids.0.counts(), before);
     assert_eq!(ids.find(1), Some((0, 1, 0, 1)));
     Ok(())
@@ -318,7 +324,7 @@ fn names_have_64_plain_bytes_at_most() -> Result<(), Error> {
     let ids = Ids(registry);
     assert_eq!(ids.make(&"x".repeat(64)), Ok(1));
     for name in [&*"x".repeat(65), "", "a b", "ä", "a\0"] {
-        assert_eq!(ids.make(name), Err(Error::BadName), "{name:?}");
+        assert_eq!(ids.make(name), Err(Error::bad_name(name)), "{name:?}");
     }
     Ok(())
 }
@@ -327,16 +333,18 @@ fn names_have_64_plain_bytes_at_most() -> Result<(), Error> {
 fn limits_and_layers_have_their_ranges() {
     let built = |builder: span_registry::RegistryBuilder| builder.build().map(|_| ());
     let new = Registry::builder;
-    for bad in [
-        new().slots(0),
-        new().slots((1 << 24) + 1),
-        new().max_count(0),
-        new().workers(0),
-        new().workers(65_537),
-        new().ring(0),
-        new().ring(65_537),
+    for (bad, limit, value) in [
+        (new().slots(0), Limit::Slots, 0),
+        (new().slots((1 << 24) + 1), Limit::Slots, (1 << 24) + 1),
+        (new().max_count(0), Limit::MaxCount, 0),
+        (new().workers(0), Limit::Workers, 0),
+        (new().workers(65_537), Limit::Workers, 65_537),
+        (new().workers(u32::MAX), Limit::Workers, u32::MAX),
+        (new().ring(0).workers(2), Limit::Ring, 0),
+        (new().ring(65_537), Limit::Ring, 65_537),
     ] {
-        assert_eq!(built(bad.clone()), Err(Error::BadLimits), "{bad:?}");
+        let refused = Error::BadLimits(BadLimit { limit, value });
+        assert_eq!(built(bad.clone()), Err(refused), "{bad:?}");
     }
     for good in [
         new().slots(1).workers(65_536).ring(1),

@@ -2,7 +2,7 @@
 mod common;
 
 use common::{assert_empty, compact, span};
-use span_registry::{event, span, try_event, Error, FmtSpan, Guard, Layer, Level, Registry, RegistryBuilder};
+use span_registry::{event, span, try_event, Error, FmtSpan, Guard, Layer, Level, Registry, RegistryBuilder, Targets};
 use std::io::{self, Write};
 use std::sync::atomic::{AtomicBool, Ordering};
 use std::sync::{Arc, Mutex};
@@ -147,7 +147,9 @@ fn a_guard_ends_though_other_threads_go_on() -> Result<(), AnyError> {
     })?;
     assert!(lines > 0);
     // Something is owed at almost each look, and no batch has a line.
-    let quiet = Layer::compact().with_span_events(FmtSpan::NONE);
+    let quiet = Layer::compact()
+        .with_span_events(FmtSpan::NONE)
+        .with_targets(Targets::new().with_target("writer", Level::Trace));
     let lines = lines_beside(new().ring(1).layer(quiet), |registry| {
         drop(span!(registry, Level::Info, "a"));
     })?;

@@ -76,7 +76,8 @@ fn a_handle_given_back_twice_is_refused_the_second_time() -> Result<(), Error> {
     assert_eq!(a.record(&[("k", "v")]).in_scope(|| 1), 1);
     drop(a);
     assert_eq!(registry.lost().to_string(), "unknown=2");
-    assert_eq!(texts(&mut drain), ["new 1 w0 a", "close 1 w0 a"]);
+    let wanted = ["new 1 w0 a", "close 1 w0 a", "event 0 w1 - WARN lost unknown=2"];
+    assert_eq!(texts(&mut drain), wanted);
     Ok(())
 }
 
