@@ -7,6 +7,7 @@ use crate::level::{FmtSpan, Form, Level};
 use crate::packed::{length, reserve};
 use crate::raw::{Core, SpanLayer, SpanLimits, SpanRule, Start};
 use crate::registry::Registry;
+use crate::ring::{OnFull, Ring};
 use crate::shared::Shared;
 use crate::state::State;
 use std::sync::Arc;
@@ -69,6 +70,8 @@ impl Layer {
 pub struct RegistryBuilder {
     limits: SpanLimits,
     layers: Vec<Layer>,
+    // None: as it is built.
+    on_full: Option<OnFull>,
 }
 
 impl Default for RegistryBuilder {
@@ -77,12 +80,13 @@ impl Default for RegistryBuilder {
             slots: 1024,
             last_generation: u32::MAX,
             max_count: u32::MAX,
-            workers: 4,
+            workers: 256,
             ring: 1024,
         };
         RegistryBuilder {
             limits,
             layers: Vec::new(),
+            on_full: None,
         }
     }
 }
@@ -106,8 +110,8 @@ impl RegistryBuilder {
         self
     }
 
-    /// How many threads may call at once: 1 to 65536, by default 4. Threads that have ended don't count. Of 65536 one is
-    /// no thread's: as one worker more the registry tells of itself.
+    /// How many threads may be inside spans at once: 1 to 65536, by default 256. Any number of threads may call
+    /// ([`Registry`] says as which worker each is told). Of 65536 one is no thread's.
     pub fn workers(mut self, workers: u32) -> RegistryBuilder {
         self.limits.workers = workers;
         self
@@ -127,6 +131,19 @@ impl RegistryBuilder {
         self
     }
 
+    /// What a call does that finds the ring full: by default it is refused, and where a writer is
+    /// [spawned](RegistryBuilder::spawn_writer) it waits.
+    pub fn on_full(mut self, on_full: OnFull) -> RegistryBuilder {
+        self.on_full = Some(on_full);
+        self
+    }
+
+    /// What it is where nothing was said.
+    pub(crate) fn or_on_full(mut self, on_full: OnFull) -> RegistryBuilder {
+        self.on_full.get_or_insert(on_full);
+        self
+    }
+
     /// The registry, and the end from which its lines are read.
     ///
     /// The drain has to be read also where there is no layer: each accepted call takes a place of the ring.
@@ -139,8 +156,10 @@ impl RegistryBuilder {
             rules: &packed.rules,
             texts: &packed.texts,
         })?;
-        let shared = Arc::new(Shared::new(State::new(core)?));
-        let drain = Drain::of(lines, Arc::clone(&shared), self.layers.len());
+        let ring = Arc::new(Ring::new(lines, self.on_full.unwrap_or_default()));
+        let state = State::new(core, Arc::clone(&ring))?;
+        let shared = Arc::new(Shared::new(state, ring));
+        let drain = Drain::of(Arc::clone(&shared), self.layers.len());
         Ok((Registry::of(shared), drain))
     }
 

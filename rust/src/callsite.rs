@@ -63,9 +63,8 @@ impl Registry {
     pub fn span_at(&self, callsite: &Callsite, parent: Parent, fields: Fields<'_>) -> Result<Span, Error> {
         let number = callsite.number_in(self)?;
         let parent = self.own_parent(parent)?;
-        let (id, worker) =
-            self.call(|state, worker| Ok((state.new_span_at(worker, number, parent, fields)?, worker)))?;
-        Ok(id.map_or_else(Span::none, |id| Span::of(self, id, worker)))
+        let id = self.call(|state, worker| state.new_span_at(worker, number, parent, fields))?;
+        Ok(id.map_or_else(Span::none, |id| Span::of(self, id)))
     }
 
     /// [`new_span`](Registry::new_span) with the meta of a callsite.

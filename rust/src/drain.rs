@@ -1,7 +1,8 @@
 //! The end from which lines are read.
 #![forbid(unsafe_code)]
-use crate::raw::{Lines, Next};
+use crate::raw::Next;
 use crate::shared::{wait, Shared};
+use crate::workers;
 use std::io::{self, Write};
 use std::sync::atomic::{AtomicBool, Ordering};
 use std::sync::Arc;
@@ -27,9 +28,9 @@ pub struct DrainCounts {
 
 /// The end from which lines are read, in the order of the calls. It may be used in a thread of its own.
 ///
-/// It has to be read: once the ring is full, calls are refused as [`Backlog`](crate::Error::Backlog), and after it was
-/// dropped that is so for ever. Reading takes the registry's lock only where something is owed
-/// (see [`Span`](crate::Span)).
+/// It has to be read: [`OnFull`](crate::OnFull) says what calls do once the ring is full. Where it is dropped, lines are
+/// thrown away from then on, and counted. Reading takes the registry's lock only where something is owed
+/// (see [`Span`](crate::Span)) or a loss is to be told.
 ///
 /// ```
 /// # fn main() -> Result<(), Box<dyn std::error::Error>> {
@@ -49,9 +50,8 @@ pub struct DrainCounts {
 /// # Ok(())
 /// # }
 /// ```
-#[must_use = "calls are refused once nobody reads the lines"]
+#[must_use = "lines are thrown away once it is dropped"]
 pub struct Drain {
-    lines: Lines,
     shared: Arc<Shared>,
     layers: usize,
     // A line's bytes stand at its beginning, and it has room for a newline.
@@ -61,9 +61,8 @@ pub struct Drain {
 }
 
 impl Drain {
-    pub(crate) fn of(lines: Lines, shared: Arc<Shared>, layers: usize) -> Drain {
+    pub(crate) fn of(shared: Arc<Shared>, layers: usize) -> Drain {
         Drain {
-            lines,
             shared,
             layers,
             buffer: vec![0; 256],
@@ -139,16 +138,17 @@ impl Drain {
     /// What it has done so far.
     #[must_use]
     pub fn counts(&mut self) -> DrainCounts {
-        let (batches, missed) = self.lines.counts();
+        let (batches, missed) = self.shared.ring().lines().counts();
         DrainCounts { batches, missed }
     }
 
     // Where the ring is empty, what is owed can be done, and what was lost told, and both may give lines. It is asked before each look for a line
     // whether to go on: batches without one may come for ever.
-    fn next_ready(&mut self, goes_on: impl Fn(&mut Lines) -> bool) -> Option<(usize, usize)> {
-        while self.ready.is_none() && goes_on(&mut self.lines) {
+    fn next_ready(&mut self, goes_on: impl Fn(&Shared) -> bool) -> Option<(usize, usize)> {
+        while self.ready.is_none() && goes_on(&self.shared) {
             let room = self.buffer.len() - 1;
-            match self.lines.next(&mut self.buffer[..room]) {
+            let next = self.shared.ring().lines().next(&mut self.buffer[..room]);
+            match next {
                 Next::Line { layer, length } => self.ready = Some((layer as usize, length)),
                 Next::Long { length } => self.buffer.resize(length + 1, 0),
                 Next::None if !self.settles() => return None,
@@ -160,7 +160,7 @@ impl Drain {
 
     // Whether something was owed or lost, and some of it was done or told now.
     fn settles(&self) -> bool {
-        if !self.shared.owes() && !self.shared.losses().is_untold() {
+        if !self.shared.owes() && !self.shared.is_untold() {
             return false;
         }
         self.shared.with(|state| {
@@ -176,12 +176,13 @@ impl Drain {
         self.write_while(outs, |_| true)
     }
 
-    fn write_while(&mut self, outs: &mut impl Outs, goes_on: impl Fn(&mut Lines) -> bool) -> io::Result<u64> {
+    fn write_while(&mut self, outs: &mut impl Outs, goes_on: impl Fn(&Shared) -> bool) -> io::Result<u64> {
         outs.check(self.layers)?;
         let mut lines = 0;
         while let Some((layer, length)) = self.next_ready(&goes_on) {
             self.buffer[length] = b'\n';
-            outs.write(layer, &self.buffer[..=length])?;
+            let line = &self.buffer[..=length];
+            workers::writing(&self.shared, || outs.write(layer, line))?;
             self.ready = None;
             lines += 1;
         }
@@ -191,11 +192,15 @@ impl Drain {
     // The lines of the calls that were accepted or are owed by now, and of what was lost.
     fn write_rest(&mut self, outs: &mut impl Outs) -> io::Result<u64> {
         let mut lines = self.write_sent(outs)?;
-        if self.shared.losses().is_untold() {
+        if self.shared.is_untold() {
             lines += self.write_sent(outs)?;
         }
-        outs.flush()?;
+        self.flush(outs)?;
         Ok(lines)
+    }
+
+    fn flush(&self, outs: &mut impl Outs) -> io::Result<()> {
+        workers::writing(&self.shared, || outs.flush())
     }
 
     // Each call puts one batch into the ring.
@@ -204,7 +209,7 @@ impl Drain {
             self.shared.tell(state);
             state.calls_by_now()
         });
-        self.write_while(outs, |lines| lines.counts().0 <= last)
+        self.write_while(outs, |shared| shared.ring().lines().counts().0 <= last)
     }
 
     fn run_out(&mut self, outs: &mut impl Outs, stop: &AtomicBool) -> io::Result<u64> {
@@ -221,7 +226,7 @@ impl Drain {
                 continue;
             }
             if idle == 0 {
-                outs.flush()?;
+                self.flush(outs)?;
             }
             if was_over && !self.shared.owes() {
                 return Ok(lines);
@@ -229,6 +234,13 @@ impl Drain {
             wait(idle);
             idle = idle.saturating_add(1);
         }
+    }
+}
+
+/// From now on nobody reads.
+impl Drop for Drain {
+    fn drop(&mut self) {
+        self.shared.ring().is_left();
     }
 }
 

@@ -36,7 +36,8 @@ pub enum Error {
     OutOfMemory,
     /// A text has 4 GiB or more.
     BadData,
-    /// More threads call than the registry has workers, or the thread calls while its thread locals are being dropped.
+    /// As many threads are inside spans as the registry has workers, or the thread enters a span while its thread locals
+    /// are being dropped.
     TooManyThreads,
     /// The callsite, the id or the span belongs to another registry.
     OtherRegistry,
@@ -244,7 +245,7 @@ impl fmt::Display for Error {
                     "bad name: {name:?} has to be {rule}; put the rest into a field's value"
                 );
             }
-            Error::Backlog => "backlog: the ring is full; read the drain, or ask for more with `RegistryBuilder::ring`",
+            Error::Backlog => "backlog: the ring is full; read the drain, or choose with `RegistryBuilder::on_full`",
             Error::BadLimits(BadLimit { limit, value }) => {
                 return write!(
                     f,
@@ -255,7 +256,7 @@ impl fmt::Display for Error {
             }
             Error::OutOfMemory => "out of memory",
             Error::BadData => "bad data: a text has 4 GiB or more",
-            Error::TooManyThreads => "too many threads: ask for more with `RegistryBuilder::workers`",
+            Error::TooManyThreads => "too many threads: more are inside spans than `RegistryBuilder::workers` says",
             Error::OtherRegistry => "other registry: the callsite, id or span is none of this registry",
             Error::OtherLibrary { what, library, package } => {
                 return write!(

@@ -24,6 +24,8 @@ mod packed;
 #[allow(unsafe_code)]
 mod raw;
 mod registry;
+mod ring;
+mod seats;
 mod shared;
 mod span;
 mod state;
@@ -39,6 +41,7 @@ pub use level::{FmtSpan, Form, Level};
 pub use lost::Lost;
 pub use meta::{Counts, Fields, Found, Id, Meta, Parent};
 pub use registry::{retry, Registry};
+pub use ring::OnFull;
 pub use span::{Entered, Span};
 pub use writer::Guard;
 

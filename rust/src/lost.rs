@@ -36,38 +36,55 @@ fn place_of(reason: Error) -> usize {
     }
 }
 
-/// How many calls were lost: those of [`span!`](crate::span), [`event!`](crate::event), [`Span::enter`],
-/// [`Span::in_scope`] and [`Span::record`] that were refused, by reason.
+/// What was lost: the calls of [`span!`](crate::span), [`event!`](crate::event), [`Span::enter`], [`Span::in_scope`] and
+/// [`Span::record`] that were refused, by reason, and lines that were thrown away unread.
 ///
 /// Layers that admit `WARN` of the target `span_registry` are told of what is new, once there is room again, as an event
 /// `lost` with a field for each reason, by a worker that is no thread: `event 0 w8 - WARN lost backlog=3`.
 #[derive(Clone, Copy, Debug, Default, PartialEq, Eq, Hash)]
-pub struct Lost([u64; REASONS.len()]);
+pub struct Lost {
+    calls: [u64; REASONS.len()],
+    lines: u64,
+}
 
 impl Lost {
-    /// Of all reasons.
+    /// The calls of all reasons.
     #[must_use]
     pub fn calls(&self) -> u64 {
-        self.0.iter().sum()
+        self.calls.iter().sum()
     }
 
-    /// For this reason. Those that no such call has are counted together.
+    /// The lines that were thrown away, as [`OnFull`](crate::OnFull) says, or because the drain was dropped.
+    #[must_use]
+    pub fn lines(&self) -> u64 {
+        self.lines
+    }
+
+    /// Whether nothing was lost.
+    #[must_use]
+    pub fn is_nothing(&self) -> bool {
+        *self == Lost::default()
+    }
+
+    /// The calls of this reason. Those that no such call has are counted together.
     #[must_use]
     pub fn by(&self, reason: Error) -> u64 {
-        self.0[place_of(reason)]
+        self.calls[place_of(reason)]
     }
 
-    /// Each reason for which calls were lost, by its name.
+    /// Each reason for which calls were lost, by its name, and the lines as `lines`.
     pub fn reasons(&self) -> impl Iterator<Item = (&'static str, u64)> {
-        REASONS.into_iter().zip(self.0).filter(|&(_, count)| count > 0)
+        let all = REASONS.into_iter().zip(self.calls).chain([("lines", self.lines)]);
+        all.filter(|&(_, count)| count > 0)
     }
 
     /// What was lost since `before`, which was told earlier.
     pub(crate) fn since(&self, before: &Lost) -> Lost {
         let mut lost = *self;
-        for (number, before) in lost.0.iter_mut().zip(before.0) {
+        for (number, before) in lost.calls.iter_mut().zip(before.calls) {
             *number -= before;
         }
+        lost.lines -= before.lines;
         lost
     }
 }
@@ -75,7 +92,7 @@ impl Lost {
 /// `full=1 backlog=3`, or `nothing`.
 impl fmt::Display for Lost {
     fn fmt(&self, f: &mut fmt::Formatter<'_>) -> fmt::Result {
-        if self.calls() == 0 {
+        if self.is_nothing() {
             return f.write_str("nothing");
         }
         for (place, (reason, count)) in self.reasons().enumerate() {
@@ -101,9 +118,13 @@ impl Losses {
         self.is_untold.store(true, Ordering::Release);
     }
 
-    pub(crate) fn so_far(&self) -> Lost {
-        let mut lost = Lost::default();
-        for (number, count) in lost.0.iter_mut().zip(&self.counts) {
+    /// What was lost so far, with so many lines.
+    pub(crate) fn so_far(&self, lines: u64) -> Lost {
+        let mut lost = Lost {
+            lines,
+            ..Lost::default()
+        };
+        for (number, count) in lost.calls.iter_mut().zip(&self.counts) {
             *number = count.load(Ordering::Relaxed);
         }
         lost
@@ -124,7 +145,7 @@ impl Registry {
     /// What was lost so far. It takes no lock.
     #[must_use]
     pub fn lost(&self) -> Lost {
-        self.shared().losses().so_far()
+        self.shared().lost()
     }
 
     /// The answer of a call; none where it was refused, which is counted.
@@ -176,7 +197,7 @@ mod tests {
         }
         let lost = registry.lost();
         for (place, (reason, count)) in reasons.into_iter().zip(1..).enumerate() {
-            assert_eq!((lost.by(reason), lost.0[place]), (count, count));
+            assert_eq!((lost.by(reason), lost.calls[place]), (count, count));
         }
         assert_eq!(lost.calls(), 45);
         assert_eq!(lost.reasons().map(|(name, _)| name).collect::<Vec<_>>(), REASONS);
@@ -189,12 +210,12 @@ mod tests {
         let losses = Losses::default();
         assert!(!losses.is_untold());
         losses.lose(Error::Full);
-        let before = losses.so_far();
+        let before = losses.so_far(3);
         losses.set_untold(false);
         losses.lose(Error::Full);
         losses.lose(Error::Backlog);
         assert!(losses.is_untold());
-        assert_eq!(losses.so_far().since(&before).to_string(), "full=1 backlog=1");
+        assert_eq!(losses.so_far(5).since(&before).to_string(), "full=1 backlog=1 lines=2");
     }
 
     #[test]
@@ -205,6 +226,6 @@ mod tests {
                 scope.spawn(|| (0..1000).for_each(|_| losses.lose(Error::Full)));
             }
         });
-        assert_eq!(losses.so_far().by(Error::Full), 4000);
+        assert_eq!(losses.so_far(0).by(Error::Full), 4000);
     }
 }

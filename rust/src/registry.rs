@@ -4,6 +4,7 @@ use crate::builder::RegistryBuilder;
 use crate::error::Error;
 use crate::level::Level;
 use crate::meta::{Counts, Fields, Found, Id, Meta, Parent, RawId, RawParent};
+use crate::seats::Caller;
 use crate::shared::{wait, Shared};
 use crate::span::Span;
 use crate::state::State;
@@ -13,9 +14,12 @@ use std::sync::Arc;
 
 /// A registry of spans. Clones are the same registry; it may be used by several threads at once.
 ///
-/// Each thread that calls is a worker of the registry: it takes a free number at its first call, and gives it back
-/// when it ends, after it has left all spans that it is still inside of. A call of one thread more than
-/// [`workers`](RegistryBuilder::workers) is refused as [`TooManyThreads`](Error::TooManyThreads).
+/// Any number of threads may call. A thread that is inside a span has a worker's number, which lines show; it takes a free
+/// one at its first call, or, to enter a span where none is free, that of the thread which is longest inside of none. A
+/// thread without a number is told as one worker more, the last. So it is refused as
+/// [`TooManyThreads`](Error::TooManyThreads) only where it enters a span while as many threads as there are
+/// [`workers`](RegistryBuilder::workers) are inside of some, or while its thread locals are dropped. When a thread ends, it
+/// leaves all spans that it is still inside of.
 ///
 /// The methods that take an [`Id`] are for adapters; [`Registry::span`] answers a [`Span`] that gives itself back. An
 /// id, a parent or a callsite of another registry is refused as [`OtherRegistry`](Error::OtherRegistry), before all
@@ -73,15 +77,10 @@ impl Registry {
         &self.user.shared
     }
 
-    // What is owed comes first, then the thread's number, then the call, and then, where there is room, what was lost.
-    pub(crate) fn call<T>(&self, call: impl FnOnce(&mut State, u32) -> Result<T, Error>) -> Result<T, Error> {
-        self.shared().with(|state| {
-            state.settle()?;
-            let worker = workers::number(self.shared(), state)?;
-            let answer = call(state, worker)?;
-            self.shared().tell(state);
-            Ok(answer)
-        })
+    #[inline]
+    pub(crate) fn call<T>(&self, call: impl FnMut(&mut State, u32) -> Result<T, Error>) -> Result<T, Error> {
+        let as_worker = |state: &mut State, caller: Caller| Ok(state.worker(caller));
+        self.shared().call(as_worker, call)
     }
 
     /// The number of one of its ids, which other registries' are not.
@@ -105,7 +104,8 @@ impl Registry {
         RawId::from_u64(number).map(|raw| self.id_of(raw))
     }
 
-    /// The number of the calling thread among the workers, which lines show. It takes one where it has none.
+    /// The number of the calling thread among the workers, which lines show. It takes one where it has none and one is
+    /// free.
     pub fn worker(&self) -> Result<u32, Error> {
         self.call(|_, worker| Ok(worker))
     }
@@ -113,8 +113,8 @@ impl Registry {
     /// A new span with its one handle; a disabled one where there are layers and none wants it.
     pub fn span(&self, meta: &Meta<'_>, parent: Parent, fields: Fields<'_>) -> Result<Span, Error> {
         let parent = self.own_parent(parent)?;
-        let (id, worker) = self.call(|state, worker| Ok((state.new_span(worker, meta, parent, fields)?, worker)))?;
-        Ok(id.map_or_else(Span::none, |id| Span::of(self, id, worker)))
+        let id = self.call(|state, worker| state.new_span(worker, meta, parent, fields))?;
+        Ok(id.map_or_else(Span::none, |id| Span::of(self, id)))
     }
 
     /// A new span, whose one handle the caller has to give back by [`try_close`](Registry::try_close); none where there
@@ -139,8 +139,13 @@ impl Registry {
 
     /// The calling thread enters a span. True where it wasn't inside of it already: only such an entry holds the span.
     pub fn enter(&self, id: Id) -> Result<bool, Error> {
-        let id = self.own(id)?;
-        self.call(|state, worker| state.enter(worker, id))
+        self.enter_as(self.own(id)?).map(|(is_first, _)| is_first)
+    }
+
+    /// As which worker too.
+    pub(crate) fn enter_as(&self, id: RawId) -> Result<(bool, u32), Error> {
+        let enter = |state: &mut State, worker| Ok((state.enter(worker, id)?, worker));
+        self.shared().call(State::worker_to_enter, enter)
     }
 
     /// The calling thread leaves its topmost entry of a span. True where the span closed.
@@ -166,27 +171,33 @@ impl Registry {
     /// owed already, so no more is owed than is held.
     pub fn exit_or_owe(&self, id: Id) -> Result<(), Error> {
         let id = self.own(id)?;
-        let worker = workers::known(self.shared()).ok_or(Error::NotEntered)?;
-        self.exit_as(id, worker)
+        let caller = workers::caller(self.shared());
+        self.shared().with(|state| {
+            let worker = state.worker_of(caller).ok_or(Error::NotEntered)?;
+            state.exit_or_owe(worker, id)
+        })
     }
 
+    /// As this worker, if the thread still has that number: else it has left all spans.
     pub(crate) fn exit_as(&self, id: RawId, worker: u32) -> Result<(), Error> {
-        self.shared().with(|state| state.exit_or_owe(worker, id))
+        let caller = workers::caller(self.shared());
+        self.shared().with(|state| match state.worker_of(caller) {
+            Some(number) if number == worker => state.exit_or_owe(worker, id),
+            _ => Ok(()),
+        })
     }
 
     /// [`try_close`](Registry::try_close) for callers that can't make it again: what can't be done now is owed, as
     /// where a [`Span`] is dropped. Refused as [`Unknown`](Error::Unknown) where the span has no handle whose close
-    /// isn't owed already, so no more is owed than is held. A thread that is no worker and can become none does it as
-    /// worker 0.
+    /// isn't owed already, so no more is owed than is held. A thread takes no number for it.
     pub fn close_or_owe(&self, id: Id) -> Result<(), Error> {
-        self.close_as(self.own(id)?, 0)
+        self.close_raw(self.own(id)?)
     }
 
-    // By this thread's number, or by `maker` where it can have none.
-    pub(crate) fn close_as(&self, id: RawId, maker: u32) -> Result<(), Error> {
+    pub(crate) fn close_raw(&self, id: RawId) -> Result<(), Error> {
+        let caller = workers::caller(self.shared());
         self.shared().with(|state| {
-            let _owing = state.settle();
-            let worker = workers::number(self.shared(), state).unwrap_or(maker);
+            let worker = state.worker_or_outsider(caller);
             state.close_or_owe(worker, id)
         })
     }
@@ -194,12 +205,11 @@ impl Registry {
     /// The innermost span that the calling thread is inside of; entries that repeat a span are skipped. After entering
     /// a, b and a again it is b.
     pub fn current_span(&self) -> Result<Option<Id>, Error> {
-        let Some(worker) = workers::known(self.shared()) else {
-            return Ok(None);
-        };
-        let current = self.shared().with(|state| {
+        let caller = workers::caller(self.shared());
+        let current = self.shared().with_place(|state| {
             state.settle()?;
-            state.current_span(worker)
+            let worker = state.worker_of(caller);
+            worker.map_or(Ok(None), |worker| state.current_span(worker))
         })?;
         Ok(current.map(|raw| self.id_of(raw)))
     }
@@ -235,7 +245,7 @@ impl Registry {
     /// first. Refused as [`Backlog`](Error::Backlog) or [`OutOfMemory`](Error::OutOfMemory) where some of it can't be
     /// done now; that stays owed.
     pub fn settle(&self) -> Result<(), Error> {
-        self.shared().with(State::settle)
+        self.shared().with_place(State::settle)
     }
 }
 
@@ -246,8 +256,8 @@ impl fmt::Debug for Registry {
 }
 
 /// Makes a call again, as long as it is refused as [`Backlog`](Error::Backlog), and lets other threads run in between.
-/// It doesn't come back while nobody reads the [`Drain`](crate::Drain): not where the thread that reads waits by this,
-/// nor after the drain or its [`Guard`](crate::Guard) was dropped.
+/// It doesn't come back while the [`Drain`](crate::Drain) is there and nobody reads it, so the thread that reads must not
+/// wait by this. A registry that was built with [`OnFull::Wait`](crate::OnFull) waits by itself.
 ///
 /// ```
 /// # fn main() -> Result<(), span_registry::Error> {

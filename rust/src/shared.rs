@@ -1,9 +1,13 @@
 //! The lock, and what may be asked without it.
 #![forbid(unsafe_code)]
-use crate::lost::Losses;
+use crate::error::Error;
+use crate::lost::{Losses, Lost};
+use crate::ring::Ring;
+use crate::seats::Caller;
 use crate::state::State;
+use crate::workers;
 use std::sync::atomic::{AtomicBool, AtomicU64, Ordering};
-use std::sync::{Mutex, MutexGuard, PoisonError};
+use std::sync::{Arc, Mutex, MutexGuard, PoisonError};
 use std::thread;
 use std::time::Duration;
 
@@ -13,6 +17,7 @@ static MADE: AtomicU64 = AtomicU64::new(0);
 /// What registries, spans and the drain share.
 pub(crate) struct Shared {
     state: Mutex<State>,
+    ring: Arc<Ring>,
     // How many registries were made before.
     number: u64,
     // Whether something is owed, as of the last time that the lock was given back.
@@ -23,9 +28,10 @@ pub(crate) struct Shared {
 }
 
 impl Shared {
-    pub(crate) fn new(state: State) -> Shared {
+    pub(crate) fn new(state: State, ring: Arc<Ring>) -> Shared {
         Shared {
             state: Mutex::new(state),
+            ring,
             number: MADE.fetch_add(1, Ordering::Relaxed),
             owes: AtomicBool::new(false),
             is_over: AtomicBool::new(false),
@@ -43,6 +49,39 @@ impl Shared {
         result
     }
 
+    /// The same. Where the registry waits for the drain, it is made until it isn't refused for that.
+    #[inline]
+    pub(crate) fn with_place<T>(&self, mut call: impl FnMut(&mut State) -> Result<T, Error>) -> Result<T, Error> {
+        let mut turn: u32 = 0;
+        loop {
+            match self.with(&mut call) {
+                Err(Error::Backlog) if self.ring.waits() && !workers::is_writing(self) => wait(turn),
+                result => return result,
+            }
+            turn = turn.saturating_add(1);
+        }
+    }
+
+    /// A thread's call: what is owed comes first, then the thread's number, then the call, and then, where there is
+    /// room, what was lost.
+    #[inline]
+    pub(crate) fn call<T>(
+        self: &Arc<Shared>,
+        as_worker: impl Fn(&mut State, Caller) -> Result<u32, Error>,
+        mut call: impl FnMut(&mut State, u32) -> Result<T, Error>,
+    ) -> Result<T, Error> {
+        let caller = workers::caller(self);
+        self.with_place(|state| {
+            state.settle()?;
+            let worker = as_worker(state, caller)?;
+            // A refused call may have taken a number too.
+            workers::called_as(self, caller, worker);
+            let answer = call(state, worker)?;
+            self.tell(state);
+            Ok(answer)
+        })
+    }
+
     /// By which it is told from all others of the process, also those that are gone.
     pub(crate) fn number(&self) -> u64 {
         self.number
@@ -52,10 +91,23 @@ impl Shared {
         &self.losses
     }
 
+    pub(crate) fn ring(&self) -> &Ring {
+        &self.ring
+    }
+
+    pub(crate) fn lost(&self) -> Lost {
+        self.losses.so_far(self.ring.thrown())
+    }
+
+    /// Whether something was lost since the last telling, and somebody may read of it.
+    pub(crate) fn is_untold(&self) -> bool {
+        (self.losses.is_untold() || self.ring.is_untold()) && !self.ring.is_unread()
+    }
+
     /// Tells what was lost since the last telling, if there is anything and the ring has room.
     #[inline]
     pub(crate) fn tell(&self, state: &mut State) {
-        if self.losses.is_untold() {
+        if self.is_untold() {
             self.tell_now(state);
         }
     }
@@ -64,7 +116,8 @@ impl Shared {
     fn tell_now(&self, state: &mut State) {
         // What is lost from here on is told the next time.
         self.losses.set_untold(false);
-        if state.tell(self.losses.so_far()).is_err() {
+        self.ring.set_untold(false);
+        if state.tell(self.lost()).is_err() {
             self.losses.set_untold(true);
         }
     }

@@ -3,8 +3,6 @@
 use crate::error::Error;
 use crate::meta::{Fields, Id, RawId};
 use crate::registry::Registry;
-use crate::state::State;
-use crate::workers;
 use std::fmt;
 use std::marker::PhantomData;
 use std::sync::Arc;
@@ -29,7 +27,7 @@ use std::sync::Arc;
 /// a handle or an entry is.
 ///
 /// It may be sent to other threads and dropped there. The thread that drops the last clone is told in the lines as the
-/// worker that closed the span; where it is no worker and there is no free number, the worker that made the handle is.
+/// worker that closed the span.
 #[derive(Clone, Default)]
 pub struct Span(Option<Arc<Handle>>);
 
@@ -38,8 +36,6 @@ struct Handle {
     registry: Registry,
     // Of that registry.
     id: RawId,
-    // The worker that made it.
-    maker: u32,
     is_given_back: bool,
 }
 
@@ -50,11 +46,10 @@ impl Span {
         Span(None)
     }
 
-    pub(crate) fn of(registry: &Registry, id: RawId, maker: u32) -> Span {
+    pub(crate) fn of(registry: &Registry, id: RawId) -> Span {
         Span(Some(Arc::new(Handle {
             registry: registry.clone(),
             id,
-            maker,
             is_given_back: false,
         })))
     }
@@ -117,11 +112,8 @@ impl Span {
         let Some(handle) = &self.0 else {
             return Ok(Span::none());
         };
-        let clone = |worker| Span::of(&handle.registry, handle.id, worker);
-        handle
-            .registry
-            .call(|state, worker| state.clone_span(worker, handle.id).map(|()| worker))
-            .map(clone)
+        handle.registry.clone_span(handle.id())?;
+        Ok(Span::of(&handle.registry, handle.id))
     }
 
     /// Gives the handle back, as a drop does, and tells whether the span closed. False where other clones share it.
@@ -148,8 +140,7 @@ impl Handle {
     }
 
     fn enter(&self) -> Result<Entry<'_>, Error> {
-        let enter = |state: &mut State, worker| Ok((state.enter(worker, self.id)?, worker));
-        let (is_first, worker) = self.registry.call(enter)?;
+        let (is_first, worker) = self.registry.enter_as(self.id)?;
         Ok(Entry {
             handle: self,
             worker,
@@ -166,7 +157,7 @@ impl Drop for Handle {
     fn drop(&mut self) {
         if !self.is_given_back {
             // Refused is only what somebody gave back by its id.
-            let _closed_or_owed = self.registry.close_as(self.id, self.maker);
+            let _closed_or_owed = self.registry.close_raw(self.id);
         }
     }
 }
@@ -213,11 +204,8 @@ impl Drop for Entered<'_> {
         let Some(Entry { handle, worker, .. }) = self.entry else {
             return;
         };
-        // A thread whose number went back while it ends has left all its spans by that.
-        if workers::known(handle.registry.shared()) == Some(worker) {
-            // Refused is only what somebody left by its id.
-            let _left_or_owed = handle.registry.exit_as(handle.id, worker);
-        }
+        // Refused is only what somebody left by its id.
+        let _left_or_owed = handle.registry.exit_as(handle.id, worker);
     }
 }
 

@@ -1,4 +1,4 @@
-//! What lies under the lock: the proved registry, what is owed to it, and which workers' numbers are taken.
+//! What lies under the lock: the proved registry, what is owed to it, and which threads have which numbers.
 #![forbid(unsafe_code)]
 use crate::error::Error;
 use crate::level::Level;
@@ -7,28 +7,30 @@ use crate::meta::{Counts, Fields, Meta, RawId, RawParent};
 use crate::owed::{Owed, Owing};
 use crate::packed::Packed;
 use crate::raw::{Core, SpanFound};
+use crate::ring::Ring;
+use crate::seats::{Caller, Seats};
+use std::sync::Arc;
 
 pub(crate) struct State {
     core: Core,
+    ring: Arc<Ring>,
     packed: Packed,
     owing: Owing,
-    // Which workers' numbers threads have. The core has one worker more, the outsider, which is inside of no span.
-    taken: Vec<bool>,
+    // The core has one worker more, the outsider, which is inside of no span.
+    seats: Seats,
     // What was lost when that was last told.
     told: Lost,
 }
 
 impl State {
-    pub(crate) fn new(mut core: Core) -> Result<State, Error> {
-        let workers = core.counts().workers as usize - 1;
-        let mut taken = Vec::new();
-        taken.try_reserve_exact(workers).map_err(|_| Error::OutOfMemory)?;
-        taken.resize(workers, false);
+    pub(crate) fn new(mut core: Core, ring: Arc<Ring>) -> Result<State, Error> {
+        let workers = core.counts().workers - 1;
         Ok(State {
             core,
+            ring,
             packed: Packed::default(),
-            owing: Owing::new(workers)?,
-            taken,
+            owing: Owing::new(workers as usize)?,
+            seats: Seats::new(workers)?,
             told: Lost::default(),
         })
     }
@@ -81,8 +83,11 @@ impl State {
         }
     }
 
-    /// The worker leaves all spans and its number is free, after all that is owed, or that is owed too.
-    pub(crate) fn leave_or_owe(&mut self, worker: u32) -> Result<(), Error> {
+    /// The thread leaves all spans, after all that is owed or as it is owed too, and its number is free then.
+    pub(crate) fn thread_ends(&mut self, caller: Caller) -> Result<(), Error> {
+        let Some(worker) = self.seats.ends(caller) else {
+            return Ok(());
+        };
         match self.settle().and_then(|()| self.leave(worker)) {
             Err(error) if error.may_pass() => self.owing.owe_end(worker),
             result => result,
@@ -94,19 +99,40 @@ impl State {
             self.give_back_entry(worker, id)?;
         }
         self.owing.left_all(worker);
-        self.taken[worker as usize] = false;
+        self.seats.free(worker);
         Ok(())
     }
 
-    /// The lowest number that no thread has.
-    pub(crate) fn take_worker(&mut self) -> Result<u32, Error> {
-        let free = self
-            .taken
-            .iter()
-            .position(|taken| !taken)
-            .ok_or(Error::TooManyThreads)?;
-        self.taken[free] = true;
-        u32::try_from(free).map_err(|_| Error::TooManyThreads)
+    /// As which worker the thread makes a call: by its number, or one that it takes, or as the outsider.
+    #[inline]
+    pub(crate) fn worker(&mut self, caller: Caller) -> u32 {
+        self.seats.of(caller).unwrap_or_else(|| self.seats.of_or_free(caller))
+    }
+
+    /// The same where it takes no number, as for a drop.
+    pub(crate) fn worker_or_outsider(&self, caller: Caller) -> u32 {
+        self.worker_of(caller).unwrap_or_else(|| self.seats.outsider())
+    }
+
+    /// The number that the thread has.
+    pub(crate) fn worker_of(&self, caller: Caller) -> Option<u32> {
+        self.seats.of(caller)
+    }
+
+    /// As which worker the thread may enter a span: by its number, or one that it takes, also an idle thread's.
+    pub(crate) fn worker_to_enter(&mut self, caller: Caller) -> Result<u32, Error> {
+        self.seats.entering(caller)
+    }
+
+    // A call that takes a place of the ring: where lines may be thrown away for one, they are.
+    #[inline]
+    fn placed<T>(&mut self, mut call: impl FnMut(&mut Core, &Packed) -> Result<T, Error>) -> Result<T, Error> {
+        loop {
+            match call(&mut self.core, &self.packed) {
+                Err(Error::Backlog) if self.ring.makes_place() => {}
+                result => return result,
+            }
+        }
     }
 
     pub(crate) fn new_span(
@@ -118,7 +144,7 @@ impl State {
     ) -> Result<Option<RawId>, Error> {
         self.owing.reserve_span()?;
         self.packed.pack(&[meta.name, meta.target], fields)?;
-        let id = self.core.new_span(worker, parent, meta, &self.packed);
+        let id = self.placed(|core, packed| core.new_span(worker, parent, meta, packed));
         let id = id.map_err(|error| error.naming(Some(meta.name), fields))?;
         Ok(id.inspect(|&id| self.owing.made(id)))
     }
@@ -139,21 +165,22 @@ impl State {
     ) -> Result<Option<RawId>, Error> {
         self.owing.reserve_span()?;
         self.packed.pack(&[], fields)?;
-        let id = self.core.new_span_at(worker, parent, callsite, &self.packed);
+        let id = self.placed(|core, packed| core.new_span_at(worker, parent, callsite, packed));
         let id = id.map_err(|error| error.naming(None, fields))?;
         Ok(id.inspect(|&id| self.owing.made(id)))
     }
 
     pub(crate) fn clone_span(&mut self, worker: u32, id: RawId) -> Result<(), Error> {
         self.owing.reserve_handle()?;
-        self.core.clone_span(worker, id)?;
+        self.placed(|core, _| core.clone_span(worker, id))?;
         self.owing.cloned();
         Ok(())
     }
 
     pub(crate) fn enter(&mut self, worker: u32, id: RawId) -> Result<bool, Error> {
         self.owing.reserve_entry(worker)?;
-        let first = self.core.enter(worker, id)?;
+        let first = self.placed(|core, _| core.enter(worker, id))?;
+        self.seats.entered(worker);
         self.owing.entered(worker, id);
         Ok(first)
     }
@@ -165,20 +192,21 @@ impl State {
     }
 
     fn give_back_entry(&mut self, worker: u32, id: RawId) -> Result<bool, Error> {
-        let closed = self.core.exit(worker, id)?;
+        let closed = self.placed(|core, _| core.exit(worker, id))?;
+        self.seats.left(worker);
         self.owing.given_back();
         Ok(closed)
     }
 
     pub(crate) fn try_close(&mut self, worker: u32, id: RawId) -> Result<bool, Error> {
-        let closed = self.core.try_close(worker, id)?;
+        let closed = self.placed(|core, _| core.try_close(worker, id))?;
         self.owing.given_back();
         Ok(closed)
     }
 
     pub(crate) fn record(&mut self, worker: u32, id: RawId, fields: Fields<'_>) -> Result<(), Error> {
         self.packed.pack(&[], fields)?;
-        let recorded = self.core.record(worker, id, &self.packed);
+        let recorded = self.placed(|core, packed| core.record(worker, id, packed));
         recorded.map_err(|error| error.naming(None, fields))
     }
 
@@ -190,7 +218,7 @@ impl State {
         fields: Fields<'_>,
     ) -> Result<(), Error> {
         self.packed.pack(&[meta.name, meta.target, message], fields)?;
-        let told = self.core.event(worker, meta, message, &self.packed);
+        let told = self.placed(|core, packed| core.event(worker, meta, message, packed));
         told.map_err(|error| error.naming(Some(meta.name), fields))
     }
 
@@ -202,7 +230,7 @@ impl State {
         fields: Fields<'_>,
     ) -> Result<(), Error> {
         self.packed.pack(&[message], fields)?;
-        let told = self.core.event_at(worker, callsite, message, &self.packed);
+        let told = self.placed(|core, packed| core.event_at(worker, callsite, message, packed));
         told.map_err(|error| error.naming(None, fields))
     }
 
@@ -210,7 +238,7 @@ impl State {
     /// losses themselves.
     pub(crate) fn tell(&mut self, lost: Lost) -> Result<(), Error> {
         let news = lost.since(&self.told);
-        if news.calls() == 0 {
+        if news.is_nothing() {
             // It was told before its thread said so.
             return Ok(());
         }
@@ -219,15 +247,12 @@ impl State {
             .map(|(reason, count)| (reason, count.to_string()))
             .collect();
         let fields: Vec<(&str, &str)> = counts.iter().map(|(reason, count)| (*reason, &**count)).collect();
-        self.event(self.outsider(), &Meta::event(Level::Warn, TARGET), "lost", &fields)?;
+        self.packed.pack(&["event", TARGET, "lost"], &fields)?;
+        let meta = Meta::event(Level::Warn, TARGET);
+        // Nothing is thrown away for it.
+        self.core.event(self.seats.outsider(), &meta, "lost", &self.packed)?;
         self.told = lost;
         Ok(())
-    }
-
-    // The worker that is no thread.
-    fn outsider(&self) -> u32 {
-        // A registry has at most 65,536 workers.
-        self.taken.len() as u32
     }
 
     pub(crate) fn current_span(&mut self, worker: u32) -> Result<Option<RawId>, Error> {
@@ -248,7 +273,7 @@ impl State {
             held: counts.held,
             owed: self.owing.len(),
             workers: counts.workers - 1,
-            threads: self.taken.iter().map(|&taken| u32::from(taken)).sum(),
+            threads: self.seats.taken(),
         }
     }
 

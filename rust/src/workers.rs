@@ -1,30 +1,32 @@
-//! Which worker of which registry a thread is.
-//!
-//! A thread takes the lowest free number at its first call, and gives it back when it ends.
+//! Which thread calls, and which number it had last in which registry.
 #![forbid(unsafe_code)]
-use crate::error::Error;
+use crate::seats::Caller;
 use crate::shared::Shared;
-use crate::state::State;
 use std::cell::{Cell, RefCell};
+use std::sync::atomic::{AtomicU64, Ordering};
 use std::sync::{Arc, Weak};
 
-/// This thread is this worker of this registry.
+/// How many threads of this process have called.
+static THREADS: AtomicU64 = AtomicU64::new(0);
+
+/// A registry in which this thread may have a number, to be given back when it ends.
 struct Place {
     registry: Weak<Shared>,
-    worker: u32,
+    // The number that it had last.
+    worker: Option<u32>,
 }
 
 /// A place for each registry that this thread called.
 struct Places(Vec<Place>);
 
-/// A registry's number among all of the process, and a worker's number in it.
-type Known = (u64, u32);
-
 thread_local! {
-    // The place that was last asked for: mostly the next call asks for the same. It needs no drop, so a look at it costs
-    // little, and it says nothing once the places are gone.
-    static LAST: Cell<Option<Known>> = const { Cell::new(None) };
+    // None of these two needs a drop, so a look at them costs little, and they are there while the places are dropped.
+    static THREAD: Cell<u64> = const { Cell::new(0) };
+    // The number of the registry that was last called, and the worker's number there: mostly the next call is the same.
+    static LAST: Cell<Option<(u64, u32)>> = const { Cell::new(None) };
     static PLACES: RefCell<Places> = const { RefCell::new(Places(Vec::new())) };
+    // The number of the registry whose lines this thread is writing.
+    static WRITING: Cell<Option<u64>> = const { Cell::new(None) };
 }
 
 impl Drop for Places {
@@ -32,54 +34,97 @@ impl Drop for Places {
         LAST.set(None);
         for place in self.0.drain(..) {
             if let Some(shared) = place.registry.upgrade() {
-                let _left_or_owed = shared.with(|state| state.leave_or_owe(place.worker));
+                let caller = Caller {
+                    thread: thread(),
+                    last: place.worker,
+                    may_own: false,
+                };
+                let _left_or_owed = shared.with(|state| state.thread_ends(caller));
             }
         }
     }
 }
 
-/// This thread's number, if it has one.
+fn thread() -> u64 {
+    if THREAD.get() == 0 {
+        THREAD.set(THREADS.fetch_add(1, Ordering::Relaxed) + 1);
+    }
+    THREAD.get()
+}
+
+/// The calling thread, for a call of this registry.
 #[inline]
-pub(crate) fn known(shared: &Arc<Shared>) -> Option<u32> {
+pub(crate) fn caller(shared: &Arc<Shared>) -> Caller {
     match LAST.get() {
-        Some((registry, worker)) if registry == shared.number() => Some(worker),
+        Some((registry, worker)) if registry == shared.number() => Caller {
+            thread: THREAD.get(),
+            last: Some(worker),
+            may_own: true,
+        },
         _ => looked_up(shared),
     }
 }
 
 #[cold]
-fn looked_up(shared: &Arc<Shared>) -> Option<u32> {
-    let find = |places: &RefCell<Places>| {
-        let places = places.borrow();
-        let place = places
-            .0
-            .iter()
-            .find(|place| place.registry.as_ptr() == Arc::as_ptr(shared))?;
-        Some(place.worker)
+fn looked_up(shared: &Arc<Shared>) -> Caller {
+    let place = |places: &RefCell<Places>| {
+        let places = &mut places.borrow_mut().0;
+        let is_this = |place: &Place| place.registry.as_ptr() == Arc::as_ptr(shared);
+        if let Some(place) = places.iter().find(|place| is_this(place)) {
+            return Some(place.worker);
+        }
+        places.retain(|place| place.registry.strong_count() > 0);
+        places.try_reserve(1).ok()?;
+        places.push(Place {
+            registry: Arc::downgrade(shared),
+            worker: None,
+        });
+        Some(None)
     };
-    let worker = PLACES.try_with(find).ok().flatten()?;
-    LAST.set(Some((shared.number(), worker)));
-    Some(worker)
+    let place = PLACES.try_with(place).ok().flatten();
+    Caller {
+        thread: thread(),
+        last: place.flatten(),
+        may_own: place.is_some(),
+    }
 }
 
-/// This thread's number; it takes one where it has none. A number that is owed back is no free one yet.
+/// The call was made as this worker.
 #[inline]
-pub(crate) fn number(shared: &Arc<Shared>, state: &mut State) -> Result<u32, Error> {
-    known(shared).map_or_else(|| taken(shared, state), Ok)
+pub(crate) fn called_as(shared: &Arc<Shared>, caller: Caller, worker: u32) {
+    if caller.may_own && LAST.get() != Some((shared.number(), worker)) {
+        keep(shared, worker);
+    }
 }
 
 #[cold]
-fn taken(shared: &Arc<Shared>, state: &mut State) -> Result<u32, Error> {
-    let take = |places: &RefCell<Places>| {
+fn keep(shared: &Arc<Shared>, worker: u32) {
+    let put = |places: &RefCell<Places>| {
         let places = &mut places.borrow_mut().0;
-        places.retain(|place| place.registry.strong_count() > 0);
-        places.try_reserve(1).map_err(|_| Error::OutOfMemory)?;
-        let worker = state.take_worker()?;
-        places.push(Place {
-            registry: Arc::downgrade(shared),
-            worker,
-        });
-        Ok(worker)
+        let is_this = |place: &&mut Place| place.registry.as_ptr() == Arc::as_ptr(shared);
+        let place = places.iter_mut().find(is_this)?;
+        place.worker = Some(worker);
+        Some(())
     };
-    PLACES.try_with(take).unwrap_or(Err(Error::TooManyThreads))
+    if PLACES.try_with(put).ok().flatten().is_some() {
+        LAST.set(Some((shared.number(), worker)));
+    }
+}
+
+/// Runs `write` as the thread that writes this registry's lines, so that a call that it makes there doesn't wait for
+/// itself.
+pub(crate) fn writing<T>(shared: &Shared, write: impl FnOnce() -> T) -> T {
+    struct Restore(Option<u64>);
+    impl Drop for Restore {
+        fn drop(&mut self) {
+            WRITING.set(self.0);
+        }
+    }
+    let _restore = Restore(WRITING.replace(Some(shared.number())));
+    write()
+}
+
+/// Whether this thread is writing the registry's lines.
+pub(crate) fn is_writing(shared: &Shared) -> bool {
+    WRITING.get() == Some(shared.number())
 }

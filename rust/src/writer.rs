@@ -4,6 +4,7 @@ use crate::builder::RegistryBuilder;
 use crate::drain::Drain;
 use crate::error::Error;
 use crate::registry::Registry;
+use crate::ring::OnFull;
 use std::io::{self, Write};
 use std::panic::{catch_unwind, resume_unwind, AssertUnwindSafe};
 use std::sync::atomic::{AtomicBool, Ordering};
@@ -17,8 +18,7 @@ use std::thread::{self, Builder, JoinHandle};
 ///
 /// Where a write fails or panics, the rest is read and thrown away, so that no call waits for a writer that is gone,
 /// and [`finish`](Guard::finish) tells the failure. The thread also ends where the registry, its clones and its spans
-/// are gone. Once it ended, nobody reads: calls are refused as [`Backlog`](Error::Backlog) when the ring is full, and
-/// [`retry`](crate::retry) doesn't come back.
+/// are gone. Once it ended, nobody reads: lines are thrown away, and counted as [`Lost::lines`](crate::Lost::lines).
 #[derive(Debug)]
 #[must_use = "the writer ends where its guard is dropped"]
 pub struct Guard {
@@ -83,6 +83,7 @@ fn written(mut drain: Drain, mut out: impl Write, stop: &AtomicBool) -> io::Resu
 
 impl RegistryBuilder {
     /// The registry, and the guard of a thread that writes all its lines. Give the guard a name: `_` drops it at once.
+    /// Where nothing else was said by [`on_full`](RegistryBuilder::on_full), a call that finds the ring full waits.
     /// Refused as [`OutOfMemory`](Error::OutOfMemory) where no thread can be made.
     ///
     /// ```
@@ -95,7 +96,7 @@ impl RegistryBuilder {
     /// # }
     /// ```
     pub fn spawn_writer<W: Write + Send + 'static>(self, out: W) -> Result<(Registry, Guard), Error> {
-        let (registry, drain) = self.build()?;
+        let (registry, drain) = self.or_on_full(OnFull::Wait).build()?;
         let guard = drain.spawn(out).map_err(|_| Error::OutOfMemory)?;
         Ok((registry, guard))
     }

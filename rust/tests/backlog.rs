@@ -207,11 +207,22 @@ fn id_of(line: &str) -> String {
 }
 
 #[test]
-fn a_dropped_drain_leaves_the_calls_refused() -> Result<(), Error> {
-    let (registry, drain) = compact().ring(2).build()?;
+fn after_the_drain_was_dropped_lines_are_thrown_away() -> Result<(), Error> {
+    let (registry, mut drain) = compact().ring(2).build()?;
+    let a = span(&registry, "a");
+    let inside = a.try_enter()?;
+    drain.line();
     drop(drain);
-    let ids = Ids(registry);
-    let answers: Vec<_> = (0..4).map(|_| ids.event("m")).collect();
-    assert_eq!(answers[2..], [Err(Error::Backlog); 2]);
+    let ids = Ids(registry.clone());
+    (0..9).try_for_each(|_| retry(|| ids.event("m")))?;
+    drop(inside);
+    drop(a);
+    assert_empty(&registry);
+    let counts = registry.counts();
+    assert_eq!((counts.calls, counts.owed), (13, 0));
+    // What is not thrown away stands in the ring.
+    let lost = registry.lost();
+    assert!((10..=12).contains(&lost.lines()), "{lost}");
+    assert_eq!(lost.calls(), 0);
     Ok(())
 }

@@ -126,7 +126,8 @@ fn a_span_is_sent_to_another_thread_and_dropped_there() -> Result<(), Error> {
     let (registry, mut drain) = compact().workers(2).build()?;
     let a = span(&registry, "a");
     thread::spawn(move || drop(a)).join().expect("no panic");
-    assert_eq!(texts(&mut drain), ["new 1 w0 a", "close 1 w1 a"]);
+    // A thread takes no number for that.
+    assert_eq!(texts(&mut drain), ["new 1 w0 a", "close 1 w2 a"]);
     assert_empty(&registry);
     Ok(())
 }

@@ -109,9 +109,8 @@ fn a_span_that_no_layer_wants_is_no_loss() -> Result<(), Error> {
 
 #[test]
 fn a_scope_runs_wherever_it_is() -> Result<(), Error> {
-    let (registry, drain) = compact().ring(2).build()?;
+    let (registry, _drain) = compact().ring(2).build()?;
     let a = span!(registry, Level::Info, "a");
-    drop(drain);
     let mut runs = 0;
     for _ in 0..10 {
         a.in_scope(|| runs += 1);
@@ -127,22 +126,27 @@ fn a_scope_runs_wherever_it_is() -> Result<(), Error> {
 }
 
 #[test]
-fn threads_without_a_number_lose_and_go_on() -> Result<(), Error> {
+fn threads_without_a_number_lose_their_entries_and_go_on() -> Result<(), Error> {
     let (registry, mut drain) = compact().workers(1).build()?;
     let a = span!(registry, Level::Info, "a");
+    let inside = a.try_enter()?;
     thread::scope(|scope| {
         scope.spawn(|| {
             assert_eq!(a.in_scope(|| 1), 1);
             event!(registry, Level::Info, "m");
-            assert!(span!(registry, Level::Info, "b").is_disabled());
+            drop(span!(registry, Level::Info, "b"));
         });
     });
-    assert_eq!(registry.lost().to_string(), "too_many_threads=3");
-    drop(a);
+    assert_eq!(registry.lost().to_string(), "too_many_threads=1");
+    drop(inside);
     let wanted = [
         "new 1 w0 a",
-        "close 1 w0 a",
-        "event 0 w1 - WARN lost too_many_threads=3",
+        "enter 1 w0 a",
+        "event 0 w1 - INFO m",
+        "event 0 w1 - WARN lost too_many_threads=1",
+        "new 2 w1 b",
+        "close 2 w1 b",
+        "exit 1 w0 a",
     ];
     assert_eq!(texts(&mut drain), wanted);
     Ok(())

@@ -2,47 +2,117 @@
 mod common;
 
 use common::{assert_empty, compact, span, texts, Ids};
-use span_registry::{Entered, Error, Registry, Span};
+use span_registry::{event, Entered, Error, FmtSpan, Layer, Level, Registry, Span};
 use std::cell::RefCell;
 use std::mem::forget;
 use std::sync::atomic::{AtomicU32, Ordering};
-use std::sync::mpsc::channel;
-use std::sync::Arc;
+use std::sync::{Arc, Condvar, Mutex};
 use std::thread;
 
+/// Runs `call` in another thread.
+fn elsewhere<T: Send>(call: impl FnOnce() -> T + Send) -> T {
+    thread::scope(|scope| scope.spawn(call).join().expect("no panic"))
+}
+
 #[test]
-fn one_thread_more_than_workers_is_refused() -> Result<(), Error> {
-    let (registry, _drain) = Registry::builder().workers(3).build()?;
+fn a_thread_without_a_number_calls_as_one_worker_more() -> Result<(), Error> {
+    let (registry, mut drain) = compact().workers(1).build()?;
+    let a = span(&registry, "a");
+    let told = elsewhere(|| {
+        let b = span(&registry, "b");
+        Ids(registry.clone()).event("m")?;
+        b.try_record(&[("k", "v")])?;
+        assert_eq!(registry.current_span(), Ok(None));
+        registry.worker()
+    });
+    assert_eq!((told, registry.worker()), (Ok(1), Ok(0)));
+    let counts = registry.counts();
+    assert_eq!((counts.workers, counts.threads), (1, 1));
+    drop(a);
+    let wanted = [
+        "new 1 w0 a",
+        "new 2 w1 b",
+        "event 0 w1 - INFO m",
+        "record 2 w1 b k=v",
+        "close 2 w1 b k=v",
+        "close 1 w0 a",
+    ];
+    assert_eq!(texts(&mut drain), wanted);
+    assert_empty(&registry);
+    Ok(())
+}
+
+#[test]
+fn the_number_of_a_thread_that_is_inside_no_span_is_taken_over() -> Result<(), Error> {
+    let (registry, _drain) = compact().workers(1).build()?;
+    let a = span(&registry, "a");
+    drop(a.try_enter()?);
     assert_eq!(registry.worker(), Ok(0));
-    let (ready, all_ready) = channel();
-    let (stop, held) = channel::<()>();
-    let first = thread::spawn({
-        let (registry, ready) = (registry.clone(), ready.clone());
-        move || {
-            ready.send(registry.worker()).expect("the test waits");
-            let _ended = held.recv();
-        }
-    });
-    assert_eq!(all_ready.recv(), Ok(Ok(1)));
-    let second = thread::spawn({
-        let registry = registry.clone();
-        move || {
-            assert_eq!(registry.worker(), Ok(2));
-            let third = registry.clone();
-            let refused = thread::spawn(move || (third.worker(), Ids(third).event("m")));
-            refused.join().expect("no panic")
-        }
-    });
-    let refused = second.join().expect("no panic");
-    assert_eq!(refused, (Err(Error::TooManyThreads), Err(Error::TooManyThreads)));
-    assert_eq!(registry.counts().threads, 2);
-    drop(stop);
-    first.join().expect("no panic");
+    let inside = || a.try_enter().map(|_inside| registry.worker());
+    assert_eq!(elsewhere(inside), Ok(Ok(0)));
+    // The other one has ended, and its number is free.
+    assert_eq!(inside(), Ok(Ok(0)));
     assert_eq!(registry.counts().threads, 1);
-    assert_eq!(
-        thread::spawn(move || registry.worker()).join().expect("no panic"),
-        Ok(1)
-    );
+    Ok(())
+}
+
+#[test]
+fn one_thread_more_inside_than_workers_is_refused_and_counted() -> Result<(), Error> {
+    let (registry, _drain) = compact().workers(1).build()?;
+    let a = span(&registry, "a");
+    let inside = a.try_enter()?;
+    elsewhere(|| {
+        assert_eq!(a.try_enter().map(drop), Err(Error::TooManyThreads));
+        assert_eq!(a.try_in_scope(|| 1), Err(Error::TooManyThreads));
+        assert_eq!(registry.enter(a.id().expect("wanted")), Err(Error::TooManyThreads));
+        assert!(registry.lost().is_nothing());
+        // Those that answer no error run all the same.
+        assert_eq!(a.in_scope(|| registry.current_span()), Ok(None));
+        assert!(!a.enter().is_first());
+    });
+    assert_eq!(registry.lost().to_string(), "too_many_threads=2");
+    drop(inside);
+    elsewhere(|| assert!(a.enter().is_first()));
+    Ok(())
+}
+
+#[test]
+fn of_512_threads_a_hundred_are_inside_at_once_and_nothing_is_lost() -> Result<(), Error> {
+    const THREADS: usize = 512;
+    const ROUNDS: usize = 12;
+    let (registry, guard) = Registry::builder()
+        .workers(100)
+        .layer(Layer::compact().with_span_events(FmtSpan::NONE))
+        .spawn_writer(std::io::sink())?;
+    let places = (Mutex::new(100), Condvar::new());
+    let told = AtomicU32::new(0);
+    thread::scope(|scope| {
+        for _ in 0..THREADS {
+            scope.spawn(|| {
+                for _ in 0..ROUNDS {
+                    let a = span(&registry, "a");
+                    let mut free = places
+                        .1
+                        .wait_while(places.0.lock().expect("no panic"), |free| *free == 0);
+                    *free.as_deref_mut().expect("no panic") -= 1;
+                    drop(free);
+                    a.try_in_scope(|| {
+                        assert_eq!(registry.current_span(), Ok(a.id()));
+                        event!(registry, Level::Info, "m");
+                        told.fetch_add(1, Ordering::Relaxed);
+                        thread::yield_now();
+                    })
+                    .expect("there are numbers for all that are inside");
+                    *places.0.lock().expect("no panic") += 1;
+                    places.1.notify_one();
+                }
+            });
+        }
+    });
+    assert!(registry.lost().is_nothing(), "{}", registry.lost());
+    assert_empty(&registry);
+    assert_eq!(told.into_inner() as usize, THREADS * ROUNDS);
+    assert_eq!(guard.finish().expect("a sink") as usize, THREADS * ROUNDS);
     Ok(())
 }
 
@@ -169,7 +239,7 @@ fn a_number_is_free_once_its_last_span_is_left() -> Result<(), Error> {
 
 #[test]
 fn the_end_of_a_thread_may_need_several_turns() -> Result<(), Error> {
-    let (registry, mut drain) = Registry::builder().workers(2).ring(1).build()?;
+    let (registry, mut drain) = compact().workers(2).ring(1).build()?;
     let there = registry.clone();
     thread::spawn(move || {
         let ids = Ids(there);
@@ -226,11 +296,12 @@ fn a_thread_has_a_number_in_each_registry() -> Result<(), Error> {
 }
 
 #[test]
-fn a_drop_where_no_number_is_free_is_told_as_the_makers() -> Result<(), Error> {
-    let (registry, mut drain) = compact().build()?;
+fn a_thread_that_only_drops_takes_no_number() -> Result<(), Error> {
+    let (registry, mut drain) = compact().workers(2).build()?;
     let a = span(&registry, "a");
     thread::spawn(move || drop(a)).join().expect("no panic");
-    assert_eq!(texts(&mut drain), ["new 1 w0 a", "close 1 w0 a"]);
+    assert_eq!(texts(&mut drain), ["new 1 w0 a", "close 1 w2 a"]);
+    assert_eq!(registry.counts().threads, 1);
     assert_empty(&registry);
     Ok(())
 }
@@ -254,7 +325,10 @@ fn a_span_in_a_thread_local_is_given_back_at_the_end() -> Result<(), Error> {
         })
         .join()
         .expect("no panic");
-        assert_eq!(texts(&mut drain), ["new 1 w0 a", "close 1 w0 a"]);
+        // Its number may have gone back before.
+        let lines = texts(&mut drain);
+        assert_eq!(lines[0], "new 1 w0 a");
+        assert!(["close 1 w0 a", "close 1 w2 a"].contains(&&*lines[1]), "{lines:?}");
         assert_empty(&registry);
         assert_eq!(registry.counts().threads, 0);
     }
@@ -298,24 +372,24 @@ fn a_guard_that_outlives_its_threads_number_leaves_no_other_thread() -> Result<(
             if kept_first {
                 LATE.with_borrow(|late| assert!(late.is_none()));
             }
-            let guard = Some(a.try_enter().expect("enter"));
+            let guard = Some(a.enter());
             LATE.set(Some(Late { guard, turn: late }));
         });
         while turn.load(Ordering::SeqCst) != 0 {
             thread::yield_now();
         }
-        // Where the thread's number is free already, this thread gets it.
+        // Where the thread's number is free already, this thread gets it, or else that of the test's thread.
         let inside = thread::spawn(move || {
-            let inside = a.try_enter();
-            let (is_inside, found) = (inside.is_ok(), registry.find(a.id().expect("wanted")));
+            let inside = a.enter();
+            let (is_inside, found) = (inside.is_first(), registry.find(a.id().expect("wanted")));
             wait_for(&turn, 1, 2);
             let entries = registry.find(a.id().expect("wanted")).expect("open").entries;
             (is_inside, found.expect("open").entries, entries)
         });
         let seen = inside.join().expect("no panic");
         ending.join().expect("no panic");
-        // Where its number isn't free yet, there is none for the other one.
-        assert!(seen == (true, 1, 1) || seen == (false, 1, 0), "{seen:?}");
+        // Where its number hasn't gone back yet, it is inside too at first.
+        assert!(seen == (true, 1, 1) || seen == (true, 2, 1), "{seen:?}");
     }
     Ok(())
 }

@@ -2,7 +2,7 @@
 mod common;
 
 use common::{assert_empty, compact, span};
-use span_registry::{event, span, try_event, Error, FmtSpan, Guard, Layer, Level, Registry, RegistryBuilder, Targets};
+use span_registry::{event, span, try_event, FmtSpan, Guard, Layer, Level, Registry, RegistryBuilder, Targets};
 use std::io::{self, Write};
 use std::sync::atomic::{AtomicBool, Ordering};
 use std::sync::{Arc, Mutex};
@@ -61,7 +61,8 @@ fn a_dropped_guard_has_written_everything_though_spans_leak() -> Result<(), AnyE
     // Nobody reads now, and nothing waits for it.
     (0..3000).for_each(|_| event!(registry, Level::Info, "after"));
     assert_eq!(paper.flushed(), text);
-    assert!(registry.lost().by(Error::Backlog) > 0);
+    let lost = registry.lost();
+    assert!(lost.calls() == 0 && lost.lines() > 1900, "{lost}");
     Ok(())
 }
 

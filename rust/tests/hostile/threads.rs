@@ -1,6 +1,8 @@
 //! Eight threads that panic, forget, hand over, outlive and give back too often, while drains come and go.
 use crate::{many, Random};
-use span_registry::{event, span, Counts, Drain, Entered, Error, Layer, Level, Registry, RegistryBuilder, Span};
+use span_registry::{
+    event, span, Counts, Drain, Entered, Error, Layer, Level, OnFull, Registry, RegistryBuilder, Span,
+};
 use std::cell::RefCell;
 use std::io;
 use std::panic::{catch_unwind, AssertUnwindSafe};
@@ -93,9 +95,9 @@ fn assert_nothing_stays(registry: &Registry) {
     assert!(counts.threads <= 1, "{counts:?}");
 }
 
-fn of_threads(workers: u32, ring: u32) -> RegistryBuilder {
+fn of_threads(workers: u32, ring: u32, on_full: OnFull) -> RegistryBuilder {
     let builder = Registry::builder().workers(workers).slots(100_000).ring(ring);
-    builder.layer(Layer::compact())
+    builder.on_full(on_full).layer(Layer::compact())
 }
 
 fn reading(mut drain: Drain) -> thread::JoinHandle<io::Result<u64>> {
@@ -105,8 +107,13 @@ fn reading(mut drain: Drain) -> thread::JoinHandle<io::Result<u64>> {
 #[test]
 fn eight_hostile_threads_leave_nothing_open() {
     hush();
-    for (workers, ring) in [(2, 16), (8, 4096), (1, 1)] {
-        let (registry, drain) = of_threads(workers, ring).build().expect("it fits");
+    for (workers, ring, on_full) in [
+        (2, 16, OnFull::Refuse),
+        (8, 4096, OnFull::DropOldest),
+        (1, 1, OnFull::Wait),
+        (3, 2, OnFull::DropOldest),
+    ] {
+        let (registry, drain) = of_threads(workers, ring, on_full).build().expect("it fits");
         let reading = reading(drain);
         run(&registry, many(2000), &ALL);
         wait_until(&registry, |now| now.threads <= 1 && (now.open, now.owed) == (0, 0));
@@ -117,27 +124,25 @@ fn eight_hostile_threads_leave_nothing_open() {
 }
 
 #[test]
-fn a_drain_that_is_dropped_in_the_middle_loses_no_handle() {
+fn a_drain_that_is_dropped_in_the_middle_holds_nobody_up() {
     hush();
-    let (registry, mut drain) = of_threads(4, 8).build().expect("it fits");
-    let kept = span!(registry, Level::Info, "kept");
-    thread::scope(|scope| {
-        scope.spawn(|| run(&registry, many(1000), &HONEST));
-        scope.spawn(|| {
-            (0..many(3000)).for_each(|_| drop(drain.line()));
-            drop(drain);
+    for on_full in [OnFull::Refuse, OnFull::Wait, OnFull::DropOldest] {
+        let (registry, mut drain) = of_threads(4, 8, on_full).build().expect("it fits");
+        thread::scope(|scope| {
+            scope.spawn(|| run(&registry, many(1000), &HONEST));
+            scope.spawn(|| {
+                (0..many(3000)).for_each(|_| drop(drain.line()));
+                drop(drain);
+            });
         });
-    });
-    // Nobody makes place any longer, and these fill the ring.
-    run(&registry, many(1000), &HONEST);
-    assert!(registry.lost().by(Error::Backlog) > 0);
-    drop(kept);
-    // What is held is owed, and no more than that, beside the ends of all threads but this one.
-    let due = |now: Counts| now.held + u64::from(now.threads) - 1;
-    wait_until(&registry, |now| now.owed as u64 == due(now));
-    let counts = registry.counts();
-    assert_eq!(counts.owed as u64, due(counts), "{counts:?}");
-    assert!(counts.held > 0, "{counts:?}");
+        // Nobody makes place any longer, and no call needs that.
+        let refused = registry.lost().by(Error::Backlog);
+        run(&registry, many(1000), &HONEST);
+        assert_eq!(registry.lost().by(Error::Backlog), refused);
+        wait_until(&registry, |now| now.threads <= 1 && (now.open, now.owed) == (0, 0));
+        assert_nothing_stays(&registry);
+        assert!(registry.lost().lines() > 0);
+    }
 }
 
 #[test]

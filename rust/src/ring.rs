@@ -1,0 +1,108 @@
+//! The other end of the ring: who reads it, and what a call does that finds it full.
+#![forbid(unsafe_code)]
+use crate::raw::{Lines, Next};
+use std::sync::atomic::{AtomicBool, AtomicU64, Ordering};
+use std::sync::{Mutex, MutexGuard, PoisonError};
+
+/// What a call does that finds the ring full.
+///
+/// Whatever it is, no call is refused for it once the [`Drain`](crate::Drain) was dropped: lines are thrown away then,
+/// and counted by [`Lost::lines`](crate::Lost::lines).
+#[derive(Clone, Copy, Debug, Default, PartialEq, Eq, Hash)]
+pub enum OnFull {
+    /// It is refused as [`Backlog`](crate::Error::Backlog). The default where the drain is the program's.
+    #[default]
+    Refuse,
+    /// The lines of the oldest call are thrown away, and counted by [`Lost::lines`](crate::Lost::lines).
+    DropOldest,
+    /// It waits until a line was read. The default where a writer was
+    /// [spawned](crate::RegistryBuilder::spawn_writer). A call that the writing thread itself makes, as in its
+    /// [`Write`](std::io::Write), is refused instead.
+    Wait,
+}
+
+/// The lines that were sent and not read. Who has the lock of the registry may take this one, and never the other way
+/// round.
+pub(crate) struct Ring {
+    lines: Mutex<Lines>,
+    on_full: OnFull,
+    // Whether the drain was dropped.
+    is_unread: AtomicBool,
+    thrown: AtomicU64,
+    // Whether lines were thrown away since that was last told.
+    is_untold: AtomicBool,
+}
+
+impl Ring {
+    pub(crate) fn new(lines: Lines, on_full: OnFull) -> Ring {
+        Ring {
+            lines: Mutex::new(lines),
+            on_full,
+            is_unread: AtomicBool::new(false),
+            thrown: AtomicU64::new(0),
+            is_untold: AtomicBool::new(false),
+        }
+    }
+
+    /// No code of the program's runs under this lock.
+    pub(crate) fn lines(&self) -> MutexGuard<'_, Lines> {
+        self.lines.lock().unwrap_or_else(PoisonError::into_inner)
+    }
+
+    /// From now on nobody reads.
+    pub(crate) fn is_left(&self) {
+        self.is_unread.store(true, Ordering::Release);
+    }
+
+    pub(crate) fn is_unread(&self) -> bool {
+        self.is_unread.load(Ordering::Acquire)
+    }
+
+    /// Whether a call that finds the ring full waits for a place.
+    pub(crate) fn waits(&self) -> bool {
+        self.on_full == OnFull::Wait && !self.is_unread()
+    }
+
+    /// How many lines were thrown away.
+    pub(crate) fn thrown(&self) -> u64 {
+        self.thrown.load(Ordering::Relaxed)
+    }
+
+    /// Whether lines were thrown away since that was last told.
+    pub(crate) fn is_untold(&self) -> bool {
+        self.is_untold.load(Ordering::Relaxed)
+    }
+
+    pub(crate) fn set_untold(&self, is_untold: bool) {
+        self.is_untold.store(is_untold, Ordering::Relaxed);
+    }
+
+    /// Throws lines away where they may be lost: all where nobody reads, else the oldest batch's. Whether there is a
+    /// place now.
+    pub(crate) fn makes_place(&self) -> bool {
+        let all = self.is_unread();
+        if !all && self.on_full != OnFull::DropOldest {
+            return false;
+        }
+        let mut lines = self.lines();
+        let (before, _) = lines.counts();
+        let (mut short, mut long) = ([0; 256], Vec::new());
+        while all || lines.counts().0 == before {
+            let into: &mut [u8] = if long.is_empty() { &mut short } else { &mut long };
+            match lines.next(into) {
+                Next::Line { .. } => self.has_thrown(),
+                Next::Long { length } if long.try_reserve(length).is_ok() => long.resize(length, 0),
+                // Its batch may have been taken out before.
+                Next::Long { .. } => return lines.counts().0 > before,
+                // The ring is empty.
+                Next::None => return true,
+            }
+        }
+        true
+    }
+
+    fn has_thrown(&self) {
+        self.thrown.fetch_add(1, Ordering::Relaxed);
+        self.is_untold.store(true, Ordering::Relaxed);
+    }
+}

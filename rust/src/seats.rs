@@ -1,0 +1,256 @@
+//! Which thread has which worker's number.
+//!
+//! A thread that is inside a span keeps its number. One that is inside none is *idle*, and its number may be taken over
+//! where none is free, that of the longest idle thread first. Calls of a thread without a number are made as the
+//! *outsider*, a worker that is never inside a span.
+#![forbid(unsafe_code)]
+use crate::error::Error;
+
+/// No thread.
+const NOBODY: u64 = 0;
+/// A thread that has ended and is still inside: its number is nobody's until it has left.
+const GONE: u64 = u64::MAX;
+/// No seat.
+const NONE: u32 = u32::MAX;
+
+/// A thread of the process that calls, as it is known before the lock is taken.
+#[derive(Clone, Copy, Debug)]
+pub(crate) struct Caller {
+    /// From 1 on, and never the same for two threads.
+    pub(crate) thread: u64,
+    /// The number that it had last in this registry.
+    pub(crate) last: Option<u32>,
+    /// Whether it can give a number back when it ends.
+    pub(crate) may_own: bool,
+}
+
+#[derive(Clone, Copy, Debug)]
+struct Seat {
+    thread: u64,
+    // Entries that it hasn't left, also those that repeat a span.
+    depth: u32,
+    // Its neighbours among the idle seats.
+    before: u32,
+    after: u32,
+}
+
+/// The seats of all workers but the outsider.
+pub(crate) struct Seats {
+    seats: Vec<Seat>,
+    // Those that no thread has; the next one is at the end.
+    free: Vec<u32>,
+    // Of those that a thread has and isn't inside by, which was idle longest, and which shortest.
+    first: u32,
+    last: u32,
+}
+
+impl Seats {
+    pub(crate) fn new(workers: u32) -> Result<Seats, Error> {
+        let (mut seats, mut free) = (Vec::new(), Vec::new());
+        let room = workers as usize;
+        seats.try_reserve_exact(room).map_err(|_| Error::OutOfMemory)?;
+        free.try_reserve_exact(room).map_err(|_| Error::OutOfMemory)?;
+        let seat = Seat {
+            thread: NOBODY,
+            depth: 0,
+            before: NONE,
+            after: NONE,
+        };
+        seats.resize(room, seat);
+        free.extend((0..workers).rev());
+        Ok(Seats {
+            seats,
+            free,
+            first: NONE,
+            last: NONE,
+        })
+    }
+
+    /// The worker of calls of threads that have no number.
+    pub(crate) fn outsider(&self) -> u32 {
+        // A registry has at most 65,536 workers.
+        self.seats.len() as u32
+    }
+
+    /// How many numbers threads have.
+    pub(crate) fn taken(&self) -> u32 {
+        (self.seats.len() - self.free.len()) as u32
+    }
+
+    /// The number that the thread has.
+    pub(crate) fn of(&self, caller: Caller) -> Option<u32> {
+        let last = caller.last?;
+        let seat = self.seats.get(last as usize)?;
+        (seat.thread == caller.thread).then_some(last)
+    }
+
+    /// As which worker the thread makes a call: by the number that it has, or by a free one, or as the outsider.
+    pub(crate) fn of_or_free(&mut self, caller: Caller) -> u32 {
+        let mine = self.of(caller);
+        mine.or_else(|| self.take_free(caller))
+            .unwrap_or_else(|| self.outsider())
+    }
+
+    /// The number by which the thread may enter a span: the one that it has, a free one, or that of an idle thread.
+    pub(crate) fn entering(&mut self, caller: Caller) -> Result<u32, Error> {
+        let mine = self.of(caller).or_else(|| self.take_free(caller));
+        mine.or_else(|| self.take_over(caller)).ok_or(Error::TooManyThreads)
+    }
+
+    fn take_free(&mut self, caller: Caller) -> Option<u32> {
+        if !caller.may_own {
+            return None;
+        }
+        let at = self.free.pop()?;
+        self.seats[at as usize].thread = caller.thread;
+        self.becomes_idle(at);
+        Some(at)
+    }
+
+    fn take_over(&mut self, caller: Caller) -> Option<u32> {
+        if !caller.may_own || self.first == NONE {
+            return None;
+        }
+        let at = self.first;
+        self.is_idle_no_more(at);
+        self.seats[at as usize].thread = caller.thread;
+        self.becomes_idle(at);
+        Some(at)
+    }
+
+    /// The worker has one entry more.
+    pub(crate) fn entered(&mut self, worker: u32) {
+        if self.seats[worker as usize].depth == 0 {
+            self.is_idle_no_more(worker);
+        }
+        self.seats[worker as usize].depth += 1;
+    }
+
+    /// The worker has one entry fewer.
+    pub(crate) fn left(&mut self, worker: u32) {
+        let seat = &mut self.seats[worker as usize];
+        seat.depth -= 1;
+        if seat.depth == 0 && seat.thread != GONE {
+            self.becomes_idle(worker);
+        }
+    }
+
+    /// The thread ends. Its number, where it is still inside by it: nobody has that until [`free`](Seats::free).
+    pub(crate) fn ends(&mut self, caller: Caller) -> Option<u32> {
+        let at = self.of(caller)?;
+        if self.seats[at as usize].depth > 0 {
+            self.seats[at as usize].thread = GONE;
+            return Some(at);
+        }
+        self.is_idle_no_more(at);
+        self.free(at);
+        None
+    }
+
+    /// Any thread may have this number, of a thread that has ended.
+    pub(crate) fn free(&mut self, worker: u32) {
+        self.seats[worker as usize].thread = NOBODY;
+        // There is room for each.
+        self.free.push(worker);
+    }
+
+    fn becomes_idle(&mut self, at: u32) {
+        let seat = &mut self.seats[at as usize];
+        (seat.before, seat.after) = (self.last, NONE);
+        match self.last {
+            NONE => self.first = at,
+            last => self.seats[last as usize].after = at,
+        }
+        self.last = at;
+    }
+
+    fn is_idle_no_more(&mut self, at: u32) {
+        let Seat { before, after, .. } = self.seats[at as usize];
+        match before {
+            NONE => self.first = after,
+            before => self.seats[before as usize].after = after,
+        }
+        match after {
+            NONE => self.last = before,
+            after => self.seats[after as usize].before = before,
+        }
+    }
+}
+
+#[cfg(test)]
+mod tests {
+    use super::{Caller, Seats};
+    use crate::error::Error;
+
+    fn caller(thread: u64, last: Option<u32>) -> Caller {
+        Caller {
+            thread,
+            last,
+            may_own: true,
+        }
+    }
+
+    #[test]
+    fn free_numbers_are_taken_in_order() -> Result<(), Error> {
+        let mut seats = Seats::new(2)?;
+        assert_eq!(
+            [1, 2, 3].map(|thread| seats.of_or_free(caller(thread, None))),
+            [0, 1, 2]
+        );
+        assert_eq!((seats.outsider(), seats.taken()), (2, 2));
+        assert_eq!(seats.of(caller(1, Some(0))), Some(0));
+        assert_eq!(seats.of(caller(3, Some(2))), None);
+        assert_eq!(seats.of(caller(3, Some(0))), None);
+        Ok(())
+    }
+
+    #[test]
+    fn the_longest_idle_thread_loses_its_number() -> Result<(), Error> {
+        let mut seats = Seats::new(3)?;
+        for thread in 1..4 {
+            let at = seats.entering(caller(thread, None))?;
+            seats.entered(at);
+        }
+        assert_eq!(seats.entering(caller(4, None)), Err(Error::TooManyThreads));
+        for worker in [1, 2, 0] {
+            seats.left(worker);
+        }
+        assert_eq!(seats.entering(caller(4, None)), Ok(1));
+        seats.entered(1);
+        assert_eq!(seats.of(caller(2, Some(1))), None);
+        assert_eq!(seats.entering(caller(2, Some(1))), Ok(2));
+        seats.entered(2);
+        assert_eq!(seats.entering(caller(1, Some(0))), Ok(0));
+        seats.entered(0);
+        assert_eq!(seats.entering(caller(3, Some(2))), Err(Error::TooManyThreads));
+        Ok(())
+    }
+
+    #[test]
+    fn a_thread_that_ends_inside_keeps_its_number_from_others() -> Result<(), Error> {
+        let mut seats = Seats::new(1)?;
+        assert_eq!(seats.entering(caller(1, None)), Ok(0));
+        seats.entered(0);
+        assert_eq!(seats.ends(caller(1, Some(0))), Some(0));
+        seats.left(0);
+        assert_eq!(seats.entering(caller(2, None)), Err(Error::TooManyThreads));
+        seats.free(0);
+        assert_eq!((seats.taken(), seats.entering(caller(2, None))), (0, Ok(0)));
+        assert_eq!(seats.ends(caller(2, Some(0))), None);
+        assert_eq!(seats.taken(), 0);
+        Ok(())
+    }
+
+    #[test]
+    fn a_thread_that_can_give_nothing_back_takes_nothing() -> Result<(), Error> {
+        let mut seats = Seats::new(1)?;
+        let late = Caller {
+            thread: 7,
+            last: None,
+            may_own: false,
+        };
+        assert_eq!(seats.of_or_free(late), 1);
+        assert_eq!(seats.entering(late), Err(Error::TooManyThreads));
+        Ok(())
+    }
+}
