@@ -3,6 +3,7 @@
 use crate::directives::Targets;
 use crate::drain::Drain;
 use crate::error::{Error, Limit};
+use crate::interest::Interest;
 use crate::level::{FmtSpan, Form, Level};
 use crate::packed::{length, reserve};
 use crate::raw::{Core, SpanLayer, SpanLimits, SpanRule, Start};
@@ -158,7 +159,8 @@ impl RegistryBuilder {
         })?;
         let ring = Arc::new(Ring::new(lines, self.on_full.unwrap_or_default()));
         let state = State::new(core, Arc::clone(&ring))?;
-        let shared = Arc::new(Shared::new(state, ring));
+        let interest = Interest::of(self.layers.iter().map(|layer| layer.targets.clone()));
+        let shared = Arc::new(Shared::new(state, ring, interest));
         let drain = Drain::of(Arc::clone(&shared), self.layers.len());
         Ok((Registry::of(shared), drain))
     }

@@ -61,7 +61,10 @@ impl Registry {
 
     /// [`span`](Registry::span) with the meta of a callsite.
     pub fn span_at(&self, callsite: &Callsite, parent: Parent, fields: Fields<'_>) -> Result<Span, Error> {
-        let number = callsite.number_in(self)?;
+        self.span_at_number(callsite.number_in(self)?, parent, fields)
+    }
+
+    pub(crate) fn span_at_number(&self, number: u32, parent: Parent, fields: Fields<'_>) -> Result<Span, Error> {
         let parent = self.own_parent(parent)?;
         let id = self.call(|state, worker| state.new_span_at(worker, number, parent, fields))?;
         Ok(id.map_or_else(Span::none, |id| Span::of(self, id)))
@@ -77,7 +80,10 @@ impl Registry {
 
     /// [`event`](Registry::event) with the meta of a callsite.
     pub fn event_at(&self, callsite: &Callsite, message: &str, fields: Fields<'_>) -> Result<(), Error> {
-        let number = callsite.number_in(self)?;
+        self.event_at_number(callsite.number_in(self)?, message, fields)
+    }
+
+    pub(crate) fn event_at_number(&self, number: u32, message: &str, fields: Fields<'_>) -> Result<(), Error> {
         self.call(|state, worker| state.event_at(worker, number, message, fields))
     }
 }

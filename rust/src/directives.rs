@@ -51,9 +51,60 @@ impl Targets {
         self.with_target("", level)
     }
 
+    /// Whether a span or an event of this level and target is admitted.
+    ///
+    /// ```
+    /// use span_registry::{Level, Targets};
+    /// let targets = Targets::new().with_target("app::db", Level::Trace).with_default(Level::Warn);
+    /// assert!(targets.admits(Level::Debug, "app::db::pool"));
+    /// assert!(!targets.admits(Level::Info, "app"));
+    /// ```
+    #[must_use]
+    pub fn admits(&self, level: Level, target: &str) -> bool {
+        let fitting = self
+            .pairs
+            .iter()
+            .filter(|(prefix, _)| target.starts_with(prefix.as_str()));
+        // Of equal ones the last.
+        let longest = fitting.max_by_key(|(prefix, _)| prefix.len());
+        longest.is_some_and(|&(_, most)| level <= most)
+    }
+
+    /// The most verbose level that is admitted of some target; none where nothing is admitted.
+    #[must_use]
+    pub fn max_level(&self) -> Option<Level> {
+        let says = |&(place, (prefix, _)): &(usize, &(String, Level))| {
+            self.pairs[place + 1..].iter().all(|(later, _)| later != prefix)
+        };
+        let deciding = self.pairs.iter().enumerate().filter(says);
+        deciding.map(|(_, &(_, level))| level).max()
+    }
+
     /// The pairs, in the order in which they were given.
     pub fn pairs(&self) -> impl Iterator<Item = (&str, Level)> {
         self.pairs.iter().map(|(prefix, level)| (prefix.as_str(), *level))
+    }
+}
+
+/// The text that [`FromStr`] reads to the same targets.
+impl fmt::Display for Targets {
+    fn fmt(&self, f: &mut fmt::Formatter<'_>) -> fmt::Result {
+        if self.pairs.is_empty() {
+            return f.write_str("off");
+        }
+        for (place, (prefix, level)) in self.pairs.iter().enumerate() {
+            let comma = if place == 0 { "" } else { "," };
+            let equals = if prefix.is_empty() { "" } else { "=" };
+            write!(f, "{comma}{prefix}{equals}{}", level.name().to_ascii_lowercase())?;
+        }
+        Ok(())
+    }
+}
+
+impl<P: Into<String>> FromIterator<(P, Level)> for Targets {
+    fn from_iter<I: IntoIterator<Item = (P, Level)>>(pairs: I) -> Targets {
+        let pairs = pairs.into_iter().map(|(prefix, level)| (prefix.into(), level));
+        Targets { pairs: pairs.collect() }
     }
 }
 

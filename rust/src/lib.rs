@@ -14,11 +14,13 @@ mod callsite;
 mod directives;
 mod drain;
 mod error;
+mod interest;
 mod level;
 mod lost;
 mod macros;
 mod meta;
 mod names;
+mod origins;
 mod owed;
 mod packed;
 #[allow(unsafe_code)]
@@ -27,6 +29,7 @@ mod registry;
 mod ring;
 mod seats;
 mod shared;
+mod site;
 mod span;
 mod state;
 mod workers;
@@ -44,6 +47,12 @@ pub use registry::{retry, Registry};
 pub use ring::OnFull;
 pub use span::{Entered, Span};
 pub use writer::Guard;
+
+/// For the macros.
+#[doc(hidden)]
+pub mod __private {
+    pub use crate::site::Site;
+}
 
 /// So that the page's program is run as a test.
 #[cfg(doctest)]

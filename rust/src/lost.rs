@@ -1,9 +1,7 @@
 //! What was lost by the calls that answer no error, by reason.
 #![forbid(unsafe_code)]
 use crate::error::Error;
-use crate::meta::{Fields, Meta, Parent};
 use crate::registry::Registry;
-use crate::span::Span;
 use std::fmt;
 use std::sync::atomic::{AtomicBool, AtomicU64, Ordering};
 
@@ -36,8 +34,8 @@ fn place_of(reason: Error) -> usize {
     }
 }
 
-/// What was lost: the calls of [`span!`](crate::span), [`event!`](crate::event), [`Span::enter`], [`Span::in_scope`] and
-/// [`Span::record`] that were refused, by reason, and lines that were thrown away unread.
+/// What was lost: the calls of [`span!`](crate::span), [`event!`](crate::event), [`Span::enter`](crate::Span::enter),
+/// [`Span::in_scope`](crate::Span::in_scope) and [`Span::record`](crate::Span::record) that were refused, by reason, and lines that were thrown away unread.
 ///
 /// Layers that admit `WARN` of the target `span_registry` are told of what is new, once there is room again, as an event
 /// `lost` with a field for each reason, by a worker that is no thread: `event 0 w8 - WARN lost backlog=3`.
@@ -151,18 +149,6 @@ impl Registry {
     /// The answer of a call; none where it was refused, which is counted.
     pub(crate) fn or_lost<T>(&self, result: Result<T, Error>) -> Option<T> {
         result.map_err(|reason| self.shared().losses().lose(reason)).ok()
-    }
-
-    /// For [`span!`](crate::span): a disabled span where it is refused.
-    #[doc(hidden)]
-    pub fn span_or_lost(&self, meta: &Meta<'_>, parent: Parent, fields: Fields<'_>) -> Span {
-        self.or_lost(self.span(meta, parent, fields)).unwrap_or_default()
-    }
-
-    /// For [`event!`](crate::event).
-    #[doc(hidden)]
-    pub fn event_or_lost(&self, meta: &Meta<'_>, message: &str, fields: Fields<'_>) {
-        self.or_lost(self.event(meta, message, fields));
     }
 }
 

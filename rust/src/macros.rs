@@ -1,8 +1,12 @@
-//! Spans and events whose values are formatted where they stand.
+//! Spans and events whose values are formatted where they stand, and only where a layer wants them.
 #![forbid(unsafe_code)]
 
 /// A new span with fields of any values that can be displayed. The target is the module's path, and the parent the
 /// current span, unless they are given. A key may be a keyword as it stands: `type = 1`, since `r#type` is no name.
+/// Target, level and name are constants.
+///
+/// Where no layer wants the span, it costs a load and a branch: no value is formatted, and no lock and no place in the
+/// ring is taken.
 ///
 /// It answers no error: where the span is refused, it is disabled, and [`Registry::lost`](crate::Registry::lost) counts
 /// it. [`try_span!`](crate::try_span) answers why. What a value borrows or locks is free again behind the macro.
@@ -22,7 +26,7 @@
 #[macro_export]
 macro_rules! span {
     ($($arguments:tt)+) => {
-        $crate::__span!(span_or_lost, $($arguments)+)
+        $crate::__span!(span, $crate::Span::none(), $($arguments)+)
     };
 }
 
@@ -41,22 +45,26 @@ macro_rules! span {
 #[macro_export]
 macro_rules! try_span {
     ($($arguments:tt)+) => {
-        $crate::__span!(span, $($arguments)+)
+        $crate::__span!(try_span, ::core::result::Result::Ok::<_, $crate::Error>($crate::Span::none()), $($arguments)+)
     };
 }
 
-/// The call of a registry that makes a span.
+/// The call that makes a span, and what stands for it where no layer wants one.
 #[doc(hidden)]
 #[macro_export]
 macro_rules! __span {
-    (@made $call:ident, $registry:expr, $target:expr, $parent:expr, $level:expr, $name:expr
+    (@made $call:ident, $none:expr, $registry:expr, $target:expr, $parent:expr, $level:expr, $name:expr
         $(, $key:ident = $value:expr)* $(,)?) => {{
+        static SITE: $crate::__private::Site =
+            $crate::__private::Site::span($level, $target, $name);
         // What the values borrow or lock ends with this statement, and not with the caller's.
-        let made = $registry.$call(
-            &$crate::Meta::new($level, $target, $name),
-            $crate::Parent::from($parent),
-            &[$((::core::stringify!($key), &*::std::string::ToString::to_string(&$value))),*],
-        );
+        let made = match SITE.wanted_by(&$registry) {
+            ::core::option::Option::Some(wanted) => wanted.$call(
+                $crate::Parent::from($parent),
+                &[$((::core::stringify!($key), &*::std::string::ToString::to_string(&$value))),*],
+            ),
+            ::core::option::Option::None => $none,
+        };
         made
     }};
     (@made $($other:tt)*) => {
@@ -64,22 +72,22 @@ macro_rules! __span {
             "a span is: registry, [target: \"..\",] [parent: ..,] Level::.., \"name\" [, key = value]*"
         )
     };
-    ($call:ident, $registry:expr, target: $target:expr, parent: $parent:expr, $($rest:tt)+) => {
-        $crate::__span!(@made $call, $registry, $target, $parent, $($rest)+)
+    ($call:ident, $none:expr, $registry:expr, target: $target:expr, parent: $parent:expr, $($rest:tt)+) => {
+        $crate::__span!(@made $call, $none, $registry, $target, $parent, $($rest)+)
     };
-    ($call:ident, $registry:expr, target: $target:expr, $($rest:tt)+) => {
-        $crate::__span!(@made $call, $registry, $target, $crate::Parent::Current, $($rest)+)
+    ($call:ident, $none:expr, $registry:expr, target: $target:expr, $($rest:tt)+) => {
+        $crate::__span!(@made $call, $none, $registry, $target, $crate::Parent::Current, $($rest)+)
     };
-    ($call:ident, $registry:expr, parent: $parent:expr, $($rest:tt)+) => {
-        $crate::__span!(@made $call, $registry, ::core::module_path!(), $parent, $($rest)+)
+    ($call:ident, $none:expr, $registry:expr, parent: $parent:expr, $($rest:tt)+) => {
+        $crate::__span!(@made $call, $none, $registry, ::core::module_path!(), $parent, $($rest)+)
     };
-    ($call:ident, $registry:expr, $($rest:tt)+) => {
-        $crate::__span!(@made $call, $registry, ::core::module_path!(), $crate::Parent::Current, $($rest)+)
+    ($call:ident, $none:expr, $registry:expr, $($rest:tt)+) => {
+        $crate::__span!(@made $call, $none, $registry, ::core::module_path!(), $crate::Parent::Current, $($rest)+)
     };
 }
 
 /// An event with a formatted message, and fields of any values that can be displayed. The target is the module's path,
-/// unless it is given.
+/// unless it is given. Target and level are constants. Where no layer wants it, it costs what [`span!`](crate::span) does.
 ///
 /// It answers no error: where it is refused, [`Registry::lost`](crate::Registry::lost) counts it.
 /// [`try_event!`](crate::try_event) answers why.
@@ -100,7 +108,7 @@ macro_rules! __span {
 #[macro_export]
 macro_rules! event {
     ($($arguments:tt)+) => {
-        $crate::__event!(event_or_lost, $($arguments)+)
+        $crate::__event!(event, (), $($arguments)+)
     };
 }
 
@@ -108,7 +116,8 @@ macro_rules! event {
 ///
 /// ```
 /// # fn main() -> Result<(), span_registry::Error> {
-/// # let (registry, _drain) = span_registry::Registry::builder().ring(1).build()?;
+/// # let (registry, _drain) = span_registry::Registry::builder().ring(1)
+/// #     .layer(span_registry::Layer::compact()).build()?;
 /// use span_registry::{try_event, Error, Level};
 /// try_event!(registry, Level::Info, "started")?;
 /// assert_eq!(try_event!(registry, Level::Info, "nobody reads"), Err(Error::Backlog));
@@ -118,36 +127,40 @@ macro_rules! event {
 #[macro_export]
 macro_rules! try_event {
     ($($arguments:tt)+) => {
-        $crate::__event!(event, $($arguments)+)
+        $crate::__event!(try_event, ::core::result::Result::Ok::<(), $crate::Error>(()), $($arguments)+)
     };
 }
 
-/// The call of a registry that tells an event.
+/// The call that tells an event, and what stands for it where no layer wants one.
 #[doc(hidden)]
 #[macro_export]
 macro_rules! __event {
-    (@told $call:ident, $registry:expr, $target:expr, $level:expr,
+    (@told $call:ident, $none:expr, $registry:expr, $target:expr, $level:expr,
         { $($key:ident = $value:expr),* $(,)? }, $($message:tt)+) => {{
+        static SITE: $crate::__private::Site =
+            $crate::__private::Site::event($level, $target);
         // As of a span.
-        let told = $registry.$call(
-            &$crate::Meta::event($level, $target),
-            &::std::format!($($message)+),
-            &[$((::core::stringify!($key), &*::std::string::ToString::to_string(&$value))),*],
-        );
+        let told = match SITE.wanted_by(&$registry) {
+            ::core::option::Option::Some(wanted) => wanted.$call(
+                &::std::format!($($message)+),
+                &[$((::core::stringify!($key), &*::std::string::ToString::to_string(&$value))),*],
+            ),
+            ::core::option::Option::None => $none,
+        };
         told
     }};
-    (@told $call:ident, $registry:expr, $target:expr, $level:expr, { $($other:tt)* } $($rest:tt)*) => {
+    (@told $call:ident, $none:expr, $registry:expr, $target:expr, $level:expr, { $($other:tt)* } $($rest:tt)*) => {
         ::core::compile_error!(
             "an event is: registry, [target: \"..\",] Level::.., [{ key = value [, key = value]* },] \"message\""
         )
     };
-    (@told $call:ident, $registry:expr, $target:expr, $level:expr, $($message:tt)+) => {
-        $crate::__event!(@told $call, $registry, $target, $level, {}, $($message)+)
+    (@told $call:ident, $none:expr, $registry:expr, $target:expr, $level:expr, $($message:tt)+) => {
+        $crate::__event!(@told $call, $none, $registry, $target, $level, {}, $($message)+)
     };
-    ($call:ident, $registry:expr, target: $target:expr, $($rest:tt)+) => {
-        $crate::__event!(@told $call, $registry, $target, $($rest)+)
+    ($call:ident, $none:expr, $registry:expr, target: $target:expr, $($rest:tt)+) => {
+        $crate::__event!(@told $call, $none, $registry, $target, $($rest)+)
     };
-    ($call:ident, $registry:expr, $($rest:tt)+) => {
-        $crate::__event!(@told $call, $registry, ::core::module_path!(), $($rest)+)
+    ($call:ident, $none:expr, $registry:expr, $($rest:tt)+) => {
+        $crate::__event!(@told $call, $none, $registry, ::core::module_path!(), $($rest)+)
     };
 }

@@ -84,13 +84,13 @@ pub struct Meta<'a> {
 impl<'a> Meta<'a> {
     /// Of a level, a target and a name.
     #[must_use]
-    pub fn new(level: Level, target: &'a str, name: &'a str) -> Meta<'a> {
+    pub const fn new(level: Level, target: &'a str, name: &'a str) -> Meta<'a> {
         Meta { level, target, name }
     }
 
     /// Of an event, whose name no line shows: it is `event`.
     #[must_use]
-    pub fn event(level: Level, target: &'a str) -> Meta<'a> {
+    pub const fn event(level: Level, target: &'a str) -> Meta<'a> {
         Meta::new(level, target, "event")
     }
 }

@@ -6,6 +6,7 @@ use crate::level::Level;
 use crate::meta::{Counts, Fields, Found, Id, Meta, Parent, RawId, RawParent};
 use crate::seats::Caller;
 use crate::shared::{wait, Shared};
+use crate::site::NO_KEY;
 use crate::span::Span;
 use crate::state::State;
 use crate::workers;
@@ -53,6 +54,8 @@ pub struct Registry {
 /// All registries that are clones of one another. When it goes, only the drain is left.
 struct User {
     shared: Arc<Shared>,
+    // Its number in the process, where that has 32 bits; else none's.
+    key: u32,
 }
 
 impl Drop for User {
@@ -68,13 +71,20 @@ impl Registry {
     }
 
     pub(crate) fn of(shared: Arc<Shared>) -> Registry {
+        let key = u32::try_from(shared.number()).unwrap_or(NO_KEY);
         Registry {
-            user: Arc::new(User { shared }),
+            user: Arc::new(User { shared, key }),
         }
     }
 
     pub(crate) fn shared(&self) -> &Arc<Shared> {
         &self.user.shared
+    }
+
+    /// Of no two registries of the process the same, but for none's.
+    #[inline]
+    pub(crate) fn key(&self) -> u32 {
+        self.user.key
     }
 
     #[inline]
@@ -108,6 +118,18 @@ impl Registry {
     /// free.
     pub fn worker(&self) -> Result<u32, Error> {
         self.call(|_, worker| Ok(worker))
+    }
+
+    /// Whether some layer admits spans and events of this level and target. It takes no lock and no place in the ring.
+    #[must_use]
+    pub fn enabled(&self, level: Level, target: &str) -> bool {
+        self.shared().interest().admits(level, target)
+    }
+
+    /// The most verbose level that some layer admits of some target; none where nothing is admitted. It takes no lock.
+    #[must_use]
+    pub fn max_level(&self) -> Option<Level> {
+        self.shared().interest().max_level()
     }
 
     /// A new span with its one handle; a disabled one where there are layers and none wants it.

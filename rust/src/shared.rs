@@ -1,6 +1,7 @@
 //! The lock, and what may be asked without it.
 #![forbid(unsafe_code)]
 use crate::error::Error;
+use crate::interest::Interest;
 use crate::lost::{Losses, Lost};
 use crate::ring::Ring;
 use crate::seats::Caller;
@@ -18,7 +19,8 @@ static MADE: AtomicU64 = AtomicU64::new(0);
 pub(crate) struct Shared {
     state: Mutex<State>,
     ring: Arc<Ring>,
-    // How many registries were made before.
+    interest: Interest,
+    // How many registries were made before, and this one.
     number: u64,
     // Whether something is owed, as of the last time that the lock was given back.
     owes: AtomicBool,
@@ -28,11 +30,12 @@ pub(crate) struct Shared {
 }
 
 impl Shared {
-    pub(crate) fn new(state: State, ring: Arc<Ring>) -> Shared {
+    pub(crate) fn new(state: State, ring: Arc<Ring>, interest: Interest) -> Shared {
         Shared {
             state: Mutex::new(state),
             ring,
-            number: MADE.fetch_add(1, Ordering::Relaxed),
+            interest,
+            number: MADE.fetch_add(1, Ordering::Relaxed) + 1,
             owes: AtomicBool::new(false),
             is_over: AtomicBool::new(false),
             losses: Losses::default(),
@@ -89,6 +92,10 @@ impl Shared {
 
     pub(crate) fn losses(&self) -> &Losses {
         &self.losses
+    }
+
+    pub(crate) fn interest(&self) -> &Interest {
+        &self.interest
     }
 
     pub(crate) fn ring(&self) -> &Ring {

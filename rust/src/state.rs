@@ -4,11 +4,13 @@ use crate::error::Error;
 use crate::level::Level;
 use crate::lost::{Lost, TARGET};
 use crate::meta::{Counts, Fields, Meta, RawId, RawParent};
+use crate::origins::Origins;
 use crate::owed::{Owed, Owing};
 use crate::packed::Packed;
 use crate::raw::{Core, SpanFound};
 use crate::ring::Ring;
 use crate::seats::{Caller, Seats};
+use crate::site::Site;
 use std::sync::Arc;
 
 pub(crate) struct State {
@@ -18,6 +20,7 @@ pub(crate) struct State {
     owing: Owing,
     // The core has one worker more, the outsider, which is inside of no span.
     seats: Seats,
+    origins: Origins,
     // What was lost when that was last told.
     told: Lost,
 }
@@ -31,6 +34,7 @@ impl State {
             packed: Packed::default(),
             owing: Owing::new(workers as usize)?,
             seats: Seats::new(workers)?,
+            origins: Origins::default(),
             told: Lost::default(),
         })
     }
@@ -154,6 +158,17 @@ impl State {
         self.packed.pack(&[meta.name, meta.target], &[])?;
         let number = self.core.add_callsite(meta, &self.packed);
         number.map_err(|error| error.naming(Some(meta.name), &[]))
+    }
+
+    /// The number of the callsite of a place in the program, which is added at its first call.
+    pub(crate) fn callsite_of(&mut self, site: &'static Site) -> Result<u32, Error> {
+        if let Some(number) = self.origins.number(site) {
+            return Ok(number);
+        }
+        self.origins.reserve_site()?;
+        let number = self.add_callsite(site.meta())?;
+        self.origins.add(site, number);
+        Ok(number)
     }
 
     pub(crate) fn new_span_at(

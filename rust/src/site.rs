@@ -1,0 +1,121 @@
+//! The places in a program where its macros make spans and tell events.
+#![forbid(unsafe_code)]
+use crate::error::Error;
+use crate::level::Level;
+use crate::meta::{Fields, Meta, Parent};
+use crate::registry::Registry;
+use crate::span::Span;
+use std::sync::atomic::{AtomicU64, Ordering};
+
+/// A place in the program, of which each registry knows once whether a layer wants it, and by which number the proved
+/// registry has it. For the macros.
+#[doc(hidden)]
+#[derive(Debug)]
+pub struct Site {
+    meta: Meta<'static>,
+    is_of_spans: bool,
+    // In the upper half the key of the registry that asked last, and in the lower the callsite's number there, or
+    // UNWANTED.
+    known: AtomicU64,
+}
+
+/// No registry's key.
+pub(crate) const NO_KEY: u32 = 0;
+const UNWANTED: u32 = u32::MAX;
+
+impl Site {
+    /// A place of spans.
+    #[must_use]
+    pub const fn span(level: Level, target: &'static str, name: &'static str) -> Site {
+        Site::new(Meta::new(level, target, name), true)
+    }
+
+    /// A place of events.
+    #[must_use]
+    pub const fn event(level: Level, target: &'static str) -> Site {
+        Site::new(Meta::event(level, target), false)
+    }
+
+    const fn new(meta: Meta<'static>, is_of_spans: bool) -> Site {
+        Site {
+            meta,
+            is_of_spans,
+            known: AtomicU64::new((NO_KEY as u64) << 32),
+        }
+    }
+
+    pub(crate) fn meta(&self) -> &Meta<'static> {
+        &self.meta
+    }
+
+    /// What is made here by this registry; none where no layer wants it. From the second call on that is a load and a
+    /// branch.
+    #[inline]
+    pub fn wanted_by<'a>(&'static self, registry: &'a Registry) -> Option<Wanted<'a>> {
+        let known = self.known.load(Ordering::Relaxed);
+        let is_known = (known >> 32) as u32 == registry.key() && registry.key() != NO_KEY;
+        if is_known && known as u32 == UNWANTED {
+            return None;
+        }
+        let callsite = if is_known {
+            Ok(known as u32)
+        } else {
+            self.looked_up(registry)?
+        };
+        Some(Wanted { registry, callsite })
+    }
+
+    // Its callsite, or why it can have none.
+    #[cold]
+    fn looked_up(&'static self, registry: &Registry) -> Option<Result<u32, Error>> {
+        let interest = registry.shared().interest();
+        let is_wanted = interest.admits(self.meta.level, self.meta.target) || self.is_of_spans && interest.is_silent();
+        if !is_wanted {
+            self.keep(registry, UNWANTED);
+            return None;
+        }
+        let callsite = registry.shared().with(|state| state.callsite_of(self));
+        // A callsite's number that would say the same is not kept.
+        if let Some(number) = callsite.ok().filter(|&number| number != UNWANTED) {
+            self.keep(registry, number);
+        }
+        Some(callsite)
+    }
+
+    fn keep(&self, registry: &Registry, number: u32) {
+        if registry.key() != NO_KEY {
+            let known = (u64::from(registry.key()) << 32) | u64::from(number);
+            self.known.store(known, Ordering::Relaxed);
+        }
+    }
+}
+
+/// A span or an event that some layer wants. For the macros.
+#[doc(hidden)]
+#[derive(Debug)]
+pub struct Wanted<'a> {
+    registry: &'a Registry,
+    callsite: Result<u32, Error>,
+}
+
+impl Wanted<'_> {
+    /// For `try_span!`.
+    pub fn try_span(&self, parent: Parent, fields: Fields<'_>) -> Result<Span, Error> {
+        self.registry.span_at_number(self.callsite?, parent, fields)
+    }
+
+    /// For `span!`: a disabled span where it is refused.
+    pub fn span(&self, parent: Parent, fields: Fields<'_>) -> Span {
+        self.registry.or_lost(self.try_span(parent, fields)).unwrap_or_default()
+    }
+
+    /// For `try_event!`.
+    pub fn try_event(&self, message: &str, fields: Fields<'_>) -> Result<(), Error> {
+        self.registry.event_at_number(self.callsite?, message, fields)
+    }
+
+    /// For `event!`.
+    pub fn event(&self, message: &str, fields: Fields<'_>) {
+        self.registry.or_lost(self.try_event(message, fields));
+    }
+}
