@@ -5,6 +5,7 @@ use crate::drain::Drain;
 use crate::error::{Error, Limit};
 use crate::interest::Interest;
 use crate::level::{FmtSpan, Form, Level};
+use crate::notes::Notes;
 use crate::packed::{length, reserve};
 use crate::raw::{Core, SpanLayer, SpanLimits, SpanRule, Start};
 use crate::registry::Registry;
@@ -44,6 +45,13 @@ impl Layer {
     #[must_use]
     pub fn json() -> Layer {
         Layer::new(Form::Json)
+    }
+
+    /// In JSON from which trees can be built: with parents, targets, levels, times and the kinds of values. See
+    /// [`Note`](crate::Note).
+    #[must_use]
+    pub fn tree() -> Layer {
+        Layer::new(Form::Tree)
     }
 
     /// Told of these parts of a span's life.
@@ -157,11 +165,13 @@ impl RegistryBuilder {
             rules: &packed.rules,
             texts: &packed.texts,
         })?;
-        let ring = Arc::new(Ring::new(lines, self.on_full.unwrap_or_default()));
+        let forms: Vec<Form> = self.layers.iter().map(|layer| layer.form).collect();
+        let notes = forms.contains(&Form::Tree).then(Notes::new);
+        let ring = Arc::new(Ring::new(lines, notes, self.on_full.unwrap_or_default()));
         let state = State::new(core, Arc::clone(&ring))?;
         let interest = Interest::of(self.layers.iter().map(|layer| layer.targets.clone()));
         let shared = Arc::new(Shared::new(state, ring, interest));
-        let drain = Drain::of(Arc::clone(&shared), self.layers.len());
+        let drain = Drain::of(Arc::clone(&shared), forms);
         Ok((Registry::of(shared), drain))
     }
 

@@ -1,7 +1,7 @@
 //! Callsites: places of a program whose meta is handed over once.
 #![forbid(unsafe_code)]
 use crate::error::Error;
-use crate::meta::{Fields, Id, Meta, Parent};
+use crate::meta::{Fields, Given, Id, Meta, Parent};
 use crate::registry::Registry;
 use crate::span::Span;
 
@@ -52,7 +52,7 @@ impl Registry {
     /// # }
     /// ```
     pub fn callsite(&self, meta: &Meta<'_>) -> Result<Callsite, Error> {
-        let number = self.shared().with(|state| state.add_callsite(meta))?;
+        let number = self.shared().with(|state| state.add_callsite(meta, None))?;
         Ok(Callsite {
             registry: self.shared().number(),
             number,
@@ -61,10 +61,10 @@ impl Registry {
 
     /// [`span`](Registry::span) with the meta of a callsite.
     pub fn span_at(&self, callsite: &Callsite, parent: Parent, fields: Fields<'_>) -> Result<Span, Error> {
-        self.span_at_number(callsite.number_in(self)?, parent, fields)
+        self.span_at_number(callsite.number_in(self)?, parent, fields.into())
     }
 
-    pub(crate) fn span_at_number(&self, number: u32, parent: Parent, fields: Fields<'_>) -> Result<Span, Error> {
+    pub(crate) fn span_at_number(&self, number: u32, parent: Parent, fields: Given<'_>) -> Result<Span, Error> {
         let parent = self.own_parent(parent)?;
         let id = self.call(|state, worker| state.new_span_at(worker, number, parent, fields))?;
         Ok(id.map_or_else(Span::none, |id| Span::of(self, id)))
@@ -74,16 +74,16 @@ impl Registry {
     pub fn new_span_at(&self, callsite: &Callsite, parent: Parent, fields: Fields<'_>) -> Result<Option<Id>, Error> {
         let number = callsite.number_in(self)?;
         let parent = self.own_parent(parent)?;
-        let made = self.call(|state, worker| state.new_span_at(worker, number, parent, fields))?;
+        let made = self.call(|state, worker| state.new_span_at(worker, number, parent, fields.into()))?;
         Ok(made.map(|raw| self.id_of(raw)))
     }
 
     /// [`event`](Registry::event) with the meta of a callsite.
     pub fn event_at(&self, callsite: &Callsite, message: &str, fields: Fields<'_>) -> Result<(), Error> {
-        self.event_at_number(callsite.number_in(self)?, message, fields)
+        self.event_at_number(callsite.number_in(self)?, message, fields.into())
     }
 
-    pub(crate) fn event_at_number(&self, number: u32, message: &str, fields: Fields<'_>) -> Result<(), Error> {
+    pub(crate) fn event_at_number(&self, number: u32, message: &str, fields: Given<'_>) -> Result<(), Error> {
         self.call(|state, worker| state.event_at(worker, number, message, fields))
     }
 }

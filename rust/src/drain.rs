@@ -1,5 +1,7 @@
 //! The end from which lines are read.
 #![forbid(unsafe_code)]
+use crate::level::Form;
+use crate::note::{Note, Sources};
 use crate::raw::Next;
 use crate::shared::{wait, Shared};
 use crate::workers;
@@ -53,35 +55,51 @@ pub struct DrainCounts {
 #[must_use = "lines are thrown away once it is dropped"]
 pub struct Drain {
     shared: Arc<Shared>,
-    layers: usize,
+    // Of each layer.
+    forms: Vec<Form>,
     // A line's bytes stand at its beginning, and it has room for a newline.
     buffer: Vec<u8>,
     // The layer and length of a line that is in the buffer and wasn't handed out.
     ready: Option<(usize, usize)>,
+    // What that line tells, where its layer has the form of trees; the buffer hasn't its text then.
+    note: Option<Note>,
 }
 
 impl Drain {
-    pub(crate) fn of(shared: Arc<Shared>, layers: usize) -> Drain {
+    pub(crate) fn of(shared: Arc<Shared>, forms: Vec<Form>) -> Drain {
         Drain {
             shared,
-            layers,
+            forms,
             buffer: vec![0; 256],
             ready: None,
+            note: None,
         }
     }
 
     /// How many layers the registry has.
     #[must_use]
     pub fn layers(&self) -> usize {
-        self.layers
+        self.forms.len()
     }
 
     /// The next line; none where none is at hand now. It doesn't wait for one.
     pub fn line(&mut self) -> Option<Line> {
-        let (layer, length) = self.next_ready(|_| true)?;
+        let (layer, length) = self.next_text(|_| true)?;
         self.ready = None;
         let text = String::from_utf8_lossy(&self.buffer[..length]).into_owned();
         Some(Line { layer, text })
+    }
+
+    /// What the next line tells of a layer in the [form of trees](Form::Tree); lines of other layers are passed over. None
+    /// where none is at hand now. It doesn't wait for one.
+    pub fn note(&mut self) -> Option<Note> {
+        loop {
+            self.next_ready(|_| true)?;
+            self.ready = None;
+            if let Some(note) = self.note.take() {
+                return Some(note);
+            }
+        }
     }
 
     /// The lines at hand, until there is none.
@@ -147,13 +165,51 @@ impl Drain {
     fn next_ready(&mut self, goes_on: impl Fn(&Shared) -> bool) -> Option<(usize, usize)> {
         while self.ready.is_none() && goes_on(&self.shared) {
             let room = self.buffer.len() - 1;
-            let next = self.shared.ring().lines().next(&mut self.buffer[..room]);
+            let (next, batch) = {
+                let mut lines = self.shared.ring().lines();
+                (lines.next(&mut self.buffer[..room]), lines.counts().0)
+            };
             match next {
-                Next::Line { layer, length } => self.ready = Some((layer as usize, length)),
+                Next::Line { layer, length } => {
+                    self.ready = Some((layer as usize, length));
+                    self.note = self.noted(layer as usize, length, batch);
+                }
                 Next::Long { length } => self.buffer.resize(length + 1, 0),
                 Next::None if !self.settles() => return None,
                 Next::None => {}
             }
+        }
+        self.ready
+    }
+
+    // What the line in the buffer tells, which is of this batch: the call of this number.
+    fn noted(&self, layer: usize, length: usize, batch: u64) -> Option<Note> {
+        let notes = self.shared.ring().notes()?;
+        if !notes.book().goes_to(batch) {
+            // The call still has the lock.
+            self.shared.with(|_| ());
+            notes.book().goes_to(batch);
+        }
+        let mut book = notes.book();
+        book.keep_first();
+        let sources = Sources {
+            registry: self.shared.number(),
+            layer,
+            interest: self.shared.interest(),
+            book: &book,
+        };
+        let line = std::str::from_utf8(&self.buffer[..length]).ok()?;
+        (self.forms[layer] == Form::Tree).then(|| sources.note(line))?
+    }
+
+    // As `next_ready`, with its text in the buffer.
+    fn next_text(&mut self, goes_on: impl Fn(&Shared) -> bool) -> Option<(usize, usize)> {
+        let (layer, _) = self.next_ready(goes_on)?;
+        if let Some(note) = self.note.take() {
+            let text = note.to_string();
+            self.buffer.resize(self.buffer.len().max(text.len() + 1), 0);
+            self.buffer[..text.len()].copy_from_slice(text.as_bytes());
+            self.ready = Some((layer, text.len()));
         }
         self.ready
     }
@@ -177,9 +233,9 @@ impl Drain {
     }
 
     fn write_while(&mut self, outs: &mut impl Outs, goes_on: impl Fn(&Shared) -> bool) -> io::Result<u64> {
-        outs.check(self.layers)?;
+        outs.check(self.forms.len())?;
         let mut lines = 0;
-        while let Some((layer, length)) = self.next_ready(&goes_on) {
+        while let Some((layer, length)) = self.next_text(&goes_on) {
             self.buffer[length] = b'\n';
             let line = &self.buffer[..=length];
             workers::writing(&self.shared, || outs.write(layer, line))?;
@@ -241,6 +297,9 @@ impl Drain {
 impl Drop for Drain {
     fn drop(&mut self) {
         self.shared.ring().is_left();
+        if let Some(notes) = self.shared.ring().notes() {
+            notes.clear();
+        }
     }
 }
 
@@ -294,7 +353,7 @@ impl<W: Write> Outs for Each<'_, W> {
 impl std::fmt::Debug for Drain {
     fn fmt(&self, f: &mut std::fmt::Formatter<'_>) -> std::fmt::Result {
         f.debug_struct("Drain")
-            .field("layers", &self.layers)
+            .field("layers", &self.forms.len())
             .field("is_over", &self.is_over())
             .finish()
     }

@@ -28,6 +28,11 @@ impl Interest {
         may_be && self.layers.iter().any(|layer| layer.admits(level, target))
     }
 
+    /// Whether this one does.
+    pub(crate) fn layer_admits(&self, layer: usize, level: Level, target: &str) -> bool {
+        self.layers.get(layer).is_some_and(|layer| layer.admits(level, target))
+    }
+
     pub(crate) fn max_level(&self) -> Option<Level> {
         self.max_level
     }

@@ -15,11 +15,15 @@ mod directives;
 mod drain;
 mod error;
 mod interest;
+mod json;
+mod kind;
 mod level;
 mod lost;
 mod macros;
 mod meta;
 mod names;
+mod note;
+mod notes;
 mod origins;
 mod owed;
 mod packed;
@@ -40,9 +44,11 @@ pub use callsite::Callsite;
 pub use directives::{ParseError, Targets};
 pub use drain::{Drain, DrainCounts, Line};
 pub use error::{BadLimit, BadName, Differing, Error, Limit};
+pub use kind::Kind;
 pub use level::{FmtSpan, Form, Level};
 pub use lost::Lost;
 pub use meta::{Counts, Fields, Found, Id, Meta, Parent};
+pub use note::{Note, NoteField, NoteKind};
 pub use registry::{retry, Registry};
 pub use ring::OnFull;
 pub use span::{Entered, Span};
@@ -51,6 +57,7 @@ pub use writer::Guard;
 /// For the macros.
 #[doc(hidden)]
 pub mod __private {
+    pub use crate::kind::{Asked, OfKind, OfText};
     pub use crate::site::Site;
 }
 

@@ -61,7 +61,7 @@ macro_rules! __span {
         let made = match SITE.wanted_by(&$registry) {
             ::core::option::Option::Some(wanted) => wanted.$call(
                 $crate::Parent::from($parent),
-                &[$((::core::stringify!($key), &*::std::string::ToString::to_string(&$value))),*],
+                [$($crate::__field!($key, $value)),*],
             ),
             ::core::option::Option::None => $none,
         };
@@ -83,6 +83,26 @@ macro_rules! __span {
     };
     ($call:ident, $none:expr, $registry:expr, $($rest:tt)+) => {
         $crate::__span!(@made $call, $none, $registry, ::core::module_path!(), $crate::Parent::Current, $($rest)+)
+    };
+}
+
+/// A field of one.
+#[doc(hidden)]
+#[macro_export]
+macro_rules! __field {
+    ($key:ident, $value:expr) => {
+        match &$value {
+            value => {
+                #[allow(unused_imports)]
+                use $crate::__private::{OfKind as _, OfText as _};
+                let asked = &$crate::__private::Asked(value);
+                (
+                    ::core::stringify!($key),
+                    ::std::string::ToString::to_string(value),
+                    asked.kind(),
+                )
+            }
+        }
     };
 }
 
@@ -143,7 +163,7 @@ macro_rules! __event {
         let told = match SITE.wanted_by(&$registry) {
             ::core::option::Option::Some(wanted) => wanted.$call(
                 &::std::format!($($message)+),
-                &[$((::core::stringify!($key), &*::std::string::ToString::to_string(&$value))),*],
+                [$($crate::__field!($key, $value)),*],
             ),
             ::core::option::Option::None => $none,
         };

@@ -1,7 +1,9 @@
 //! What calls are given, and what they tell of a span.
 #![forbid(unsafe_code)]
 use crate::error::Error;
+use crate::kind::Kind;
 use crate::level::Level;
+use crate::packed::reserve;
 use crate::span::Span;
 use std::fmt;
 use std::num::NonZeroU64;
@@ -97,6 +99,30 @@ impl<'a> Meta<'a> {
 
 /// Fields in order, each a key (which has a name's bytes) and a value, which is any text.
 pub type Fields<'a> = &'a [(&'a str, &'a str)];
+
+/// Fields with the kinds of their values; those that have none are texts.
+#[derive(Clone, Copy, Debug)]
+pub(crate) struct Given<'a> {
+    pub(crate) fields: Fields<'a>,
+    pub(crate) kinds: &'a [Kind],
+}
+
+impl<'a> From<Fields<'a>> for Given<'a> {
+    fn from(fields: Fields<'a>) -> Given<'a> {
+        Given { fields, kinds: &[] }
+    }
+}
+
+impl Given<'_> {
+    /// The kind of each.
+    pub(crate) fn all_kinds(&self) -> Result<Vec<Kind>, Error> {
+        let mut kinds = Vec::new();
+        reserve(&mut kinds, self.fields.len())?;
+        kinds.extend_from_slice(self.kinds);
+        kinds.resize(self.fields.len(), Kind::Text);
+        Ok(kinds)
+    }
+}
 
 /// The parent of a new span.
 #[derive(Clone, Copy, Debug, PartialEq, Eq)]

@@ -62,6 +62,14 @@ pub(crate) fn reserve<T>(list: &mut Vec<T>, more: usize) -> Result<(), Error> {
     list.try_reserve(more).map_err(|_| Error::OutOfMemory)
 }
 
+/// A text's copy, or want of memory.
+pub(crate) fn copied(text: &str) -> Result<String, Error> {
+    let mut copy = String::new();
+    copy.try_reserve_exact(text.len()).map_err(|_| Error::OutOfMemory)?;
+    copy.push_str(text);
+    Ok(copy)
+}
+
 #[cfg(test)]
 mod tests {
     use super::{Packed, KEPT};

@@ -135,7 +135,7 @@ impl Registry {
     /// A new span with its one handle; a disabled one where there are layers and none wants it.
     pub fn span(&self, meta: &Meta<'_>, parent: Parent, fields: Fields<'_>) -> Result<Span, Error> {
         let parent = self.own_parent(parent)?;
-        let id = self.call(|state, worker| state.new_span(worker, meta, parent, fields))?;
+        let id = self.call(|state, worker| state.new_span(worker, meta, parent, fields.into()))?;
         Ok(id.map_or_else(Span::none, |id| Span::of(self, id)))
     }
 
@@ -143,20 +143,20 @@ impl Registry {
     /// are layers and none wants it.
     pub fn new_span(&self, meta: &Meta<'_>, parent: Parent, fields: Fields<'_>) -> Result<Option<Id>, Error> {
         let parent = self.own_parent(parent)?;
-        let made = self.call(|state, worker| state.new_span(worker, meta, parent, fields))?;
+        let made = self.call(|state, worker| state.new_span(worker, meta, parent, fields.into()))?;
         Ok(made.map(|raw| self.id_of(raw)))
     }
 
     /// Puts fields at the end of a span's list. A repeated key stands twice.
     pub fn record(&self, id: Id, fields: Fields<'_>) -> Result<(), Error> {
         let id = self.own(id)?;
-        self.call(|state, worker| state.record(worker, id, fields))
+        self.call(|state, worker| state.record(worker, id, fields.into()))
     }
 
     /// Tells an event. Each layer that admits it sees it in the innermost span that the thread is inside of and the
     /// layer admits. It is accepted also where no layer admits it.
     pub fn event(&self, meta: &Meta<'_>, message: &str, fields: Fields<'_>) -> Result<(), Error> {
-        self.call(|state, worker| state.event(worker, meta, message, fields))
+        self.call(|state, worker| state.event(worker, meta, message, fields.into()))
     }
 
     /// The calling thread enters a span. True where it wasn't inside of it already: only such an entry holds the span.

@@ -1,5 +1,6 @@
 //! The other end of the ring: who reads it, and what a call does that finds it full.
 #![forbid(unsafe_code)]
+use crate::notes::Notes;
 use crate::raw::{Lines, Next};
 use std::sync::atomic::{AtomicBool, AtomicU64, Ordering};
 use std::sync::{Mutex, MutexGuard, PoisonError};
@@ -25,6 +26,8 @@ pub enum OnFull {
 /// round.
 pub(crate) struct Ring {
     lines: Mutex<Lines>,
+    // Of layers in the form of trees.
+    notes: Option<Notes>,
     on_full: OnFull,
     // Whether the drain was dropped.
     is_unread: AtomicBool,
@@ -34,9 +37,10 @@ pub(crate) struct Ring {
 }
 
 impl Ring {
-    pub(crate) fn new(lines: Lines, on_full: OnFull) -> Ring {
+    pub(crate) fn new(lines: Lines, notes: Option<Notes>, on_full: OnFull) -> Ring {
         Ring {
             lines: Mutex::new(lines),
+            notes,
             on_full,
             is_unread: AtomicBool::new(false),
             thrown: AtomicU64::new(0),
@@ -47,6 +51,12 @@ impl Ring {
     /// No code of the program's runs under this lock.
     pub(crate) fn lines(&self) -> MutexGuard<'_, Lines> {
         self.lines.lock().unwrap_or_else(PoisonError::into_inner)
+    }
+
+    /// What lines lack that are read as notes; none where no layer asks for it.
+    #[inline]
+    pub(crate) fn notes(&self) -> Option<&Notes> {
+        self.notes.as_ref()
     }
 
     /// From now on nobody reads.
@@ -84,6 +94,15 @@ impl Ring {
         if !all && self.on_full != OnFull::DropOldest {
             return false;
         }
+        let has_place = self.throw_lines(all);
+        if let Some(notes) = &self.notes {
+            let (taken, _) = self.lines().counts();
+            notes.book().goes_to(taken);
+        }
+        has_place
+    }
+
+    fn throw_lines(&self, all: bool) -> bool {
         let mut lines = self.lines();
         let (before, _) = lines.counts();
         let (mut short, mut long) = ([0; 256], Vec::new());

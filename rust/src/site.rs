@@ -1,8 +1,9 @@
 //! The places in a program where its macros make spans and tell events.
 #![forbid(unsafe_code)]
 use crate::error::Error;
+use crate::kind::Kind;
 use crate::level::Level;
-use crate::meta::{Fields, Meta, Parent};
+use crate::meta::{Given, Meta, Parent};
 use crate::registry::Registry;
 use crate::span::Span;
 use std::sync::atomic::{AtomicU64, Ordering};
@@ -98,24 +99,39 @@ pub struct Wanted<'a> {
     callsite: Result<u32, Error>,
 }
 
+/// A key, a value's text, and its kind.
+type Field = (&'static str, String, Kind);
+
 impl Wanted<'_> {
+    // What is given as keys with values and beside these as kinds.
+    fn given<T, const N: usize>(fields: [Field; N], call: impl FnOnce(Given<'_>) -> T) -> T {
+        let texts = fields.each_ref().map(|(key, value, _)| (*key, &**value));
+        let kinds = fields.each_ref().map(|&(_, _, kind)| kind);
+        call(Given {
+            fields: &texts,
+            kinds: &kinds,
+        })
+    }
+
     /// For `try_span!`.
-    pub fn try_span(&self, parent: Parent, fields: Fields<'_>) -> Result<Span, Error> {
-        self.registry.span_at_number(self.callsite?, parent, fields)
+    pub fn try_span<const N: usize>(&self, parent: Parent, fields: [Field; N]) -> Result<Span, Error> {
+        let callsite = self.callsite?;
+        Self::given(fields, |given| self.registry.span_at_number(callsite, parent, given))
     }
 
     /// For `span!`: a disabled span where it is refused.
-    pub fn span(&self, parent: Parent, fields: Fields<'_>) -> Span {
+    pub fn span<const N: usize>(&self, parent: Parent, fields: [Field; N]) -> Span {
         self.registry.or_lost(self.try_span(parent, fields)).unwrap_or_default()
     }
 
     /// For `try_event!`.
-    pub fn try_event(&self, message: &str, fields: Fields<'_>) -> Result<(), Error> {
-        self.registry.event_at_number(self.callsite?, message, fields)
+    pub fn try_event<const N: usize>(&self, message: &str, fields: [Field; N]) -> Result<(), Error> {
+        let callsite = self.callsite?;
+        Self::given(fields, |given| self.registry.event_at_number(callsite, message, given))
     }
 
     /// For `event!`.
-    pub fn event(&self, message: &str, fields: Fields<'_>) {
+    pub fn event<const N: usize>(&self, message: &str, fields: [Field; N]) {
         self.registry.or_lost(self.try_event(message, fields));
     }
 }

@@ -3,7 +3,8 @@
 use crate::error::Error;
 use crate::level::Level;
 use crate::lost::{Lost, TARGET};
-use crate::meta::{Counts, Fields, Meta, RawId, RawParent};
+use crate::meta::{Counts, Fields, Given, Meta, RawId, RawParent};
+use crate::notes::{known, Known, What};
 use crate::origins::Origins;
 use crate::owed::{Owed, Owing};
 use crate::packed::Packed;
@@ -144,19 +145,24 @@ impl State {
         worker: u32,
         meta: &Meta<'_>,
         parent: RawParent,
-        fields: Fields<'_>,
+        given: Given<'_>,
     ) -> Result<Option<RawId>, Error> {
+        let fields = given.fields;
         self.owing.reserve_span()?;
         self.packed.pack(&[meta.name, meta.target], fields)?;
+        let noted = self.noting(|_| known(meta, given))?;
         let id = self.placed(|core, packed| core.new_span(worker, parent, meta, packed));
         let id = id.map_err(|error| error.naming(Some(meta.name), fields))?;
-        Ok(id.inspect(|&id| self.owing.made(id)))
+        Ok(id.inspect(|&id| self.made(id, noted)))
     }
 
     /// Its number.
-    pub(crate) fn add_callsite(&mut self, meta: &Meta<'_>) -> Result<u32, Error> {
+    pub(crate) fn add_callsite(&mut self, meta: &Meta<'_>, site: Option<&'static Site>) -> Result<u32, Error> {
         self.packed.pack(&[meta.name, meta.target], &[])?;
-        let number = self.core.add_callsite(meta, &self.packed);
+        let State {
+            core, packed, origins, ..
+        } = self;
+        let number = origins.add(meta, site, || core.add_callsite(meta, packed));
         number.map_err(|error| error.naming(Some(meta.name), &[]))
     }
 
@@ -165,10 +171,7 @@ impl State {
         if let Some(number) = self.origins.number(site) {
             return Ok(number);
         }
-        self.origins.reserve_site()?;
-        let number = self.add_callsite(site.meta())?;
-        self.origins.add(site, number);
-        Ok(number)
+        self.add_callsite(site.meta(), Some(site))
     }
 
     pub(crate) fn new_span_at(
@@ -176,25 +179,60 @@ impl State {
         worker: u32,
         callsite: u32,
         parent: RawParent,
-        fields: Fields<'_>,
+        given: Given<'_>,
     ) -> Result<Option<RawId>, Error> {
+        let fields = given.fields;
         self.owing.reserve_span()?;
         self.packed.pack(&[], fields)?;
+        let noted = self.noting(|origins| origins.known(callsite, given))?;
         let id = self.placed(|core, packed| core.new_span_at(worker, parent, callsite, packed));
         let id = id.map_err(|error| error.naming(None, fields))?;
-        Ok(id.inspect(|&id| self.owing.made(id)))
+        Ok(id.inspect(|&id| self.made(id, noted)))
+    }
+
+    fn made(&mut self, id: RawId, noted: Option<Known>) {
+        self.owing.made(id);
+        if let Some(known) = noted {
+            let parent = self.core.find(id).and_then(|found| RawId::from_u64(found.parent));
+            self.note(Some(What::Span { id, parent, known }));
+        }
+    }
+
+    // What is to be noted of a call, with room for it; none where no layer asks for notes.
+    #[inline]
+    fn noting<T>(&self, what: impl FnOnce(&Origins) -> Result<T, Error>) -> Result<Option<T>, Error> {
+        match self.ring.notes() {
+            None => Ok(None),
+            Some(notes) => notes.reserve().and_then(|()| what(&self.origins)).map(Some),
+        }
+    }
+
+    // The call that was accepted last did this; none where no layer asks for notes.
+    #[inline]
+    fn note(&mut self, what: Option<What>) {
+        if let Some(what) = what {
+            let number = self.calls();
+            let notes = self.ring.notes().filter(|_| !self.ring.is_unread());
+            if let Some(notes) = notes {
+                notes.add(number, what);
+            }
+        }
     }
 
     pub(crate) fn clone_span(&mut self, worker: u32, id: RawId) -> Result<(), Error> {
         self.owing.reserve_handle()?;
+        let noted = self.noting(|_| Ok(What::Other))?;
         self.placed(|core, _| core.clone_span(worker, id))?;
+        self.note(noted);
         self.owing.cloned();
         Ok(())
     }
 
     pub(crate) fn enter(&mut self, worker: u32, id: RawId) -> Result<bool, Error> {
         self.owing.reserve_entry(worker)?;
+        let noted = self.noting(|_| Ok(What::Other))?;
         let first = self.placed(|core, _| core.enter(worker, id))?;
+        self.note(noted);
         self.seats.entered(worker);
         self.owing.entered(worker, id);
         Ok(first)
@@ -207,34 +245,39 @@ impl State {
     }
 
     fn give_back_entry(&mut self, worker: u32, id: RawId) -> Result<bool, Error> {
+        let noted = self.noting(|_| Ok(What::Other))?;
         let closed = self.placed(|core, _| core.exit(worker, id))?;
+        self.note(noted);
         self.seats.left(worker);
         self.owing.given_back();
         Ok(closed)
     }
 
     pub(crate) fn try_close(&mut self, worker: u32, id: RawId) -> Result<bool, Error> {
+        let noted = self.noting(|_| Ok(What::Other))?;
         let closed = self.placed(|core, _| core.try_close(worker, id))?;
+        self.note(noted);
         self.owing.given_back();
         Ok(closed)
     }
 
-    pub(crate) fn record(&mut self, worker: u32, id: RawId, fields: Fields<'_>) -> Result<(), Error> {
+    pub(crate) fn record(&mut self, worker: u32, id: RawId, given: Given<'_>) -> Result<(), Error> {
+        let fields = given.fields;
         self.packed.pack(&[], fields)?;
+        let noted = self.noting(|_| Ok(What::Record(id, given.all_kinds()?)))?;
         let recorded = self.placed(|core, packed| core.record(worker, id, packed));
-        recorded.map_err(|error| error.naming(None, fields))
+        recorded.map_err(|error| error.naming(None, fields))?;
+        self.note(noted);
+        Ok(())
     }
 
-    pub(crate) fn event(
-        &mut self,
-        worker: u32,
-        meta: &Meta<'_>,
-        message: &str,
-        fields: Fields<'_>,
-    ) -> Result<(), Error> {
-        self.packed.pack(&[meta.name, meta.target, message], fields)?;
+    pub(crate) fn event(&mut self, worker: u32, meta: &Meta<'_>, message: &str, given: Given<'_>) -> Result<(), Error> {
+        self.packed.pack(&[meta.name, meta.target, message], given.fields)?;
+        let noted = self.noting(|_| Ok(What::Event(known(meta, given)?)))?;
         let told = self.placed(|core, packed| core.event(worker, meta, message, packed));
-        told.map_err(|error| error.naming(Some(meta.name), fields))
+        told.map_err(|error| error.naming(Some(meta.name), given.fields))?;
+        self.note(noted);
+        Ok(())
     }
 
     pub(crate) fn event_at(
@@ -242,11 +285,24 @@ impl State {
         worker: u32,
         callsite: u32,
         message: &str,
-        fields: Fields<'_>,
+        given: Given<'_>,
     ) -> Result<(), Error> {
-        self.packed.pack(&[message], fields)?;
+        self.packed.pack(&[message], given.fields)?;
+        let noted = self.noting(|origins| Ok(What::Event(origins.known(callsite, given)?)))?;
         let told = self.placed(|core, packed| core.event_at(worker, callsite, message, packed));
-        told.map_err(|error| error.naming(None, fields))
+        told.map_err(|error| error.naming(None, given.fields))?;
+        self.note(noted);
+        Ok(())
+    }
+
+    /// Tells something of the registry itself, as the outsider, if the ring has room: nothing is thrown away for it.
+    fn tell_of_itself(&mut self, message: &str, fields: Fields<'_>) -> Result<(), Error> {
+        let meta = Meta::event(Level::Warn, TARGET);
+        self.packed.pack(&[meta.name, meta.target, message], fields)?;
+        let noted = self.noting(|_| Ok(What::Event(known(&meta, fields.into())?)))?;
+        self.core.event(self.seats.outsider(), &meta, message, &self.packed)?;
+        self.note(noted);
+        Ok(())
     }
 
     /// Tells what was lost since the last telling, as the outsider, if the ring has room. It takes memory, unlike the
@@ -262,10 +318,7 @@ impl State {
             .map(|(reason, count)| (reason, count.to_string()))
             .collect();
         let fields: Vec<(&str, &str)> = counts.iter().map(|(reason, count)| (*reason, &**count)).collect();
-        self.packed.pack(&["event", TARGET, "lost"], &fields)?;
-        let meta = Meta::event(Level::Warn, TARGET);
-        // Nothing is thrown away for it.
-        self.core.event(self.seats.outsider(), &meta, "lost", &self.packed)?;
+        self.tell_of_itself("lost", &fields)?;
         self.told = lost;
         Ok(())
     }

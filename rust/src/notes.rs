@@ -1,0 +1,176 @@
+//! What lines lack of which a tree can be built: kept beside the ring, a call at a time, until its lines are read.
+#![forbid(unsafe_code)]
+use crate::error::Error;
+use crate::kind::Kind;
+use crate::level::Level;
+use crate::meta::{Given, Meta, RawId};
+use crate::packed::copied;
+use std::collections::VecDeque;
+use std::sync::{Mutex, MutexGuard, PoisonError};
+use std::time::Instant;
+
+/// What is known of a span or an event.
+#[derive(Clone, Debug)]
+pub(crate) struct Known {
+    pub(crate) level: Level,
+    pub(crate) target: String,
+    pub(crate) name: String,
+    /// Of its fields, in order.
+    pub(crate) kinds: Vec<Kind>,
+}
+
+/// What is known of what has this meta.
+pub(crate) fn known(meta: &Meta<'_>, given: Given<'_>) -> Result<Known, Error> {
+    Ok(Known {
+        level: meta.level,
+        target: copied(meta.target)?,
+        name: copied(meta.name)?,
+        kinds: given.all_kinds()?,
+    })
+}
+
+/// What a call did.
+#[derive(Debug)]
+pub(crate) enum What {
+    /// A new span, under this one.
+    Span {
+        id: RawId,
+        parent: Option<RawId>,
+        known: Known,
+    },
+    Event(Known),
+    /// Fields of these kinds were recorded.
+    Record(RawId, Vec<Kind>),
+    Other,
+}
+
+/// An accepted call, which put one batch into the ring.
+#[derive(Debug)]
+struct Call {
+    // How many were accepted by then.
+    number: u64,
+    // Nanoseconds since the registry was built.
+    at: u64,
+    what: What,
+}
+
+/// A span that was told of.
+#[derive(Clone, Debug)]
+pub(crate) struct Told {
+    id: RawId,
+    pub(crate) parent: Option<RawId>,
+    pub(crate) known: Known,
+}
+
+/// The calls whose lines weren't read. Who has the lock of the registry, or of the ring, may take this one, and never the
+/// other way round.
+pub(crate) struct Notes {
+    begin: Instant,
+    book: Mutex<Book>,
+}
+
+#[derive(Default)]
+pub(crate) struct Book {
+    calls: VecDeque<Call>,
+    // By slot, the last span that was told of.
+    spans: Vec<Option<Told>>,
+}
+
+impl Notes {
+    pub(crate) fn new() -> Notes {
+        Notes {
+            begin: Instant::now(),
+            book: Mutex::default(),
+        }
+    }
+
+    /// No code of the program's runs under this lock.
+    pub(crate) fn book(&self) -> MutexGuard<'_, Book> {
+        self.book.lock().unwrap_or_else(PoisonError::into_inner)
+    }
+
+    /// Room for one more call.
+    pub(crate) fn reserve(&self) -> Result<(), Error> {
+        self.book().calls.try_reserve(1).map_err(|_| Error::OutOfMemory)
+    }
+
+    /// The call of this number did this.
+    pub(crate) fn add(&self, number: u64, what: What) {
+        // It takes centuries to overflow.
+        let at = self.begin.elapsed().as_nanos() as u64;
+        self.book().calls.push_back(Call { number, at, what });
+    }
+
+    /// Nobody reads any longer.
+    pub(crate) fn clear(&self) {
+        *self.book() = Book::default();
+    }
+}
+
+impl Book {
+    /// All calls before this one are done with, and their lines are read. Whether this one is known.
+    pub(crate) fn goes_to(&mut self, number: u64) -> bool {
+        while self.calls.front().is_some_and(|call| call.number < number) {
+            if let Some(call) = self.calls.pop_front() {
+                self.keep(call.what);
+            }
+        }
+        self.calls.front().is_some_and(|call| call.number == number)
+    }
+
+    /// When the call was made that comes first now, and the event that it told.
+    pub(crate) fn first(&self) -> (u64, Option<&Known>) {
+        match self.calls.front() {
+            Some(Call {
+                at,
+                what: What::Event(known),
+                ..
+            }) => (*at, Some(known)),
+            call => (call.map_or(0, |call| call.at), None),
+        }
+    }
+
+    /// The kinds of the fields that the first call recorded.
+    pub(crate) fn recorded(&self) -> &[Kind] {
+        match self.calls.front().map(|call| &call.what) {
+            Some(What::Record(_, kinds)) => kinds,
+            _ => &[],
+        }
+    }
+
+    /// The span that the first call made is known from here on.
+    pub(crate) fn keep_first(&mut self) {
+        let first = self.calls.front_mut().map(|call| &mut call.what);
+        if let Some(what @ What::Span { .. }) = first {
+            let what = std::mem::replace(what, What::Other);
+            self.keep(what);
+        }
+    }
+
+    fn keep(&mut self, what: What) {
+        match what {
+            What::Span { id, parent, known } => {
+                if self.spans.len() <= id.slot() {
+                    self.spans.resize(id.slot() + 1, None);
+                }
+                self.spans[id.slot()] = Some(Told { id, parent, known });
+            }
+            What::Record(id, kinds) => {
+                if let Some(told) = self.of_slot(id) {
+                    told.known.kinds.extend(kinds);
+                }
+            }
+            What::Event(_) | What::Other => {}
+        }
+    }
+
+    fn of_slot(&mut self, id: RawId) -> Option<&mut Told> {
+        let told = self.spans.get_mut(id.slot())?.as_mut();
+        told.filter(|told| told.id == id)
+    }
+
+    /// A span that was told of, until its slot's next one.
+    pub(crate) fn span(&self, id: RawId) -> Option<&Told> {
+        self.spans.get(id.slot())?.as_ref().filter(|told| told.id == id)
+    }
+}
