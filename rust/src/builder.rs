@@ -156,6 +156,11 @@ impl RegistryBuilder {
     /// The registry, and the end from which its lines are read.
     ///
     /// The drain has to be read also where there is no layer: each accepted call takes a place of the ring.
+    ///
+    /// # Errors
+    /// [`OtherLibrary`](Error::OtherLibrary), [`BadLimits`](Error::BadLimits) with the first limit that is outside its
+    /// range, [`TooManyLayers`](Error::TooManyLayers), [`BadData`](Error::BadData),
+    /// [`OutOfMemory`](Error::OutOfMemory).
     pub fn build(self) -> Result<(Registry, Drain), Error> {
         let limits = self.checked_limits()?;
         let packed = PackedLayers::of(&self.layers)?;

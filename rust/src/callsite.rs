@@ -34,7 +34,11 @@ impl Registry {
     ///
     /// It is kept until the registry is gone, so a program makes one for each place, and not for each span. Two with
     /// the same meta may be made. It needs no worker's number and no place in the ring, and is never refused as
-    /// [`Backlog`](Error::Backlog). It is refused as [`BadName`](Error::BadName) where no span may have the name.
+    /// [`Backlog`](Error::Backlog).
+    ///
+    /// # Errors
+    /// [`BadName`](Error::BadName), [`BadData`](Error::BadData), [`OutOfMemory`](Error::OutOfMemory),
+    /// [`CountFull`](Error::CountFull) where there are 2^32 callsites; never [`Backlog`](Error::Backlog).
     ///
     /// ```
     /// # fn main() -> Result<(), span_registry::Error> {
@@ -60,6 +64,10 @@ impl Registry {
     }
 
     /// [`span`](Registry::span) with the meta of a callsite.
+    ///
+    /// # Errors
+    /// Those of [`span`](Registry::span) but for the name, and [`OtherRegistry`](Error::OtherRegistry) for the
+    /// callsite.
     pub fn span_at(&self, callsite: &Callsite, parent: Parent, fields: Fields<'_>) -> Result<Span, Error> {
         self.span_at_number(callsite.number_in(self)?, parent, fields.into())
     }
@@ -71,6 +79,9 @@ impl Registry {
     }
 
     /// [`new_span`](Registry::new_span) with the meta of a callsite.
+    ///
+    /// # Errors
+    /// Those of [`span_at`](Registry::span_at).
     pub fn new_span_at(&self, callsite: &Callsite, parent: Parent, fields: Fields<'_>) -> Result<Option<Id>, Error> {
         let number = callsite.number_in(self)?;
         let parent = self.own_parent(parent)?;
@@ -79,6 +90,10 @@ impl Registry {
     }
 
     /// [`event`](Registry::event) with the meta of a callsite.
+    ///
+    /// # Errors
+    /// Those of [`event`](Registry::event) but for the name, and [`OtherRegistry`](Error::OtherRegistry) for the
+    /// callsite.
     pub fn event_at(&self, callsite: &Callsite, message: &str, fields: Fields<'_>) -> Result<(), Error> {
         self.event_at_number(callsite.number_in(self)?, message, fields.into())
     }

@@ -110,12 +110,19 @@ impl Drain {
     /// Writes the lines at hand, each with a newline behind it, until there is none; answers how many.
     ///
     /// Where a write fails, its line stays the next one, though a part of it may have gone out.
+    ///
+    /// # Errors
+    /// What a write fails with. Its line stays the next one, though a part of it may have gone out.
     pub fn write_to<W: Write + ?Sized>(&mut self, out: &mut W) -> io::Result<u64> {
         self.write_out(&mut All(out))
     }
 
     /// As [`write_to`](Drain::write_to), the lines of each layer to the writer of its number. There have to be as many
     /// writers as layers, or more.
+    ///
+    /// # Errors
+    /// Those of [`write_to`](Drain::write_to), and [`InvalidInput`](io::ErrorKind::InvalidInput) where there are too
+    /// few writers.
     pub fn write_layers<W: Write>(&mut self, outs: &mut [W]) -> io::Result<u64> {
         self.write_out(&mut Each(outs))
     }
@@ -126,23 +133,35 @@ impl Drain {
     /// For a thread of its own. A clone of the registry that is kept, in a static or in this thread, makes it run for
     /// ever. A thread that is inside of a span by a forgotten guard may end after it; what it leaves then isn't read.
     /// Where a write fails, it answers that; it may be called again.
+    ///
+    /// # Errors
+    /// What a write or a flush fails with; it may be called again.
     pub fn run<W: Write + ?Sized>(&mut self, out: &mut W) -> io::Result<u64> {
         self.run_out(&mut All(out), &NEVER)
     }
 
     /// As [`run`](Drain::run), and ends once `stop` is true: then the lines of all calls that were accepted by now are
     /// written and flushed, unless memory is refused, whatever spans are open and whatever other threads go on to do.
+    ///
+    /// # Errors
+    /// Those of [`run`](Drain::run).
     pub fn run_until<W: Write + ?Sized>(&mut self, out: &mut W, stop: &AtomicBool) -> io::Result<u64> {
         self.run_out(&mut All(out), stop)
     }
 
     /// As [`run`](Drain::run), the lines of each layer to the writer of its number. There have to be as many writers as
     /// layers, or more.
+    ///
+    /// # Errors
+    /// Those of [`run`](Drain::run), and [`InvalidInput`](io::ErrorKind::InvalidInput) where there are too few writers.
     pub fn run_layers<W: Write>(&mut self, outs: &mut [W]) -> io::Result<u64> {
         self.run_out(&mut Each(outs), &NEVER)
     }
 
     /// As [`run_until`](Drain::run_until), the lines of each layer to the writer of its number.
+    ///
+    /// # Errors
+    /// Those of [`run_layers`](Drain::run_layers).
     pub fn run_layers_until<W: Write>(&mut self, outs: &mut [W], stop: &AtomicBool) -> io::Result<u64> {
         self.run_out(&mut Each(outs), stop)
     }

@@ -116,6 +116,10 @@ impl Registry {
 
     /// The number of the calling thread among the workers, which lines show. It takes one where it has none and one is
     /// free.
+    ///
+    /// # Errors
+    /// [`Backlog`](Error::Backlog) or [`OutOfMemory`](Error::OutOfMemory) where something is owed and can't be done
+    /// now.
     pub fn worker(&self) -> Result<u32, Error> {
         self.call(|_, worker| Ok(worker))
     }
@@ -133,6 +137,12 @@ impl Registry {
     }
 
     /// A new span with its one handle; a disabled one where there are layers and none wants it.
+    ///
+    /// # Errors
+    /// [`OtherRegistry`](Error::OtherRegistry) for the parent, [`BadName`](Error::BadName) for the name or a key,
+    /// [`Unknown`](Error::Unknown) for a parent that isn't open, [`CountFull`](Error::CountFull) for the parent,
+    /// [`Full`](Error::Full), [`Backlog`](Error::Backlog), [`OutOfMemory`](Error::OutOfMemory),
+    /// [`BadData`](Error::BadData).
     pub fn span(&self, meta: &Meta<'_>, parent: Parent, fields: Fields<'_>) -> Result<Span, Error> {
         let parent = self.own_parent(parent)?;
         let id = self.call(|state, worker| state.new_span(worker, meta, parent, fields.into()))?;
@@ -141,6 +151,9 @@ impl Registry {
 
     /// A new span, whose one handle the caller has to give back by [`try_close`](Registry::try_close); none where there
     /// are layers and none wants it.
+    ///
+    /// # Errors
+    /// Those of [`span`](Registry::span).
     pub fn new_span(&self, meta: &Meta<'_>, parent: Parent, fields: Fields<'_>) -> Result<Option<Id>, Error> {
         let parent = self.own_parent(parent)?;
         let made = self.call(|state, worker| state.new_span(worker, meta, parent, fields.into()))?;
@@ -148,6 +161,10 @@ impl Registry {
     }
 
     /// Puts fields at the end of a span's list. A repeated key stands twice.
+    ///
+    /// # Errors
+    /// [`OtherRegistry`](Error::OtherRegistry), [`BadName`](Error::BadName) for a key, [`Unknown`](Error::Unknown),
+    /// [`Backlog`](Error::Backlog), [`OutOfMemory`](Error::OutOfMemory), [`BadData`](Error::BadData).
     pub fn record(&self, id: Id, fields: Fields<'_>) -> Result<(), Error> {
         let id = self.own(id)?;
         self.call(|state, worker| state.record(worker, id, fields.into()))
@@ -155,11 +172,19 @@ impl Registry {
 
     /// Tells an event. Each layer that admits it sees it in the innermost span that the thread is inside of and the
     /// layer admits. It is accepted also where no layer admits it.
+    ///
+    /// # Errors
+    /// [`BadName`](Error::BadName) for the name or a key, [`Backlog`](Error::Backlog),
+    /// [`OutOfMemory`](Error::OutOfMemory), [`BadData`](Error::BadData).
     pub fn event(&self, meta: &Meta<'_>, message: &str, fields: Fields<'_>) -> Result<(), Error> {
         self.call(|state, worker| state.event(worker, meta, message, fields.into()))
     }
 
     /// The calling thread enters a span. True where it wasn't inside of it already: only such an entry holds the span.
+    ///
+    /// # Errors
+    /// [`OtherRegistry`](Error::OtherRegistry), [`TooManyThreads`](Error::TooManyThreads), [`Unknown`](Error::Unknown),
+    /// [`CountFull`](Error::CountFull), [`Backlog`](Error::Backlog), [`OutOfMemory`](Error::OutOfMemory).
     pub fn enter(&self, id: Id) -> Result<bool, Error> {
         self.enter_as(self.own(id)?).map(|(is_first, _)| is_first)
     }
@@ -171,26 +196,41 @@ impl Registry {
     }
 
     /// The calling thread leaves its topmost entry of a span. True where the span closed.
+    ///
+    /// # Errors
+    /// [`OtherRegistry`](Error::OtherRegistry), [`Unknown`](Error::Unknown), [`NotEntered`](Error::NotEntered),
+    /// [`Backlog`](Error::Backlog), [`OutOfMemory`](Error::OutOfMemory).
     pub fn exit(&self, id: Id) -> Result<bool, Error> {
         let id = self.own(id)?;
         self.call(|state, worker| state.exit(worker, id))
     }
 
     /// One more handle of a span, which the caller has to give back by [`try_close`](Registry::try_close).
+    ///
+    /// # Errors
+    /// [`OtherRegistry`](Error::OtherRegistry), [`Unknown`](Error::Unknown), [`CountFull`](Error::CountFull),
+    /// [`Backlog`](Error::Backlog), [`OutOfMemory`](Error::OutOfMemory).
     pub fn clone_span(&self, id: Id) -> Result<(), Error> {
         let id = self.own(id)?;
         self.call(|state, worker| state.clone_span(worker, id))
     }
 
     /// Gives a handle of a span back. True where the span closed: nothing else holds it.
+    ///
+    /// # Errors
+    /// [`OtherRegistry`](Error::OtherRegistry), [`Unknown`](Error::Unknown) also where no handle of it is out,
+    /// [`Backlog`](Error::Backlog), [`OutOfMemory`](Error::OutOfMemory).
     pub fn try_close(&self, id: Id) -> Result<bool, Error> {
         let id = self.own(id)?;
         self.call(|state, worker| state.try_close(worker, id))
     }
 
     /// [`exit`](Registry::exit) for callers that can't make it again: what can't be done now is owed, as where a guard
-    /// is dropped. Refused as [`NotEntered`](Error::NotEntered) where the thread has no entry of the span whose exit isn't
-    /// owed already, so no more is owed than is held.
+    /// is dropped.
+    ///
+    /// # Errors
+    /// [`OtherRegistry`](Error::OtherRegistry), [`Unknown`](Error::Unknown), [`NotEntered`](Error::NotEntered) where
+    /// the thread has no entry of the span whose exit isn't owed already: so no more is owed than is held.
     pub fn exit_or_owe(&self, id: Id) -> Result<(), Error> {
         let id = self.own(id)?;
         let caller = workers::caller(self.shared());
@@ -210,8 +250,11 @@ impl Registry {
     }
 
     /// [`try_close`](Registry::try_close) for callers that can't make it again: what can't be done now is owed, as
-    /// where a [`Span`] is dropped. Refused as [`Unknown`](Error::Unknown) where the span has no handle whose close
-    /// isn't owed already, so no more is owed than is held. A thread takes no number for it.
+    /// where a [`Span`] is dropped. A thread takes no number for it.
+    ///
+    /// # Errors
+    /// [`OtherRegistry`](Error::OtherRegistry), [`Unknown`](Error::Unknown) where the span has no handle whose close
+    /// isn't owed already: so no more is owed than is held.
     pub fn close_or_owe(&self, id: Id) -> Result<(), Error> {
         self.close_raw(self.own(id)?)
     }
@@ -226,6 +269,10 @@ impl Registry {
 
     /// The innermost span that the calling thread is inside of; entries that repeat a span are skipped. After entering
     /// a, b and a again it is b.
+    ///
+    /// # Errors
+    /// [`Backlog`](Error::Backlog) or [`OutOfMemory`](Error::OutOfMemory) where something is owed and can't be done
+    /// now.
     pub fn current_span(&self) -> Result<Option<Id>, Error> {
         let caller = workers::caller(self.shared());
         let current = self.shared().with_place(|state| {
@@ -264,8 +311,11 @@ impl Registry {
     }
 
     /// Does what dropped guards, dropped spans and ended threads left to be done, in order. Each other call does this
-    /// first. Refused as [`Backlog`](Error::Backlog) or [`OutOfMemory`](Error::OutOfMemory) where some of it can't be
-    /// done now; that stays owed.
+    /// first.
+    ///
+    /// # Errors
+    /// [`Backlog`](Error::Backlog) or [`OutOfMemory`](Error::OutOfMemory) where some of it can't be done now; that
+    /// stays owed.
     pub fn settle(&self) -> Result<(), Error> {
         self.shared().with_place(State::settle)
     }
@@ -280,6 +330,9 @@ impl fmt::Debug for Registry {
 /// Makes a call again, as long as it is refused as [`Backlog`](Error::Backlog), and lets other threads run in between.
 /// It doesn't come back while the [`Drain`](crate::Drain) is there and nobody reads it, so the thread that reads must not
 /// wait by this. A registry that was built with [`OnFull::Wait`](crate::OnFull) waits by itself.
+///
+/// # Errors
+/// Whatever else the call answers.
 ///
 /// ```
 /// # fn main() -> Result<(), span_registry::Error> {

@@ -74,6 +74,9 @@ impl Span {
     }
 
     /// [`enter`](Span::enter), or why it is refused.
+    ///
+    /// # Errors
+    /// Those of [`Registry::enter`].
     pub fn try_enter(&self) -> Result<Entered<'_>, Error> {
         self.0.as_deref().map(Handle::enter).transpose().map(Entered::of)
     }
@@ -85,6 +88,9 @@ impl Span {
     }
 
     /// Runs `run` inside the span. Where the entry is refused, it doesn't run.
+    ///
+    /// # Errors
+    /// Those of [`Registry::enter`]; then `run` doesn't run.
     pub fn try_in_scope<T>(&self, run: impl FnOnce() -> T) -> Result<T, Error> {
         let _inside = self.try_enter()?;
         Ok(run())
@@ -97,6 +103,9 @@ impl Span {
     }
 
     /// [`record`](Span::record), or why it is refused.
+    ///
+    /// # Errors
+    /// Those of [`Registry::record`].
     pub fn try_record(&self, fields: Fields<'_>) -> Result<(), Error> {
         self.0.as_deref().map_or(Ok(()), |handle| handle.record(fields))
     }
@@ -108,6 +117,9 @@ impl Span {
     }
 
     /// A handle of its own of the same span.
+    ///
+    /// # Errors
+    /// Those of [`Registry::clone_span`].
     pub fn try_clone(&self) -> Result<Span, Error> {
         let Some(handle) = &self.0 else {
             return Ok(Span::none());
@@ -118,8 +130,9 @@ impl Span {
 
     /// Gives the handle back, as a drop does, and tells whether the span closed. False where other clones share it.
     ///
-    /// Where it is refused, the span comes back; a disabled one after [`Unknown`](Error::Unknown), since somebody gave
-    /// this handle back by its id.
+    /// # Errors
+    /// Those of [`Registry::try_close`], with the span; with a disabled one where it is [`Unknown`](Error::Unknown),
+    /// since somebody gave this handle back by its id.
     pub fn try_close(self) -> Result<bool, (Span, Error)> {
         let Some(mut handle) = self.0.and_then(Arc::into_inner) else {
             return Ok(false);

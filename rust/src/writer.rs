@@ -29,6 +29,10 @@ pub struct Guard {
 impl Guard {
     /// As a drop, and answers how many lines were written, or what a write or a flush failed with. Lines that are
     /// missing for want of memory are a failure of the kind [`OutOfMemory`](io::ErrorKind::OutOfMemory).
+    ///
+    /// # Errors
+    /// What a write or a flush failed with, that it panicked, or [`OutOfMemory`](io::ErrorKind::OutOfMemory) where
+    /// lines are missing for want of memory.
     pub fn finish(mut self) -> io::Result<u64> {
         self.stop()
     }
@@ -53,6 +57,9 @@ impl Drop for Guard {
 impl Drain {
     /// A thread that [runs](Drain::run_until) this until the guard is dropped. Where no thread can be made, the drain
     /// is gone.
+    ///
+    /// # Errors
+    /// Where no thread can be made; the drain is gone then.
     pub fn spawn<W: Write + Send + 'static>(self, out: W) -> io::Result<Guard> {
         let is_stopped = Arc::new(AtomicBool::new(false));
         let stop = Arc::clone(&is_stopped);
@@ -84,7 +91,9 @@ fn written(mut drain: Drain, mut out: impl Write, stop: &AtomicBool) -> io::Resu
 impl RegistryBuilder {
     /// The registry, and the guard of a thread that writes all its lines. Give the guard a name: `_` drops it at once.
     /// Where nothing else was said by [`on_full`](RegistryBuilder::on_full), a call that finds the ring full waits.
-    /// Refused as [`OutOfMemory`](Error::OutOfMemory) where no thread can be made.
+    ///
+    /// # Errors
+    /// Those of [`build`](RegistryBuilder::build), and [`OutOfMemory`](Error::OutOfMemory) where no thread can be made.
     ///
     /// ```
     /// # fn main() -> Result<(), Box<dyn std::error::Error>> {
