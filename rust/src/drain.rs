@@ -76,6 +76,10 @@ impl Drain {
         }
     }
 
+    pub(crate) fn shared(&self) -> &Arc<Shared> {
+        &self.shared
+    }
+
     /// How many layers the registry has.
     #[must_use]
     pub fn layers(&self) -> usize {
@@ -142,6 +146,10 @@ impl Drain {
 
     /// As [`run`](Drain::run), and ends once `stop` is true: then the lines of all calls that were accepted by now are
     /// written and flushed, unless memory is refused, whatever spans are open and whatever other threads go on to do.
+    ///
+    /// Of the spans that are open then, 100 at most, each is told as an event `open` at `WARN` of the target
+    /// `span_registry` to layers that admit that: `event 0 w256 - WARN open span=1 name=request place=src/main.rs:7
+    /// handles=1 entries=0 children=0`. [`open_spans`](Drain::open_spans) tells all.
     ///
     /// # Errors
     /// Those of [`run`](Drain::run).
@@ -270,7 +278,24 @@ impl Drain {
         if self.shared.is_untold() {
             lines += self.write_sent(outs)?;
         }
+        lines += self.write_open(outs)?;
         self.flush(outs)?;
+        Ok(lines)
+    }
+
+    // Tells which spans are open, and writes that. Where there is no memory for it, or others keep the ring full, nothing
+    // more is told.
+    fn write_open(&mut self, outs: &mut impl Outs) -> io::Result<u64> {
+        let open = self.shared.with(|state| state.open_spans()).unwrap_or_default();
+        let (mut left, mut lines) = (&open[..open.len().min(OPEN_AT_END)], 0);
+        for _turn in 0..OPEN_AT_END {
+            let told = self.shared.with(|state| state.tell_open(left)).unwrap_or(left.len());
+            left = &left[told..];
+            lines += self.write_sent(outs)?;
+            if left.is_empty() {
+                break;
+            }
+        }
         Ok(lines)
     }
 
@@ -321,6 +346,9 @@ impl Drop for Drain {
         }
     }
 }
+
+/// Of how many open spans it is told at the end.
+const OPEN_AT_END: usize = 100;
 
 /// What stops no drain.
 static NEVER: AtomicBool = AtomicBool::new(false);

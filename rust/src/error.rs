@@ -144,6 +144,7 @@ pub enum Differing {
     Meta,
     Field,
     Found,
+    Held,
     Counts,
 }
 

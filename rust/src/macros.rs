@@ -56,7 +56,7 @@ macro_rules! __span {
     (@made $call:ident, $none:expr, $registry:expr, $target:expr, $parent:expr, $level:expr, $name:expr
         $(, $key:ident = $value:expr)* $(,)?) => {{
         static SITE: $crate::__private::Site =
-            $crate::__private::Site::span($level, $target, $name);
+            $crate::__private::Site::span($level, $target, $name, ::core::file!(), ::core::line!());
         // What the values borrow or lock ends with this statement, and not with the caller's.
         let made = match SITE.wanted_by(&$registry) {
             ::core::option::Option::Some(wanted) => wanted.$call(
@@ -158,7 +158,7 @@ macro_rules! __event {
     (@told $call:ident, $none:expr, $registry:expr, $target:expr, $level:expr,
         { $($key:ident = $value:expr),* $(,)? }, $($message:tt)+) => {{
         static SITE: $crate::__private::Site =
-            $crate::__private::Site::event($level, $target);
+            $crate::__private::Site::event($level, $target, ::core::file!(), ::core::line!());
         // As of a span.
         let told = match SITE.wanted_by(&$registry) {
             ::core::option::Option::Some(wanted) => wanted.$call(

@@ -4,6 +4,7 @@
 mod abi;
 mod calls;
 mod lines;
+mod queries;
 
 pub(crate) use calls::{Core, Start};
 pub(crate) use lines::{Lines, Next};
@@ -80,6 +81,14 @@ pub(crate) struct SpanFound {
 
 #[repr(C)]
 #[derive(Clone, Copy, Debug, Default)]
+pub(crate) struct SpanHeld {
+    pub(crate) id: u64,
+    pub(crate) handles: u32,
+    pub(crate) entries: u32,
+}
+
+#[repr(C)]
+#[derive(Clone, Copy, Debug, Default)]
 pub(crate) struct SpanCounts {
     pub(crate) made: u64,
     pub(crate) closed: u64,
@@ -98,10 +107,11 @@ struct SpanSizes {
     meta: u32,
     field: u32,
     found: u32,
+    held: u32,
     counts: u32,
 }
 
-const ABI_VERSION: u32 = 1;
+const ABI_VERSION: u32 = 2;
 
 pub(crate) const OK: u32 = 0;
 pub(crate) const UNKNOWN: u32 = 1;
@@ -202,6 +212,21 @@ unsafe extern "C" {
     fn span_registry_find(registry: *mut SpanRegistry, id: u64, found: *mut SpanFound) -> u32;
     fn span_registry_current_span(registry: *mut SpanRegistry, worker: u32, id: *mut u64) -> u32;
     fn span_registry_counts(registry: *mut SpanRegistry, counts: *mut SpanCounts) -> u32;
+    fn span_registry_open_ids(registry: *mut SpanRegistry, into: *mut u64, into_len: usize, len: *mut usize) -> u32;
+    fn span_registry_holders_of(
+        registry: *mut SpanRegistry,
+        id: u64,
+        into: *mut SpanHeld,
+        into_len: usize,
+        len: *mut usize,
+    ) -> u32;
+    fn span_registry_workers_inside(
+        registry: *mut SpanRegistry,
+        id: u64,
+        into: *mut u32,
+        into_len: usize,
+        len: *mut usize,
+    ) -> u32;
 
     fn span_drain_line(drain: *mut SpanDrain, layer: *mut u32, into: *mut u8, into_len: usize, len: *mut usize) -> u32;
     fn span_drain_counts(drain: *mut SpanDrain, batches: *mut u64, refused: *mut u64) -> u32;
@@ -240,8 +265,9 @@ mod tests {
         assert_eq!(size_of::<SpanMeta>(), 12);
         assert_eq!(size_of::<SpanField>(), 8);
         assert_eq!((size_of::<SpanFound>(), offset_of!(SpanFound, level)), (24, 20));
+        assert_eq!((size_of::<SpanHeld>(), offset_of!(SpanHeld, entries)), (16, 12));
         assert_eq!((size_of::<SpanCounts>(), offset_of!(SpanCounts, open)), (40, 32));
-        assert_eq!(size_of::<SpanSizes>(), 28);
+        assert_eq!(size_of::<SpanSizes>(), 32);
     }
 
     #[test]

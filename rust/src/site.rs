@@ -15,6 +15,8 @@ use std::sync::atomic::{AtomicU64, Ordering};
 pub struct Site {
     meta: Meta<'static>,
     is_of_spans: bool,
+    file: &'static str,
+    line: u32,
     // In the upper half the key of the registry that asked last, and in the lower the callsite's number there, or
     // UNWANTED.
     known: AtomicU64,
@@ -27,26 +29,33 @@ const UNWANTED: u32 = u32::MAX;
 impl Site {
     /// A place of spans.
     #[must_use]
-    pub const fn span(level: Level, target: &'static str, name: &'static str) -> Site {
-        Site::new(Meta::new(level, target, name), true)
+    pub const fn span(level: Level, target: &'static str, name: &'static str, file: &'static str, line: u32) -> Site {
+        Site::new(Meta::new(level, target, name), true, file, line)
     }
 
     /// A place of events.
     #[must_use]
-    pub const fn event(level: Level, target: &'static str) -> Site {
-        Site::new(Meta::event(level, target), false)
+    pub const fn event(level: Level, target: &'static str, file: &'static str, line: u32) -> Site {
+        Site::new(Meta::event(level, target), false, file, line)
     }
 
-    const fn new(meta: Meta<'static>, is_of_spans: bool) -> Site {
+    const fn new(meta: Meta<'static>, is_of_spans: bool, file: &'static str, line: u32) -> Site {
         Site {
             meta,
             is_of_spans,
+            file,
+            line,
             known: AtomicU64::new((NO_KEY as u64) << 32),
         }
     }
 
     pub(crate) fn meta(&self) -> &Meta<'static> {
         &self.meta
+    }
+
+    /// Its file and its line.
+    pub(crate) fn place(&self) -> (&'static str, u32) {
+        (self.file, self.line)
     }
 
     /// What is made here by this registry; none where no layer wants it. From the second call on that is a load and a

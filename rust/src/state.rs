@@ -5,13 +5,15 @@ use crate::level::Level;
 use crate::lost::{Lost, TARGET};
 use crate::meta::{Counts, Fields, Given, Meta, RawId, RawParent};
 use crate::notes::{known, Known, What};
+use crate::open::Open;
 use crate::origins::Origins;
 use crate::owed::{Owed, Owing};
-use crate::packed::Packed;
+use crate::packed::{reserve, Packed};
 use crate::raw::{Core, SpanFound};
 use crate::ring::Ring;
 use crate::seats::{Caller, Seats};
 use crate::site::Site;
+use std::collections::HashSet;
 use std::sync::Arc;
 
 pub(crate) struct State {
@@ -150,6 +152,7 @@ impl State {
         let fields = given.fields;
         self.owing.reserve_span()?;
         self.packed.pack(&[meta.name, meta.target], fields)?;
+        self.origins.reserve_span(Some(meta), None, &self.packed)?;
         let noted = self.noting(|_| known(meta, given))?;
         let id = self.placed(|core, packed| core.new_span(worker, parent, meta, packed));
         let id = id.map_err(|error| error.naming(Some(meta.name), fields))?;
@@ -184,6 +187,7 @@ impl State {
         let fields = given.fields;
         self.owing.reserve_span()?;
         self.packed.pack(&[], fields)?;
+        self.origins.reserve_span(None, Some(callsite), &self.packed)?;
         let noted = self.noting(|origins| origins.known(callsite, given))?;
         let id = self.placed(|core, packed| core.new_span_at(worker, parent, callsite, packed));
         let id = id.map_err(|error| error.naming(None, fields))?;
@@ -192,6 +196,7 @@ impl State {
 
     fn made(&mut self, id: RawId, noted: Option<Known>) {
         self.owing.made(id);
+        self.origins.made(id);
         if let Some(known) = noted {
             let parent = self.core.find(id).and_then(|found| RawId::from_u64(found.parent));
             self.note(Some(What::Span { id, parent, known }));
@@ -264,9 +269,11 @@ impl State {
     pub(crate) fn record(&mut self, worker: u32, id: RawId, given: Given<'_>) -> Result<(), Error> {
         let fields = given.fields;
         self.packed.pack(&[], fields)?;
+        self.origins.reserve_record(id, &self.packed)?;
         let noted = self.noting(|_| Ok(What::Record(id, given.all_kinds()?)))?;
         let recorded = self.placed(|core, packed| core.record(worker, id, packed));
         recorded.map_err(|error| error.naming(None, fields))?;
+        self.origins.recorded(id, &self.packed);
         self.note(noted);
         Ok(())
     }
@@ -329,6 +336,65 @@ impl State {
 
     pub(crate) fn find(&mut self, id: RawId) -> Option<SpanFound> {
         self.core.find(id)
+    }
+
+    /// Each span that is open, by ascending slot.
+    pub(crate) fn open_spans(&mut self) -> Result<Vec<Open>, Error> {
+        let ids = self.core.open_ids()?;
+        let mut open = Vec::new();
+        reserve(&mut open, ids.len())?;
+        for id in ids {
+            open.push(self.open_span(id)?);
+        }
+        Ok(open)
+    }
+
+    /// A span, the spans at it or below it that keep it open, and those between them and it.
+    pub(crate) fn why_open(&mut self, id: RawId) -> Result<Vec<Open>, Error> {
+        let mut seen = HashSet::from([id.get()]);
+        let mut open = vec![self.open_span(id.get())?];
+        for holder in self.core.holders_of(id)? {
+            let mut at = holder.id;
+            // Each span between is looked at once.
+            while seen.insert(at) {
+                let span = self.open_span(at)?;
+                at = span.found.parent;
+                open.push(span);
+            }
+        }
+        open.sort_unstable_by_key(|span| span.id.slot());
+        Ok(open)
+    }
+
+    fn open_span(&mut self, id: u64) -> Result<Open, Error> {
+        let id = RawId::from_u64(id).ok_or(Error::Unknown)?;
+        let found = self.core.find(id).ok_or(Error::Unknown)?;
+        // All workers' stacks are looked through, so not for a span that none is inside of.
+        let inside = if found.entries > 0 {
+            self.core.workers_inside(id)?
+        } else {
+            Vec::new()
+        };
+        let details = self.origins.details(id)?.ok_or(Error::Unknown)?;
+        Ok(Open {
+            id,
+            found,
+            details,
+            inside,
+        })
+    }
+
+    /// Tells of these that they are open, as the outsider, up to the first for which the ring has no room. How many.
+    pub(crate) fn tell_open(&mut self, spans: &[Open]) -> Result<usize, Error> {
+        for (told, span) in spans.iter().enumerate() {
+            let fields = span.fields();
+            let fields: Vec<(&str, &str)> = fields.iter().map(|(key, value)| (*key, &**value)).collect();
+            match self.tell_of_itself("open", &fields) {
+                Err(Error::Backlog) => return Ok(told),
+                told => told?,
+            }
+        }
+        Ok(spans.len())
     }
 
     pub(crate) fn counts(&mut self) -> Counts {

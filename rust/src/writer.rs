@@ -5,6 +5,8 @@ use crate::drain::Drain;
 use crate::error::Error;
 use crate::registry::Registry;
 use crate::ring::OnFull;
+use crate::shared::Shared;
+use std::fmt;
 use std::io::{self, Write};
 use std::panic::{catch_unwind, resume_unwind, AssertUnwindSafe};
 use std::sync::atomic::{AtomicBool, Ordering};
@@ -13,20 +15,31 @@ use std::thread::{self, Builder, JoinHandle};
 
 /// A thread writes the lines as they come, until this is dropped. By then all lines of the calls that were accepted
 /// before are written and flushed, whatever spans are still open and whatever other threads go on to do, unless a write
-/// fails, memory is refused, or the writer itself drops this, which doesn't wait for its own end. Drop it where nothing
+/// fails, memory is refused, or the writer itself drops this, which doesn't wait for its own end. Then it is told which
+/// spans are open, as [`Drain::run_until`] does. Drop it where nothing
 /// is held that the writer waits for, as standard output's lock.
 ///
 /// Where a write fails or panics, the rest is read and thrown away, so that no call waits for a writer that is gone,
 /// and [`finish`](Guard::finish) tells the failure. The thread also ends where the registry, its clones and its spans
 /// are gone. Once it ended, nobody reads: lines are thrown away, and counted as [`Lost::lines`](crate::Lost::lines).
-#[derive(Debug)]
 #[must_use = "the writer ends where its guard is dropped"]
 pub struct Guard {
+    shared: Arc<Shared>,
     is_stopped: Arc<AtomicBool>,
     writing: Option<JoinHandle<io::Result<u64>>>,
 }
 
+impl fmt::Debug for Guard {
+    fn fmt(&self, f: &mut fmt::Formatter<'_>) -> fmt::Result {
+        f.debug_struct("Guard").field("writing", &self.writing).finish()
+    }
+}
+
 impl Guard {
+    pub(crate) fn shared(&self) -> &Arc<Shared> {
+        &self.shared
+    }
+
     /// As a drop, and answers how many lines were written, or what a write or a flush failed with. Lines that are
     /// missing for want of memory are a failure of the kind [`OutOfMemory`](io::ErrorKind::OutOfMemory).
     ///
@@ -62,10 +75,11 @@ impl Drain {
     /// Where no thread can be made; the drain is gone then.
     pub fn spawn<W: Write + Send + 'static>(self, out: W) -> io::Result<Guard> {
         let is_stopped = Arc::new(AtomicBool::new(false));
-        let stop = Arc::clone(&is_stopped);
+        let (stop, shared) = (Arc::clone(&is_stopped), Arc::clone(self.shared()));
         let run = move || written(self, out, &stop);
         let writing = Builder::new().name("span-registry-writer".to_owned()).spawn(run)?;
         Ok(Guard {
+            shared,
             is_stopped,
             writing: Some(writing),
         })

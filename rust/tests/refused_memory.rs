@@ -139,6 +139,9 @@ fn run(registry: Registry, drain: &mut Drain) -> Calls {
     let in_b = calls.make(|_| b.try_enter());
     calls.make(|_| b.try_record(&[("key", "value")]));
     calls.make(|registry| Ids(registry.clone()).event("m"));
+    let open = calls.make(|registry| registry.open_spans());
+    let why = calls.make(|registry| registry.why_open(id(registry, 1)));
+    assert_eq!((open.len(), why.len()), (2, 2));
     calls.drop(in_b);
     calls.drop(own);
     calls.drop(in_a);

@@ -56,8 +56,10 @@ fn a_dropped_guard_has_written_everything_though_spans_leak() -> Result<(), AnyE
     (0..100).for_each(|number| event!(registry, Level::Info, "{number}"));
     drop(guard);
     let text = paper.flushed();
-    assert_eq!(text.lines().count(), 101);
-    assert_eq!(text.lines().last(), Some("event 0 w0 - INFO 99"));
+    let lines: Vec<&str> = text.lines().collect();
+    assert_eq!((lines.len(), lines[100]), (102, "event 0 w0 - INFO 99"));
+    let open = "event 0 w1 - WARN open span=1 name=leaked handles=1 entries=0 children=0";
+    assert_eq!(lines[101], open);
     // Nobody reads now, and nothing waits for it.
     (0..3000).for_each(|_| event!(registry, Level::Info, "after"));
     assert_eq!(paper.flushed(), text);

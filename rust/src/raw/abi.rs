@@ -1,7 +1,7 @@
 //! Whether the library is the one that this crate was written for.
 use super::{
-    span_abi_version, span_struct_sizes, SpanCounts, SpanField, SpanFound, SpanLayer, SpanLimits, SpanMeta, SpanRule,
-    SpanSizes, ABI_VERSION, OK,
+    span_abi_version, span_struct_sizes, SpanCounts, SpanField, SpanFound, SpanHeld, SpanLayer, SpanLimits, SpanMeta,
+    SpanRule, SpanSizes, ABI_VERSION, OK,
 };
 use crate::error::{Differing, Error};
 use std::mem::size_of;
@@ -26,6 +26,7 @@ fn compare(there: &SpanSizes) -> Result<(), Error> {
     same(Differing::Meta, there.meta, size_of::<SpanMeta>() as u32)?;
     same(Differing::Field, there.field, size_of::<SpanField>() as u32)?;
     same(Differing::Found, there.found, size_of::<SpanFound>() as u32)?;
+    same(Differing::Held, there.held, size_of::<SpanHeld>() as u32)?;
     same(Differing::Counts, there.counts, size_of::<SpanCounts>() as u32)
 }
 
@@ -49,6 +50,7 @@ mod tests {
         meta: 12,
         field: 8,
         found: 24,
+        held: 16,
         counts: 40,
     };
 
@@ -62,8 +64,8 @@ mod tests {
     fn another_library_is_refused_with_both_numbers() {
         let text = |refused: Result<(), crate::Error>| refused.expect_err("they differ").to_string();
         assert_eq!(
-            text(same(Differing::Version, 2, 1)),
-            "other library: its version is 2, and this package was written for 1"
+            text(same(Differing::Version, 3, 2)),
+            "other library: its version is 3, and this package was written for 2"
         );
         let others = [
             ("SpanLimits", SpanSizes { limits: 0, ..SIZES }),
@@ -72,6 +74,7 @@ mod tests {
             ("SpanMeta", SpanSizes { meta: 0, ..SIZES }),
             ("SpanField", SpanSizes { field: 0, ..SIZES }),
             ("SpanFound", SpanSizes { found: 0, ..SIZES }),
+            ("SpanHeld", SpanSizes { held: 0, ..SIZES }),
             ("SpanCounts", SpanSizes { counts: 0, ..SIZES }),
         ];
         for (name, sizes) in others {

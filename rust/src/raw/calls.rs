@@ -20,7 +20,7 @@ pub(crate) struct Start<'a> {
 
 /// The proved registry, with no lock. It is full from `new` on until it is dropped.
 pub(crate) struct Core {
-    handle: SpanRegistry,
+    pub(super) handle: SpanRegistry,
 }
 
 // SAFETY: the header says that a registry may move between threads. It has one call at a time, since each takes it as

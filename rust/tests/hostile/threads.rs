@@ -30,7 +30,7 @@ fn hush() {
 type Shelf = Mutex<Vec<Span>>;
 
 /// All that a step may do.
-const ALL: [u64; 10] = [0, 1, 2, 3, 4, 5, 6, 7, 8, 9];
+const ALL: [u64; 11] = [0, 1, 2, 3, 4, 5, 6, 7, 8, 9, 10];
 /// The steps that keep and forget nothing, enter no span twice, and give back only what is theirs.
 const HONEST: [u64; 6] = [2, 3, 4, 7, 8, 9];
 
@@ -59,6 +59,7 @@ fn step(registry: &Registry, shelf: &Shelf, random: &mut Random, steps: &[u64]) 
         }
         7 => drop((registry.worker(), registry.current_span(), registry.counts())),
         8 => drop(a.try_clone().map(|own| own.try_close())),
+        10 => drop((registry.open_spans(), a.id().map(|id| registry.why_open(id)))),
         _ => event!(registry, Level::Info, { span = format!("{a:?}") }, "m"),
     }
 }

@@ -1,0 +1,57 @@
+//! Lists that a registry is asked for.
+use super::{
+    span_registry_holders_of, span_registry_open_ids, span_registry_workers_inside, Core, SpanHeld, SpanRegistry,
+    SHORT_BUFFER,
+};
+use crate::error::Error;
+use crate::meta::RawId;
+use crate::packed::reserve;
+
+/// How many values a list has room for at first.
+const ROOM: usize = 16;
+
+/// A list that a call of the interface fills: where it is longer than the room for it, its length is told. `call` is
+/// given where the values go, how many there is room for, and where their number goes.
+fn list<T: Copy + Default>(mut call: impl FnMut(*mut T, usize, *mut usize) -> u32) -> Result<Vec<T>, Error> {
+    let (mut values, mut room) = (Vec::new(), ROOM);
+    loop {
+        values.clear();
+        reserve(&mut values, room)?;
+        values.resize(room, T::default());
+        let mut length = 0;
+        let status = call(values.as_mut_ptr(), values.len(), &mut length);
+        if status != SHORT_BUFFER || length <= room {
+            Error::of_status(status)?;
+            values.truncate(length);
+            return Ok(values);
+        }
+        room = length;
+    }
+}
+
+impl Core {
+    fn handle(&mut self) -> *mut SpanRegistry {
+        &mut self.handle
+    }
+
+    /// The ids of the open spans, by ascending slot.
+    pub(crate) fn open_ids(&mut self) -> Result<Vec<u64>, Error> {
+        let handle = self.handle();
+        // SAFETY: the handle is full and lent to this call alone, and `list` gives values of its own with their number.
+        list(|into, room, length| unsafe { span_registry_open_ids(handle, into, room, length) })
+    }
+
+    /// What keeps a span open: the spans at it or below it that have handles or entries of their own, by ascending slot.
+    pub(crate) fn holders_of(&mut self, id: RawId) -> Result<Vec<SpanHeld>, Error> {
+        let handle = self.handle();
+        // SAFETY: the handle is full and lent to this call alone, and `list` gives values of its own with their number.
+        list(|into, room, length| unsafe { span_registry_holders_of(handle, id.get(), into, room, length) })
+    }
+
+    /// The workers that are inside a span, by their numbers.
+    pub(crate) fn workers_inside(&mut self, id: RawId) -> Result<Vec<u32>, Error> {
+        let handle = self.handle();
+        // SAFETY: the handle is full and lent to this call alone, and `list` gives values of its own with their number.
+        list(|into, room, length| unsafe { span_registry_workers_inside(handle, id.get(), into, room, length) })
+    }
+}
