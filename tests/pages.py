@@ -40,7 +40,7 @@ MOST = {
     "docs/DECISIONS.md": (3350, 3500), "docs/FORMATS.md": (2050, 2000), "docs/FROM_TRACING.md": (1700, 1300),
     "docs/LAYERS.md": (1050, 1000), "docs/MODEL.md": (2750, 0), "docs/PERF.md": (3000, 0),
     "docs/PROMISES.md": (2250, 0), "docs/PROOFS.md": (2050, 2000), "docs/THEOREM.md": (550, 700),
-    "examples/README.md": (300, 100), "rust/README.md": (1400, 1200), "rust/tracing-subscriber/README.md": (1550, 300),
+    "examples/README.md": (300, 100), "rust/README.md": (1850, 1200), "rust/tracing-subscriber/README.md": (1550, 300),
     "rust/tracing/README.md": (400, 100), "tests/README.md": (350, 100),
 }
 
