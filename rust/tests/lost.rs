@@ -70,13 +70,12 @@ fn losses_are_told_to_layers_that_admit_them() -> Result<(), Error> {
 #[test]
 fn what_was_lost_is_written_at_the_end() -> Result<(), Box<dyn std::error::Error>> {
     let (registry, mut drain) = compact().build()?;
-    let a = span!(registry, Level::Info, "a");
+    drop(span!(registry, Level::Info, "a"));
     assert!(span!(registry, Level::Info, "a b").is_disabled());
     let mut out = Vec::new();
     drain.run_until(&mut out, &std::sync::atomic::AtomicBool::new(true))?;
     let out = String::from_utf8(out)?;
-    assert_eq!(out, "new 1 w0 a\nevent 0 w1 - WARN lost bad_name=1\n");
-    drop(a);
+    assert_eq!(out, "new 1 w0 a\nclose 1 w0 a\nevent 0 w1 - WARN lost bad_name=1\n");
     Ok(())
 }
 
