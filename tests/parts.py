@@ -41,6 +41,7 @@ LIBRARIES = {it: Part(f"the static library {it}", "", "rt lib", f"crates/{it}")
              for it in ("span_ffi", "span_store_ffi")}
 ALONE = [
     Part("the page of the theorem", "", "python3 tests/theorem.py"),
+    Part("the page of the model", "", "python3 tests/model_page.py"),
     Part("the pages", "", "python3 tests/pages.py"),
     Part("the pictures of the pages", "", "python3 tests/pictures.py"),
     Part("the model on the worked cases", "", "python3 tests/test_model.py"),
