@@ -18,8 +18,7 @@ PAGES = ("*.md", "docs/*.md", "crates/*/*.md", "rust/*.md", "rust/*/*.md", "benc
 WORDS_OF_A_SENTENCE = 8
 WORDS_OF_A_SENTENCE_IN_README = 30
 
-# Of each page the most words that it may have, and how many it is to come to: 0 where it is to be a part of another
-# page.
+# Of each page the most words that it may have, and how many it is to come to.
 MOST = {
     "README.md": (850, 900), "CHANGELOG.md": (300, 100), "bench/README.md": (500, 100),
     "crates/hostile_use/README.md": (350, 250), "crates/span_benchmark/README.md": (200, 120),
@@ -40,8 +39,8 @@ MOST = {
     "crates/workloads/README.md": (350, 270), "docs/BENCHMARKS.md": (3600, 3600), "docs/CONTRIBUTING.md": (2150, 2200),
     "docs/DECISIONS.md": (3350, 3500), "docs/FORMATS.md": (2050, 2000), "docs/FROM_TRACING.md": (1700, 1300),
     "docs/LAYERS.md": (1050, 1000),
-    "docs/PROMISES.md": (2250, 0), "docs/PROOFS.md": (2050, 2000), "docs/THEOREM.md": (550, 700),
-    "examples/README.md": (300, 100), "rust/README.md": (1850, 1200), "rust/tracing-subscriber/README.md": (1550, 300),
+    "docs/PROMISES.md": (1250, 1200), "docs/PROOFS.md": (2050, 2000), "docs/THEOREM.md": (550, 700),
+    "examples/README.md": (300, 100), "rust/README.md": (1400, 1200), "rust/tracing-subscriber/README.md": (1550, 300),
     "rust/tracing/README.md": (400, 100), "tests/README.md": (350, 100),
 }
 # Pages whose words a script takes from elsewhere. (What docs/THEOREM.md says beside quotations is written for it.)
