@@ -43,7 +43,7 @@ enum {
     SPAN_HANDLE_IN_USE = 13,   /* a handle that was to be filled isn't empty */
     SPAN_NO_SUCH_WORKER = 14,
     SPAN_NO_LINE = 15,         /* the drain has no line now */
-    SPAN_SHORT_BUFFER = 16,    /* the text is longer than the buffer: its length was told */
+    SPAN_SHORT_BUFFER = 16,    /* the text or list is longer than the buffer: how long it is was told */
     SPAN_NO_SUCH_CALLSITE = 17 /* no span_registry_add_callsite gave the number */
 };
 
@@ -78,6 +78,12 @@ typedef struct SpanFound {
     uint32_t handles, entries, count, level;
 } SpanFound;
 
+/* a span that has handles or entries of its own, with how many */
+typedef struct SpanHeld {
+    uint64_t id;
+    uint32_t handles, entries;
+} SpanHeld;
+
 /* held: the handles and entries of all spans */
 typedef struct SpanCounts {
     uint64_t made, closed, calls, held;
@@ -86,12 +92,12 @@ typedef struct SpanCounts {
 
 /* how many bytes each of the structs above takes, but for the handles */
 typedef struct SpanSizes {
-    uint32_t limits, layer, rule, meta, field, found, counts;
+    uint32_t limits, layer, rule, meta, field, found, held, counts;
 } SpanSizes;
 
 /* The version of this interface that the program was built for, and the one that the library has. They rise where a
  * program that was built for an earlier one would go wrong, so they are compared before any other call. */
-#define SPAN_ABI_VERSION 1
+#define SPAN_ABI_VERSION 2
 uint32_t span_abi_version(void);
 
 /* The sizes in the library, to be compared with those in the program. Always SPAN_OK. */
@@ -164,6 +170,21 @@ uint32_t span_registry_event_at(SpanRegistry *registry, uint32_t worker, uint32_
 
 /* SPAN_UNKNOWN where the span isn't open. */
 uint32_t span_registry_find(SpanRegistry *registry, uint64_t id, SpanFound *found);
+
+/* The ids of the open spans, by ascending slot, written to the beginning of a buffer that has room for into_len of
+ * them. len: how many they are, also where they are more than that; then nothing is written (SPAN_SHORT_BUFFER). */
+uint32_t span_registry_open_ids(SpanRegistry *registry, uint64_t *into, size_t into_len, size_t *len);
+
+/* What keeps a span open: the spans at it or below it that have handles or entries of their own, with how many, by
+ * ascending slot. It closes with the last of these, and not before. SPAN_UNKNOWN where the span isn't open. into,
+ * into_len, len: as of span_registry_open_ids. */
+uint32_t span_registry_holders_of(SpanRegistry *registry, uint64_t id, SpanHeld *into, size_t into_len, size_t *len);
+
+/* The workers that are inside a span, by ascending number, as many as it has entries. A worker that entered it more
+ * than once stands here once, and has to leave it as often. SPAN_UNKNOWN where the span isn't open. into, into_len,
+ * len: as of span_registry_open_ids. */
+uint32_t span_registry_workers_inside(SpanRegistry *registry, uint64_t id, uint32_t *into, size_t into_len,
+    size_t *len);
 
 /* The topmost span of the worker's stack that it entered first there, and not again. id: 0 where there is none. */
 uint32_t span_registry_current_span(SpanRegistry *registry, uint32_t worker, uint64_t *id);

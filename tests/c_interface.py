@@ -23,6 +23,7 @@ WRAPS = ["-Wl,--wrap=malloc", "-Wl,--wrap=realloc"]
 PROGRAMS = [
     ("span_registry", WRAPS),
     ("callsites", WRAPS),
+    ("holding", WRAPS),
     ("strangers", []),
 ]
 # (without --fair-sched a thread that waits for another may keep that one from running)

@@ -453,7 +453,7 @@ static void test_abi(void) {
     CHECK(span_struct_sizes(&sizes) == SPAN_OK);
     CHECK(sizes.limits == sizeof(SpanLimits) && sizes.layer == sizeof(SpanLayer) && sizes.rule == sizeof(SpanRule));
     CHECK(sizes.meta == sizeof(SpanMeta) && sizes.field == sizeof(SpanField));
-    CHECK(sizes.found == sizeof(SpanFound) && sizes.counts == sizeof(SpanCounts));
+    CHECK(sizes.found == sizeof(SpanFound) && sizes.held == sizeof(SpanHeld) && sizes.counts == sizeof(SpanCounts));
 }
 
 int main(void) {

@@ -16,6 +16,7 @@ use Rattle.span_ffi.specs.Data.{said_level, said_parent, said_meta, said_fields,
 use Rattle.span_ffi.specs.Registry.{OnCore, OnCallsites}
 use Rattle.span_ffi.specs.Calls.{HasWorker, id_number}
 use Rattle.span_ffi.specs.Callsites.{AtCallsite}
+use Rattle.span_ffi.specs.Lines.{WritesAll}
 
 -- the first and the last number, those beside the gap, and those that mean nothing
 done : meaning 0 ≡ Some Done
@@ -112,6 +113,16 @@ written = tt
 
 kept : Keeps {X = ℕ} (Some BadData) 3 3
 kept = refl
+
+-- two things go into a buffer of three; of one that is too short nothing is written, and how many they are is told
+whole : WritesAll {X = ℕ} (1 ∷ 2 ∷ []) (7 ∷ 8 ∷ 9 ∷ []) Done (1 ∷ 2 ∷ 9 ∷ []) 2
+whole = (omega arith, refl, refl)
+
+too_short : WritesAll {X = ℕ} (1 ∷ 2 ∷ []) (7 ∷ []) ShortBuffer (7 ∷ []) 2
+too_short = (omega arith, refl, refl)
+
+cut_off : (new : List ℕ) (len : ℕ) → WritesAll {X = ℕ} (1 ∷ 2 ∷ []) (7 ∷ []) Done new len → ⊥
+cut_off new len writes = let room = writes.0 in omega (arith, room)
 
 -- two callsites
 abbrev sites : List PlainMeta

@@ -4,7 +4,7 @@ use Rattle.span_ffi.specs.declared.data.SpanSizes.{SpanSizes}
 
 -- the version of the interface
 abbrev pub abi_version : ℕ
-abi_version = 1
+abi_version = 2
 
 -- the sizes of the structs, as C lays them out
 abbrev pub struct_sizes : SpanSizes
@@ -15,5 +15,6 @@ struct_sizes = record {
   meta = 12;
   field = 8;
   found = 24;
+  held = 16;
   counts = 40;
 }

@@ -5,6 +5,7 @@ pub mod Data
 pub mod Registry
 pub mod Opening
 pub mod Calls
+pub mod Holding
 pub mod Callsites
 pub mod Lines
 pub mod inside

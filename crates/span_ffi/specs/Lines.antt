@@ -1,23 +1,23 @@
--- What the calls on a drain do, by their status, and how a text goes into a buffer.
+-- What the calls on a drain do, by their status, and how texts and lists go into a buffer.
 use Rattle.std.specs.Prelude.{◌≡◌, ℕ, ◌<◌, ◌≤◌, List, [], ◌∷◌, ◌++◌, length, drop, slice_get, Option, Some, None, IsSomeAnd}
 use Rattle.span_outlet.specs.Lines.{PlainLine}
 use Rattle.span_outlet.specs.LineReader.{LineReaderView, TakesBatches, looks_of_fill}
 use Rattle.span_ffi.specs.declared.status.Status.{Status}
 use Rattle.span_ffi.specs.declared.status.Status.TheVariants.{Done, BadData, NoLine, ShortBuffer}
 
--- A text goes into a buffer: it stands at its beginning, and its length is told. Where it is longer than the buffer,
--- only its length is told.
-abbrev pub WritesText : List ℕ → List ℕ → Status → List ℕ → ℕ → Type 0
-WritesText text old Done new len =
-    (length text ≤ length old) × (new ≡ text ++ drop (length text) old) × (len ≡ length text)
-WritesText text old ShortBuffer new len = (length old < length text) × (new ≡ old) × (len ≡ length text)
-WritesText text old _ new len = ⊥
+-- The bytes of a text, or other things, go into a buffer: they stand at its beginning, and how many they are is told.
+-- Where they are more than it has room for, only that is told.
+abbrev pub WritesAll : {X : Type 0} → List X → List X → Status → List X → ℕ → Type 0
+WritesAll things old Done new len =
+    (length things ≤ length old) × (new ≡ things ++ drop (length things) old) × (len ≡ length things)
+WritesAll things old ShortBuffer new len = (length old < length things) × (new ≡ old) × (len ≡ length things)
+WritesAll things old _ new len = ⊥
 
 -- the same where there is a text, and where there is none the status says that the data say nothing
 abbrev pub WritesIfSome : Option (List ℕ) → List ℕ → Option Status → List ℕ → ℕ → Type 0
 WritesIfSome text old None new len = ⊥
 WritesIfSome None old (Some status) new len = (status ≡ BadData) × (new ≡ old)
-WritesIfSome (Some text) old (Some status) new len = WritesText text old status new len
+WritesIfSome (Some text) old (Some status) new len = WritesAll text old status new len
 
 -- a length is as it was, unless one was told
 abbrev pub KeepsLength : Option Status → ℕ → ℕ → Type 0
@@ -38,9 +38,9 @@ pub record Fills (old new : LineReaderView) : Type 0 where
 abbrev pub GivesLine : ℕ → List ℕ → List ℕ → ℕ → LineReaderView → Status → LineReaderView → Type 0
 GivesLine layer into into' len old Done new =
     (line : PlainLine) × Fills old (record new { waiting = line ∷ new.waiting }) × (layer ≡ line.layer)
-    × WritesText line.text into Done into' len
+    × WritesAll line.text into Done into' len
 GivesLine layer into into' len old ShortBuffer new =
-    Fills old new × IsSomeAnd (slice_get new.waiting 0) (λ line. WritesText line.text into ShortBuffer into' len)
+    Fills old new × IsSomeAnd (slice_get new.waiting 0) (λ line. WritesAll line.text into ShortBuffer into' len)
 GivesLine layer into into' len old NoLine new = Fills old new × (new.waiting ≡ [])
 GivesLine layer into into' len old _ new = ⊥
 

@@ -57,6 +57,15 @@ pub struct SpanFound {
     pub level: u32,
 }
 
+/// A span that has handles or entries of its own, with how many.
+#[repr(C)]
+#[derive(Clone, Copy)]
+pub struct SpanHeld {
+    pub id: u64,
+    pub handles: u32,
+    pub entries: u32,
+}
+
 /// How many spans were made and closed, how many calls were accepted, how many handles and entries all spans have, how
 /// many spans are open, and how many workers there are.
 #[repr(C)]
@@ -80,5 +89,6 @@ pub struct SpanSizes {
     pub meta: u32,
     pub field: u32,
     pub found: u32,
+    pub held: u32,
     pub counts: u32,
 }

@@ -7,6 +7,7 @@ mod drain;
 mod entries;
 mod events;
 mod handles;
+mod holding;
 mod queries;
 mod registry;
 mod spans;

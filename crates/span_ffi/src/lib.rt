@@ -17,7 +17,8 @@ mod status;
 mod valid;
 
 pub use data::{
-    SpanCounts, SpanField, SpanFound, SpanLayer, SpanLimits, SpanMeta, SpanRule, SpanSizes,
+    SpanCounts, SpanField, SpanFound, SpanHeld, SpanLayer, SpanLimits, SpanMeta, SpanRule,
+    SpanSizes,
 };
 pub use drain_handle::SpanDrain;
 pub use registry_handle::SpanRegistry;

@@ -21,7 +21,7 @@ pub enum Status {
     NoSuchWorker,
     /// No line waits.
     NoLine,
-    /// The text is longer than the buffer.
+    /// There is more to be told than the buffer has room for.
     ShortBuffer,
     /// The registry has no callsite of this number.
     NoSuchCallsite,

@@ -4,14 +4,14 @@ use Rattle.span_outlet.specs.Lines.{PlainLine}
 use Rattle.span_outlet.specs.LineReader.{LineReaderView}
 use Rattle.span_ffi.specs.declared.status.Status.{Status}
 use Rattle.span_ffi.specs.declared.status.Status.TheVariants.{Done, NoLine, ShortBuffer}
-use Rattle.span_ffi.specs.Lines.{WritesText}
+use Rattle.span_ffi.specs.Lines.{WritesAll}
 
 -- as `GivesLine`, of the lines that wait already
 abbrev pub GivesFirst : ℕ → List ℕ → List ℕ → ℕ → LineReaderView → Status → LineReaderView → Type 0
 GivesFirst layer into into' len old Done new =
     (line : PlainLine) × (old ≡ record new { waiting = line ∷ new.waiting }) × (layer ≡ line.layer)
-    × WritesText line.text into Done into' len
+    × WritesAll line.text into Done into' len
 GivesFirst layer into into' len old ShortBuffer new =
-    (new ≡ old) × IsSomeAnd (slice_get new.waiting 0) (λ line. WritesText line.text into ShortBuffer into' len)
+    (new ≡ old) × IsSomeAnd (slice_get new.waiting 0) (λ line. WritesAll line.text into ShortBuffer into' len)
 GivesFirst layer into into' len old NoLine new = (new ≡ old) × (new.waiting ≡ [])
 GivesFirst layer into into' len old _ new = ⊥

@@ -4,7 +4,8 @@ ghost use Rattle.span_ffi.specs.Status.{meaning};
 ghost use Rattle.span_ffi.specs.Abi.{abi_version, struct_sizes};
 
 use crate::data::{
-    SpanCounts, SpanField, SpanFound, SpanLayer, SpanLimits, SpanMeta, SpanRule, SpanSizes,
+    SpanCounts, SpanField, SpanFound, SpanHeld, SpanLayer, SpanLimits, SpanMeta, SpanRule,
+    SpanSizes,
 };
 use crate::status::Status;
 use std::mem::size_of;
@@ -21,6 +22,8 @@ const _: () = prove!(size_of::<SpanField>() == 8);
 
 const _: () = prove!(size_of::<SpanFound>() == 24);
 
+const _: () = prove!(size_of::<SpanHeld>() == 16);
+
 const _: () = prove!(size_of::<SpanCounts>() == 40);
 
 /// The version of this interface. It rises where a program that was built for an earlier one would go wrong.
@@ -28,7 +31,7 @@ const _: () = prove!(size_of::<SpanCounts>() == 40);
 pub extern "C" fn span_abi_version() -> u32
     ensures { result ≡ abi_version }
 {
-    1
+    2
 }
 
 /// How many bytes each struct takes in this library.
@@ -44,6 +47,7 @@ pub extern "C" fn span_struct_sizes(sizes: &mut SpanSizes) -> u32
         meta: 12,
         field: 8,
         found: 24,
+        held: 16,
         counts: 40,
     };
     Status::Done.number()

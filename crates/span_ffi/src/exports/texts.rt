@@ -3,7 +3,7 @@ ghost use Rattle.std.specs.Prelude.{◌≡◌, ◌≤◌, ◌++◌, drop, length
 ghost use Rattle.std.specs.Option.{option_map};
 ghost use Rattle.span_ffi.specs.Status.{meaning, status_text};
 ghost use Rattle.span_ffi.specs.Ends.{Keeps};
-ghost use Rattle.span_ffi.specs.Lines.{WritesText, WritesIfSome, KeepsLength};
+ghost use Rattle.span_ffi.specs.Lines.{WritesAll, WritesIfSome, KeepsLength};
 
 use crate::status::Status;
 
@@ -17,7 +17,7 @@ fn copy_front(from: &[u8], into: &mut [u8])
 
 /// Writes a text into a buffer, and tells its length; where it is too long, it tells the length alone.
 pub(crate) fn write_text(text: &[u8], into: &mut [u8], len: &mut usize) -> Status
-    ensures { WritesText text.now into.old result into.new len.new }
+    ensures { WritesAll text.now into.old result into.new len.new }
 {
     *len = text.len();
     if text.len() > into.len() {

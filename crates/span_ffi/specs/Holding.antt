@@ -1,0 +1,39 @@
+-- What the calls do that tell which spans are open, and what keeps them open.
+use Rattle.std.specs.Prelude.{◌≡◌, ℕ, List, map, None}
+use Rattle.span_id.specs.declared.fault.Fault.TheVariants.{Unknown, Memory}
+use Rattle.span_forest.specs.declared.holding.Held.{Held}
+use Rattle.span_forest.specs.Spans.{find, IsOpen}
+use Rattle.span_forest.specs.Holding.{open_ids, what_holds}
+use Rattle.span_core.specs.World.{workers_with}
+use Rattle.span_core.specs.Core.{CoreView}
+use Rattle.span_ffi.specs.declared.data.SpanHeld.{SpanHeld}
+use Rattle.span_ffi.specs.declared.status.Status.{Status}
+use Rattle.span_ffi.specs.declared.status.Status.TheVariants.{Refused}
+use Rattle.span_ffi.specs.Lines.{WritesAll}
+
+-- a span that has handles or entries, as it is told
+abbrev pub held_as : Held → SpanHeld
+held_as held = record { id = held.id; handles = held.handles; entries = held.entries }
+
+-- Things that are known of a registry go into a buffer, or memory is refused; nothing changes.
+abbrev pub TellsAll : {X : Type 0} → List X → List X → List X → ℕ → CoreView → Status → CoreView → Type 0
+TellsAll things into into' len old (Refused Memory) new = new ≡ old
+TellsAll things into into' len old status new = WritesAll things into status into' len × (new ≡ old)
+
+-- the same of a span, where it is open
+abbrev pub TellsOf : {X : Type 0} → ℕ → List X → List X → List X → ℕ → CoreView → Status → CoreView → Type 0
+TellsOf id things into into' len old (Refused Unknown) new = (find old.world.spans id ≡ None) × (new ≡ old)
+TellsOf id things into into' len old status new =
+    IsOpen old.world.spans id × TellsAll things into into' len old status new
+
+-- the ids of the open spans
+abbrev pub TellsOpen : List ℕ → List ℕ → ℕ → CoreView → Status → CoreView → Type 0
+TellsOpen into into' len old = TellsAll (open_ids old.world.spans) into into' len old
+
+-- what keeps a span open
+abbrev pub TellsHolders : ℕ → List SpanHeld → List SpanHeld → ℕ → CoreView → Status → CoreView → Type 0
+TellsHolders id into into' len old = TellsOf id (map held_as (what_holds old.world.spans id)) into into' len old
+
+-- the workers that are inside a span
+abbrev pub TellsWorkers : ℕ → List ℕ → List ℕ → ℕ → CoreView → Status → CoreView → Type 0
+TellsWorkers id into into' len old = TellsOf id (workers_with old.world.stacks id) into into' len old
