@@ -1,5 +1,5 @@
 -- What is counted at the end of a registry, and what a report tells.
-use Rattle.std.specs.Prelude.{◌≡◌, ℕ, ◌^◌, ◌≤◌, ◌<◌, List, [], length, map, All}
+use Rattle.std.specs.Prelude.{◌≡◌, ℕ, ◌^◌, ◌≤◌, ◌<◌, List, [], length, map, All, Some}
 use mathlib.Core.List.{IsPrefix}
 use Rattle.span_id.specs.Id.{slot_of}
 use Rattle.span_id.specs.declared.limits.Limits.{Limits}
@@ -55,10 +55,12 @@ pub record IsWithin (limits : Limits) (core : CoreView) : Type 0 where
   pub slots : (id : ℕ) → IsOpen core.world.spans id → slot_of id < limits.slots
   pub calls : length core.sent < 2 ^ 64
 
--- A registry which was made with these limits and rules ended with this share, the whole one, and this core: the core's
--- batches are a legal history under them, of which each worker had seen a beginning with all its own calls, it kept the
--- limits, and its spans are none where no handle was given up and no stack has an entry.
+-- A registry which was made with these limits and rules ended with this share, the whole one, and this core, which has
+-- them: the core's batches are a legal history under them, of which each worker had seen a beginning with all its own
+-- calls, it kept the limits, and its spans are none where no handle was given up and no stack has an entry.
 pub record HasEnded (limits : Limits) (rules : List Filter) (share : ShareView) (core : CoreView) : Type 0 where
+  pub limits_are : core.limits ≡ limits
+  pub rules_are : core.rules ≡ rules
   pub legal : IsLegal rules limits.workers core.sent core.world
   pub within : IsWithin limits core
   pub fronts : length share.seen ≡ limits.workers
@@ -73,12 +75,13 @@ pub record IsEnd
   pub ended : HasEnded limits rules share core
   pub told : Tells core forms report
 
--- the same where a drain wrote the lines: what it had taken is the beginning of the history, and the lines that it had
--- stand first
+-- the same where a drain wrote the lines: the core put its batches into the drain's ring, what the drain had taken is
+-- the beginning of the history, and the lines that it had stand first
 pub record IsDrainedEnd
     (limits : Limits) (rules : List Filter) (drain : DrainView) (share : ShareView) (report : Report)
     : Type 0 where
   pub end : IsEnd limits rules drain.forms share report
+  pub ring_is : end.core.name ≡ Some drain.name
   pub taken : IsPrefix drain.taken end.core.sent
   pub first : IsPrefix drain.lines (map plain_line report.lines.items)
 

@@ -1,3 +1,4 @@
+use Rattle.std.proofs.Common.{◌∙◌, sym}
 use Rattle.span_registry.proofs.registry.finish.Registry+H+C+S+Ring+A.finish.Goals as goal
 
 pub returns-clause-ended : goal.returns-clause-ended
@@ -7,6 +8,8 @@ returns-clause-ended g c =
       end = record {
         core = c.into_inner.result;
         ended = record {
+          limits_are = made.setup.0;
+          rules_are = made.setup.1;
           legal = made.legal;
           within = made.within;
           fronts = made.fronts;
@@ -15,6 +18,7 @@ returns-clause-ended g c =
         };
         told = made.told;
       };
+      ring_is = made.setup.2 ∙ sym c.requires.pair;
       taken = made.taken;
       first = made.first;
     }
