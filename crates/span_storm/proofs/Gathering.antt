@@ -1,15 +1,21 @@
 -- What is put together of workers that come back one after another.
 use Rattle.std.proofs.Common.{◌≡◌, ℕ, ◌+◌, ◌*◌, ◌<◌, ◌≤◌, ◌^◌, List, [], ◌∷◌, ◌++◌, length, get_or, refl, sym, ◌∙◌, ap, subst, append_assoc, arith}
 use Rattle.std.specs.Prelude.{sum_by, All, Result, Ok, Err, IfOk, IfErr, map}
-use Rattle.std.proofs.lemmas.List.{map-append, length-map, get_or-map}
+use Rattle.std.proofs.lemmas.List.{map-append, append-nil, length-map, get_or-map}
 use Rattle.std.proofs.lemmas.List.Sums.{sum_by-cons}
-use Rattle.std.proofs.lemmas.List.Elements.{All-head, All-tail, All-push}
+use Rattle.std.proofs.lemmas.List.Elements.{All-append, All-head, All-tail, All-push}
+use Rattle.span_id.specs.declared.fault.Fault.{Fault}
+use Rattle.span_id.specs.declared.limits.Limits.{Limits}
+use Rattle.span_layers.specs.Filter.{Filter}
+use Rattle.span_outlet.specs.Batch.{PlainBatch}
 use Rattle.span_outlet.specs.Drain.{DrainView}
-use Rattle.span_registry.specs.Worker.{WorkerView}
+use Rattle.span_history.specs.Own.{FrontView, IsFront, own}
+use Rattle.span_registry.specs.Worker.{WorkerView, IsNew}
 use Rattle.span_registry.specs.Share.{ShareView}
 use Rattle.span_storm.specs.declared.stopped.Stopped.{Stopped}
 use Rattle.span_storm.specs.declared.stopped.Stopped.TheVariants.{Memory, Refused, Held}
-use Rattle.span_storm.specs.inside.Back.{AreBothBack, ComesBack, Gathers, HasAll, IsHeldAs, IsSameDrain, PartyView, both_shares, share_and_drain, Fit}
+use Rattle.span_storm.specs.Storm.{WasHeld, WasRefused}
+use Rattle.span_storm.specs.inside.Back.{AreBothBack, ComesBack, DrainingView, Gathers, GathersSeen, HasAll, HasOwn, IsDrainsStop, IsSameDrain, IsStop, IsStormStop, IsWorkersStop, PartyView, both_shares, numbers_seen, share_and_drain, Fit}
 
 -- ---- lists that grow
 
@@ -38,43 +44,71 @@ pub sum_of_map : {X Y : Type 0} (f : X → Y) (n : Y → ℕ) (xs : List X) → 
 sum_of_map f n [] = refl
 sum_of_map f n (x ∷ xs) = sum_by-cons (λ x. n (f x)) x xs ∙ ap (λ k. n (f x) + k) (sum_of_map f n xs) ∙ sym (sum_by-cons n (f x) (map f xs))
 
--- ---- who was held
+-- ---- why a party stopped
 
--- as a party of one kind, so as one of a wider kind
-held_wider : (P Q : ℕ → Type 0) → ((party : ℕ) → P party → Q party) → (stopped : Stopped) → IsHeldAs P stopped → IsHeldAs Q stopped
-held_wider P Q wider Memory held = tt
-held_wider P Q wider (Refused fault) held = tt
-held_wider P Q wider (Held party) held = wider party held
+-- for a reason of one kind, so for one of a wider kind
+stop_wider : (R R' : Fault → Type 0) (P P' : ℕ → Type 0) → ((fault : Fault) → R fault → R' fault) → ((party : ℕ) → P party → P' party) → (stopped : Stopped) → IsStop R P stopped → IsStop R' P' stopped
+stop_wider R R' P P' refused held Memory stop = tt
+stop_wider R R' P P' refused held (Refused fault) stop = refused fault stop
+stop_wider R R' P P' refused held (Held party) stop = held party stop
 
-pub stopped_wider : {T : Type 0} (P Q : ℕ → Type 0) → ((party : ℕ) → P party → Q party) → (r : Result T Stopped) → IfErr r (IsHeldAs P) → IfErr r (IsHeldAs Q)
-stopped_wider P Q wider (Ok _) held = tt
-stopped_wider P Q wider (Err stopped) held = held_wider P Q wider stopped held
+module _ (limits : Limits) (rules : List Filter) (holds : ℕ → ℕ → Type 0) where
+  refused_wider : (P Q : ℕ → Type 0) → ((n : ℕ) → P n → Q n) → (fault : Fault) → WasRefused limits rules P fault → WasRefused limits rules Q fault
+  refused_wider P Q wider fault was = record {
+    may_come = was.may_come;
+    worker = was.worker;
+    worker_is = wider was.worker was.worker_is;
+    request = was.request;
+    call = was.call;
+    core = was.core;
+    limits_are = was.limits_are;
+    rules_are = was.rules_are;
+    legal = was.legal;
+    why = was.why;
+  }
 
-pub stopped_as_one : {T : Type 0} (n k : ℕ) (r : Result T Stopped) → k < n → IfErr r (IsHeldAs (λ party. party ≡ k)) → IfErr r (IsHeldAs (λ party. party < n))
-stopped_as_one n k r low held = stopped_wider (λ party. party ≡ k) (λ party. party < n) (λ party is. subst (λ x. x < n) (sym is) low) r held
+  held_wider : (P Q : ℕ → Type 0) → ((n : ℕ) → P n → Q n) → (party : ℕ) → WasHeld holds P party → WasHeld holds Q party
+  held_wider P Q wider party was = record { party_is = wider party was.party_is; call = was.call; held = was.held }
+
+  workers_wider : {T : Type 0} (P Q : ℕ → Type 0) → ((n : ℕ) → P n → Q n) → (r : Result T Stopped) → IfErr r (IsWorkersStop limits rules holds P) → IfErr r (IsWorkersStop limits rules holds Q)
+  workers_wider P Q wider (Ok _) stop = tt
+  workers_wider P Q wider (Err stopped) stop =
+      stop_wider (WasRefused limits rules P) (WasRefused limits rules Q) (WasHeld holds P) (WasHeld holds Q) (refused_wider P Q wider) (held_wider P Q wider) stopped stop
+
+  as_one : {T : Type 0} (n k : ℕ) (r : Result T Stopped) → k < n → IfErr r (IsWorkersStop limits rules holds (λ party. party ≡ k)) → IfErr r (IsWorkersStop limits rules holds (λ party. party < n))
+  as_one n k r low stop = workers_wider (λ party. party ≡ k) (λ party. party < n) (λ party is. subst (λ x. x < n) (sym is) low) r stop
+
+-- one of the workers, at the gate that all ask
+pub stopped_as_one : {T Gate : Type 0} (limits : Limits) (rules : List Filter) (holds : Gate → ℕ → ℕ → Type 0) (at gate : Gate) (n k : ℕ) (r : Result T Stopped)
+    → at ≡ gate → k < n → IfErr r (IsWorkersStop limits rules (holds at) (λ party. party ≡ k)) → IfErr r (IsWorkersStop limits rules (holds gate) (λ party. party < n))
+stopped_as_one limits rules holds at gate n k r same low stop =
+    as_one limits rules (holds gate) n k r low (subst (λ x. IfErr r (IsWorkersStop limits rules (holds x) (λ party. party ≡ k))) same stop)
 
 -- of two
-pub stopped_also : (P : ℕ → Type 0) (whole r next : Result ShareView Stopped) → next ≡ both_shares whole r → IfErr whole (IsHeldAs P) → IfErr r (IsHeldAs P) → IfErr next (IsHeldAs P)
-stopped_also P whole r next same a b = subst (λ x. IfErr x (IsHeldAs P)) (sym same) (either whole r a b) where
-  either : (whole r : Result ShareView Stopped) → IfErr whole (IsHeldAs P) → IfErr r (IsHeldAs P) → IfErr (both_shares whole r) (IsHeldAs P)
+pub stopped_also : (P : Stopped → Type 0) (whole r next : Result ShareView Stopped) → next ≡ both_shares whole r → IfErr whole P → IfErr r P → IfErr next P
+stopped_also P whole r next same a b = subst (λ x. IfErr x P) (sym same) (either whole r a b) where
+  either : (whole r : Result ShareView Stopped) → IfErr whole P → IfErr r P → IfErr (both_shares whole r) P
   either (Err fault) r a b = a
   either (Ok one) (Err fault) a b = b
   either (Ok one) (Ok other) a b = tt
 
 -- ---- one worker more
 
-abbrev pub spare_of : PartyView → ℕ
+abbrev pub spare_of : {Gate : Type 0} → PartyView Gate → ℕ
 spare_of party = party.worker.spare
 
+abbrev pub number_of : {Gate : Type 0} → PartyView Gate → ℕ
+number_of party = party.worker.number
+
 -- the workers that make so many rounds, and had made no call
-abbrev pub AreNew : ℕ → List PartyView → Type 0
+abbrev pub AreNew : {Gate : Type 0} → ℕ → List (PartyView Gate) → Type 0
 AreNew rounds parties = All (λ party. (party.rounds ≡ rounds) × (party.worker.accepted ≡ 0)) parties
 
 -- the next worker is new, and so are the rest
-pub new_of : (rounds : ℕ) (party : PartyView) (xs ys : List PartyView) → xs ≡ party ∷ ys → AreNew rounds xs → ((party.rounds ≡ rounds) × (party.worker.accepted ≡ 0)) × AreNew rounds ys
-new_of rounds party xs ys is new = all_of_cons xs ys party is (λ (p : PartyView). (p.rounds ≡ rounds) × (p.worker.accepted ≡ 0)) new
+pub new_of : {Gate : Type 0} (rounds : ℕ) (party : PartyView Gate) (xs ys : List (PartyView Gate)) → xs ≡ party ∷ ys → AreNew rounds xs → ((party.rounds ≡ rounds) × (party.worker.accepted ≡ 0)) × AreNew rounds ys
+new_of {Gate} rounds party xs ys is new = all_of_cons xs ys party is (λ (p : PartyView Gate). (p.rounds ≡ rounds) × (p.worker.accepted ≡ 0)) new
 
-module _ (rounds : ℕ) (party : PartyView) (xs ys : List PartyView) (is : xs ≡ party ∷ ys) (rounds_are : party.rounds ≡ rounds) (new : party.worker.accepted ≡ 0) where
+module _ {Gate : Type 0} (rounds : ℕ) (party : PartyView Gate) (xs ys : List (PartyView Gate)) (is : xs ≡ party ∷ ys) (rounds_are : party.rounds ≡ rounds) (new : party.worker.accepted ≡ 0) where
   fewer : length xs ≡ length ys + 1
   fewer = ap length is ∙ omega arith
 
@@ -107,6 +141,32 @@ module _ (rounds : ℕ) (party : PartyView) (xs ys : List PartyView) (is : xs �
       → IfOk r (ComesBack party.worker party.rounds) → Gathers next n (length ys) (9 * rounds) all (sum_by spare_of ys)
   gathered_also n all whole r next same g back = subst (λ x. Gathers x n (length ys) (9 * rounds) all (sum_by spare_of ys)) (sym same) (gathered_next n all whole r g back)
 
+  one_number : (share : ShareView) → ComesBack party.worker party.rounds share → numbers_seen share.seen ++ map number_of ys ≡ map number_of xs
+  one_number share back = ap (λ l. l ++ map number_of ys) back.numbers ∙ sym (ap (λ l. map number_of l) is)
+
+  own_made : (share : ShareView) → ComesBack party.worker party.rounds share → All (HasOwn (9 * rounds)) share.seen
+  own_made share back = subst (λ n. All (HasOwn n) share.seen) (made share back) back.own_are
+
+  pub seen_first : (r : Result ShareView Stopped) → IfOk r (ComesBack party.worker party.rounds) → GathersSeen r (9 * rounds) (map number_of ys) (map number_of xs)
+  seen_first (Err fault) back = tt
+  seen_first (Ok share) back = (own_made share back, one_number share back)
+
+  seen_next : (all : List ℕ) (whole r : Result ShareView Stopped) → GathersSeen whole (9 * rounds) (map number_of xs) all → IfOk r (ComesBack party.worker party.rounds)
+      → GathersSeen (both_shares whole r) (9 * rounds) (map number_of ys) all
+  seen_next all (Err fault) r g back = tt
+  seen_next all (Ok before) (Err fault) g back = tt
+  seen_next all (Ok before) (Ok share) g back = (
+    All-append (HasOwn (9 * rounds)) before.seen share.seen g.0 (own_made share back),
+    ap (λ l. l ++ map number_of ys) (map-append (λ (front : FrontView). front.number) before.seen share.seen)
+        ∙ append_assoc (numbers_seen before.seen) (numbers_seen share.seen) (map number_of ys)
+        ∙ ap (λ l. numbers_seen before.seen ++ l) (one_number share back)
+        ∙ g.1,
+  )
+
+  pub seen_also : (all : List ℕ) (whole r next : Result ShareView Stopped) → next ≡ both_shares whole r → GathersSeen whole (9 * rounds) (map number_of xs) all
+      → IfOk r (ComesBack party.worker party.rounds) → GathersSeen next (9 * rounds) (map number_of ys) all
+  seen_also all whole r next same g back = subst (λ x. GathersSeen x (9 * rounds) (map number_of ys) all) (sym same) (seen_next all whole r g back)
+
   -- the shares of at most 16 workers, which make at most 400 rounds each, can be put together
   pub parts_fit : (n all : ℕ) (whole r : Result ShareView Stopped) → rounds ≤ 400 → n ≤ 16 → Gathers whole n (length xs) (9 * rounds) all (sum_by spare_of xs)
       → IfOk r (ComesBack party.worker party.rounds) → Fit whole r
@@ -123,33 +183,43 @@ module _ (rounds : ℕ) (party : PartyView) (xs ys : List PartyView) (is : xs �
 pub nine_each : (n rounds : ℕ) → n * (9 * rounds) ≡ 9 * (n * rounds)
 nine_each n rounds = search arith
 
-pub has_all : (workers : List WorkerView) (parties : List PartyView) (rounds : ℕ) (r : Result ShareView Stopped) → map (λ party. party.worker) parties ≡ workers
-    → Gathers r (length parties) 0 (9 * rounds) (sum_by spare_of parties) 0 → IfOk r (HasAll workers rounds)
-has_all workers parties rounds (Err fault) same g = tt
-has_all workers parties rounds (Ok share) same g =
-    let len : length parties ≡ length workers = sym (length-map parties (λ party. party.worker)) ∙ ap length same in
-    let all : share.call_parts ≡ length workers = omega (arith, g.1, len) in
-    let sum : sum_by spare_of parties ≡ sum_by (λ worker. worker.spare) workers = sum_of_map (λ party. party.worker) (λ worker. worker.spare) parties ∙ ap (λ ws. sum_by (λ worker. worker.spare) ws) same in
-    record {
-      units = g.0;
-      accepted = g.2 ∙ ap (λ k. k * (9 * rounds)) all ∙ nine_each (length workers) rounds;
-      handle_parts = omega (arith, g.3, sum);
-      call_parts = all;
-    }
+numbers_are : {Gate : Type 0} (parties : List (PartyView Gate)) → map number_of parties ≡ map (λ (worker : WorkerView). worker.number) (map (λ (party : PartyView Gate). party.worker) parties)
+numbers_are [] = refl
+numbers_are (party ∷ parties) = ap (λ l. party.worker.number ∷ l) (numbers_are parties)
 
--- ---- who was held, of all
+module _ {Gate : Type 0} (workers : List WorkerView) (parties : List (PartyView Gate)) (rounds : ℕ) (same : map (λ party. party.worker) parties ≡ workers) where
+  numbers_same : map number_of parties ≡ map (λ (worker : WorkerView). worker.number) workers
+  numbers_same = numbers_are parties ∙ ap (λ ws. map (λ (worker : WorkerView). worker.number) ws) same
 
-module _ (count : ℕ) (workers : List WorkerView) (parties : List PartyView) (same : map (λ party. party.worker) parties ≡ workers) (is : count ≡ length workers) where
+  pub has_all : (r : Result ShareView Stopped) → Gathers r (length parties) 0 (9 * rounds) (sum_by spare_of parties) 0 → GathersSeen r (9 * rounds) [] (map number_of parties) → IfOk r (HasAll workers rounds)
+  has_all (Err fault) g seen = tt
+  has_all (Ok share) g seen =
+      let len : length parties ≡ length workers = sym (length-map parties (λ party. party.worker)) ∙ ap length same in
+      let all : share.call_parts ≡ length workers = omega (arith, g.1, len) in
+      let sum : sum_by spare_of parties ≡ sum_by (λ (worker : WorkerView). worker.spare) workers = sum_of_map (λ (party : PartyView Gate). party.worker) (λ (worker : WorkerView). worker.spare) parties ∙ ap (λ ws. sum_by (λ (worker : WorkerView). worker.spare) ws) same in
+      record {
+        units = g.0;
+        accepted = g.2 ∙ ap (λ k. k * (9 * rounds)) all ∙ nine_each (length workers) rounds;
+        handle_parts = omega (arith, g.3, sum);
+        call_parts = all;
+        numbers = sym (append-nil (numbers_seen share.seen)) ∙ seen.1 ∙ numbers_same;
+        own_are = seen.0;
+      }
+
+-- ---- why one of all stopped
+
+module _ {Gate : Type 0} (count : ℕ) (workers : List WorkerView) (parties : List (PartyView Gate)) (same : map (λ party. party.worker) parties ≡ workers) (is : count ≡ length workers) where
   as_many : length parties ≡ count
   as_many = sym (length-map parties (λ party. party.worker)) ∙ ap length same ∙ sym is
 
   pub numbers_of : All (λ worker. worker.number < count) workers → All (λ party. party.worker.number < length parties) parties
   numbers_of all =
-      subst (λ k. All (λ (party : PartyView). party.worker.number < k) parties) (sym as_many)
-      (all_of_map (λ party. party.worker) parties workers same (λ worker. worker.number < count) all)
+      subst (λ k. All (λ (party : PartyView Gate). party.worker.number < k) parties) (sym as_many)
+      (all_of_map (λ (party : PartyView Gate). party.worker) parties workers same (λ worker. worker.number < count) all)
 
-  pub stopped_of : (r : Result ShareView Stopped) → IfErr r (IsHeldAs (λ party. party < length parties)) → IfErr r (IsHeldAs (λ party. party < count))
-  stopped_of r held = subst (λ k. IfErr r (IsHeldAs (λ party. party < k))) as_many held
+  pub stopped_of : (limits : Limits) (rules : List Filter) (holds : ℕ → ℕ → Type 0) (r : Result ShareView Stopped) → IfErr r (IsWorkersStop limits rules holds (λ party. party < length parties))
+      → IfErr r (IsWorkersStop limits rules holds (λ party. party < count))
+  stopped_of limits rules holds r stop = subst (λ k. IfErr r (IsWorkersStop limits rules holds (λ party. party < k))) as_many stop
 
 -- the workers and the drain, whose number is that of all workers
 module _ (whole : Result ShareView Stopped) (drain : Result DrainView Stopped) (r : Result (ShareView × DrainView) Stopped) (is : r ≡ share_and_drain whole drain) where
@@ -160,9 +230,43 @@ module _ (whole : Result ShareView Stopped) (drain : Result DrainView Stopped) (
     each (Ok whole) (Err fault) a b = tt
     each (Ok whole) (Ok drain) a b = record { whole = a; drain = b }
 
-  pub stopped_of_both : (count party : ℕ) → party ≡ count → IfErr whole (IsHeldAs (λ other. other < count)) → IfErr drain (IsHeldAs (λ other. other ≡ party)) → IfErr r (IsHeldAs (λ other. other ≤ count))
-  stopped_of_both count party last a b = subst (λ x. IfErr x (IsHeldAs (λ other. other ≤ count))) (sym is) (each whole drain a b) where
-    each : (whole : Result ShareView Stopped) (drain : Result DrainView Stopped) → IfErr whole (IsHeldAs (λ other. other < count)) → IfErr drain (IsHeldAs (λ other. other ≡ party)) → IfErr (share_and_drain whole drain) (IsHeldAs (λ other. other ≤ count))
-    each (Err stopped) drain a b = held_wider (λ other. other < count) (λ other. other ≤ count) (λ other low. omega (arith, low)) stopped a
-    each (Ok whole) (Err stopped) a b = held_wider (λ other. other ≡ party) (λ other. other ≤ count) (λ other same. omega (arith, same, last)) stopped b
+  pub stopped_of_both : (limits : Limits) (rules : List Filter) (holds : ℕ → ℕ → Type 0) (count party : ℕ) → IfErr whole (IsWorkersStop limits rules holds (λ other. other < count)) → IfErr drain (IsDrainsStop holds party) → party ≡ count
+      → IfErr r (IsStormStop limits rules holds count)
+  stopped_of_both limits rules holds count party a b last = subst (λ x. IfErr x (IsStormStop limits rules holds count)) (sym is) (each whole drain a b) where
+    each : (whole : Result ShareView Stopped) (drain : Result DrainView Stopped) → IfErr whole (IsWorkersStop limits rules holds (λ other. other < count)) → IfErr drain (IsDrainsStop holds party)
+        → IfErr (share_and_drain whole drain) (IsStormStop limits rules holds count)
+    each (Err stopped) drain a b =
+        stop_wider (WasRefused limits rules (λ other. other < count)) (WasRefused limits rules (λ other. other < count)) (WasHeld holds (λ other. other < count)) (WasHeld holds (λ other. other ≤ count))
+        (λ fault was. was) (held_wider limits rules holds (λ other. other < count) (λ other. other ≤ count) (λ other low. omega (arith, low))) stopped a
+    each (Ok whole) (Err stopped) a b =
+        stop_wider (λ _. ⊥) (WasRefused limits rules (λ other. other < count)) (WasHeld holds (λ other. other ≡ party)) (WasHeld holds (λ other. other ≤ count))
+        (λ fault none. absurd none) (held_wider limits rules holds (λ other. other ≡ party) (λ other. other ≤ count) (λ other same. omega (arith, same, last))) stopped b
     each (Ok whole) (Ok drain) a b = tt
+
+-- what comes back of the drain, whose thread was started so
+module _ {Gate : Type 0} (holds : Gate → ℕ → ℕ → Type 0) (draining : DrainingView Gate) (drain : DrainView) (gate : Gate) (party : ℕ) (r : Result DrainView Stopped)
+    (is : draining ≡ record { drain = drain; gate = gate; party = party }) where
+  pub drain_back : IfOk r (IsSameDrain draining.drain) → IfOk r (IsSameDrain drain)
+  drain_back back = subst (λ (d : DrainingView Gate). IfOk r (IsSameDrain d.drain)) is back
+
+  pub drain_stopped : IfErr r (IsDrainsStop (holds draining.gate) draining.party) → IfErr r (IsDrainsStop (holds gate) party)
+  drain_stopped stop = subst (λ (d : DrainingView Gate). IfErr r (IsDrainsStop (holds d.gate) d.party)) is stop
+
+-- ---- the end
+
+-- each of so many workers, whose calls are all in the history, has as many of its own there as it saw
+pub each_made : (seen : List FrontView) (workers : List WorkerView) (sent : List PlainBatch) (count calls : ℕ) → length seen ≡ count → numbers_seen seen ≡ map (λ worker. worker.number) workers
+    → ((i : ℕ) (d : WorkerView) → i < count → IsNew i (get_or workers i d)) → All (HasOwn calls) seen → All (λ front. IsFront front sent) seen
+    → (worker : ℕ) → worker < count → length (own worker sent) ≡ calls
+each_made seen workers sent count calls long numbers new own_are fronts worker low =
+    let some : FrontView = record { number = 0; seen = [] } in
+    let none : WorkerView = record { number = 0; accepted = 0; spare = 0; seen = [] } in
+    let front = get_or seen worker some in
+    let here : worker < length seen = omega (arith, long, low) in
+    let there : worker < length workers = omega (arith, here, ap length numbers, length-map seen (λ (front : FrontView). front.number), length-map workers (λ (worker : WorkerView). worker.number)) in
+    let number : front.number ≡ worker =
+    sym (get_or-map (λ (front : FrontView). front.number) seen worker some 0 here)
+    ∙ ap (λ l. get_or l worker 0) numbers
+    ∙ get_or-map (λ (worker : WorkerView). worker.number) workers worker none 0 there
+    ∙ (new worker none low).number_is in
+    ap (λ n. length (own n sent)) (sym number) ∙ sym (ap length (fronts worker some here).own_are) ∙ own_are worker some here

@@ -1,4 +1,5 @@
 pub mod Gathering
+pub mod Refusing
 pub mod Everything
 pub mod Lines
 pub mod Examples

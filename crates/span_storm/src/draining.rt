@@ -1,6 +1,6 @@
 //! The drain's thread.
 ghost use Rattle.std.specs.Prelude.{◌≡◌, IfOk, IfErr, IfSome};
-ghost use Rattle.span_storm.specs.inside.Back.{DrainingView, IsHeldAs, IsSameDrain};
+ghost use Rattle.span_storm.specs.inside.Back.{DrainingView, IsDrainsStop, IsSameDrain};
 
 use crate::gate::Gate;
 use crate::stopped::Stopped;
@@ -15,47 +15,52 @@ use std::thread::{Promise, PromisedHandle, Scope, Threads};
 
 /// The drain that comes back is that of the same ring; if it was held, then as the party of this number.
 #[derive(Drop)]
-pub(crate) struct BackAgain<V> {
+pub(crate) struct BackAgain<V, G> {
     drain: Snapshot<Drain<V>>,
+    gate: Snapshot<G>,
     party: u32,
 }
 
-impl<V> Promise<Result<Drain<V>, Stopped>> for BackAgain<V> {
+impl<V, G: Gate> Promise<Result<Drain<V>, Stopped>> for BackAgain<V, G> {
     ghost use Rattle.std.specs.Prelude.{IfOk, IfErr};
-    ghost use Rattle.span_storm.specs.inside.Back.{IsHeldAs, IsSameDrain};
+    ghost use Rattle.span_storm.specs.inside.Back.{IsDrainsStop, IsSameDrain};
 
     ghost kept_by = { λ back result. IfOk result (λ drain. IsSameDrain back.drain.value drain)
-        × IfErr result (IsHeldAs (λ other. other ≡ back.party)) };
+        × IfErr result (IsDrainsStop (G.holds back.gate.value) back.party) };
 }
 
 /// The drain in its thread, if one could be made.
 #[derive(Drop)]
-pub(crate) struct Draining<V> {
+pub(crate) struct Draining<V, G: Gate> {
     drain: Snapshot<Drain<V>>,
+    gate: Snapshot<G>,
     party: u32,
-    running: Option<PromisedHandle<Result<Drain<V>, Stopped>, BackAgain<V>>>,
+    running: Option<PromisedHandle<Result<Drain<V>, Stopped>, BackAgain<V, G>>>,
 }
 
-impl<V> Model for Draining<V> {
+impl<V, G: Gate> Model for Draining<V, G> {
     ghost use Rattle.std.specs.Prelude.{◌≡◌, IfSome};
     ghost use Rattle.span_storm.specs.inside.Back.{DrainingView};
 
-    ghost Value = { DrainingView };
+    ghost Value = { DrainingView G };
 
-    ghost view = { λ draining. record { drain = draining.drain.value; party = draining.party } };
+    ghost view = { λ draining.
+        record { drain = draining.drain.value; gate = draining.gate.value; party = draining.party } };
 
     ghost invariant = { λ draining. IfSome draining.running (λ handle.
-        (handle.promise.drain.value ≡ draining.drain.value) × (handle.promise.party ≡ draining.party)) };
+        (handle.promise.drain.value ≡ draining.drain.value) × (handle.promise.gate.value ≡ draining.gate.value)
+        × (handle.promise.party ≡ draining.party)) };
 }
 
-impl<V: Drop> Draining<V> {
+impl<V: Drop, G: Gate> Draining<V, G> {
     /// The drain, once its thread has ended.
     pub(crate) fn join<R: Threads>(self, rt: &R) -> Result<Drain<V>, Stopped>
         ensures back { IfOk result (λ drain. IsSameDrain self.drain drain) }
-        ensures stopped { IfErr result (IsHeldAs (λ other. other ≡ self.party)) }
+        ensures stopped { IfErr result (IsDrainsStop (G.holds self.gate) self.party) }
     {
         let Draining {
             drain: _,
+            gate: _,
             party: _,
             running,
         } = self;
@@ -80,23 +85,25 @@ pub(crate) fn start_drain<
     party: u32,
     drain: Drain<V>,
     all_back: &'s AtomicBool,
-) -> Draining<V>
-    ensures { result ≡ record { drain = drain; party = party } }
+) -> Draining<V, G>
+    ensures { result ≡ record { drain = drain; gate = gate.now; party = party } }
 {
     let went = Snapshot::of(&drain);
     let promise = BackAgain {
         drain: Snapshot::of(&drain),
+        gate: Snapshot::of(gate),
         party,
     };
     let started = scope.spawn_with(
         promise,
         move || -> Result<Drain<V>, Stopped>
             ensures back { IfOk result (λ back. IsSameDrain drain back) }
-            ensures stopped { IfErr result (IsHeldAs (λ other. other ≡ party)) }
+            ensures stopped { IfErr result (IsDrainsStop (G.holds gate.entry.now) party) }
         { step_beside(rt, gate, party, drain, all_back) },
     );
     Draining {
         drain: went,
+        gate: Snapshot::of(gate),
         party,
         running: started.ok(),
     }
@@ -111,14 +118,15 @@ fn step_beside<V: Say, G: Gate, R: Wait>(
     all_back: &AtomicBool,
 ) -> Result<Drain<V>, Stopped>
     ensures back { IfOk result (λ back. IsSameDrain drain back) }
-    ensures stopped { IfErr result (IsHeldAs (λ other. other ≡ party)) }
+    ensures stopped { IfErr result (IsDrainsStop (G.holds gate.now) party) }
 {
-    if !gate.before(party, 1) {
-        return Err(Stopped::Held(party));
+    if gate.before(party, 1) {
+        let mut drain = drain;
+        step_until(rt, &mut drain, all_back);
+        Ok(drain)
+    } else {
+        Err(Stopped::Held(party))
     }
-    let mut drain = drain;
-    step_until(rt, &mut drain, all_back);
-    Ok(drain)
 }
 
 // Steps until all workers have come back.

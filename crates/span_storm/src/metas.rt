@@ -14,6 +14,7 @@ pub(crate) struct Metas {
     pub(crate) event: Meta,
     ghost job_is: { plain_meta job ≡ app_meta (codes "job") },
     ghost step_is: { plain_meta step ≡ app_meta (codes "step") },
+    ghost event_is: { plain_meta event ≡ app_meta (codes "event") },
 }
 
 impl Metas {

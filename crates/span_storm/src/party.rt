@@ -1,7 +1,7 @@
 //! The workers' threads.
-ghost use Rattle.std.specs.Prelude.{◌≡◌, true, IfOk, IfErr, IfSome};
+ghost use Rattle.std.specs.Prelude.{◌≡◌, ◌≤◌, true, IfOk, IfErr, IfSome};
 ghost use Rattle.span_storm.specs.Storm.{wants_jobs};
-ghost use Rattle.span_storm.specs.inside.Back.{ComesBack, IsHeldAs, PartyView};
+ghost use Rattle.span_storm.specs.inside.Back.{ComesBack, IsWorkersStop, PartyView};
 
 use crate::gate::Gate;
 use crate::metas::Metas;
@@ -16,47 +16,54 @@ use std::thread::{Promise, PromisedHandle, Scope, Threads};
 
 /// What comes back of a worker that makes all its rounds, and as what it stops otherwise.
 #[derive(Drop)]
-pub(crate) struct Back<H: Ledger, C: Ledger, S: Setup> {
+pub(crate) struct Back<H: Ledger, C: Ledger, S: Setup, G> {
     worker: Snapshot<Worker<H, C, S>>,
+    gate: Snapshot<G>,
     rounds: u32,
 }
 
-impl<H: Ledger, C: Ledger, S: Setup> Promise<Result<Share<H, C, S>, Stopped>> for Back<H, C, S> {
-    ghost use Rattle.std.specs.Prelude.{IfOk, IfErr};
-    ghost use Rattle.span_storm.specs.inside.Back.{ComesBack, IsHeldAs};
+impl<H: Ledger, C: Ledger, S: Setup, G: Gate> Promise<Result<Share<H, C, S>, Stopped>>
+    for Back<H, C, S, G> {
+    ghost use Rattle.std.specs.Prelude.{◌≡◌, IfOk, IfErr};
+    ghost use Rattle.span_storm.specs.inside.Back.{ComesBack, IsWorkersStop};
 
     ghost kept_by = { λ back result. IfOk result (λ share. ComesBack back.worker.value back.rounds share)
-        × IfErr result (IsHeldAs (λ party. party ≡ back.worker.value.number)) };
+        × IfErr result (IsWorkersStop S.limits S.rules (G.holds back.gate.value)
+        (λ party. party ≡ back.worker.value.number)) };
 }
 
 /// A worker in its thread, if one could be made.
 #[derive(Drop)]
-pub(crate) struct Party<H: Ledger, C: Ledger, S: Setup> {
+pub(crate) struct Party<H: Ledger, C: Ledger, S: Setup, G: Gate> {
     worker: Snapshot<Worker<H, C, S>>,
+    gate: Snapshot<G>,
     rounds: u32,
-    running: Option<PromisedHandle<Result<Share<H, C, S>, Stopped>, Back<H, C, S>>>,
+    running: Option<PromisedHandle<Result<Share<H, C, S>, Stopped>, Back<H, C, S, G>>>,
 }
 
-impl<H: Ledger, C: Ledger, S: Setup> Model for Party<H, C, S> {
+impl<H: Ledger, C: Ledger, S: Setup, G: Gate> Model for Party<H, C, S, G> {
     ghost use Rattle.std.specs.Prelude.{◌≡◌, IfSome};
     ghost use Rattle.span_storm.specs.inside.Back.{PartyView};
 
-    ghost Value = { PartyView };
+    ghost Value = { PartyView G };
 
-    ghost view = { λ party. record { worker = party.worker.value; rounds = party.rounds } };
+    ghost view = { λ party. record { worker = party.worker.value; gate = party.gate.value; rounds = party.rounds } };
 
     ghost invariant = { λ party. IfSome party.running (λ handle.
-        (handle.promise.worker.value ≡ party.worker.value) × (handle.promise.rounds ≡ party.rounds)) };
+        (handle.promise.worker.value ≡ party.worker.value) × (handle.promise.gate.value ≡ party.gate.value)
+        × (handle.promise.rounds ≡ party.rounds)) };
 }
 
-impl<H: Ledger, C: Ledger, S: Setup> Party<H, C, S> {
+impl<H: Ledger, C: Ledger, S: Setup, G: Gate> Party<H, C, S, G> {
     /// What comes back of the worker, once its thread has ended.
     pub(crate) fn join<R: Threads>(self, rt: &R) -> Result<Share<H, C, S>, Stopped>
         ensures back { IfOk result (λ share. ComesBack self.worker self.rounds share) }
-        ensures stopped { IfErr result (IsHeldAs (λ party. party ≡ self.worker.number)) }
+        ensures stopped { IfErr result
+            (IsWorkersStop S.limits S.rules (G.holds self.gate) (λ party. party ≡ self.worker.number)) }
     {
         let Party {
             worker: _,
+            gate: _,
             rounds: _,
             running,
         } = self;
@@ -84,25 +91,30 @@ pub(crate) fn start<
     metas: &'s Metas,
     worker: Worker<H, C, S>,
     rounds: u32,
-) -> Party<H, C, S>
-    requires { wants_jobs S.rules ≡ true }
-    ensures { result ≡ record { worker = worker; rounds = rounds } }
+) -> Party<H, C, S, G>
+    requires wanted { wants_jobs S.rules ≡ true }
+    requires spare { 3 ≤ worker.spare }
+    ensures { result ≡ record { worker = worker; gate = gate.now; rounds = rounds } }
 {
     let went = Snapshot::of(&worker);
     let promise = Back {
         worker: Snapshot::of(&worker),
+        gate: Snapshot::of(gate),
         rounds,
     };
     let started = scope.spawn_with(
         promise,
         move || -> Result<Share<H, C, S>, Stopped>
-            requires { wants_jobs S.rules ≡ true }
+            requires wanted { wants_jobs S.rules ≡ true }
+            requires spare { 3 ≤ worker.spare }
             ensures back { IfOk result (λ share. ComesBack worker rounds share) }
-            ensures stopped { IfErr result (IsHeldAs (λ party. party ≡ worker.number)) }
+            ensures stopped { IfErr result
+                (IsWorkersStop S.limits S.rules (G.holds gate.entry.now) (λ party. party ≡ worker.number)) }
         { work(rt, registry, gate, metas, worker, rounds) },
     );
     Party {
         worker: went,
+        gate: Snapshot::of(gate),
         rounds,
         running: started.ok(),
     }

@@ -1,10 +1,12 @@
 //! What one worker does.
-ghost use Rattle.std.specs.Prelude.{◌≡◌, ◌+◌, ◌*◌, ◌-◌, ◌<◌, true, IfOk, IfErr, OnOk};
+ghost use Rattle.std.specs.Prelude.{◌≡◌, ◌+◌, ◌*◌, ◌-◌, ◌<◌, ◌≤◌, true, codes, IfOk, IfErr, OnOk};
 ghost use Rattle.span_id.specs.Meta.{plain_meta};
-ghost use Rattle.span_core.specs.Step.{is_wanted};
 ghost use Rattle.span_registry.specs.Worker.{after_call};
-ghost use Rattle.span_storm.specs.Storm.{wants_jobs};
-ghost use Rattle.span_storm.specs.inside.Back.{ComesBack, IsHeldAs};
+ghost use Rattle.span_core.specs.Step.{is_wanted};
+ghost use Rattle.span_core.specs.World.{World};
+ghost use Rattle.span_core.specs.Parent.{parent_found};
+ghost use Rattle.span_storm.specs.Storm.{IsSpanOfRound, app_meta, wants_jobs};
+ghost use Rattle.span_storm.specs.inside.Back.{ComesBack, IsWorkersStop};
 
 use crate::gate::Gate;
 use crate::held::Held;
@@ -24,13 +26,18 @@ pub(crate) fn work<H: Ledger, C: Ledger, S: Setup, G: Gate, R: Wait>(
     worker: Worker<H, C, S>,
     rounds: u32,
 ) -> Result<Share<H, C, S>, Stopped>
-    requires { wants_jobs S.rules ≡ true }
+    requires wanted { wants_jobs S.rules ≡ true }
+    requires spare { 3 ≤ worker.spare }
     ensures back { IfOk result (λ share. ComesBack worker rounds share) }
-    ensures stopped { IfErr result (IsHeldAs (λ party. party ≡ worker.number)) }
+    ensures stopped { IfErr result
+        (IsWorkersStop S.limits S.rules (G.holds gate.now) (λ party. party ≡ worker.number)) }
 {
     let mut worker = worker;
     match make_rounds(rt, registry, gate, metas, &mut worker, rounds) {
-        Ok(()) => Ok(worker.leave()),
+        Ok(()) => {
+            let _own = worker.accepted();
+            Ok(worker.leave())
+        }
         Err(stopped) => Err(stopped),
     }
 }
@@ -44,11 +51,13 @@ fn make_rounds<H: Ledger, C: Ledger, S: Setup, G: Gate, R: Wait>(
     worker: &mut Worker<H, C, S>,
     rounds: u32,
 ) -> Result<(), Stopped>
-    requires { wants_jobs S.rules ≡ true }
+    requires wanted { wants_jobs S.rules ≡ true }
+    requires spare { 3 ≤ worker.old.spare }
     ensures number { OnOk result (worker.new.number ≡ worker.old.number) }
     ensures accepted { OnOk result (worker.new.accepted ≡ worker.old.accepted + 9 * rounds) }
     ensures spare { OnOk result (worker.new.spare ≡ worker.old.spare) }
-    ensures stopped { IfErr result (IsHeldAs (λ party. party ≡ worker.old.number)) }
+    ensures stopped { IfErr result
+        (IsWorkersStop S.limits S.rules (G.holds gate.now) (λ party. party ≡ worker.old.number)) }
 {
     for _ in 0..rounds {
         round(rt, registry, gate, metas, worker)?;
@@ -64,11 +73,13 @@ fn round<H: Ledger, C: Ledger, S: Setup, G: Gate, R: Wait>(
     metas: &Metas,
     worker: &mut Worker<H, C, S>,
 ) -> Result<(), Stopped>
-    requires { wants_jobs S.rules ≡ true }
+    requires wanted { wants_jobs S.rules ≡ true }
+    requires spare { 3 ≤ worker.old.spare }
     ensures number { OnOk result (worker.new.number ≡ worker.old.number) }
     ensures accepted { OnOk result (worker.new.accepted ≡ worker.old.accepted + 9) }
     ensures spare { OnOk result (worker.new.spare ≡ worker.old.spare) }
-    ensures stopped { IfErr result (IsHeldAs (λ party. party ≡ worker.old.number)) }
+    ensures stopped { IfErr result
+        (IsWorkersStop S.limits S.rules (G.holds gate.now) (λ party. party ≡ worker.old.number)) }
 {
     match open(rt, registry, gate, worker, &metas.job, ParentOf::Root) {
         Ok(job) => with_job(rt, registry, gate, metas, worker, job),
@@ -85,11 +96,13 @@ fn with_job<H: Ledger, C: Ledger, S: Setup, G: Gate, R: Wait>(
     worker: &mut Worker<H, C, S>,
     job: Held<H, C, S>,
 ) -> Result<(), Stopped>
-    requires { wants_jobs S.rules ≡ true }
+    requires wanted { wants_jobs S.rules ≡ true }
+    requires spare { 2 ≤ worker.old.spare }
     ensures number { OnOk result (worker.new.number ≡ worker.old.number) }
     ensures accepted { OnOk result (worker.new.accepted ≡ worker.old.accepted + 8) }
     ensures spare { OnOk result (worker.new.spare ≡ worker.old.spare + 1) }
-    ensures stopped { IfErr result (IsHeldAs (λ party. party ≡ worker.old.number)) }
+    ensures stopped { IfErr result
+        (IsWorkersStop S.limits S.rules (G.holds gate.now) (λ party. party ≡ worker.old.number)) }
 {
     let mut job = job;
     match with_clone(rt, registry, gate, metas, worker, &mut job.handle) {
@@ -107,11 +120,13 @@ fn with_clone<H: Ledger, C: Ledger, S: Setup, G: Gate, R: Wait>(
     worker: &mut Worker<H, C, S>,
     job: &mut Handle<H, C, S>,
 ) -> Result<(), Stopped>
-    requires { wants_jobs S.rules ≡ true }
+    requires wanted { wants_jobs S.rules ≡ true }
+    requires spare { 2 ≤ worker.old.spare }
     ensures number { OnOk result (worker.new.number ≡ worker.old.number) }
     ensures accepted { OnOk result (worker.new.accepted ≡ worker.old.accepted + 7) }
     ensures spare { OnOk result (worker.new.spare ≡ worker.old.spare) }
-    ensures stopped { IfErr result (IsHeldAs (λ party. party ≡ worker.old.number)) }
+    ensures stopped { IfErr result
+        (IsWorkersStop S.limits S.rules (G.holds gate.now) (λ party. party ≡ worker.old.number)) }
 {
     let other = clone_handle(rt, registry, gate, worker, job)?;
     match inside(rt, registry, gate, metas, worker, job) {
@@ -129,27 +144,19 @@ fn inside<H: Ledger, C: Ledger, S: Setup, G: Gate, R: Wait>(
     worker: &mut Worker<H, C, S>,
     job: &mut Handle<H, C, S>,
 ) -> Result<(), Stopped>
-    requires { wants_jobs S.rules ≡ true }
+    requires wanted { wants_jobs S.rules ≡ true }
+    requires spare { 1 ≤ worker.old.spare }
     ensures number { OnOk result (worker.new.number ≡ worker.old.number) }
     ensures accepted { OnOk result (worker.new.accepted ≡ worker.old.accepted + 5) }
     ensures spare { OnOk result (worker.new.spare ≡ worker.old.spare) }
-    ensures stopped { IfErr result (IsHeldAs (λ party. party ≡ worker.old.number)) }
+    ensures stopped { IfErr result
+        (IsWorkersStop S.limits S.rules (G.holds gate.now) (λ party. party ≡ worker.old.number)) }
 {
-    ask(gate, worker)?;
-    if let Err(fault) = registry.enter(rt, worker, job) {
-        return Err(Stopped::Refused(fault));
-    }
-    ask(gate, worker)?;
-    if let Err(fault) = registry.event(rt, worker, &metas.event, "tick", &[]) {
-        return Err(Stopped::Refused(fault));
-    }
+    enter(rt, registry, gate, worker, job)?;
+    tell(rt, registry, gate, worker, &metas.event)?;
     let step = open(rt, registry, gate, worker, &metas.step, ParentOf::Current)?;
     close(rt, registry, gate, worker, step)?;
-    ask(gate, worker)?;
-    match registry.exit(rt, worker, job.id()) {
-        Ok(_closed) => Ok(()),
-        Err(fault) => Err(Stopped::Refused(fault)),
-    }
+    exit(rt, registry, gate, worker, job)
 }
 
 // Asks whether the worker may make its next call: all calls before it were accepted.
@@ -157,7 +164,8 @@ fn ask<H: Ledger, C: Ledger, S: Setup, G: Gate>(
     gate: &G,
     worker: &Worker<H, C, S>,
 ) -> Result<(), Stopped>
-    ensures { IfErr result (IsHeldAs (λ party. party ≡ worker.now.number)) }
+    ensures { IfErr result
+        (IsWorkersStop S.limits S.rules (G.holds gate.now) (λ party. party ≡ worker.now.number)) }
 {
     let party = worker.number();
     if gate.before(party, worker.accepted().saturating_add(1)) {
@@ -176,10 +184,13 @@ fn open<H: Ledger, C: Ledger, S: Setup, G: Gate, R: Wait>(
     meta: &Meta,
     parent: ParentOf,
 ) -> Result<Held<H, C, S>, Stopped>
-    requires { is_wanted S.rules (plain_meta meta.now) ≡ true }
+    requires wanted { is_wanted S.rules (plain_meta meta.now) ≡ true }
+    requires span { (world : World)
+        → IsSpanOfRound (plain_meta meta.now) (parent_found world worker.old.number parent) }
+    requires spare { 0 < worker.old.spare }
     ensures worker { OnOk result (worker.new ≡ after_call worker.old (worker.old.spare - 1) worker.new.seen) }
-    ensures part { OnOk result (0 < worker.old.spare) }
-    ensures stopped { IfErr result (IsHeldAs (λ party. party ≡ worker.old.number)) }
+    ensures stopped { IfErr result
+        (IsWorkersStop S.limits S.rules (G.holds gate.now) (λ party. party ≡ worker.old.number)) }
 {
     ask(gate, worker)?;
     match registry.new_span(rt, worker, meta, &[], parent) {
@@ -197,13 +208,72 @@ fn clone_handle<H: Ledger, C: Ledger, S: Setup, G: Gate, R: Wait>(
     worker: &mut Worker<H, C, S>,
     handle: &mut Handle<H, C, S>,
 ) -> Result<Held<H, C, S>, Stopped>
+    requires { 0 < worker.old.spare }
     ensures worker { OnOk result (worker.new ≡ after_call worker.old (worker.old.spare - 1) worker.new.seen) }
-    ensures part { OnOk result (0 < worker.old.spare) }
-    ensures stopped { IfErr result (IsHeldAs (λ party. party ≡ worker.old.number)) }
+    ensures stopped { IfErr result
+        (IsWorkersStop S.limits S.rules (G.holds gate.now) (λ party. party ≡ worker.old.number)) }
 {
     ask(gate, worker)?;
     match registry.clone_span(rt, worker, handle) {
         Ok(handle) => Ok(Held { handle }),
+        Err(fault) => Err(Stopped::Refused(fault)),
+    }
+}
+
+// Enters the span of a handle.
+fn enter<H: Ledger, C: Ledger, S: Setup, G: Gate, R: Wait>(
+    rt: &R,
+    registry: &Registry<H, C, S, Ring>,
+    gate: &G,
+    worker: &mut Worker<H, C, S>,
+    handle: &mut Handle<H, C, S>,
+) -> Result<(), Stopped>
+    ensures worker { OnOk result (worker.new ≡ after_call worker.old worker.old.spare worker.new.seen) }
+    ensures stopped { IfErr result
+        (IsWorkersStop S.limits S.rules (G.holds gate.now) (λ party. party ≡ worker.old.number)) }
+{
+    ask(gate, worker)?;
+    match registry.enter(rt, worker, handle) {
+        Ok(_first) => Ok(()),
+        Err(fault) => Err(Stopped::Refused(fault)),
+    }
+}
+
+// Tells the event of a round.
+fn tell<H: Ledger, C: Ledger, S: Setup, G: Gate, R: Wait>(
+    rt: &R,
+    registry: &Registry<H, C, S, Ring>,
+    gate: &G,
+    worker: &mut Worker<H, C, S>,
+    meta: &Meta,
+) -> Result<(), Stopped>
+    requires { plain_meta meta.now ≡ app_meta (codes "event") }
+    ensures worker { OnOk result (worker.new ≡ after_call worker.old worker.old.spare worker.new.seen) }
+    ensures stopped { IfErr result
+        (IsWorkersStop S.limits S.rules (G.holds gate.now) (λ party. party ≡ worker.old.number)) }
+{
+    ask(gate, worker)?;
+    match registry.event(rt, worker, meta, "tick", &[]) {
+        Ok(()) => Ok(()),
+        Err(fault) => Err(Stopped::Refused(fault)),
+    }
+}
+
+// Leaves the span of a handle.
+fn exit<H: Ledger, C: Ledger, S: Setup, G: Gate, R: Wait>(
+    rt: &R,
+    registry: &Registry<H, C, S, Ring>,
+    gate: &G,
+    worker: &mut Worker<H, C, S>,
+    handle: &Handle<H, C, S>,
+) -> Result<(), Stopped>
+    ensures worker { OnOk result (worker.new ≡ after_call worker.old worker.old.spare worker.new.seen) }
+    ensures stopped { IfErr result
+        (IsWorkersStop S.limits S.rules (G.holds gate.now) (λ party. party ≡ worker.old.number)) }
+{
+    ask(gate, worker)?;
+    match registry.exit(rt, worker, handle.id()) {
+        Ok(_closed) => Ok(()),
         Err(fault) => Err(Stopped::Refused(fault)),
     }
 }
@@ -217,7 +287,8 @@ fn close<H: Ledger, C: Ledger, S: Setup, G: Gate, R: Wait>(
     held: Held<H, C, S>,
 ) -> Result<(), Stopped>
     ensures worker { OnOk result (worker.new ≡ after_call worker.old (worker.old.spare + 1) worker.new.seen) }
-    ensures stopped { IfErr result (IsHeldAs (λ party. party ≡ worker.old.number)) }
+    ensures stopped { IfErr result
+        (IsWorkersStop S.limits S.rules (G.holds gate.now) (λ party. party ≡ worker.old.number)) }
 {
     ask(gate, worker)?;
     match registry.try_close(rt, worker, held.into_handle()) {

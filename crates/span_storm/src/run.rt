@@ -46,8 +46,8 @@ pub fn storm<G: Gate + Sync, R: Threads + Wait + Sync>(
     ensures empty { IfOk result (λ report. (report.left ≡ 0) ↔ (report.entries ≡ 0)) }
     ensures balance { IfOk result (λ report. report.made ≡ report.closed + report.left) }
     ensures ended { IfOk result (λ report.
-        IsStormEnd (storm_limits workers) (filters_in layers) (forms_in layers) report) }
-    ensures faults { IfErr result (IsStormFault workers) }
+        IsStormEnd (storm_limits workers) rounds (filters_in layers) (forms_in layers) report) }
+    ensures faults { IfErr result (IsStormFault (storm_limits workers) (filters_in layers) (G.holds gate.now)) }
 {
     let limits = Limits {
         workers,
@@ -78,8 +78,8 @@ fn with_metas<G: Gate + Sync, R: Threads + Wait + Sync>(
     requires wanted { wants_jobs (filters_in layers) ≡ true }
     ensures numbers { IfOk result (λ report. HasNumbers checked.now.workers rounds report) }
     ensures ended { IfOk result (λ report.
-        IsStormEnd checked.now (filters_in layers) (forms_in layers) report) }
-    ensures faults { IfErr result (IsStormFault checked.now.workers) }
+        IsStormEnd checked.now rounds (filters_in layers) (forms_in layers) report) }
+    ensures faults { IfErr result (IsStormFault checked.now (filters_in layers) (G.holds gate.now)) }
 {
     let Ok(blanks) = Blanks::new(alloc, checked) else {
         return Err(RunFault::Memory);
@@ -137,8 +137,8 @@ fn run<
       history = S.history;
     } }
     ensures numbers { IfOk result (λ report. HasNumbers S.limits.workers rounds report) }
-    ensures ended { IfOk result (λ report. IsStormEnd S.limits S.rules drain.forms report) }
-    ensures faults { IfErr result (IsStormFault S.limits.workers) }
+    ensures ended { IfOk result (λ report. IsStormEnd S.limits rounds S.rules drain.forms report) }
+    ensures faults { IfErr result (IsStormFault S.limits S.rules (G.holds gate.now)) }
 {
     let made = Registry::<H, C, S, Ring>::new(alloc, filters, ring, blanks);
     let Ok((registry, workers)) = made else {

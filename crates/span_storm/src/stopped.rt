@@ -1,7 +1,6 @@
 //! Why a party of a storm stopped.
-ghost use Rattle.std.specs.Prelude.{◌≤◌, ℕ};
-ghost use Rattle.span_storm.specs.Storm.{IsStormFault};
-ghost use Rattle.span_storm.specs.inside.Back.{IsHeldAs};
+ghost use Rattle.std.specs.Prelude.{◌≡◌};
+ghost use Rattle.span_storm.specs.inside.Back.{fault_of};
 
 use span_id::Fault;
 use span_run::RunFault;
@@ -20,7 +19,7 @@ pub enum Stopped {
 impl Stopped {
     /// The fault with which the storm ends.
     pub(crate) fn fault(self) -> RunFault
-        ensures { (workers : ℕ) → IsHeldAs (λ party. party ≤ workers) self → IsStormFault workers result }
+        ensures { result ≡ fault_of self }
     {
         match self {
             Stopped::Memory => RunFault::Memory,

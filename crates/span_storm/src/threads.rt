@@ -1,8 +1,8 @@
 //! All threads of a storm, and what comes back of them.
-ghost use Rattle.std.specs.Prelude.{◌≡◌, ◌+◌, ◌*◌, ◌^◌, ◌<◌, ◌≤◌, true, IfOk, IfErr, All, map, length, vec_len, sum_by};
+ghost use Rattle.std.specs.Prelude.{◌≡◌, ◌+◌, ◌*◌, ◌^◌, ◌<◌, ◌≤◌, [], true, IfOk, IfErr, All, map, length, vec_len, sum_by};
 ghost use Rattle.span_storm.specs.Storm.{wants_jobs};
-ghost use Rattle.span_storm.specs.inside.Back.{AreBothBack, AreReady, both_shares, Fit, Gathers, HasAll};
-ghost use Rattle.span_storm.specs.inside.Back.{IsHeldAs, share_and_drain};
+ghost use Rattle.span_storm.specs.inside.Back.{AreBothBack, AreReady, both_shares, Fit, Gathers, GathersSeen, HasAll};
+ghost use Rattle.span_storm.specs.inside.Back.{IsStormStop, IsWorkersStop, share_and_drain};
 
 use crate::draining::start_drain;
 use crate::gate::Gate;
@@ -39,7 +39,7 @@ pub(crate) fn in_threads<
 ) -> Result<(Share<H, C, S>, Drain<V>), Stopped>
     requires { AreReady S.rules (vec_len workers) workers.items rounds }
     ensures back { IfOk result (λ back. AreBothBack workers.items rounds drain back.0 back.1) }
-    ensures stopped { IfErr result (IsHeldAs (λ party. party ≤ vec_len workers)) }
+    ensures stopped { IfErr result (IsStormStop S.limits S.rules (G.holds gate.now) (vec_len workers)) }
 {
     let all_back = AtomicBool::new(false);
     let flag = &all_back;
@@ -49,7 +49,7 @@ pub(crate) fn in_threads<
         move |scope| -> Result<(Share<H, C, S>, Drain<V>), Stopped>
             requires { AreReady S.rules (vec_len workers) workers.items rounds }
             ensures back { IfOk result (λ back. AreBothBack workers.items rounds drain back.0 back.1) }
-            ensures stopped { IfErr result (IsHeldAs (λ party. party ≤ vec_len workers)) }
+            ensures stopped { IfErr result (IsStormStop S.limits S.rules (G.holds gate.entry.now) (vec_len workers)) }
         {
             let draining = start_drain(rt, scope, gate, workers.len() as u32, drain, flag);
             let whole = run_workers(rt, scope, alloc, registry, gate, metas, workers, rounds);
@@ -94,10 +94,11 @@ fn run_workers<
 ) -> Result<Share<H, C, S>, Stopped>
     requires { AreReady S.rules (vec_len workers) workers.items rounds }
     ensures back { IfOk result (λ whole. HasAll workers.items rounds whole) }
-    ensures stopped { IfErr result (IsHeldAs (λ party. party < vec_len workers)) }
+    ensures stopped { IfErr result
+        (IsWorkersStop S.limits S.rules (G.holds gate.now) (λ party. party < vec_len workers)) }
 {
     let parties = start_all(rt, scope, alloc, registry, gate, metas, workers, rounds)?;
-    join_all(rt, parties, rounds)
+    join_all(rt, gate, parties, rounds)
 }
 
 // Starts a thread for each worker. The memory for all of them is there before the first is started.
@@ -118,11 +119,13 @@ fn start_all<
     metas: &'s Metas,
     workers: Vec<Worker<H, C, S>>,
     rounds: u32,
-) -> Result<Vec<Party<H, C, S>>, Stopped>
-    requires { wants_jobs S.rules ≡ true }
+) -> Result<Vec<Party<H, C, S, G>>, Stopped>
+    requires wanted { wants_jobs S.rules ≡ true }
+    requires spare { All (λ worker. 3 ≤ worker.spare) workers.items }
     ensures memory { IfErr result (λ stopped. stopped ≡ Stopped.Memory) }
     ensures same { IfOk result (λ parties. map (λ party. party.worker) parties.items ≡ workers.items) }
     ensures rounds { IfOk result (λ parties. All (λ party. party.rounds ≡ rounds) parties.items) }
+    ensures gates { IfOk result (λ parties. All (λ party. party.gate ≡ gate.now) parties.items) }
 {
     let Ok(mut parties) = Vec::with_capacity(alloc, workers.len()) else {
         return Err(Stopped::Memory);
@@ -134,18 +137,22 @@ fn start_all<
 }
 
 // Joins the threads in the order of their workers, all of them, and puts what comes back together.
-fn join_all<H: Ledger, C: Ledger, S: Setup, R: Threads>(
+fn join_all<H: Ledger, C: Ledger, S: Setup, G: Gate, R: Threads>(
     rt: &R,
-    parties: Vec<Party<H, C, S>>,
+    gate: &G,
+    parties: Vec<Party<H, C, S, G>>,
     rounds: u32,
 ) -> Result<Share<H, C, S>, Stopped>
     requires some { (0 < vec_len parties) × (vec_len parties ≤ 16) }
     requires rounds { rounds ≤ 400 }
     requires each { All (λ party. (party.rounds ≡ rounds) × (party.worker.accepted ≡ 0)) parties.items }
     requires numbers { All (λ party. party.worker.number < length parties.items) parties.items }
+    requires gates { All (λ party. party.gate ≡ gate.now) parties.items }
     ensures back { Gathers result (length parties.items) 0 (9 * rounds)
         (sum_by (λ party. party.worker.spare) parties.items) 0 }
-    ensures stopped { IfErr result (IsHeldAs (λ party. party < length parties.items)) }
+    ensures seen { GathersSeen result (9 * rounds) [] (map (λ party. party.worker.number) parties.items) }
+    ensures stopped { IfErr result
+        (IsWorkersStop S.limits S.rules (G.holds gate.now) (λ party. party < length parties.items)) }
 {
     let mut parties = parties.into_iter();
     let Some(first) = parties.next() else {

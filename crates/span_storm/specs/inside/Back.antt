@@ -1,27 +1,44 @@
 -- What comes back of the threads of a storm: no public clause cites it.
-use Rattle.std.specs.Prelude.{◌≡◌, ℕ, ◌+◌, ◌*◌, ◌^◌, ◌<◌, ◌≤◌, ◌↔◌, true, List, length, sum_by, All, Result, Ok, Err, IfOk}
+use Rattle.std.specs.Prelude.{◌≡◌, ℕ, ◌+◌, ◌*◌, ◌^◌, ◌<◌, ◌≤◌, ◌↔◌, true, List, [], ◌∷◌, ◌++◌, length, map, sum_by, All, Result, Ok, Err, IfOk}
+use Rattle.span_id.specs.declared.fault.Fault.{Fault}
+use Rattle.span_id.specs.declared.limits.Limits.{Limits}
 use Rattle.span_layers.specs.Filter.{Filter}
 use Rattle.span_outlet.specs.Drain.{DrainView}
+use Rattle.span_history.specs.Own.{own, FrontView}
 use Rattle.span_registry.specs.Worker.{WorkerView}
 use Rattle.span_registry.specs.Share.{ShareView, joined}
 use Rattle.span_registry.specs.declared.report.Report.{Report}
-use Rattle.span_storm.specs.Storm.{wants_jobs}
+use Rattle.span_run.specs.declared.fault.RunFault.{RunFault}
+use Rattle.span_run.specs.declared.fault.RunFault.TheVariants as run
+use Rattle.span_storm.specs.Storm.{WasHeld, WasRefused, wants_jobs}
 use Rattle.span_storm.specs.declared.stopped.Stopped.{Stopped}
 use Rattle.span_storm.specs.declared.stopped.Stopped.TheVariants.{Memory, Refused, Held}
 
--- a worker that makes so many rounds
-pub record PartyView : Type 0 where
+-- a worker that makes so many rounds, and the gate that it asks
+pub record PartyView (Gate : Type 0) : Type 0 where
   pub worker : WorkerView
+  pub gate : Gate
   pub rounds : ℕ
 
--- what comes back of a worker that has made its rounds: all its parts, nine accepted calls for each round, and no handle
+-- so many calls of its own are in what the worker has seen
+abbrev pub HasOwn : ℕ → FrontView → Type 0
+HasOwn calls front = length (own front.number front.seen) ≡ calls
+
+-- the numbers of those who have seen something
+abbrev pub numbers_seen : List FrontView → List ℕ
+numbers_seen fronts = map (λ front. front.number) fronts
+
+-- what comes back of a worker that has made its rounds: all its parts, nine accepted calls for each round, which it has
+-- seen, and no handle
 pub record ComesBack (worker : WorkerView) (rounds : ℕ) (share : ShareView) : Type 0 where
   pub units : share.units ≡ 0
   pub accepted : share.accepted ≡ worker.accepted + 9 * rounds
   pub handle_parts : share.handle_parts ≡ worker.spare
   pub call_parts : share.call_parts ≡ 1
+  pub numbers : numbers_seen share.seen ≡ worker.number ∷ []
+  pub own_are : All (HasOwn share.accepted) share.seen
 
--- so many workers that have made no call may begin on so many rounds
+-- so many workers that have made no call, and may make the handles of a round, may begin on so many rounds
 pub record AreReady (rules : List Filter) (count : ℕ) (workers : List WorkerView) (rounds : ℕ) : Type 0 where
   pub wanted : wants_jobs rules ≡ true
   pub some : 0 < count
@@ -29,12 +46,32 @@ pub record AreReady (rules : List Filter) (count : ℕ) (workers : List WorkerVi
   pub few_rounds : rounds ≤ 400
   pub new : All (λ worker. worker.accepted ≡ 0) workers
   pub numbers : All (λ worker. worker.number < count) workers
+  pub spare : All (λ worker. 3 ≤ worker.spare) workers
 
--- a party stopped, and if it was held, then as such a one
-abbrev pub IsHeldAs : (ℕ → Type 0) → Stopped → Type 0
-IsHeldAs P Memory = Unit {0}
-IsHeldAs P (Refused fault) = Unit {0}
-IsHeldAs P (Held party) = P party
+-- why a party stopped: for want of memory, or for a refusal or a hold of which this is known
+abbrev pub IsStop : (Fault → Type 0) → (ℕ → Type 0) → Stopped → Type 0
+IsStop refused held Memory = Unit {0}
+IsStop refused held (Refused fault) = refused fault
+IsStop refused held (Held party) = held party
+
+-- one of these workers stopped
+abbrev pub IsWorkersStop : Limits → List Filter → (ℕ → ℕ → Type 0) → (ℕ → Type 0) → Stopped → Type 0
+IsWorkersStop limits rules holds is_one = IsStop (WasRefused limits rules is_one) (WasHeld holds is_one)
+
+-- the drain, which is the party of this number, stopped: it makes no call
+abbrev pub IsDrainsStop : (ℕ → ℕ → Type 0) → ℕ → Stopped → Type 0
+IsDrainsStop holds number = IsStop (λ _. ⊥) (WasHeld holds (λ party. party ≡ number))
+
+-- one of so many workers stopped, or the drain, whose number is that of all workers
+abbrev pub IsStormStop : Limits → List Filter → (ℕ → ℕ → Type 0) → ℕ → Stopped → Type 0
+IsStormStop limits rules holds workers =
+    IsStop (WasRefused limits rules (λ worker. worker < workers)) (WasHeld holds (λ party. party ≤ workers))
+
+-- the fault with which a storm ends where a party stopped
+abbrev pub fault_of : Stopped → RunFault
+fault_of Memory = run.Memory
+fault_of (Refused fault) = run.Refused fault
+fault_of (Held party) = run.Held party
 
 -- the shares of these workers together, each of which has come back
 pub record HasAll (workers : List WorkerView) (rounds : ℕ) (share : ShareView) : Type 0 where
@@ -42,6 +79,8 @@ pub record HasAll (workers : List WorkerView) (rounds : ℕ) (share : ShareView)
   pub accepted : share.accepted ≡ 9 * (length workers * rounds)
   pub handle_parts : share.handle_parts ≡ sum_by (λ worker. worker.spare) workers
   pub call_parts : share.call_parts ≡ length workers
+  pub numbers : numbers_seen share.seen ≡ map (λ worker. worker.number) workers
+  pub own_are : All (HasOwn (9 * rounds)) share.seen
 
 -- What is put together of n workers when as many as `rest` have not been joined, unless one had a fault: each has made
 -- so many calls, and of all parts so many are left.
@@ -49,6 +88,12 @@ abbrev pub Gathers : Result ShareView Stopped → ℕ → ℕ → ℕ → ℕ �
 Gathers whole n rest each all left = IfOk whole (λ share.
     (share.units ≡ 0) × (share.call_parts + rest ≡ n) × (share.accepted ≡ share.call_parts * each)
     × (share.handle_parts + left ≡ all))
+
+-- What the workers had seen that were put together, unless one had a fault: so many calls of its own each, and with
+-- the numbers of those that have not been joined theirs are all numbers.
+abbrev pub GathersSeen : Result ShareView Stopped → ℕ → List ℕ → List ℕ → Type 0
+GathersSeen whole each rest all = IfOk whole (λ share.
+    All (HasOwn each) share.seen × (numbers_seen share.seen ++ rest ≡ all))
 
 -- both shares, or the fault of the first that has one
 abbrev pub both_shares : Result ShareView Stopped → Result ShareView Stopped → Result ShareView Stopped
@@ -74,9 +119,10 @@ pub record HasNumbers (workers rounds : ℕ) (report : Report) : Type 0 where
   pub empty : (report.left ≡ 0) ↔ (report.entries ≡ 0)
   pub balance : report.made ≡ report.closed + report.left
 
--- a drain in its thread, and its number as a party
-pub record DrainingView : Type 0 where
+-- a drain in its thread, the gate that it asks, and its number as a party
+pub record DrainingView (Gate : Type 0) : Type 0 where
   pub drain : DrainView
+  pub gate : Gate
   pub party : ℕ
 
 -- the drain of the same ring, which writes in the same forms

@@ -1,27 +1,58 @@
-use Rattle.std.proofs.Common.{◌≡◌, ◌≤◌, List, subst}
+use Rattle.std.proofs.Common.{◌≡◌, ℕ, ◌<◌, ◌∙◌, List, ap, sym, subst}
+use Rattle.std.specs.Prelude.{Option, Some, IsSomeAnd, slice_index_or}
 use Rattle.span_id.specs.declared.limits.Limits.{Limits}
 use Rattle.span_layers.specs.declared.form.Form.{Form}
 use Rattle.span_layers.specs.Filter.{Filter}
 use Rattle.span_outlet.specs.Drain.{DrainView}
+use Rattle.span_outlet.specs.Outlet.{RingName}
+use Rattle.span_outlet.specs.Ring.{places_of}
 use Rattle.span_registry.specs.declared.report.Report.{Report}
+use Rattle.span_registry.specs.Worker.{WorkerView, IsNew}
 use Rattle.span_registry.specs.Share.{ShareView}
 use Rattle.span_registry.specs.Report.{IsDrainedEnd, Tells}
-use Rattle.span_storm.specs.Storm.{IsStormEnd}
-use Rattle.span_storm.specs.inside.Back.{IsHeldAs}
+use Rattle.span_storm.specs.Storm.{IsStormEnd, IsStormFault}
+use Rattle.span_storm.specs.declared.stopped.Stopped.{Stopped}
+use Rattle.span_storm.specs.declared.stopped.Stopped.TheVariants.{Memory, Refused, Held}
+use Rattle.span_storm.specs.inside.Back.{HasAll, IsStormStop, fault_of}
+use Rattle.span_storm.proofs.Gathering.{each_made}
 use Rattle.span_storm.proofs.run.run.Goals as goal
 
--- what a drained end says, without what the drain had before
-storm_end : (limits : Limits) (rules : List Filter) (forms : List Form) (drain : DrainView) (share : ShareView) (report : Report) → drain.forms ≡ forms → IsDrainedEnd limits rules drain share report → IsStormEnd limits rules forms report
-storm_end limits rules forms drain share report same end = record {
-  core = end.end.core;
-  legal = end.end.ended.legal;
-  within = end.end.ended.within;
-  told = subst (λ f. Tells end.end.core f report) same end.end.told;
-}
+-- the ring has so many places
+has_places : (name : Option RingName) (ring : RingName) (places : ℕ) → name ≡ Some ring → places_of ring ≡ places → IsSomeAnd name (λ ring. places_of ring ≡ places)
+has_places name ring places is are = subst (λ (name : Option RingName). IsSomeAnd name (λ ring. places_of ring ≡ places)) (sym is) are
+
+-- what a drained end says where these workers made so many rounds
+storm_end : (limits : Limits) (rounds : ℕ) (rules : List Filter) (forms : List Form) (drain : DrainView) (ring : RingName) (share : ShareView) (workers : List WorkerView) (report : Report)
+    → drain.forms ≡ forms → drain.name ≡ ring → places_of ring ≡ limits.ring → HasAll workers rounds share → ((i : ℕ) (d : WorkerView) → i < limits.workers → IsNew i (slice_index_or workers i d))
+    → IsDrainedEnd limits rules drain share report → IsStormEnd limits rounds rules forms report
+storm_end limits rounds rules forms drain ring share workers report same name places all new end =
+    let ended = end.end.ended in
+    record {
+      core = end.end.core;
+      limits_are = ended.limits_are;
+      rules_are = ended.rules_are;
+      places = has_places _ ring _ (end.ring_is ∙ ap (λ (r : RingName). Some r) name) places;
+      legal = ended.legal;
+      within = ended.within;
+      each = each_made share.seen workers _ _ _ ended.fronts all.numbers new all.own_are ended.seen_are;
+      told = subst (λ f. Tells end.end.core f report) same end.end.told;
+    }
 
 pub returns-in-Ok-back-clause-ended : goal.returns-in-Ok-back-clause-ended
-returns-in-Ok-back-clause-ended g c = storm_end _ _ _ _ _ _ c.in-Ok-back.ensures.back.drain.forms c.finish.ensures.ended
+returns-in-Ok-back-clause-ended g c =
+    let back = c.in-Ok-back.ensures.back in
+    storm_end _ _ _ _ _ _ _ _ _ back.drain.forms back.drain.name c.requires.places back.whole c.in-Ok.ensures.each c.finish.ensures.ended
+
+-- the fault of a party that stopped
+storm_fault : (limits : Limits) (rules : List Filter) (holds : ℕ → ℕ → Type 0) (stopped : Stopped) → IsStormStop limits rules holds limits.workers stopped → IsStormFault limits rules holds (fault_of stopped)
+storm_fault limits rules holds Memory stop = tt
+storm_fault limits rules holds (Refused fault) stop = stop
+storm_fault limits rules holds (Held party) stop = stop
 
 pub returns-in-Err-clause-faults : goal.returns-in-Err-clause-faults
 returns-in-Err-clause-faults g c =
-    c.fault.ensures g.S.Setup.limits.workers (subst (λ count. IsHeldAs (λ party. party ≤ count) c.in-Err.stopped) c.in-Ok.ensures.count.0 c.in-Err.ensures.stopped)
+    let limits = g.S.Setup.limits in
+    let rules = g.S.Setup.rules in
+    let holds = g.G.Gate.holds c.args.gate.now in
+    subst (λ fault. IsStormFault limits rules holds fault) (sym c.fault.ensures)
+    (storm_fault limits rules holds c.in-Err.stopped (subst (λ count. IsStormStop limits rules holds count c.in-Err.stopped) c.in-Ok.ensures.count.0 c.in-Err.ensures.stopped))

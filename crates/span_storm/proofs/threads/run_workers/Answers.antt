@@ -8,7 +8,7 @@ use Rattle.span_storm.proofs.threads.run_workers.Goals as goal
 pub join_all-requires-clause-each : goal.join_all-requires-clause-each
 join_all-requires-clause-each g c =
     let started = c.in_ok-parties.ensures in
-    λ k d lt. (started.rounds k d lt, all_of_map (λ (party : PartyView). party.worker) c.in_ok-parties.parties.items _ started.same (λ (worker : WorkerView). worker.accepted ≡ 0) c.requires.new k d lt)
+    λ k d lt. (started.rounds k d lt, all_of_map (λ (party : PartyView g.row.G.Denot). party.worker) c.in_ok-parties.parties.items _ started.same (λ (worker : WorkerView). worker.accepted ≡ 0) c.requires.new k d lt)
 
 pub join_all-requires-clause-numbers : goal.join_all-requires-clause-numbers
 join_all-requires-clause-numbers g c =
@@ -16,9 +16,9 @@ join_all-requires-clause-numbers g c =
     numbers_of _ _ c.in_ok-parties.parties.items c.in_ok-parties.ensures.same count c.requires.numbers
 
 pub returns-clause-back : goal.returns-clause-back
-returns-clause-back g c = has_all c.args.workers.items c.in_ok-parties.parties.items c.args.rounds c.join_all.result c.in_ok-parties.ensures.same c.join_all.ensures.back
+returns-clause-back g c = has_all c.args.workers.items c.in_ok-parties.parties.items c.args.rounds c.in_ok-parties.ensures.same c.join_all.result c.join_all.ensures.back c.join_all.ensures.seen
 
 pub returns-clause-stopped : goal.returns-clause-stopped
 returns-clause-stopped g c =
     let count : vec_len c.args.workers ≡ length c.args.workers.items = search rules in
-    stopped_of _ _ c.in_ok-parties.parties.items c.in_ok-parties.ensures.same count c.join_all.result c.join_all.ensures.stopped
+    stopped_of _ _ c.in_ok-parties.parties.items c.in_ok-parties.ensures.same count _ _ _ c.join_all.result c.join_all.ensures.stopped

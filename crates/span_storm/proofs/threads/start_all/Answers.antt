@@ -1,6 +1,7 @@
-use Rattle.std.proofs.Common.{rules, ◌≡◌, ◌++◌, ◌∷◌, [], ap, length, arith}
+use Rattle.std.proofs.Common.{rules, ◌≡◌, ◌≤◌, ◌++◌, ◌∷◌, [], ap, length, arith}
+use Rattle.span_registry.specs.Worker.{WorkerView}
 use Rattle.span_storm.specs.inside.Back.{PartyView}
-use Rattle.span_storm.proofs.Gathering.{moved_map, all_grown}
+use Rattle.span_storm.proofs.Gathering.{moved_map, all_grown, all_of_cons}
 use Rattle.span_storm.proofs.threads.start_all.Given as given
 use Rattle.span_storm.proofs.threads.start_all.Goals as goal
 use Rattle.span_storm.proofs.threads.start_all.Goals.{After-push_reserved}
@@ -14,7 +15,9 @@ loop-worker-preserved g c =
     let step = c.in-Some.ensures.steps in
     let started = c.start.ensures in
     record {
-      same = moved_map (λ (party : PartyView). party.worker) c.loop-worker.parties.items _ c.start.result _ _ _ _ (pushed g c) (ap (λ (party : PartyView). party.worker) started) step.0 inv.same;
-      rounds = all_grown _ _ c.start.result (pushed g c) (λ (party : PartyView). party.rounds ≡ c.args.rounds) inv.rounds (ap (λ (party : PartyView). party.rounds) started);
+      same = moved_map (λ (party : PartyView g.row.G.Denot). party.worker) c.loop-worker.parties.items _ c.start.result _ _ _ _ (pushed g c) (ap (λ (party : PartyView g.row.G.Denot). party.worker) started) step.0 inv.same;
+      spare = (all_of_cons _ _ c.in-Some.worker step.0 (λ (worker : WorkerView). 3 ≤ worker.spare) inv.spare).1;
+      gates = all_grown _ _ c.start.result (pushed g c) (λ (party : PartyView g.row.G.Denot). party.gate ≡ c.args.gate.now) inv.gates (ap (λ (party : PartyView g.row.G.Denot). party.gate) started);
+      rounds = all_grown _ _ c.start.result (pushed g c) (λ (party : PartyView g.row.G.Denot). party.rounds ≡ c.args.rounds) inv.rounds (ap (λ (party : PartyView g.row.G.Denot). party.rounds) started);
       room = omega (arith, inv.room, c.push_reserved.ensures.len, c.push_reserved.ensures.capacity, ap length step.0);
     }
