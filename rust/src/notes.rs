@@ -38,10 +38,21 @@ pub(crate) enum What {
         parent: Option<RawId>,
         known: Known,
     },
-    Event(Known),
+    /// An event that was told, or a span before it has its id.
+    Made(Known),
     /// Fields of these kinds were recorded.
     Record(RawId, Vec<Kind>),
     Other,
+}
+
+impl What {
+    /// The span that is made has this id.
+    pub(crate) fn of_span(self, id: RawId, parent: Option<RawId>) -> What {
+        match self {
+            What::Made(known) => What::Span { id, parent, known },
+            other => other,
+        }
+    }
 }
 
 /// An accepted call, which put one batch into the ring.
@@ -123,7 +134,7 @@ impl Book {
         match self.calls.front() {
             Some(Call {
                 at,
-                what: What::Event(known),
+                what: What::Made(known),
                 ..
             }) => (*at, Some(known)),
             call => (call.map_or(0, |call| call.at), None),
@@ -160,7 +171,7 @@ impl Book {
                     told.known.kinds.extend(kinds);
                 }
             }
-            What::Event(_) | What::Other => {}
+            What::Made(_) | What::Other => {}
         }
     }
 

@@ -123,8 +123,9 @@ impl Origins {
         let names = kept_name + kept_target;
         reserve(&mut next.texts, names)?;
         next.texts.extend_from_slice(&packed.texts()[..names]);
-        next.reserve_fields(packed)?;
-        next.add_fields(packed, name + target);
+        let (fields, bytes) = next.fitting(packed);
+        next.reserve_fields(fields, bytes)?;
+        next.add_fields(packed, name + target, fields, bytes);
         Ok(())
     }
 
@@ -145,13 +146,17 @@ impl Origins {
 
     /// Room for these fields of a span.
     pub(crate) fn reserve_record(&mut self, id: RawId, packed: &Packed) -> Result<(), Error> {
-        self.of(id).map_or(Ok(()), |made| made.reserve_fields(packed))
+        self.of(id).map_or(Ok(()), |made| {
+            let (fields, bytes) = made.fitting(packed);
+            made.reserve_fields(fields, bytes)
+        })
     }
 
     /// These fields were recorded, for which there is room.
     pub(crate) fn recorded(&mut self, id: RawId, packed: &Packed) {
         if let Some(made) = self.of(id) {
-            made.add_fields(packed, 0);
+            let (fields, bytes) = made.fitting(packed);
+            made.add_fields(packed, 0, fields, bytes);
         }
     }
 
@@ -182,6 +187,7 @@ impl Origins {
 
 impl Made {
     // How many of the packed fields are kept, and how many bytes of theirs.
+    #[inline]
     fn fitting(&self, packed: &Packed) -> (usize, usize) {
         let (mut fields, mut bytes) = (0, 0);
         for field in packed.fields() {
@@ -194,15 +200,15 @@ impl Made {
         (fields, bytes)
     }
 
-    fn reserve_fields(&mut self, packed: &Packed) -> Result<(), Error> {
-        let (fields, bytes) = self.fitting(packed);
+    #[inline]
+    fn reserve_fields(&mut self, fields: usize, bytes: usize) -> Result<(), Error> {
         reserve(&mut self.texts, bytes)?;
         reserve(&mut self.fields, fields)
     }
 
-    // They stand behind so many other bytes.
-    fn add_fields(&mut self, packed: &Packed, first: usize) {
-        let (fields, bytes) = self.fitting(packed);
+    // So many of the fields, which stand behind the first bytes and take so many.
+    #[inline]
+    fn add_fields(&mut self, packed: &Packed, first: usize, fields: usize, bytes: usize) {
         self.texts.extend_from_slice(&packed.texts()[first..first + bytes]);
         self.fields.extend_from_slice(&packed.fields()[..fields]);
         self.is_cut |= fields < packed.fields().len();

@@ -4,7 +4,7 @@ use crate::error::Error;
 use crate::level::Level;
 use crate::lost::{Lost, TARGET};
 use crate::meta::{Counts, Fields, Given, Meta, RawId, RawParent};
-use crate::notes::{known, Known, What};
+use crate::notes::{known, What};
 use crate::open::Open;
 use crate::origins::Origins;
 use crate::owed::{Owed, Owing};
@@ -24,6 +24,8 @@ pub(crate) struct State {
     // The core has one worker more, the outsider, which is inside of no span.
     seats: Seats,
     origins: Origins,
+    // What the call does that is being made, where a layer asks for notes.
+    noted: Option<What>,
     // What was lost when that was last told.
     told: Lost,
 }
@@ -38,6 +40,7 @@ impl State {
             owing: Owing::new(workers as usize)?,
             seats: Seats::new(workers)?,
             origins: Origins::default(),
+            noted: None,
             told: Lost::default(),
         })
     }
@@ -153,10 +156,10 @@ impl State {
         self.owing.reserve_span()?;
         self.packed.pack(&[meta.name, meta.target], fields)?;
         self.origins.reserve_span(Some(meta), None, &self.packed)?;
-        let noted = self.noting(|_| known(meta, given))?;
+        self.noting(|_| Ok(What::Made(known(meta, given)?)))?;
         let id = self.placed(|core, packed| core.new_span(worker, parent, meta, packed));
         let id = id.map_err(|error| error.naming(Some(meta.name), fields))?;
-        Ok(id.inspect(|&id| self.made(id, noted)))
+        Ok(id.inspect(|&id| self.made(id)))
     }
 
     /// Its number.
@@ -188,56 +191,63 @@ impl State {
         self.owing.reserve_span()?;
         self.packed.pack(&[], fields)?;
         self.origins.reserve_span(None, Some(callsite), &self.packed)?;
-        let noted = self.noting(|origins| origins.known(callsite, given))?;
+        self.noting(|origins| Ok(What::Made(origins.known(callsite, given)?)))?;
         let id = self.placed(|core, packed| core.new_span_at(worker, parent, callsite, packed));
         let id = id.map_err(|error| error.naming(None, fields))?;
-        Ok(id.inspect(|&id| self.made(id, noted)))
+        Ok(id.inspect(|&id| self.made(id)))
     }
 
-    fn made(&mut self, id: RawId, noted: Option<Known>) {
+    fn made(&mut self, id: RawId) {
         self.owing.made(id);
         self.origins.made(id);
-        if let Some(known) = noted {
+        if self.ring.notes().is_some() {
             let parent = self.core.find(id).and_then(|found| RawId::from_u64(found.parent));
-            self.note(Some(What::Span { id, parent, known }));
+            self.noted = self.noted.take().map(|what| what.of_span(id, parent));
+            self.note_now();
         }
     }
 
-    // What is to be noted of a call, with room for it; none where no layer asks for notes.
+    // What is to be noted of a call, if a layer asks for notes, with room for it.
     #[inline]
-    fn noting<T>(&self, what: impl FnOnce(&Origins) -> Result<T, Error>) -> Result<Option<T>, Error> {
-        match self.ring.notes() {
-            None => Ok(None),
-            Some(notes) => notes.reserve().and_then(|()| what(&self.origins)).map(Some),
+    fn noting(&mut self, what: impl FnOnce(&Origins) -> Result<What, Error>) -> Result<(), Error> {
+        if let Some(notes) = self.ring.notes() {
+            notes.reserve()?;
+            self.noted = Some(what(&self.origins)?);
+        }
+        Ok(())
+    }
+
+    // The call was accepted.
+    #[inline]
+    fn note(&mut self) {
+        if self.ring.notes().is_some() {
+            self.note_now();
         }
     }
 
-    // The call that was accepted last did this; none where no layer asks for notes.
-    #[inline]
-    fn note(&mut self, what: Option<What>) {
-        if let Some(what) = what {
-            let number = self.calls();
-            let notes = self.ring.notes().filter(|_| !self.ring.is_unread());
-            if let Some(notes) = notes {
-                notes.add(number, what);
-            }
+    #[cold]
+    fn note_now(&mut self) {
+        let (number, what) = (self.calls(), self.noted.take());
+        let notes = self.ring.notes().filter(|_| !self.ring.is_unread());
+        if let (Some(notes), Some(what)) = (notes, what) {
+            notes.add(number, what);
         }
     }
 
     pub(crate) fn clone_span(&mut self, worker: u32, id: RawId) -> Result<(), Error> {
         self.owing.reserve_handle()?;
-        let noted = self.noting(|_| Ok(What::Other))?;
+        self.noting(|_| Ok(What::Other))?;
         self.placed(|core, _| core.clone_span(worker, id))?;
-        self.note(noted);
+        self.note();
         self.owing.cloned();
         Ok(())
     }
 
     pub(crate) fn enter(&mut self, worker: u32, id: RawId) -> Result<bool, Error> {
         self.owing.reserve_entry(worker)?;
-        let noted = self.noting(|_| Ok(What::Other))?;
+        self.noting(|_| Ok(What::Other))?;
         let first = self.placed(|core, _| core.enter(worker, id))?;
-        self.note(noted);
+        self.note();
         self.seats.entered(worker);
         self.owing.entered(worker, id);
         Ok(first)
@@ -250,18 +260,18 @@ impl State {
     }
 
     fn give_back_entry(&mut self, worker: u32, id: RawId) -> Result<bool, Error> {
-        let noted = self.noting(|_| Ok(What::Other))?;
+        self.noting(|_| Ok(What::Other))?;
         let closed = self.placed(|core, _| core.exit(worker, id))?;
-        self.note(noted);
+        self.note();
         self.seats.left(worker);
         self.owing.given_back();
         Ok(closed)
     }
 
     pub(crate) fn try_close(&mut self, worker: u32, id: RawId) -> Result<bool, Error> {
-        let noted = self.noting(|_| Ok(What::Other))?;
+        self.noting(|_| Ok(What::Other))?;
         let closed = self.placed(|core, _| core.try_close(worker, id))?;
-        self.note(noted);
+        self.note();
         self.owing.given_back();
         Ok(closed)
     }
@@ -270,20 +280,20 @@ impl State {
         let fields = given.fields;
         self.packed.pack(&[], fields)?;
         self.origins.reserve_record(id, &self.packed)?;
-        let noted = self.noting(|_| Ok(What::Record(id, given.all_kinds()?)))?;
+        self.noting(|_| Ok(What::Record(id, given.all_kinds()?)))?;
         let recorded = self.placed(|core, packed| core.record(worker, id, packed));
         recorded.map_err(|error| error.naming(None, fields))?;
         self.origins.recorded(id, &self.packed);
-        self.note(noted);
+        self.note();
         Ok(())
     }
 
     pub(crate) fn event(&mut self, worker: u32, meta: &Meta<'_>, message: &str, given: Given<'_>) -> Result<(), Error> {
         self.packed.pack(&[meta.name, meta.target, message], given.fields)?;
-        let noted = self.noting(|_| Ok(What::Event(known(meta, given)?)))?;
+        self.noting(|_| Ok(What::Made(known(meta, given)?)))?;
         let told = self.placed(|core, packed| core.event(worker, meta, message, packed));
         told.map_err(|error| error.naming(Some(meta.name), given.fields))?;
-        self.note(noted);
+        self.note();
         Ok(())
     }
 
@@ -295,10 +305,10 @@ impl State {
         given: Given<'_>,
     ) -> Result<(), Error> {
         self.packed.pack(&[message], given.fields)?;
-        let noted = self.noting(|origins| Ok(What::Event(origins.known(callsite, given)?)))?;
+        self.noting(|origins| Ok(What::Made(origins.known(callsite, given)?)))?;
         let told = self.placed(|core, packed| core.event_at(worker, callsite, message, packed));
         told.map_err(|error| error.naming(None, given.fields))?;
-        self.note(noted);
+        self.note();
         Ok(())
     }
 
@@ -306,9 +316,9 @@ impl State {
     fn tell_of_itself(&mut self, message: &str, fields: Fields<'_>) -> Result<(), Error> {
         let meta = Meta::event(Level::Warn, TARGET);
         self.packed.pack(&[meta.name, meta.target, message], fields)?;
-        let noted = self.noting(|_| Ok(What::Event(known(&meta, fields.into())?)))?;
+        self.noting(|_| Ok(What::Made(known(&meta, fields.into())?)))?;
         self.core.event(self.seats.outsider(), &meta, message, &self.packed)?;
-        self.note(noted);
+        self.note();
         Ok(())
     }
 
