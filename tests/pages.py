@@ -34,13 +34,13 @@ MOST = {
     "crates/span_script/README.md": (150, 110), "crates/span_seats/README.md": (200, 150),
     "crates/span_slots/README.md": (150, 100), "crates/span_stack/README.md": (100, 70),
     "crates/span_store/README.md": (250, 200), "crates/span_store_ffi/README.md": (200, 150),
-    "crates/span_storm/README.md": (250, 240), "crates/tracerun/README.md": (100, 100),
+    "crates/span_storm/README.md": (300, 240), "crates/tracerun/README.md": (100, 100),
     "crates/tracerun_command_line/README.md": (100, 80), "crates/two_workers/README.md": (150, 110),
     "crates/workloads/README.md": (350, 270), "docs/BENCHMARKS.md": (3600, 3600), "docs/CONTRIBUTING.md": (1850, 1800),
     "docs/DECISIONS.md": (3350, 3500), "docs/FORMATS.md": (2050, 2000), "docs/FROM_TRACING.md": (1300, 1300),
     "docs/LAYERS.md": (1050, 1000),
-    "docs/PROMISES.md": (1200, 1200), "docs/PROOFS.md": (2050, 2000), "docs/THEOREM.md": (550, 700),
-    "examples/README.md": (200, 100), "rust/README.md": (1200, 1200), "rust/tracing-subscriber/README.md": (600, 600),
+    "docs/PROMISES.md": (1250, 1200), "docs/PROOFS.md": (2050, 2000), "docs/THEOREM.md": (550, 700),
+    "examples/README.md": (200, 100), "rust/README.md": (1850, 1200), "rust/tracing-subscriber/README.md": (600, 600),
     "rust/tracing/README.md": (400, 100), "tests/README.md": (350, 100),
 }
 # Pages whose words a script takes from elsewhere. (What docs/THEOREM.md says beside quotations is written for it.)
