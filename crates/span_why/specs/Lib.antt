@@ -1,0 +1,3 @@
+-- The text that tells why spans are open.
+pub mod Why
+pub mod inside

@@ -1,0 +1,3 @@
+-- What only the proofs of this crate need: no public clause cites it.
+pub mod Families
+pub mod Pending
