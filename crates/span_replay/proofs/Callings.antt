@@ -101,7 +101,7 @@ call_seen (codes_of.Find key) h = tt
 pub is_call : (workers : ℕ) (line : Data) (op : code.Operation) → operation_of workers running line ≡ Ok (operation_seen op) → IsCall op
 is_call workers line op e = call_seen op (line_calls workers line (operation_seen op) e)
 
-calls_run : (op : Operation) → Calls op → stage_after op ≡ running
+pub calls_run : (op : Operation) → Calls op → stage_after op ≡ running
 calls_run (set_limits limits) h = absurd h
 calls_run (add_layer layer) h = absurd h
 calls_run (make new) h = refl

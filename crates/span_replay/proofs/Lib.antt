@@ -22,3 +22,6 @@ pub mod RestRuns
 pub mod Examples
 pub mod Scripts
 pub mod MostLayers
+pub mod Reachings
+pub mod Explaining
+pub mod Telling

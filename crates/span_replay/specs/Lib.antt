@@ -11,4 +11,5 @@ pub mod Written
 pub mod Requests
 pub mod Meaning
 pub mod Replayed
+pub mod Explained
 pub mod inside

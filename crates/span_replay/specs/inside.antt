@@ -5,3 +5,4 @@ pub mod Sending
 pub mod Calls
 pub mod Setup
 pub mod Ended
+pub mod Reaching

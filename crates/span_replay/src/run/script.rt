@@ -1,6 +1,7 @@
 //! A script as far as its calls have run: the registry, the labels, and of how many batches the notes were written.
 ghost use Rattle.std.specs.Prelude.{◌≡◌, ◌<◌, ◌≤◌, ◌++◌, [], None, Ok, ℕ, IfOk, IfErr, OnOk};
-ghost use Rattle.std.specs.Prelude.{length, flat_map, reverse};
+ghost use Rattle.std.specs.Prelude.{length, flat_map, map, reverse};
+ghost use Rattle.span_core.specs.Details.{plain_details, details_of};
 ghost use Rattle.span_core.specs.Happening.{id_at};
 ghost use Rattle.span_outlet.specs.Latest.{lines_from};
 ghost use Rattle.span_replay.specs.Faults.{id_of_key};
@@ -13,7 +14,7 @@ ghost use Rattle.span_replay.specs.inside.Sending.{IsAtMostOneMore};
 use crate::run::answer::{Answer, Found, write_answer, write_found, write_note};
 use crate::run::calls;
 use crate::run::labels::Labels;
-use span_core::Core;
+use span_core::{Core, SpanDetails};
 use span_forest::Span;
 use span_id::{Fault, Fields, Id};
 use span_layers::{Admit, Say};
@@ -150,6 +151,22 @@ impl<V: Say, A: Admit> Script<V, A> {
         ensures { result ≡ length (core_in self.now).world.spans }
     {
         self.core.len()
+    }
+
+    /// All open spans, by ascending slot, each with what is told of it. The only error is `Memory`.
+    pub fn span_details(&self) -> Result<Vec<SpanDetails>, Fault>
+        ensures { IfOk result (λ list. map plain_details list.items
+            ≡ map (details_of (core_in self.now).world) (core_in self.now).world.spans) }
+    {
+        self.core.span_details()
+    }
+
+    /// The worker's stack.
+    pub fn stack(&self, worker: u32) -> &SpanStack
+        requires { worker < (core_in self.now).limits.workers }
+        ensures { result.now.ids ≡ stack_of (core_in self.now).world worker }
+    {
+        self.core.stack(worker)
     }
 
     // Makes a span and binds its label, which may name no span that has handles.

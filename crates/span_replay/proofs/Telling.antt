@@ -1,0 +1,112 @@
+-- Why spans are open: from the bytes that are read to those that are written.
+use Rattle.std.proofs.Common.{◌≡◌, ℕ, ◌+◌, ◌<◌, ◌≤◌, Bool, true, false, List, [], ◌++◌, length, refl, ap, sym, ◌∙◌, subst, Option, Some, None, Result, Ok, Err, IfSome, IfOk, OnOk, IsOk, arith, length-append, append-nil}
+use Rattle.std.specs.Io.KnownBytes.{Appends, Consumes, IsAtEnd, Keeps}
+use Rattle.std.specs.Prelude.{nat_le}
+use Rattle.std.proofs.KnownBytes.{Appends-kept}
+use Rattle.std.proofs.lemmas.Bool.{lt-leb}
+use Rattle.span_run.proofs.Fronts.{Known}
+use Rattle.span_run.specs.Device.{AppendsFront, ReadFails}
+use Rattle.span_run.specs.RunFault.{EndsAsCounted}
+use Rattle.span_run.specs.declared.fault.RunFault.{RunFault}
+use Rattle.span_run.specs.declared.fault.RunFault.TheVariants.{Script, Memory, Device, Refused, Held}
+use Rattle.span_run.specs.declared.fault.Side.TheVariants.{Read, Write}
+use Rattle.span_replay.specs.Explained.{first_reached, why_run, why_meaning}
+use Rattle.span_replay.specs.Meaning.{Transcript, faulty}
+use Rattle.span_replay.specs.Replayed.{Fails, Runs}
+use Rattle.span_replay.specs.declared.run.explained.Explained.{Explained}
+use Rattle.span_replay.specs.inside.Reaching.{EndsAs, HasEnd, IsExplained, IsOfReading}
+use Rattle.span_replay.proofs.Written.{empty_front}
+use Rattle.span_script.specs.Script.{lines_of, most_bytes}
+use Rattle.span_script.specs.declared.reason.Reason.{Reason}
+use Rattle.span_script.specs.declared.reason.Reason.TheVariants.{TooLong}
+
+-- ---- what was read
+
+why_short : (hooks : ℕ) (about : Option (List ℕ)) (bytes : List ℕ) → length bytes ≤ most_bytes → why_meaning hooks about bytes ≡ why_run hooks about 1 first_reached (lines_of bytes)
+why_short hooks about bytes h = let fits : nat_le (length bytes) most_bytes ≡ true = grind arith in rw fits refl
+
+why_long : (hooks : ℕ) (about : Option (List ℕ)) (bytes : List ℕ) → most_bytes < length bytes → why_meaning hooks about bytes ≡ record { text = []; ending = faulty 0 TooLong }
+why_long hooks about bytes h = rw (lt-leb (length bytes) most_bytes h) refl
+
+-- all of the script was read
+pub read_explained : (r : Result Explained RunFault) (hooks : ℕ) (about : Option (List ℕ)) (i j : Known) (bytes shown : List ℕ) → Consumes i j bytes → IsAtEnd j → length bytes ≤ most_bytes → shown ≡ bytes
+    → IfOk r (IsExplained (why_run hooks about 1 first_reached (lines_of shown))) → IfOk r (λ e. IfSome i (λ xs. IsExplained (why_meaning hooks about xs) e))
+read_explained (Err fault) hooks about i j bytes shown all end fits is p = tt
+read_explained (Ok e) hooks about None j bytes shown all end fits is p = tt
+read_explained (Ok e) hooks about (Some xs) None bytes shown all end fits is p = absurd all
+read_explained (Ok e) hooks about (Some xs) (Some ys) bytes shown all end fits is p =
+    let same : bytes ≡ xs = sym (all ∙ ap (λ l. bytes ++ l) end ∙ append-nil bytes) in
+    let read : IsExplained (why_run hooks about 1 first_reached (lines_of bytes)) e = subst (λ l. IsExplained (why_run hooks about 1 first_reached (lines_of l)) e) is p in
+    subst (λ l. IsExplained (why_meaning hooks about l) e) same (subst (λ meant. IsExplained meant e) (sym (why_short hooks about bytes fits)) read)
+
+-- it is too long
+pub long_explained : (hooks : ℕ) (about : Option (List ℕ)) (i j : Known) (fault : RunFault) (number : ℕ) (reason : Reason) (e : Explained) → fault ≡ Script number reason → ReadFails i j fault → e.text.items ≡ [] → e.ended ≡ Err (Script number reason)
+    → IfSome i (λ xs. IsExplained (why_meaning hooks about xs) e)
+long_explained hooks about i j fault number reason e is fails none ended = by_bytes i j (subst (ReadFails i j) is fails)
+  where
+    by_bytes : (i j : Known) → ReadFails i j (Script number reason) → IfSome i (λ xs. IsExplained (why_meaning hooks about xs) e)
+    by_bytes None j p = tt
+    by_bytes (Some xs) None (at, why, (bytes, all, long)) = absurd all
+    by_bytes (Some xs) (Some ys) (at, why, (bytes, all, long)) =
+        let size : length xs ≡ length bytes + length ys = ap length all ∙ length-append bytes ys in
+        let meant = why_long hooks about xs (omega (arith, size, long)) in
+        record {
+          text_is = none ∙ sym (ap (λ (t : Transcript). t.text) meant);
+          ending_is = subst (EndsAs (why_meaning hooks about xs).ending) (sym ended) (ap (λ (t : Transcript). t.ending) meant ∙ ap (λ n. faulty n TooLong) (sym at) ∙ ap (faulty number) (sym why));
+        }
+
+-- the script was not read
+pub unread_explained : (hooks : ℕ) (about : Option (List ℕ)) (i a : Known) (fault : RunFault) → IsOfReading fault → IfSome i (λ xs. Runs (why_meaning hooks about xs) a a (Err fault))
+unread_explained hooks about None a fault p = tt
+unread_explained hooks about (Some xs) a (Script number reason) p = absurd p
+unread_explained hooks about (Some xs) a Memory p = empty_front a _
+unread_explained hooks about (Some xs) a (Device side) p = empty_front a _
+unread_explained hooks about (Some xs) a (Refused fault) p = absurd p
+unread_explained hooks about (Some xs) a (Held party) p = absurd p
+
+-- ---- what was written
+
+told_as : (meant : Transcript) (a c : Known) (ended : Result ℕ RunFault) → EndsAs meant.ending ended → Appends a c meant.text → Runs meant a c ended
+told_as meant a c (Ok left) is p = (is, p)
+told_as meant a c (Err (Script number reason)) is p = (is, p)
+told_as meant a c (Err Memory) is p = absurd is
+told_as meant a c (Err (Device side)) is p = absurd is
+told_as meant a c (Err (Refused fault)) is p = absurd is
+told_as meant a c (Err (Held party)) is p = absurd is
+
+-- all of it
+pub told_whole : (meant : Transcript) (e : Explained) (a b c : Known) (text : List ℕ) → IsExplained meant e → text ≡ e.text.items → Appends a b text → Keeps b c → Runs meant a c e.ended
+told_whole meant e a b c text is same p k = told_as meant a c e.ended is.ending_is (Appends-kept a b c meant.text (subst (Appends a b) (same ∙ is.text_is) p) k)
+
+device_front : (meant : Transcript) (a b : Known) (fault : RunFault) → fault ≡ Device Write → AppendsFront a b meant.text → Runs meant a b (Err fault)
+device_front meant a b fault d p = subst (λ f. Runs meant a b (Err f)) (sym d) p
+
+-- a front of it
+pub told_front : (meant : Transcript) (e : Explained) (a b : Known) (text : List ℕ) (fault : RunFault) → IsExplained meant e → text ≡ e.text.items → fault ≡ Device Write → AppendsFront a b text → Runs meant a b (Err fault)
+told_front meant e a b text fault is same d p = device_front meant a b fault d (subst (AppendsFront a b) (same ∙ is.text_is) p)
+
+whole_front : (a b : Known) (text : List ℕ) → Appends a b text → AppendsFront a b text
+whole_front a b text p = record { front = text; rest = []; whole = sym (append-nil text); taken = p }
+
+pub told_unflushed : (meant : Transcript) (e : Explained) (a b c : Known) (text : List ℕ) (fault : RunFault) → IsExplained meant e → text ≡ e.text.items → Appends a b text → Keeps b c → fault ≡ Device Write → Runs meant a c (Err fault)
+told_unflushed meant e a b c text fault is same p k d =
+    device_front meant a c fault d (whole_front a c meant.text (Appends-kept a b c meant.text (subst (Appends a b) (same ∙ is.text_is) p) k))
+
+-- no call of a device has failed
+pub told_counts : (ended : Result ℕ RunFault) (f f' f'' : ℕ) → HasEnd ended → f' ≡ f → f'' ≡ f' → EndsAsCounted 0 0 f f'' ended
+told_counts (Ok left) f f' f'' h p q = (refl, q ∙ p)
+told_counts (Err (Script number reason)) f f' f'' h p q = (refl, q ∙ p)
+told_counts (Err Memory) f f' f'' h p q = absurd h
+told_counts (Err (Device side)) f f' f'' h p q = absurd h
+told_counts (Err (Refused fault)) f f' f'' h p q = absurd h
+told_counts (Err (Held party)) f f' f'' h p q = absurd h
+
+pub told_ok : (ended : Result ℕ RunFault) → OnOk ended (IsOk ended)
+told_ok (Ok left) = refl
+told_ok (Err fault) = tt
+
+-- where the bytes that are read are known
+pub explained_runs : (i a b : Known) (hooks : ℕ) (about : Option (List ℕ)) (e : Explained) (r : Result ℕ RunFault) → IfSome i (λ xs. IsExplained (why_meaning hooks about xs) e) → ((meant : Transcript) → IsExplained meant e → Runs meant a b r)
+    → IfSome i (λ xs. Runs (why_meaning hooks about xs) a b r)
+explained_runs None a b hooks about e r p q = tt
+explained_runs (Some xs) a b hooks about e r p q = q (why_meaning hooks about xs) p
