@@ -36,7 +36,7 @@ MOST = {
     "crates/span_store/README.md": (250, 200), "crates/span_store_ffi/README.md": (200, 150),
     "crates/span_storm/README.md": (300, 240), "crates/span_why/README.md": (100, 80), "crates/tracerun/README.md": (100, 100),
     "crates/tracerun_command_line/README.md": (100, 80), "crates/two_workers/README.md": (150, 110),
-    "crates/workloads/README.md": (350, 270), "docs/BENCHMARKS.md": (3600, 3600), "docs/CONTRIBUTING.md": (1850, 1800),
+    "crates/workloads/README.md": (350, 270), "docs/BENCHMARKS.md": (3600, 3600), "docs/CONTRIBUTING.md": (1800, 1800),
     "docs/DECISIONS.md": (3350, 3500), "docs/FORMATS.md": (2050, 2000), "docs/FROM_TRACING.md": (1300, 1300),
     "docs/LAYERS.md": (1050, 1000),
     "docs/PROMISES.md": (1250, 1200), "docs/PROOFS.md": (2050, 2000), "docs/THEOREM.md": (550, 700),
