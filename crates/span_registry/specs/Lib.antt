@@ -22,6 +22,7 @@ pub use Rattle.span_core.specs.Outcome
 pub use Rattle.span_core.specs.ClosedSpans
 pub use Rattle.span_core.specs.GivenBack
 pub use Rattle.span_core.specs.Handles
+pub use Rattle.span_core.specs.Details
 -- What a worker has seen of the history.
 pub use Rattle.span_history.specs.Own
 -- What public clauses say of open spans, and the view of a handle.

@@ -20,7 +20,8 @@ pub use events::{event, record};
 pub use finds::find;
 pub use handles::{clone_span, try_close};
 pub use holding::{
-    held_spans, holders_of, no_span_is_left_where_none_is_held, open_spans, workers_inside,
+    held_spans, holders_of, no_span_is_left_where_none_is_held, open_spans, span_details,
+    workers_inside,
 };
 pub use promises::{
     a_handles_span_is_open, the_promise, two_handles_have_two_numbers, whenever_the_lock_is_free,

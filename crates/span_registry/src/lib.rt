@@ -32,7 +32,7 @@ pub use registry::{HANDLE_PARTS, Registry};
 pub use report::{Counts, Report};
 pub use setup::Setup;
 pub use share::Share;
-pub use span_core::Core;
+pub use span_core::{Core, SpanDetails};
 pub use span_forest::Held;
 pub use span_outlet::{
     Batch, Call, Drain, Kept, KnownEvent, Latest, LayerLines, Line, LineReader, Outlet, ParentOf,

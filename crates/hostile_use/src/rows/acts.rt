@@ -23,6 +23,7 @@ pub(crate) enum Act {
     HeldSpans,
     HoldersOf(Named),
     WorkersInside(Named),
+    SpanDetails,
 }
 
 /// The message of each event.

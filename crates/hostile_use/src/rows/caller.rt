@@ -2,7 +2,7 @@
 ghost use Rattle.std.specs.Prelude.{◌≡◌, ◌+◌, ◌-◌, ◌^◌, vec_len, sum_by};
 ghost use Rattle.hostile_use.specs.Units.{units_in};
 
-use crate::answer::{Answer, done, holders, spans, workers, yes_or_no};
+use crate::answer::{Answer, details, done, holders, spans, workers, yes_or_no};
 use crate::rows::acts::{Act, MESSAGE, Names};
 use crate::rows::held::{Hands, Held};
 use span_id::{Fault, Field, Id, Meta};
@@ -61,6 +61,7 @@ impl<H: Ledger, C: Ledger, S: Setup> Caller<H, C, S> {
             Act::WorkersInside(named) => {
                 workers(registry.workers_inside(rt, &mut self.worker, named.id()))
             }
+            Act::SpanDetails => details(registry.span_details(rt, &mut self.worker)),
         }
     }
 

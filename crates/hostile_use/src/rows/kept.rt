@@ -21,7 +21,7 @@ use std::sync::Wait;
 use std::sync::ledger::Ledger;
 
 // Each call once or twice.
-static EVERY_CALL: [Planned<'static, Act>; 15] = [
+static EVERY_CALL: [Planned<'static, Act>; 16] = [
     ("new a", Taken, Act::New(Called::A, Apart)),
     ("clone 1", Taken, Act::Clone(One)),
     ("enter 1", Taken, Act::Enter(One)),
@@ -32,6 +32,7 @@ static EVERY_CALL: [Planned<'static, Act>; 15] = [
     ("held spans", Taken, Act::HeldSpans),
     ("holders of 1", Taken, Act::HoldersOf(One)),
     ("workers inside 1", Taken, Act::WorkersInside(One)),
+    ("span details", Taken, Act::SpanDetails),
     ("close 1", Taken, Act::Close(One)),
     ("exit 1", Taken, Act::Exit(One)),
     ("close 1", Taken, Act::Close(One)),

@@ -22,7 +22,6 @@ enum Ask {
     Len,
     Total,
     Calls,
-    SpanDetails,
     /// The topmost entry of the worker's stack.
     Top,
     /// How many batches the outlet keeps.
@@ -58,7 +57,7 @@ static PLAN: [Planned<'static, Ask>; 35] = [
         Taken,
         Ask::Call(Act::WorkersInside(Two)),
     ),
-    ("span details", Taken, Ask::SpanDetails),
+    ("span details", Taken, Ask::Call(Act::SpanDetails)),
     ("close 1", Taken, Ask::Call(Act::Close(One))),
     ("close 1", Taken, Ask::Call(Act::Close(One))),
     ("top", Untouched, Ask::Top),
@@ -147,7 +146,6 @@ impl<'n, V: Say> Subject<Ask> for OnCore<'n, V> {
             Ask::Len => Answer::Number(u64::from(core.len())),
             Ask::Total => Answer::Number(core.total()),
             Ask::Calls => Answer::Number(core.calls()),
-            Ask::SpanDetails => return details(core.span_details()),
             Ask::Top => Answer::from(core.stack(0).top()),
             Ask::Batches => Answer::Number(core.outlet().batches().len() as u64),
             Ask::Notes => {
@@ -219,6 +217,7 @@ pub(crate) fn make<O: Outlet, A: Admit>(
         Act::HeldSpans => holders(core.held_spans()),
         Act::HoldersOf(named) => holders(core.holders_of(named.id())),
         Act::WorkersInside(named) => workers(core.workers_inside(named.id())),
+        Act::SpanDetails => details(core.span_details()),
     }
 }
 

@@ -1,5 +1,5 @@
 //! What keeps spans open.
-ghost use Rattle.std.specs.Prelude.{◌≡◌, ◌≢◌, ◌↔◌, ℕ, [], length, List, IfOk, IfErr, OnOk, OnErr};
+ghost use Rattle.std.specs.Prelude.{◌≡◌, ◌≢◌, ◌↔◌, ℕ, [], map, length, List, IfOk, IfErr, OnOk, OnErr};
 ghost use Rattle.span_layers.specs.Filter.{Filter};
 ghost use Rattle.span_outlet.specs.Batch.{PlainBatch};
 ghost use Rattle.span_forest.specs.Spans.{find, IsOpen, WhyNotFound};
@@ -9,6 +9,7 @@ ghost use Rattle.span_forest.specs.Holding.{open_ids, held_spans, what_holds};
 ghost use Rattle.span_core.specs.World.{World, workers_with};
 ghost use Rattle.span_core.specs.History.{IsLegal};
 ghost use Rattle.span_core.specs.Core.{CoreView};
+ghost use Rattle.span_core.specs.Details.{plain_details, details_of};
 ghost use Rattle.span_registry.specs.declared.report.Counts.{Counts};
 ghost use mathlib.Core.List.{IsPrefix};
 ghost use Rattle.span_registry.specs.Worker.{HasNoMore};
@@ -19,6 +20,7 @@ use crate::laws::finds::look;
 use crate::locked::Locked;
 use crate::setup::Setup;
 use crate::worker::Worker;
+use span_core::SpanDetails;
 use span_core::laws::outcome::a_history_leaves_one_world;
 use span_core::laws::{
     a_span_is_open_as_long_as_something_keeps_it, no_span_is_held_where_none_is_left,
@@ -120,6 +122,27 @@ pub fn workers_inside<H: Ledger, C: Ledger, S: Setup, O: Outlet, A>(
 {
     look(locked, worker);
     locked.core.workers_inside(id)
+}
+
+/// All open spans of one moment, by ascending slot, each with its name, target, level, parent, handles, the workers that
+/// are inside it and how many open children it has. It is no call of the history. The only error is `Memory`.
+pub fn span_details<H: Ledger, C: Ledger, S: Setup, O: Outlet, A>(
+    locked: &mut Locked<H, C, S, O, A>,
+    worker: &mut Worker<H, C, S>,
+) -> Result<Vec<SpanDetails>, Fault>
+    ensures seen { IsPrefix worker.old.seen worker.new.seen }
+    ensures own { HasNoMore worker.old worker.new }
+    ensures happened { IfOk result (λ list. Happened S.limits S.rules worker.old worker.new (λ old new.
+        (new ≡ old) × (map plain_details list.items ≡ map (details_of old.world) old.world.spans))) }
+    ensures was_refused { OnErr result (Happened S.limits S.rules worker.old worker.new (λ old new. new ≡ old)) }
+    ensures worker { worker.new ≡ record worker.old { seen = worker.new.seen } }
+    ensures same { locked.new ≡ locked.old }
+    ensures details { IfOk result (λ list. map plain_details list.items
+        ≡ map (details_of locked.old.world) locked.old.world.spans) }
+    ensures memory { IfErr result (λ fault. fault ≡ Fault.Memory) }
+{
+    look(locked, worker);
+    locked.core.span_details()
 }
 
 /// Where no call was accepted after the list of all that is held was asked for, the registry ends with no span left

@@ -1,10 +1,11 @@
 //! Questions about the open spans, which take the lock.
-ghost use Rattle.std.specs.Prelude.{◌≡◌, ◌↔◌, [], length, IfOk, IfErr, OnErr};
+ghost use Rattle.std.specs.Prelude.{◌≡◌, ◌↔◌, [], map, length, IfOk, IfErr, OnErr};
 ghost use Rattle.span_forest.specs.Spans.{find, IsOpen, WhyNotFound};
 ghost use Rattle.span_forest.specs.declared.span.Holder.TheVariants.{Entry};
 ghost use Rattle.span_forest.specs.Holders.{held_in};
 ghost use Rattle.span_forest.specs.Holding.{open_ids, held_spans, what_holds};
 ghost use Rattle.span_core.specs.World.{workers_with};
+ghost use Rattle.span_core.specs.Details.{plain_details, details_of};
 ghost use mathlib.Core.List.{IsPrefix};
 ghost use Rattle.span_registry.specs.Worker.{HasNoMore};
 ghost use Rattle.span_registry.specs.Happened.{Happened};
@@ -13,6 +14,7 @@ use crate::laws;
 use crate::registry::Registry;
 use crate::setup::Setup;
 use crate::worker::Worker;
+use span_core::SpanDetails;
 use span_forest::Held;
 use span_id::{Fault, Id};
 use span_outlet::Outlet;
@@ -100,5 +102,25 @@ impl<H: Ledger, C: Ledger, S: Setup, O: Outlet, A> Registry<H, C, S, O, A> {
         ensures memory { IfErr result (λ fault. fault ≡ Fault.Memory) }
     {
         laws::workers_inside(&mut *self.locked.lock(rt), worker, id)
+    }
+
+    /// All open spans of one moment, by ascending slot, each with its name, target, level, parent, handles, the workers
+    /// that are inside it and how many open children it has. It is no call of the history. Under the lock it looks at
+    /// each slot that was ever used, and for each span that has an entry through the stacks of all workers; names are
+    /// shared and not copied. The only error is `Memory`.
+    pub fn span_details<R: Wait>(
+        &self,
+        rt: &R,
+        worker: &mut Worker<H, C, S>,
+    ) -> Result<Vec<SpanDetails>, Fault>
+        ensures seen { IsPrefix worker.old.seen worker.new.seen }
+        ensures own { HasNoMore worker.old worker.new }
+        ensures happened { IfOk result (λ list. Happened S.limits S.rules worker.old worker.new (λ old new.
+            (new ≡ old) × (map plain_details list.items ≡ map (details_of old.world) old.world.spans))) }
+        ensures was_refused { OnErr result (Happened S.limits S.rules worker.old worker.new (λ old new. new ≡ old)) }
+        ensures worker { worker.new ≡ record worker.old { seen = worker.new.seen } }
+        ensures memory { IfErr result (λ fault. fault ≡ Fault.Memory) }
+    {
+        laws::span_details(&mut *self.locked.lock(rt), worker)
     }
 }

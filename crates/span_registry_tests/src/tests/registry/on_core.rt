@@ -170,6 +170,7 @@ fn note_asked<O: Outlet>(
         held: core.held_spans().expect(rt, "memory"),
         holders: core.holders_of(id),
         inside: core.workers_inside(id).expect(rt, "memory"),
+        details: core.span_details().expect(rt, "memory"),
     };
     push_asked(rt, alloc, answers, &asked);
 }

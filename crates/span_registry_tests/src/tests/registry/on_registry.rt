@@ -294,6 +294,7 @@ fn note_asked<H: Ledger, C: Ledger, S: Setup, O: Outlet, R: Wait + Abort>(
         held: registry.held_spans(rt, worker).expect(rt, "memory"),
         holders: registry.holders_of(rt, worker, id),
         inside: registry.workers_inside(rt, worker, id).expect(rt, "memory"),
+        details: registry.span_details(rt, worker).expect(rt, "memory"),
     };
     push_asked(rt, alloc, answers, &asked);
 }

@@ -157,15 +157,28 @@ const ASKED: Script = Script {
 = again
 = open
 = open 1 2 3 held 2:2/2 3:1/0 holders 2:2/2 inside
+- 1 INFO app a parent 0 handles 0 inside children 1
+- 2 INFO app b parent 1 handles 2 inside 0 1 children 0
+- 3 INFO app c parent 0 handles 1 inside children 0
 = open 1 2 3 held 2:2/2 3:1/0 holders 2:2/2 inside 0 1
+- 1 INFO app a parent 0 handles 0 inside children 1
+- 2 INFO app b parent 1 handles 2 inside 0 1 children 0
+- 3 INFO app c parent 0 handles 1 inside children 0
 = open 1 2 3 held 2:2/2 3:1/0 holders 3:1/0 inside
+- 1 INFO app a parent 0 handles 0 inside children 1
+- 2 INFO app b parent 1 handles 2 inside 0 1 children 0
+- 3 INFO app c parent 0 handles 1 inside children 0
 = open
 = open
 = open
 = open
 = open 1 2 3 held 2:0/1 3:1/0 holders 2:0/1 inside
+- 1 INFO app a parent 0 handles 0 inside children 1
+- 2 INFO app b parent 1 handles 0 inside 0 children 0
+- 3 INFO app c parent 0 handles 1 inside children 0
 = closed
 = open 3 held 3:1/0 holders ! unknown inside
+- 3 INFO app c parent 0 handles 1 inside children 0
 = closed
 = open held holders ! unknown inside
 ",
