@@ -1,6 +1,6 @@
-//! Writes a program's run as Chrome's trace format, which Perfetto (ui.perfetto.dev) and chrome://tracing open: a lane a
-//! thread, a bar for each time that a thread is inside a span, a tick for each event.
-//! `cargo run --release --offline --example chrome > trace.json`
+//! Writes a program's run as Chrome's trace format, which Perfetto (ui.perfetto.dev) and chrome://tracing open: a lane
+//! a thread, a bar for each time that a thread is inside a span, a tick for each event. `cargo run --release --offline
+//! --example chrome > trace.json`
 use span_registry::{event, span, Drain, Id, Kind, Layer, Level, Note, NoteKind, Registry};
 use std::collections::HashMap;
 use std::error::Error;

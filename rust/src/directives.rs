@@ -170,8 +170,8 @@ impl<'a> Directive<'a> {
         Ok(Directive { text, prefix, level })
     }
 
-    // Whether a shorter prefix admits something of this one's targets, so that no pair can say that they are off. Where
-    // a later directive of the same prefix decides, this one says nothing.
+    // Whether a shorter prefix admits something of this one's targets, so that no pair can say that they are off.
+    // Where a later directive of the same prefix decides, this one says nothing.
     fn is_below_another(&self, place: usize, all: &[Directive<'_>]) -> bool {
         let is_last = |place: usize| all[place + 1..].iter().all(|later| later.prefix != all[place].prefix);
         let admits_more = |(place, other): (usize, &Directive<'_>)| {

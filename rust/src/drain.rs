@@ -30,9 +30,9 @@ pub struct DrainCounts {
 
 /// The end from which lines are read, in the order of the calls. It may be used in a thread of its own.
 ///
-/// It has to be read: [`OnFull`](crate::OnFull) says what calls do once the ring is full. Where it is dropped, lines are
-/// thrown away from then on, and counted. Reading takes the registry's lock only where something is owed
-/// (see [`Span`](crate::Span)) or a loss is to be told.
+/// It has to be read: [`OnFull`](crate::OnFull) says what calls do once the ring is full. Where it is dropped, lines
+/// are thrown away from then on, and counted. Reading takes the registry's lock only where something is owed (see
+/// [`Span`](crate::Span)) or a loss is to be told.
 ///
 /// ```
 /// # fn main() -> Result<(), Box<dyn std::error::Error>> {
@@ -94,8 +94,8 @@ impl Drain {
         Some(Line { layer, text })
     }
 
-    /// What the next line tells of a layer in the [form of trees](Form::Tree); lines of other layers are passed over. None
-    /// where none is at hand now. It doesn't wait for one.
+    /// What the next line tells of a layer in the [form of trees](Form::Tree); lines of other layers are passed over.
+    /// None where none is at hand now. It doesn't wait for one.
     pub fn note(&mut self) -> Option<Note> {
         loop {
             self.next_ready(|_| true)?;
@@ -157,11 +157,12 @@ impl Drain {
         self.run_out(&mut All(out), stop)
     }
 
-    /// As [`run`](Drain::run), the lines of each layer to the writer of its number. There have to be as many writers as
-    /// layers, or more.
+    /// As [`run`](Drain::run), the lines of each layer to the writer of its number. There have to be as many writers
+    /// as layers, or more.
     ///
     /// # Errors
-    /// Those of [`run`](Drain::run), and [`InvalidInput`](io::ErrorKind::InvalidInput) where there are too few writers.
+    /// Those of [`run`](Drain::run), and [`InvalidInput`](io::ErrorKind::InvalidInput) where there are too few
+    /// writers.
     pub fn run_layers<W: Write>(&mut self, outs: &mut [W]) -> io::Result<u64> {
         self.run_out(&mut Each(outs), &NEVER)
     }
@@ -187,8 +188,8 @@ impl Drain {
         DrainCounts { batches, missed }
     }
 
-    // Where the ring is empty, what is owed can be done, and what was lost told, and both may give lines. It is asked before each look for a line
-    // whether to go on: batches without one may come for ever.
+    // Where the ring is empty, what is owed can be done, and what was lost told, and both may give lines. It is asked
+    // before each look for a line whether to go on: batches without one may come for ever.
     fn next_ready(&mut self, goes_on: impl Fn(&Shared) -> bool) -> Option<(usize, usize)> {
         while self.ready.is_none() && goes_on(&self.shared) {
             let room = self.buffer.len() - 1;
@@ -283,8 +284,8 @@ impl Drain {
         Ok(lines)
     }
 
-    // Tells which spans are open, and writes that. Where there is no memory for it, or others keep the ring full, nothing
-    // more is told.
+    // Tells which spans are open, and writes that. Where there is no memory for it, or others keep the ring full,
+    // nothing more is told.
     fn write_open(&mut self, outs: &mut impl Outs) -> io::Result<u64> {
         let open = self.shared.with(|state| state.open_spans()).unwrap_or_default();
         let (mut left, mut lines) = (&open[..open.len().min(OPEN_AT_END)], 0);

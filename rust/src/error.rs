@@ -25,8 +25,8 @@ pub enum Error {
     NotEntered,
     /// More than 64 layers.
     TooManyLayers,
-    /// A span's, an event's or a callsite's name, or a field's key, is empty, over 64 bytes, or has a byte outside ASCII
-    /// letters, digits, `_`, `.` and `-`.
+    /// A span's, an event's or a callsite's name, or a field's key, is empty, over 64 bytes, or has a byte outside
+    /// ASCII letters, digits, `_`, `.` and `-`.
     BadName(BadName),
     /// The ring is full: nobody read the [`Drain`](crate::Drain) for so many calls. The same call may succeed later.
     Backlog,
@@ -36,8 +36,8 @@ pub enum Error {
     OutOfMemory,
     /// A text has 4 GiB or more.
     BadData,
-    /// As many threads are inside spans as the registry has workers, or the thread enters a span while its thread locals
-    /// are being dropped.
+    /// As many threads are inside spans as the registry has workers, or the thread enters a span while its thread
+    /// locals are being dropped.
     TooManyThreads,
     /// The callsite, the id or the span belongs to another registry.
     OtherRegistry,

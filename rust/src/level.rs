@@ -103,13 +103,13 @@ impl BitOrAssign for FmtSpan {
 /// The form of a layer's lines.
 #[derive(Clone, Copy, Debug, PartialEq, Eq, Hash)]
 pub enum Form {
-    /// `<kind> <id> w<worker> <path>`, for an event then ` <level> <message>`, then ` <key>=<value>` for each field. In
-    /// messages and values a backslash, a newline and a carriage return are written `\\`, `\n` and `\r`.
+    /// `<kind> <id> w<worker> <path>`, for an event then ` <level> <message>`, then ` <key>=<value>` for each field.
+    /// In messages and values a backslash, a newline and a carriage return are written `\\`, `\n` and `\r`.
     Compact,
     /// One JSON object: `fields`, `id`, `kind`, `path` and `worker`, for an event also `level` and `message`.
     Json,
-    /// One JSON object from which trees can be built: the text of a [`Note`](crate::Note). It is made of the proved line
-    /// of the JSON form, and of what this crate keeps of each call until its lines are read.
+    /// One JSON object from which trees can be built: the text of a [`Note`](crate::Note). It is made of the proved
+    /// line of the JSON form, and of what this crate keeps of each call until its lines are read.
     Tree,
 }
 

@@ -1,9 +1,9 @@
 //! A registry of spans for Rust programs, whose core is proved.
 //!
 //! Behind this crate is the static library `span_ffi`: the spans, their reference counts, the threads' stacks, the
-//! layers' filters and texts, and the ring through which lines leave, all written in Rattle and proved. This crate puts
-//! a lock round it, gives each thread its worker's number, and gives handles back when they are dropped. It has no
-//! dependencies; `README.md` says what is proved and what is only tested.
+//! layers' filters and texts, and the ring through which lines leave, all written in Rattle and proved. This crate
+//! puts a lock round it, gives each thread its worker's number, and gives handles back when they are dropped. It has
+//! no dependencies; `README.md` says what is proved and what is only tested.
 //!
 //! [`Registry`] makes spans and takes events, [`Span`] is a handle that gives itself back, and [`Drain`] is read for
 //! the lines.

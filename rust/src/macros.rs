@@ -8,8 +8,9 @@
 /// Where no layer wants the span, it costs a load and a branch: no value is formatted, and no lock and no place in the
 /// ring is taken.
 ///
-/// It answers no error: where the span is refused, it is disabled, and [`Registry::lost`](crate::Registry::lost) counts
-/// it. [`try_span!`](crate::try_span) answers why. What a value borrows or locks is free again behind the macro.
+/// It answers no error: where the span is refused, it is disabled, and [`Registry::lost`](crate::Registry::lost)
+/// counts it. [`try_span!`](crate::try_span) answers why. What a value borrows or locks is free again behind the
+/// macro.
 ///
 /// ```
 /// # fn main() -> Result<(), span_registry::Error> {
@@ -107,7 +108,8 @@ macro_rules! __field {
 }
 
 /// An event with a formatted message, and fields of any values that can be displayed. The target is the module's path,
-/// unless it is given. Target and level are constants. Where no layer wants it, it costs what [`span!`](crate::span) does.
+/// unless it is given. Target and level are constants. Where no layer wants it, it costs what [`span!`](crate::span)
+/// does.
 ///
 /// It answers no error: where it is refused, [`Registry::lost`](crate::Registry::lost) counts it.
 /// [`try_event!`](crate::try_event) answers why.

@@ -35,7 +35,8 @@ impl RawId {
 }
 
 /// The id of a span of one registry. No two spans of a registry ever have the same one: a closed span's id finds
-/// nothing for ever. Any other registry refuses it as [`OtherRegistry`](Error::OtherRegistry), also once its own is gone.
+/// nothing for ever. Any other registry refuses it as [`OtherRegistry`](Error::OtherRegistry), also once its own is
+/// gone.
 ///
 /// Calls answer it, and [`Registry::id`](crate::Registry::id) makes it of a number.
 #[derive(Clone, Copy, Debug, PartialEq, Eq, PartialOrd, Ord, Hash)]

@@ -69,8 +69,8 @@ pub struct Note {
     pub layer: usize,
     /// What happened.
     pub kind: NoteKind,
-    /// When the call was made, by the program's clock, since the registry was built. It never goes back from one note to
-    /// the next.
+    /// When the call was made, by the program's clock, since the registry was built. It never goes back from one note
+    /// to the next.
     pub at: Duration,
     /// Which thread did it.
     pub worker: u32,

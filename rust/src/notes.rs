@@ -73,8 +73,8 @@ pub(crate) struct Told {
     pub(crate) known: Known,
 }
 
-/// The calls whose lines weren't read. Who has the lock of the registry, or of the ring, may take this one, and never the
-/// other way round.
+/// The calls whose lines weren't read. Who has the lock of the registry, or of the ring, may take this one, and never
+/// the other way round.
 pub(crate) struct Notes {
     begin: Instant,
     book: Mutex<Book>,

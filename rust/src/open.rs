@@ -230,8 +230,8 @@ impl Registry {
         OpenSpans::found(self.shared(), State::open_spans)
     }
 
-    /// Why a span is open: itself, the open spans at it or below it that [are held](OpenSpan::is_held), and those between.
-    /// It closes with the last that is held, and not before.
+    /// Why a span is open: itself, the open spans at it or below it that [are held](OpenSpan::is_held), and those
+    /// between. It closes with the last that is held, and not before.
     ///
     /// It costs what [`open_spans`](Registry::open_spans) does.
     ///

@@ -15,8 +15,8 @@ pub(crate) enum Owed {
     Leave { worker: u32 },
 }
 
-/// What is owed, and what may still come to be owed: an exit of each entry, a close of each handle, and the end of each
-/// worker, once. Room for all of it is made when the entry or the handle is, so to owe takes no memory.
+/// What is owed, and what may still come to be owed: an exit of each entry, a close of each handle, and the end of
+/// each worker, once. Room for all of it is made when the entry or the handle is, so to owe takes no memory.
 pub(crate) struct Owing {
     // In the order in which it came.
     list: VecDeque<Owed>,

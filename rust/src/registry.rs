@@ -15,12 +15,12 @@ use std::sync::Arc;
 
 /// A registry of spans. Clones are the same registry; it may be used by several threads at once.
 ///
-/// Any number of threads may call. A thread that is inside a span has a worker's number, which lines show; it takes a free
-/// one at its first call, or, to enter a span where none is free, that of the thread which is longest inside of none. A
-/// thread without a number is told as one worker more, the last. So it is refused as
+/// Any number of threads may call. A thread that is inside a span has a worker's number, which lines show; it takes a
+/// free one at its first call, or, to enter a span where none is free, that of the thread which is longest inside of
+/// none. A thread without a number is told as one worker more, the last. So it is refused as
 /// [`TooManyThreads`](Error::TooManyThreads) only where it enters a span while as many threads as there are
-/// [`workers`](RegistryBuilder::workers) are inside of some, or while its thread locals are dropped. When a thread ends, it
-/// leaves all spans that it is still inside of.
+/// [`workers`](RegistryBuilder::workers) are inside of some, or while its thread locals are dropped. When a thread
+/// ends, it leaves all spans that it is still inside of.
 ///
 /// The methods that take an [`Id`] are for adapters; [`Registry::span`] answers a [`Span`] that gives itself back. An
 /// id, a parent or a callsite of another registry is refused as [`OtherRegistry`](Error::OtherRegistry), before all
@@ -149,8 +149,8 @@ impl Registry {
         Ok(id.map_or_else(Span::none, |id| Span::of(self, id)))
     }
 
-    /// A new span, whose one handle the caller has to give back by [`try_close`](Registry::try_close); none where there
-    /// are layers and none wants it.
+    /// A new span, whose one handle the caller has to give back by [`try_close`](Registry::try_close); none where
+    /// there are layers and none wants it.
     ///
     /// # Errors
     /// Those of [`span`](Registry::span).
@@ -183,8 +183,9 @@ impl Registry {
     /// The calling thread enters a span. True where it wasn't inside of it already: only such an entry holds the span.
     ///
     /// # Errors
-    /// [`OtherRegistry`](Error::OtherRegistry), [`TooManyThreads`](Error::TooManyThreads), [`Unknown`](Error::Unknown),
-    /// [`CountFull`](Error::CountFull), [`Backlog`](Error::Backlog), [`OutOfMemory`](Error::OutOfMemory).
+    /// [`OtherRegistry`](Error::OtherRegistry), [`TooManyThreads`](Error::TooManyThreads),
+    /// [`Unknown`](Error::Unknown), [`CountFull`](Error::CountFull), [`Backlog`](Error::Backlog),
+    /// [`OutOfMemory`](Error::OutOfMemory).
     pub fn enter(&self, id: Id) -> Result<bool, Error> {
         self.enter_as(self.own(id)?).map(|(is_first, _)| is_first)
     }
@@ -283,8 +284,8 @@ impl Registry {
         Ok(current.map(|raw| self.id_of(raw)))
     }
 
-    /// An open span; none where no span of this registry is open with the id. What is owed and can't be done now counts
-    /// as not done.
+    /// An open span; none where no span of this registry is open with the id. What is owed and can't be done now
+    /// counts as not done.
     #[must_use]
     pub fn find(&self, id: Id) -> Option<Found> {
         let id = self.own(id).ok()?;
@@ -328,8 +329,8 @@ impl fmt::Debug for Registry {
 }
 
 /// Makes a call again, as long as it is refused as [`Backlog`](Error::Backlog), and lets other threads run in between.
-/// It doesn't come back while the [`Drain`](crate::Drain) is there and nobody reads it, so the thread that reads must not
-/// wait by this. A registry that was built with [`OnFull::Wait`](crate::OnFull) waits by itself.
+/// It doesn't come back while the [`Drain`](crate::Drain) is there and nobody reads it, so the thread that reads must
+/// not wait by this. A registry that was built with [`OnFull::Wait`](crate::OnFull) waits by itself.
 ///
 /// # Errors
 /// Whatever else the call answers.

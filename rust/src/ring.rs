@@ -16,9 +16,9 @@ pub enum OnFull {
     Refuse,
     /// The lines of the oldest call are thrown away, and counted by [`Lost::lines`](crate::Lost::lines).
     DropOldest,
-    /// It waits until a line was read. The default where a writer was
-    /// [spawned](crate::RegistryBuilder::spawn_writer). A call that the writing thread itself makes, as in its
-    /// [`Write`](std::io::Write), is refused instead.
+    /// It waits until a line was read: for ever, where the drain is there and nobody reads it. The default where a
+    /// writer was [spawned](crate::RegistryBuilder::spawn_writer). A call that the writing thread itself makes, as in
+    /// its [`Write`](std::io::Write), is refused instead.
     Wait,
 }
 

@@ -1,7 +1,7 @@
 //! Which thread has which worker's number.
 //!
-//! A thread that is inside a span keeps its number. One that is inside none is *idle*, and its number may be taken over
-//! where none is free, that of the longest idle thread first. Calls of a thread without a number are made as the
+//! A thread that is inside a span keeps its number. One that is inside none is *idle*, and its number may be taken
+//! over where none is free, that of the longest idle thread first. Calls of a thread without a number are made as the
 //! *outsider*, a worker that is never inside a span.
 #![forbid(unsafe_code)]
 use crate::error::Error;

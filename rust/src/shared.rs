@@ -143,8 +143,8 @@ impl Shared {
     }
 }
 
-/// Lets other threads run: at the first turns only that, since a line or a place may be on its way, and then for half a
-/// millisecond each.
+/// Lets other threads run: at the first turns only that, since a line or a place may be on its way, and then for half
+/// a millisecond each.
 pub(crate) fn wait(turn: u32) {
     if turn < 64 {
         thread::yield_now();

@@ -9,9 +9,9 @@ use std::sync::Arc;
 
 /// A handle of a span, which gives itself back when it is dropped: no span is leaked, and none is closed twice.
 ///
-/// **Clones.** `clone()` shares the handle: it never fails, makes no call of the registry, and the handle is given back
-/// when the last clone is dropped. [`try_clone`](Span::try_clone) makes a handle of its own, which the registry counts,
-/// and may be refused.
+/// **Clones.** `clone()` shares the handle: it never fails, makes no call of the registry, and the handle is given
+/// back when the last clone is dropped. [`try_clone`](Span::try_clone) makes a handle of its own, which the registry
+/// counts, and may be refused.
 ///
 /// **Disabled spans.** Where there are layers and none wants a span, it isn't made. Its `Span` is disabled: it has no
 /// id, and all that is done with it succeeds and does nothing.
@@ -21,8 +21,8 @@ use std::sync::Arc;
 ///
 /// **Drops can't be refused.** Where a dropped `Span`, or a dropped guard of [`enter`](Span::enter), finds the ring
 /// full or is refused memory, what it has to do is *owed*: it is kept in order, and done before the next call of any
-/// thread, by [`Registry::settle`], or by the [`Drain`](crate::Drain) once it has made place, whichever is first. While
-/// something owed can't be done, ordinary calls are refused as [`Backlog`](Error::Backlog) or
+/// thread, by [`Registry::settle`], or by the [`Drain`](crate::Drain) once it has made place, whichever is first.
+/// While something owed can't be done, ordinary calls are refused as [`Backlog`](Error::Backlog) or
 /// [`OutOfMemory`](Error::OutOfMemory), so that nothing overtakes it. To owe takes no memory: room for it is made when
 /// a handle or an entry is.
 ///

@@ -22,7 +22,8 @@ struct Places(Vec<Place>);
 thread_local! {
     // None of these two needs a drop, so a look at them costs little, and they are there while the places are dropped.
     static THREAD: Cell<u64> = const { Cell::new(0) };
-    // The number of the registry that was last called, and the worker's number there: mostly the next call is the same.
+    // The number of the registry that was last called, and the worker's number there: mostly the next call is the
+    // same.
     static LAST: Cell<Option<(u64, u32)>> = const { Cell::new(None) };
     static PLACES: RefCell<Places> = const { RefCell::new(Places(Vec::new())) };
     // The number of the registry whose lines this thread is writing.

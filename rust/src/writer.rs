@@ -14,10 +14,10 @@ use std::sync::Arc;
 use std::thread::{self, Builder, JoinHandle};
 
 /// A thread writes the lines as they come, until this is dropped. By then all lines of the calls that were accepted
-/// before are written and flushed, whatever spans are still open and whatever other threads go on to do, unless a write
-/// fails, memory is refused, or the writer itself drops this, which doesn't wait for its own end. Then it is told which
-/// spans are open, as [`Drain::run_until`] does. Drop it where nothing
-/// is held that the writer waits for, as standard output's lock.
+/// before are written and flushed, whatever spans are still open and whatever other threads go on to do, unless a
+/// write fails, memory is refused, or the writer itself drops this, which doesn't wait for its own end. Then it is
+/// told which spans are open, as [`Drain::run_until`] does. Drop it where nothing is held that the writer waits for,
+/// as standard output's lock.
 ///
 /// Where a write fails or panics, the rest is read and thrown away, so that no call waits for a writer that is gone,
 /// and [`finish`](Guard::finish) tells the failure. The thread also ends where the registry, its clones and its spans
@@ -107,7 +107,8 @@ impl RegistryBuilder {
     /// Where nothing else was said by [`on_full`](RegistryBuilder::on_full), a call that finds the ring full waits.
     ///
     /// # Errors
-    /// Those of [`build`](RegistryBuilder::build), and [`OutOfMemory`](Error::OutOfMemory) where no thread can be made.
+    /// Those of [`build`](RegistryBuilder::build), and [`OutOfMemory`](Error::OutOfMemory) where no thread can be
+    /// made.
     ///
     /// ```
     /// # fn main() -> Result<(), Box<dyn std::error::Error>> {

@@ -1,12 +1,13 @@
 //! What refusals say.
 use span_registry::{BadLimit, Differing, Error, Limit};
 
+const LIMIT: BadLimit = BadLimit {
+    limit: Limit::Ring,
+    value: 70_000,
+};
+
 #[test]
 fn each_refusal_has_its_text_and_number() {
-    let limit = BadLimit {
-        limit: Limit::Ring,
-        value: 70_000,
-    };
     let table = [
         (Error::Unknown, 1, "unknown: no open span has this id"),
         (Error::CountFull, 2, "count full: the span has max_count"),
@@ -20,7 +21,7 @@ fn each_refusal_has_its_text_and_number() {
         ),
         (Error::Backlog, 7, "backlog: the ring is full; read the drain"),
         (
-            Error::BadLimits(limit),
+            Error::BadLimits(LIMIT),
             8,
             "bad limits: `ring(70000)` has to be 1 to 65536",
         ),

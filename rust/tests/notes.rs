@@ -149,34 +149,37 @@ fn slots_that_are_used_again_and_lines_that_are_thrown_away_mix_nothing_up() -> 
     Ok(())
 }
 
+/// Looks at so many notes; how many spans are open then.
+fn follow(drain: &mut Drain, count: usize) -> usize {
+    let (mut last, mut open, mut notes) = (Duration::ZERO, HashMap::new(), 0);
+    while notes < count {
+        let Some(note) = drain.note() else {
+            thread::yield_now();
+            continue;
+        };
+        notes += 1;
+        assert!(note.at >= last);
+        last = note.at;
+        match note.kind {
+            NoteKind::New => assert_eq!(open.insert(note.id, (note.name, note.parent)), None),
+            NoteKind::Close => assert_eq!(open.remove(&note.id), Some((note.name, note.parent))),
+            _ => {
+                let (name, above) = &open[&note.parent];
+                assert_eq!((&**name, note.message.as_deref()), ("inner", Some("m")));
+                assert_eq!(&*open[above].0, "outer");
+            }
+        }
+    }
+    open.len()
+}
+
 #[test]
 fn the_tree_of_many_threads_can_be_built_again() -> Result<(), Error> {
     const THREADS: u32 = 4;
     const ROUNDS: usize = 300;
     let layer = Layer::tree().with_span_events(FmtSpan::NEW | FmtSpan::CLOSE);
     let (registry, mut drain) = Registry::builder().workers(THREADS).ring(64).layer(layer).build()?;
-    let reading = thread::spawn(move || {
-        let (mut last, mut open, mut notes) = (Duration::ZERO, HashMap::new(), 0);
-        while notes < THREADS as usize * ROUNDS * 5 {
-            let Some(note) = drain.note() else {
-                thread::yield_now();
-                continue;
-            };
-            notes += 1;
-            assert!(note.at >= last);
-            last = note.at;
-            match note.kind {
-                NoteKind::New => assert_eq!(open.insert(note.id, (note.name, note.parent)), None),
-                NoteKind::Close => assert_eq!(open.remove(&note.id), Some((note.name, note.parent))),
-                _ => {
-                    let (name, above) = &open[&note.parent];
-                    assert_eq!((&**name, note.message.as_deref()), ("inner", Some("m")));
-                    assert_eq!(&*open[above].0, "outer");
-                }
-            }
-        }
-        open.len()
-    });
+    let reading = thread::spawn(move || follow(&mut drain, THREADS as usize * ROUNDS * 5));
     thread::scope(|scope| {
         for _ in 0..THREADS {
             scope.spawn(|| {

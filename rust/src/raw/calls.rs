@@ -32,8 +32,8 @@ impl Core {
         abi::check()?;
         let mut core = SpanRegistry::EMPTY;
         let mut drain = SpanDrain::EMPTY;
-        // SAFETY: both handles are empty, and each pointer is of a value or of a slice with its length. Nothing that is
-        // written overlaps anything else.
+        // SAFETY: both handles are empty, and each pointer is of a value or of a slice with its length. Nothing that
+        // is written overlaps anything else.
         let status = unsafe {
             span_registry_new(
                 &mut core,
@@ -63,8 +63,8 @@ impl Core {
         let (kind, parent) = raw_parent(parent);
         let (fields, texts) = (packed.fields(), packed.texts());
         let mut id = 0;
-        // SAFETY: the handle is full and lent to this call alone, and each pointer is of a value or of a slice with its
-        // length.
+        // SAFETY: the handle is full and lent to this call alone, and each pointer is of a value or of a slice with
+        // its length.
         let status = unsafe {
             span_registry_new_span(
                 &mut self.handle,
@@ -88,8 +88,8 @@ impl Core {
         let meta = raw_meta(meta)?;
         let texts = packed.texts();
         let mut number = 0;
-        // SAFETY: the handle is full and lent to this call alone, and each pointer is of a value or of a slice with its
-        // length.
+        // SAFETY: the handle is full and lent to this call alone, and each pointer is of a value or of a slice with
+        // its length.
         Error::of_status(unsafe {
             span_registry_add_callsite(&mut self.handle, &meta, texts.as_ptr(), texts.len(), &mut number)
         })?;
@@ -107,8 +107,8 @@ impl Core {
         let (kind, parent) = raw_parent(parent);
         let (fields, texts) = (packed.fields(), packed.texts());
         let mut id = 0;
-        // SAFETY: the handle is full and lent to this call alone, and each pointer is of a value or of a slice with its
-        // length.
+        // SAFETY: the handle is full and lent to this call alone, and each pointer is of a value or of a slice with
+        // its length.
         let status = unsafe {
             span_registry_new_span_at(
                 &mut self.handle,
@@ -176,8 +176,8 @@ impl Core {
         let meta = raw_meta(meta)?;
         let message_len = length(message)?;
         let (fields, texts) = (packed.fields(), packed.texts());
-        // SAFETY: the handle is full and lent to this call alone, and each pointer is of a value or of a slice with its
-        // length.
+        // SAFETY: the handle is full and lent to this call alone, and each pointer is of a value or of a slice with
+        // its length.
         Error::of_status(unsafe {
             span_registry_event(
                 &mut self.handle,

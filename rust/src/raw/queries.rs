@@ -37,21 +37,25 @@ impl Core {
     /// The ids of the open spans, by ascending slot.
     pub(crate) fn open_ids(&mut self) -> Result<Vec<u64>, Error> {
         let handle = self.handle();
-        // SAFETY: the handle is full and lent to this call alone, and `list` gives values of its own with their number.
+        // SAFETY: the handle is full and lent to this call alone, and `list` gives values of its own with their
+        // number.
         list(|into, room, length| unsafe { span_registry_open_ids(handle, into, room, length) })
     }
 
-    /// What keeps a span open: the spans at it or below it that have handles or entries of their own, by ascending slot.
+    /// What keeps a span open: the spans at it or below it that have handles or entries of their own, by ascending
+    /// slot.
     pub(crate) fn holders_of(&mut self, id: RawId) -> Result<Vec<SpanHeld>, Error> {
         let handle = self.handle();
-        // SAFETY: the handle is full and lent to this call alone, and `list` gives values of its own with their number.
+        // SAFETY: the handle is full and lent to this call alone, and `list` gives values of its own with their
+        // number.
         list(|into, room, length| unsafe { span_registry_holders_of(handle, id.get(), into, room, length) })
     }
 
     /// The workers that are inside a span, by their numbers.
     pub(crate) fn workers_inside(&mut self, id: RawId) -> Result<Vec<u32>, Error> {
         let handle = self.handle();
-        // SAFETY: the handle is full and lent to this call alone, and `list` gives values of its own with their number.
+        // SAFETY: the handle is full and lent to this call alone, and `list` gives values of its own with their
+        // number.
         list(|into, room, length| unsafe { span_registry_workers_inside(handle, id.get(), into, room, length) })
     }
 }
