@@ -1,6 +1,6 @@
 //! Why spans are open where a script's lines end.
-ghost use Rattle.std.specs.Prelude.{◌≡◌, ◌<◌, ◌++◌, ◌==◌, [], None, count_by, length, map, slice_index_or, option_copied};
-ghost use Rattle.std.specs.Prelude.{IfOk, IfErr, OnOk};
+ghost use Rattle.std.specs.Prelude.{◌≡◌, ◌<◌, ◌++◌, ◌==◌, [], None, count_by, length, map, slice_index_or};
+ghost use Rattle.std.specs.Prelude.{IfOk, IfErr, OnOk, option_copied};
 ghost use Rattle.span_core.specs.Details.{plain_details};
 ghost use Rattle.span_id.specs.Id.{slot_of};
 ghost use Rattle.span_replay.specs.Explained.{inside_in, text_about, told_in, told_of};

@@ -30,13 +30,13 @@ use span_script::{Stop, cut_line, is_setup_line, is_skipped, json_line};
 use std::alloc::Global;
 use std::io::{Read, Write};
 
-/// Runs the lines of the script that the input holds, as `replay` does, but writes nothing for them, and tidies nothing:
-/// it writes why the spans are open that are open where the lines end, about all of them or about the one that a label
-/// names. So it does after a fault of the script too.
+/// Runs the lines of the script that the input holds, as `replay` does, but writes nothing for them, and tidies
+/// nothing: it writes why the spans are open that are open where the lines end, about all of them or about the one that
+/// a label names. So it does after a fault of the script too.
 ///
 /// The input is read to its end first. There may be so many layers. Where the result is `Ok` it is how many spans are
-/// open. After `Memory` and `Device` a front of the text went out. The output is flushed by one call, which is the last:
-/// where memory is refused or a device fails before it, there is none.
+/// open. After `Memory` and `Device` a front of the text went out. The output is flushed by one call, which is the
+/// last: where memory is refused or a device fails before it, there is none.
 pub fn why_with_layers<R: Read, W: Write>(
     alloc: Global,
     input: &mut Counted<R>,
@@ -294,8 +294,8 @@ fn explain_rest<V: Say, A: Admit>(
     requires call { is_setup (view value.now) ≡ false }
     requires place { number + length lines.now ≤ most_bytes + 1 }
     ensures explained { IfOk result (λ explained. (hooks : ℕ) → IsExplained
-        (resumed_why hooks (option_copied about.entry) number (reached_at reaching.old running) (view value.now) lines.now)
-        explained) }
+        (resumed_why hooks (option_copied about.entry) number
+        (reached_at reaching.old running) (view value.now) lines.now) explained) }
     ensures memory { IfErr result (λ fault. fault ≡ RunFault.Memory) }
 {
     match run_rest(alloc, number, value, lines, reaching) {
