@@ -1,5 +1,5 @@
 """Builds the C programs of tests/c against the static library of crates/span_ffi, and runs each with the sanitizers of
-the C compiler and under valgrind. The last line is 'N passed, M failed'.
+the C compiler and under valgrind, but the one on times as it is. The last line is 'N passed, M failed'.
 
 The library is that of `rt lib`, which is made first where it isn't there or a source is newer, or that of --library.
 The C compiler is $CC, else cc.
@@ -11,7 +11,6 @@ import re
 import subprocess
 import sys
 import tempfile
-from itertools import product
 from pathlib import Path
 
 TOP = Path(__file__).resolve().parent.parent
@@ -19,18 +18,20 @@ CRATE = TOP / "crates/span_ffi"
 WARNINGS = ["-std=gnu11", "-pthread", "-Wall", "-Wextra", "-Wpedantic", "-Werror"]
 # So that a program can refuse memory to the library.
 WRAPS = ["-Wl,--wrap=malloc", "-Wl,--wrap=realloc"]
-# Each program, and what it is linked with.
-PROGRAMS = [
-    ("span_registry", WRAPS),
-    ("callsites", WRAPS),
-    ("holding", WRAPS),
-    ("strangers", []),
-]
 # (without --fair-sched a thread that waits for another may keep that one from running)
 VALGRIND = ["valgrind", "--quiet", "--leak-check=full", "--error-exitcode=3", "--fair-sched=try"]
-RUNS = [
+CHECKED = [
     ("with sanitizers", ["-g", "-fsanitize=address,undefined", "-fno-sanitize-recover=all"], []),
     ("under valgrind", ["-g", "-O1"], VALGRIND),
+]
+AT_SPEED = [("at full speed", ["-O2"], [])]
+# Each program, what it is linked with, and how it runs.
+PROGRAMS = [
+    ("span_registry", WRAPS, CHECKED),
+    ("callsites", WRAPS, CHECKED),
+    ("holding", WRAPS, CHECKED),
+    ("strangers", [], CHECKED),
+    ("million", WRAPS, AT_SPEED),
 ]
 
 
@@ -84,7 +85,8 @@ def main():
         return 1
     passed = failed = 0
     with tempfile.TemporaryDirectory() as folder:
-        for (program_name, wraps), (run_name, flags, runner) in product(PROGRAMS, RUNS):
+        runs = [(name, wraps, *how) for name, wraps, hows in PROGRAMS for how in hows]
+        for program_name, wraps, run_name, flags, runner in runs:
             name = f"{program_name} {run_name}"
             source = TOP / f"tests/c/{program_name}.c"
             program = built(library, source, Path(folder) / name.replace(" ", "_"), [*flags, *wraps])
