@@ -3,8 +3,8 @@
 
 usage: command_line.py [--program FILE]
 An order is followed, with nothing on standard error. A request and a wrong line end with 2 and write nothing on standard
-output, and standard error says what was asked for, or what is wrong. `replay` alone and a storm of two workers are worked
-cases in tests/cases. The last line is 'N passed, M failed'; the status is 0 where nothing failed.
+output, and standard error says what was asked for, or what is wrong. `replay` alone, `why` and a storm of two workers are
+worked cases in tests/cases. The last line is 'N passed, M failed'; the status is 0 where nothing failed.
 """
 import argparse
 import os
@@ -21,8 +21,12 @@ SCRIPT = b'{"op":"new","name":"a"}\n'  # a run of it would write something
 
 ABOUT = "Runs scripts of calls, and storms of workers, on the span registry."
 ABOUT_REPLAY = "Runs the script of standard input, and writes to standard output what its calls answer and its layers are told."
+ABOUT_WHY = (
+    "Runs the lines of the script of standard input, and writes to standard output which spans are open then, and why."
+)
 ABOUT_STORM = "Has workers call one registry at the same time, and writes to standard output how it ended."
 REPLAY_EXAMPLE = "tracerun replay < examples/first.jsonl"
+WHY_EXAMPLE = "tracerun why < examples/leak.jsonl"
 STORM_EXAMPLE = "tracerun storm --workers 4 --rounds 100"
 
 HELP = [
@@ -30,6 +34,7 @@ HELP = [
     "Usage: tracerun <COMMAND>",
     "Commands:",
     "replay " + ABOUT_REPLAY,
+    "why " + ABOUT_WHY,
     "storm " + ABOUT_STORM,
     "help Print this message or the help of the given subcommand(s)",
     "Options:",
@@ -38,6 +43,7 @@ HELP = [
     "docs/FORMATS.md describes scripts, what is written, and the statuses.",
     "Examples:",
     REPLAY_EXAMPLE,
+    WHY_EXAMPLE,
     STORM_EXAMPLE,
 ]
 REPLAY_HELP = [
@@ -48,6 +54,17 @@ REPLAY_HELP = [
     "A script has a JSON object on each line. docs/FORMATS.md describes scripts, what is written, and the statuses.",
     "Example:",
     REPLAY_EXAMPLE,
+]
+WHY_HELP = [
+    ABOUT_WHY,
+    "Usage: tracerun why [OPTIONS]",
+    "Options:",
+    "--span <LABEL> Tells of the span alone that this label names",
+    "-h, --help Print help",
+    "The script is one for replay. docs/FORMATS.md describes scripts, what is written, and the statuses.",
+    "Examples:",
+    WHY_EXAMPLE,
+    "tracerun why --span query < examples/leak.jsonl",
 ]
 STORM_USAGE = "Usage: tracerun storm --workers <N> --rounds <M>"
 STORM_HELP = [
@@ -64,6 +81,7 @@ STORM_HELP = [
 ]
 with open(os.path.join(TOP, "crates/tracerun_command_line/src/lib.rt"), encoding="utf-8") as source:
     VERSION = ["tracerun " + re.search(r'\.version\("(.*)"\)', source.read())[1]]
+FILES = [it.split()[-1] for it in (REPLAY_EXAMPLE, WHY_EXAMPLE)]
 
 # The words, and all that standard error says.
 REQUESTS = [
@@ -74,6 +92,8 @@ REQUESTS = [
     ("help", HELP),
     ("replay --help", REPLAY_HELP),
     ("help replay", REPLAY_HELP),
+    ("why --help", WHY_HELP),
+    ("help why", WHY_HELP),
     ("storm --help", STORM_HELP),
     ("help storm", STORM_HELP),
     ("storm --workers 1 --rounds 1 --help", STORM_HELP),
@@ -90,11 +110,14 @@ STORMS = [
 LACKING = "error: the following required arguments were not provided:"
 # The words, and how standard error begins.
 WRONG = [
-    ("", ["error: 'tracerun' requires a subcommand but one was not provided", "[subcommands: replay, storm, help]"]),
+    ("", ["error: 'tracerun' requires a subcommand but one was not provided", "[subcommands: replay, why, storm, help]"]),
     ("jump", ["error: unrecognized subcommand 'jump'"]),
     ("help jump", ["error: unrecognized subcommand 'jump'"]),
     ("replay x", ["error: unexpected argument 'x' found"]),
     ("replay storm --workers 1 --rounds 1", ["error: unexpected argument 'storm' found"]),
+    ("why x", ["error: unexpected argument 'x' found"]),
+    ("why --span", ["error: a value is required for '--span <LABEL>' but none was supplied"]),
+    ("why --span a --span b", ["error: the argument '--span <LABEL>' cannot be used multiple times"]),
     ("storm", [LACKING, "--workers <N>", "--rounds <M>", STORM_USAGE]),
     ("storm --workers 2", [LACKING, "--rounds <M>", STORM_USAGE]),
     ("storm --rounds 2", [LACKING, "--workers <N>", STORM_USAGE]),
@@ -177,7 +200,7 @@ def rows():
 
 def names_what_is_there():
     """Whether the files that the help names are there."""
-    return all(os.path.isfile(os.path.join(TOP, it)) for it in ("docs/FORMATS.md", REPLAY_EXAMPLE.split()[-1]))
+    return all(os.path.isfile(os.path.join(TOP, it)) for it in ("docs/FORMATS.md", *FILES))
 
 
 def main():

@@ -1,8 +1,9 @@
 #!/usr/bin/env python3
 """Runs the built tracerun on random scripts and compares what it does with what the model says, byte for byte.
 
-Standard output, standard error and the status have to be the same. A script on which they differ is made as small
-as it can be and shown with both. The scripts are the same for the same seed.
+Standard output, standard error and the status have to be the same, of `replay` and of `why`, about all spans and about
+one. A script on which they differ is made as small as it can be and shown with both. The scripts are the same for the
+same seed.
 
 usage: random_scripts.py [--program FILE] [--seed N] [--scripts N] [--seconds N]
 The last line is 'N passed, M failed': the scripts that agreed and those that differed. The status is 0 where none
@@ -15,6 +16,7 @@ import sys
 import time
 
 import model
+import model_why
 import script_maker
 import shrink
 from run_cases import current_program
@@ -22,18 +24,27 @@ from run_cases import current_program
 SECONDS = 20  # after so many the program is stopped
 MOST_SHOWN = 3  # so many differences are shown; later ones are counted
 
+# The words with which a script is run, and the model of it.
+REPLAY = (["replay"], model.run)
+ORDERS = [
+    REPLAY,
+    (["why"], model_why.why),
+    (["why", "--span", "a"], lambda script: model_why.why(script, "a")),
+]
 
-def run_program(program, script):
+
+def run_program(program, script, words=REPLAY[0]):
     """Standard output, standard error and the status."""
     try:
-        run = subprocess.run([program, "replay"], input=script, capture_output=True, timeout=SECONDS)
+        run = subprocess.run([program, *words], input=script, capture_output=True, timeout=SECONDS)
     except subprocess.TimeoutExpired:
         return b"", f"not over after {SECONDS} seconds".encode(), None
     return run.stdout, run.stderr, run.returncode
 
 
-def differs(program, script):
-    return run_program(program, script) != model.run(script)
+def differs(program, script, order=REPLAY):
+    words, meant = order
+    return run_program(program, script, words) != meant(script)
 
 
 def shown(data):
@@ -48,14 +59,16 @@ def show(what, result):
     print(shown(output), end="" if output.endswith(b"\n") else "\n")
 
 
-def report(program, script, name):
+def report(program, script, name, order):
     """Shows the smallest script that was found on which the two differ, and what each says."""
-    small = shrink.smallest(script, lambda it: differs(program, it))
-    print(f"FAILED {name}: the program and the model differ on this script ({len(small)} bytes of {len(script)}):")
+    words, meant = order
+    small = shrink.smallest(script, lambda it: differs(program, it, order))
+    print(f"FAILED {name}: {' '.join(words)}: the program and the model differ on this script", end=" ")
+    print(f"({len(small)} bytes of {len(script)}):")
     print(shown(small), end="" if small.endswith(b"\n") else "\n")
     print(f"--- the same as Python writes it: {small!r}")
-    show("the program", run_program(program, small))
-    show("the model", model.run(small))
+    show("the program", run_program(program, small, words))
+    show("the model", meant(small))
     sys.stdout.flush()
 
 
@@ -86,12 +99,13 @@ def main():
     while passed + failed != given.scripts and (end is None or time.monotonic() < end):
         number = passed + failed
         script = script_maker.make(given.seed, number, model.OPS)
-        if not differs(given.program, script):
+        wrong = [order for order in ORDERS if differs(given.program, script, order)]
+        if not wrong:
             passed += 1
             continue
         failed += 1
         if failed <= MOST_SHOWN:
-            report(given.program, script, f"script {number} of seed {given.seed}")
+            report(given.program, script, f"script {number} of seed {given.seed}", wrong[0])
     print(f"{passed} passed, {failed} failed")
     return 1 if failed else 0
 

@@ -1,5 +1,5 @@
 #!/usr/bin/env python3
-"""Runs the model on each worked case of `tracerun replay` and compares what it says with what the case wants.
+"""Runs the model on each worked case of `tracerun replay` and `tracerun why` and compares what it says with what the case wants.
 
 usage: test_model.py
 The last line is 'N passed, M failed'; the status is 0 where nothing failed.
@@ -10,12 +10,22 @@ import sys
 import fault_cases
 import large_cases
 import model
+import model_why
 from run_cases import HERE, file_cases, shown
 
 
-def difference(case):
-    """Says what differs between the model and the case, or nothing."""
-    output, error, status = model.run(case.script)
+def modelled(case):
+    """What the model says of the case, or nothing where it has no model."""
+    if case.words == ["replay"]:
+        return model.run(case.script)
+    if case.words[:1] == ["why"]:
+        return model_why.why(case.script, *case.words[2:])
+    return None
+
+
+def difference(case, said):
+    """Says what differs between what the model said and the case, or nothing."""
+    output, error, status = said
     if status != case.status:
         return f"status {status}, wanted {case.status}"
     if output != case.output:
@@ -29,9 +39,10 @@ def main():
     cases = [*file_cases(os.path.join(HERE, "cases")), *large_cases.cuts(), *fault_cases.cases()]
     passed = failed = 0
     for case in cases:
-        if case.words != ["replay"]:
+        said = modelled(case)
+        if said is None:
             continue
-        found = difference(case)
+        found = difference(case, said)
         if found is None:
             passed += 1
         else:

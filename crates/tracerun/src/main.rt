@@ -5,7 +5,7 @@ mod storms;
 
 use clap::Error;
 use span_layers::MAX_LAYERS;
-use span_replay::{Remains, replay_with_layers};
+use span_replay::{Remains, replay_with_layers, why_with_layers};
 use span_run::{Counted, RunFault};
 use std::io;
 use std::io::{BufWriter, ErrorKind};
@@ -26,6 +26,7 @@ fn main(rt: HostRuntime) -> io::Result<ExitCode> {
     };
     match order {
         Ok(Order::Replay) => status_of(&rt, replay(&rt)),
+        Ok(Order::Why { span }) => status_of(&rt, why(&rt, &span)),
         Ok(Order::Storm { workers, rounds }) => {
             let mut output = Counted::new(rt.stdout());
             status_of(
@@ -64,6 +65,25 @@ fn replay(rt: &HostRuntime) -> Result<(), RunFault> {
     let mut input = Counted::new(rt.stdin());
     let mut output = Counted::new(buffer);
     match replay_with_layers(alloc, &mut input, &mut output, MAX_LAYERS, Remains::Left) {
+        Ok(_) => Ok(()),
+        Err(fault) => Err(fault),
+    }
+}
+
+/// Runs the lines of the script of standard input, and tells why spans are open then: all, or the one that this label
+/// names.
+fn why(rt: &HostRuntime, span: &Option<String>) -> Result<(), RunFault> {
+    let alloc = rt.alloc();
+    let about = match span {
+        Some(label) => Some(label.as_str()),
+        None => None,
+    };
+    let Ok(buffer) = BufWriter::new(alloc, rt.stdout()) else {
+        return Err(RunFault::Memory);
+    };
+    let mut input = Counted::new(rt.stdin());
+    let mut output = Counted::new(buffer);
+    match why_with_layers(alloc, &mut input, &mut output, MAX_LAYERS, about) {
         Ok(_) => Ok(()),
         Err(fault) => Err(fault),
     }

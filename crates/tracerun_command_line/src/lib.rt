@@ -16,12 +16,16 @@ const ABOUT: &str = "Runs scripts of calls, and storms of workers, on the span r
 const ABOUT_REPLAY: &str =
     "Runs the script of standard input, and writes to standard output what its calls answer and its layers are told.";
 
+const ABOUT_WHY: &str =
+    "Runs the lines of the script of standard input, and writes to standard output which spans are open then, and why.";
+
 const ABOUT_STORM: &str =
     "Has workers call one registry at the same time, and writes to standard output how it ended.";
 
 const AFTER_HELP: &str = "docs/FORMATS.md describes scripts, what is written, and the statuses.\n\n\
     Examples:\n  \
     tracerun replay < examples/first.jsonl\n  \
+    tracerun why < examples/leak.jsonl\n  \
     tracerun storm --workers 4 --rounds 100";
 
 const AFTER_STORM_HELP: &str =
@@ -32,6 +36,10 @@ const AFTER_STORM_HELP: &str =
 const AFTER_REPLAY_HELP: &str =
     "A script has a JSON object on each line. docs/FORMATS.md describes scripts, what is written, and the statuses.\n\n\
     Example:\n  tracerun replay < examples/first.jsonl";
+
+const AFTER_WHY_HELP: &str =
+    "The script is one for replay. docs/FORMATS.md describes scripts, what is written, and the statuses.\n\n\
+    Examples:\n  tracerun why < examples/leak.jsonl\n  tracerun why --span query < examples/leak.jsonl";
 
 /// The program's command line.
 fn command<'a>(alloc: Global) -> Result<Command<'a>, AllocError> {
@@ -45,7 +53,20 @@ fn command<'a>(alloc: Global) -> Result<Command<'a>, AllocError> {
                 .about(ABOUT_REPLAY)
                 .after_help(AFTER_REPLAY_HELP),
         )?
+        .subcommand(why_command(alloc)?)?
         .subcommand(storm_command(alloc)?)
+}
+
+/// The command line of the question why spans are open.
+fn why_command<'a>(alloc: Global) -> Result<Command<'a>, AllocError> {
+    let span = Arg::new(alloc, "span")
+        .long("span")
+        .value_name("LABEL")
+        .help("Tells of the span alone that this label names");
+    Command::new(alloc, "why")
+        .about(ABOUT_WHY)
+        .after_help(AFTER_WHY_HELP)
+        .arg(span)
 }
 
 /// The command line of a storm.
@@ -79,6 +100,13 @@ fn order<'a>(alloc: Global, words: &'a [&'a str]) -> Result<Order, Error>
     let matches = command.try_get_matches_from_mut(words)?;
     match matches.subcommand() {
         Some(("replay", _)) => return Ok(Order::Replay),
+        Some(("why", given)) => {
+            let span = match given.get_str("span") {
+                Some(label) => Some(String::from_str(alloc, label)?),
+                None => None,
+            };
+            return Ok(Order::Why { span });
+        }
         Some(("storm", numbers)) => {
             let workers = numbers.get_one("workers");
             let rounds = numbers.get_one("rounds");
