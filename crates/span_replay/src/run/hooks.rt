@@ -44,7 +44,7 @@ pub fn replay_with_layers<R: Read, W: Write>(
     }
 }
 
-//// So many hooks that apply a rule by `admits` and write a note by `text`.
+/// So many hooks that apply a rule by `admits` and write a note by `text`.
 pub fn plain_hooks(alloc: Global, count: usize) -> Result<Vec<Hooks<ByRule, ByForm>>, AllocError>
     ensures { IfOk result (λ hooks. vec_len hooks ≡ count) }
 {
