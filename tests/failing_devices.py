@@ -1,10 +1,11 @@
 #!/usr/bin/env python3
-"""Runs the program on devices that fail: at each read and each write in turn, at the flush, and in other ways.
+"""Runs `tracerun replay` and `tracerun why` on devices that fail: at each read and each write in turn, at the flush,
+and in other ways.
 
-Where a read fails nothing is written and standard error is `device: read failed`; where a write fails what went out is a
-front of the script's text and standard error is `device: write failed`; the status is 3 then. A device that moves one
-byte at a time changes nothing. A write that is interrupted is made again; a read that is interrupted is one that failed.
-The last line is 'N passed, M failed'.
+Where a read fails nothing is written and standard error is `device: read failed`; where a write fails what went out is
+a front of the script's text and standard error is `device: write failed`; the status is 3 then. A device that moves one
+byte at a time changes nothing. A write that is interrupted is made again; a read that is interrupted is one that
+failed. The last line is 'N passed, M failed'.
 
 usage: failing_devices.py [--program FILE]
 """
@@ -14,7 +15,7 @@ import subprocess
 import sys
 import tempfile
 
-from refused_memory import HERE, PROGRAM, SCRIPTS, compiler
+from refused_memory import HERE, ORDERS, PROGRAM, SCRIPTS, compiler
 
 NOTICE = 9
 READ_FAILED = b"device: read failed\n"
@@ -29,14 +30,22 @@ def long_script():
     return '{"op":"layer"}\n' + "".join(lines)
 
 
-ALL_SCRIPTS = {**SCRIPTS, "a text of several writes": long_script(), "no line": ""}
+LONG = "x" * 20000
+LONG_LINES = "".join([
+    '{"op":"layer"}\n',
+    f'{{"op":"event","message":"{LONG}"}}\n',
+    f'{{"op":"new","name":"a","target":"{LONG}"}}\n',
+])
+ALL_SCRIPTS = {
+    **SCRIPTS, "a text of several writes": long_script(), "lines longer than a buffer": LONG_LINES, "no line": "",
+}
 
 
 class Runs:
     """Runs of the program, and how many of them ended as they should."""
 
-    def __init__(self, program, shim):
-        self.program, self.shim = program, shim
+    def __init__(self, words, shim):
+        self.words, self.shim = words, shim
         self.passed = self.failed = 0
 
     def run(self, script, **variables):
@@ -45,7 +54,7 @@ class Runs:
             os.dup2(notices.fileno(), NOTICE)
             try:
                 found = subprocess.run(
-                    [self.program, "replay"], input=script.encode(), capture_output=True, timeout=60,
+                    self.words, input=script.encode(), capture_output=True, timeout=60,
                     env={"LD_PRELOAD": self.shim, **variables}, pass_fds=[NOTICE],
                 )
             finally:
@@ -91,8 +100,8 @@ def each_call_fails(runs, name, script):
     print(f"{name}: {reads} reads and {writes} writes, each failed and each interrupted")
 
 
-def replay(program, source, target):
-    found = subprocess.run([program, "replay"], stdin=source, stdout=target, stderr=subprocess.PIPE, timeout=60)
+def between(words, source, target):
+    found = subprocess.run(words, stdin=source, stdout=target, stderr=subprocess.PIPE, timeout=60)
     return found.returncode, b"", found.stderr
 
 
@@ -102,12 +111,12 @@ def other_devices(runs, folder):
     with open(script, "w", encoding="utf-8") as file:
         file.write(SCRIPTS["every operation"])
     with open(script, "rb") as source, open("/dev/full", "wb") as full:
-        found = replay(runs.program, source, full)
+        found = between(runs.words, source, full)
         runs.wants("a full disk", found == (3, b"", WRITE_FAILED), found)
     reading, writing = os.pipe()
     os.close(reading)
     with open(script, "rb") as source, os.fdopen(writing, "wb") as pipe:
-        found = replay(runs.program, source, pipe)
+        found = between(runs.words, source, pipe)
         runs.wants("a pipe that nobody reads", found == (3, b"", WRITE_FAILED), found)
     output = os.path.join(folder, "output")
     for what, path, wanted in (
@@ -115,7 +124,7 @@ def other_devices(runs, folder):
     ):
         source = os.open(path, os.O_RDONLY)
         with open(output, "wb") as target:
-            found = replay(runs.program, source, target)
+            found = between(runs.words, source, target)
         os.close(source)
         runs.wants(what, found == wanted and os.path.getsize(output) == 0, found)
 
@@ -128,12 +137,14 @@ def main():
         shim = os.path.join(folder, "fail_device.so")
         source = os.path.join(HERE, "fail_device.c")
         subprocess.run([compiler(), "-O1", "-shared", "-fPIC", "-nostdlib", "-o", shim, source], check=True)
-        runs = Runs(words.program, shim)
-        for name, script in ALL_SCRIPTS.items():
-            each_call_fails(runs, name, script)
-        other_devices(runs, folder)
-    print(f"{runs.passed} passed, {runs.failed} failed")
-    return 1 if runs.failed else 0
+        of_orders = [Runs([words.program, order], shim) for order in ORDERS]
+        for runs in of_orders:
+            for name, script in ALL_SCRIPTS.items():
+                each_call_fails(runs, f"{runs.words[1]}: {name}", script)
+            other_devices(runs, folder)
+    passed, failed = sum(it.passed for it in of_orders), sum(it.failed for it in of_orders)
+    print(f"{passed} passed, {failed} failed")
+    return 1 if failed else 0
 
 
 if __name__ == "__main__":

@@ -1,12 +1,12 @@
 #!/usr/bin/env python3
 """Runs the programs with each of their growths refused in turn: alone, and with all that follow it.
 
-A growth is an allocation, or a thread that is made. `tracerun replay` has to end with the status 3 and `out of memory`
-on standard error, after a front of the text that the script means, or as a run that nothing was refused (where it can do
-without the memory). `hostile_use` runs its rows one by one. It makes a call that was refused again, and has to end as a
-run that nothing was refused; its lines that begin with `+` may be missing some, since notes that are refused memory are
-counted in their place. A call that takes no memory is made with each growth refused. The last line is
-'N passed, M failed'.
+A growth is an allocation, or a thread that is made. `tracerun replay` and `tracerun why` have to end with the status 3
+and `out of memory` on standard error, after a front of the text that the script means, or as a run that nothing was
+refused (where they can do without the memory). `hostile_use` runs its rows one by one. It makes a call that was refused
+again, and has to end as a run that nothing was refused; its lines that begin with `+` may be missing some, since notes
+that are refused memory are counted in their place. A call that takes no memory is made with each growth refused. The
+last line is 'N passed, M failed'.
 
 `tracerun storm`, of two workers and one round, has three ends. Two have the status 3 and nothing on standard output:
 with `out of memory` on standard error, and with `refused: out of memory`, where a worker's call was refused it. The
@@ -74,6 +74,9 @@ SCRIPTS = {
 """,
 }
 
+# The orders that read a script.
+ORDERS = ("replay", "why")
+
 # A storm, how many notes its layer has, and the standard errors with which it may end early.
 STORM = ["storm", "--workers", "2", "--rounds", "1"]
 NOTES = 14
@@ -127,13 +130,13 @@ def in_turn(name, mode, judge):
         number += 1
 
 
-def replayed(program, shim, script, mode):
-    """Judges `tracerun replay` on a script."""
-    *with_memory, _ = run([program, "replay"], shim, 0, mode, script)
+def given(words, shim, script, mode):
+    """Judges an order of the program on a script."""
+    *with_memory, _ = run(words, shim, 0, mode, script)
     whole = with_memory[1]
 
     def judge(number):
-        *ended, was_refused = run([program, "replay"], shim, number, mode, script)
+        *ended, was_refused = run(words, shim, number, mode, script)
         status, text, errors = ended
         stopped = status == 3 and errors == b"out of memory\n" and whole.startswith(text)
         if ended == with_memory or (was_refused and stopped):
@@ -215,8 +218,8 @@ def main():
         shim = os.path.join(folder, "refuse_memory.so")
         source = os.path.join(HERE, "refuse_memory.c")
         subprocess.run([compiler(), "-O1", "-shared", "-fPIC", "-nostdlib", "-o", shim, source], check=True)
-        judges = [(name, mode, replayed(words.program, shim, script, mode))
-                  for name, script in SCRIPTS.items() for mode in MODES]
+        judges = [(f"{order}: {name}", mode, given([words.program, order], shim, script, mode))
+                  for order in ORDERS for name, script in SCRIPTS.items() for mode in MODES]
         judges += [("storm", mode, stormed(words.program, shim, mode)) for mode in MODES]
         judges += [(f"row {row}", mode, used(words.hostile_use, shim, row, mode))
                    for row in rows_of(words.hostile_use) for mode in MODES]

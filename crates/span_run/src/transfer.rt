@@ -15,6 +15,10 @@ use std::io::{Read, Write};
 /// The most bytes that a script may have.
 const MOST_BYTES: usize = 16_777_216;
 
+// So many bytes are written by one call at most: a writer with a buffer takes them there, and a write of the buffer that
+// is interrupted is made again. More bytes it would hand on, and an interruption of that would be an error.
+const PIECE: usize = 4096;
+
 /// Reads a script to its end.
 ///
 /// A script of more than 16,777,216 bytes is the fault `TooLong` of line 0.
@@ -61,7 +65,8 @@ pub fn write_text<W: Write>(output: &mut Counted<W>, text: &[u8]) -> Result<(), 
 {
     let mut done = 0;
     while done < text.len() {
-        match output.write(&text[done..]) {
+        let end = text.len().min(done.saturating_add(PIECE));
+        match output.write(&text[done..end]) {
             Ok(0) => return Err(RunFault::Device(Side::Write)),
             Ok(n) => done += n,
             Err(_) => return Err(RunFault::Device(Side::Write)),

@@ -1,16 +1,16 @@
-use Rattle.std.proofs.Common.{◌≡◌, ◌+◌, ◌-◌, ◌∙◌, length, take, drop, arith, sym, List, ℕ, rules, take-append-drop, append-nil, []}
+use Rattle.std.proofs.Common.{◌≡◌, ◌+◌, ◌∙◌, take, drop, arith, sym, List, ℕ, rules, take-append-drop, append-nil, [], ◌≤◌}
 use Rattle.std.specs.Io.KnownBytes.{Appends, Keeps}
 use Rattle.std.specs.Prelude.{Option}
 use Rattle.std.proofs.KnownBytes.{Appends-trans, Appends-kept}
-use Rattle.std.proofs.lemmas.List.{take_rest}
+use Rattle.std.proofs.lemmas.List.{take-take}
 use Rattle.std.proofs.Math.Seq.{take-add}
 use Rattle.span_run.specs.Device.{AppendsFront}
 use Rattle.span_run.proofs.transfer.write_text.Goals as goal
 
--- a front was taken, then n more of the rest
-more_taken : (a b c : Option (List ℕ)) (text : List ℕ) (done n : ℕ) → Appends a b (take done text) → Appends b c (take n (take (length text - done) (drop done text))) → Appends a c (take (done + n) text)
-more_taken a b c text done n p q =
-    let q' = rw take_rest at q in
+-- a front was taken, then n more of a piece of the rest
+more_taken : (a b c : Option (List ℕ)) (text : List ℕ) (done n most : ℕ) → n ≤ most → Appends a b (take done text) → Appends b c (take n (take most (drop done text))) → Appends a c (take (done + n) text)
+more_taken a b c text done n most fits p q =
+    let q' = rw (take-take n most (drop done text) fits) at q in
     rw take-add (Appends-trans a b c _ _ p q')
 
 pub loop-done-preserved : goal.loop-done-preserved
@@ -18,7 +18,7 @@ loop-done-preserved g c =
     let e = c.in-Ok.ensures in
     record {
       in_range = omega (arith, e.bound);
-      taken = more_taken _ _ _ c.args.text.now c.loop-done.done c.in-Ok.n c.loop-done.invariant.taken e.bytes;
+      taken = more_taken _ _ _ c.args.text.now c.loop-done.done c.in-Ok.n _ (omega (arith, e.bound)) c.loop-done.invariant.taken e.bytes;
       failed = search (rules, e.ok, c.loop-done.invariant.failed);
       flushes = e.flushes ∙ c.loop-done.invariant.flushes;
     }
