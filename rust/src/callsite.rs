@@ -56,7 +56,8 @@ impl Registry {
     /// # }
     /// ```
     pub fn callsite(&self, meta: &Meta<'_>) -> Result<Callsite, Error> {
-        let number = self.shared().with(|state| state.add_callsite(meta, None))?;
+        let number = self.shared().with(|state| state.add_callsite(meta, None));
+        let number = number.map_err(|refusal| refusal.naming(Some(meta.name), &[]))?;
         Ok(Callsite {
             registry: self.shared().number(),
             number,
@@ -74,7 +75,8 @@ impl Registry {
 
     pub(crate) fn span_at_number(&self, number: u32, parent: Parent, fields: Given<'_>) -> Result<Span, Error> {
         let parent = self.own_parent(parent)?;
-        let id = self.call(|state, worker| state.new_span_at(worker, number, parent, fields))?;
+        let id = self.call(|state, worker| state.new_span_at(worker, number, parent, fields));
+        let id = id.map_err(|refusal| refusal.naming(None, fields.fields))?;
         Ok(id.map_or_else(Span::none, |id| Span::of(self, id)))
     }
 
@@ -85,7 +87,8 @@ impl Registry {
     pub fn new_span_at(&self, callsite: &Callsite, parent: Parent, fields: Fields<'_>) -> Result<Option<Id>, Error> {
         let number = callsite.number_in(self)?;
         let parent = self.own_parent(parent)?;
-        let made = self.call(|state, worker| state.new_span_at(worker, number, parent, fields.into()))?;
+        let made = self.call(|state, worker| state.new_span_at(worker, number, parent, fields.into()));
+        let made = made.map_err(|refusal| refusal.naming(None, fields))?;
         Ok(made.map(|raw| self.id_of(raw)))
     }
 
@@ -99,6 +102,7 @@ impl Registry {
     }
 
     pub(crate) fn event_at_number(&self, number: u32, message: &str, fields: Given<'_>) -> Result<(), Error> {
-        self.call(|state, worker| state.event_at(worker, number, message, fields))
+        let told = self.call(|state, worker| state.event_at(worker, number, message, fields));
+        told.map_err(|refusal| refusal.naming(None, fields.fields))
     }
 }

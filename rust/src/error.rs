@@ -1,7 +1,5 @@
 //! Why a call was refused.
 #![forbid(unsafe_code)]
-use crate::meta::Fields;
-use crate::names::is_name;
 use crate::raw;
 use std::fmt;
 
@@ -175,16 +173,6 @@ impl Error {
         })
     }
 
-    /// The same; where it is a bad name, it says which of these it was: the first that is none.
-    #[cold]
-    pub(crate) fn naming(self, name: Option<&str>, fields: Fields<'_>) -> Error {
-        let Error::BadName(_) = self else {
-            return self;
-        };
-        let mut names = name.into_iter().chain(fields.iter().map(|(key, _)| *key));
-        Error::bad_name(names.find(|name| !is_name(name)).unwrap_or_default())
-    }
-
     /// The number of this refusal in the C interface. This crate's own `TooManyThreads` has 100, `OtherRegistry` 101,
     /// and `OtherLibrary` 102.
     #[must_use]
@@ -211,23 +199,6 @@ impl Error {
     #[must_use]
     pub fn may_pass(self) -> bool {
         matches!(self, Error::Backlog | Error::OutOfMemory)
-    }
-
-    /// What a status of the C interface means; of a bad name without saying which.
-    pub(crate) fn of_status(status: u32) -> Result<(), Error> {
-        Err(match status {
-            raw::OK => return Ok(()),
-            raw::UNKNOWN => Error::Unknown,
-            raw::COUNT_FULL => Error::CountFull,
-            raw::FULL => Error::Full,
-            raw::NOT_ENTERED => Error::NotEntered,
-            raw::TOO_MANY_LAYERS => Error::TooManyLayers,
-            raw::BAD_NAME => Error::bad_name(""),
-            raw::BACKLOG => Error::Backlog,
-            raw::OUT_OF_MEMORY => Error::OutOfMemory,
-            raw::BAD_DATA => Error::BadData,
-            other => Error::Other(other),
-        })
     }
 }
 
@@ -306,32 +277,11 @@ mod tests {
     }
 
     #[test]
-    fn each_status_is_ok_or_has_its_own_error() {
-        assert_eq!(Error::of_status(0), Ok(()));
-        for status in 1..120 {
-            let error = Error::of_status(status).unwrap_err();
-            assert_eq!(error.number(), status);
-            assert!(![Error::TooManyThreads, Error::OtherRegistry].contains(&error));
-            assert!(!matches!(error, Error::OtherLibrary { .. }));
-        }
-    }
-
-    #[test]
     fn a_bad_name_is_told_as_far_as_it_is_kept() {
         let text = |name| Error::bad_name(name).to_string();
         assert!(text("GET /users").starts_with("bad name: \"GET /users\" has to be 1 to 64"));
         let long = format!("{}\u{e9}", "n".repeat(21));
         assert!(text(&long).contains(&format!("{:?}..", "n".repeat(21))));
         assert_ne!(Error::bad_name("a b"), Error::bad_name("a c"));
-    }
-
-    #[test]
-    fn the_first_name_that_is_none_is_told() {
-        let fields = [("k", ""), ("a key", ""), ("", "")];
-        let bad = Error::bad_name("");
-        assert_eq!(bad.naming(Some("a b"), &fields), Error::bad_name("a b"));
-        assert_eq!(bad.naming(Some("a"), &fields), Error::bad_name("a key"));
-        assert_eq!(bad.naming(None, &fields[2..]), Error::bad_name(""));
-        assert_eq!(Error::Full.naming(Some("a b"), &[]), Error::Full);
     }
 }

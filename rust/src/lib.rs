@@ -30,6 +30,7 @@ mod owed;
 mod packed;
 #[allow(unsafe_code)]
 mod raw;
+mod refusal;
 mod registry;
 mod ring;
 mod seats;

@@ -4,6 +4,7 @@ use crate::error::Error;
 use crate::kind::Kind;
 use crate::level::Level;
 use crate::packed::reserve;
+use crate::refusal::Refusal;
 use crate::span::Span;
 use std::fmt;
 use std::num::NonZeroU64;
@@ -116,7 +117,7 @@ impl<'a> From<Fields<'a>> for Given<'a> {
 
 impl Given<'_> {
     /// The kind of each.
-    pub(crate) fn all_kinds(&self) -> Result<Vec<Kind>, Error> {
+    pub(crate) fn all_kinds(&self) -> Result<Vec<Kind>, Refusal> {
         let mut kinds = Vec::new();
         reserve(&mut kinds, self.fields.len())?;
         kinds.extend_from_slice(self.kinds);

@@ -1,10 +1,10 @@
 //! What lines lack of which a tree can be built: kept beside the ring, a call at a time, until its lines are read.
 #![forbid(unsafe_code)]
-use crate::error::Error;
 use crate::kind::Kind;
 use crate::level::Level;
 use crate::meta::{Given, Meta, RawId};
 use crate::packed::copied;
+use crate::refusal::Refusal;
 use std::collections::VecDeque;
 use std::sync::{Mutex, MutexGuard, PoisonError};
 use std::time::Instant;
@@ -20,7 +20,7 @@ pub(crate) struct Known {
 }
 
 /// What is known of what has this meta.
-pub(crate) fn known(meta: &Meta<'_>, given: Given<'_>) -> Result<Known, Error> {
+pub(crate) fn known(meta: &Meta<'_>, given: Given<'_>) -> Result<Known, Refusal> {
     Ok(Known {
         level: meta.level,
         target: copied(meta.target)?,
@@ -101,8 +101,8 @@ impl Notes {
     }
 
     /// Room for one more call.
-    pub(crate) fn reserve(&self) -> Result<(), Error> {
-        self.book().calls.try_reserve(1).map_err(|_| Error::OutOfMemory)
+    pub(crate) fn reserve(&self) -> Result<(), Refusal> {
+        self.book().calls.try_reserve(1).map_err(|_| Refusal::OUT_OF_MEMORY)
     }
 
     /// The call of this number did this.

@@ -6,6 +6,7 @@ use crate::level::Level;
 use crate::meta::{Id, RawId};
 use crate::origins::Details;
 use crate::raw::SpanFound;
+use crate::refusal::Refusal;
 use crate::registry::Registry;
 use crate::shared::Shared;
 use crate::state::State;
@@ -152,7 +153,7 @@ impl OpenSpans {
     }
 
     // Of a list that is found under the lock, after what is owed, as far as that can be done now.
-    fn found(shared: &Shared, find: impl FnOnce(&mut State) -> Result<Vec<Open>, Error>) -> Result<OpenSpans, Error> {
+    fn found(shared: &Shared, find: impl FnOnce(&mut State) -> Result<Vec<Open>, Refusal>) -> Result<OpenSpans, Error> {
         let open = shared.with(|state| {
             let _owing = state.settle();
             find(state)

@@ -1,11 +1,10 @@
 //! With what spans were made, and where: what lists of open spans tell of them.
 #![forbid(unsafe_code)]
-use crate::error::Error;
 use crate::level::Level;
 use crate::meta::{Given, Meta, RawId};
 use crate::notes::{known, Known};
 use crate::packed::{copied, reserve, Packed};
-use crate::raw::SpanField;
+use crate::refusal::Refusal;
 use crate::site::Site;
 use std::collections::HashMap;
 
@@ -23,16 +22,36 @@ struct Source {
     place: Place,
 }
 
+/// How many bytes the name and the target take before the fields.
+#[derive(Clone, Copy, Debug, Default, PartialEq, Eq)]
+pub(crate) struct Names {
+    name: usize,
+    target: usize,
+}
+
+impl Names {
+    /// Those of a span that is made by meta.
+    #[inline]
+    pub(crate) fn of(meta: &Meta<'_>) -> Names {
+        Names {
+            name: meta.name.len(),
+            target: meta.target.len(),
+        }
+    }
+
+    fn bytes(self) -> usize {
+        self.name + self.target
+    }
+}
+
 /// The last span of a slot, with its texts as they were packed.
 #[derive(Default)]
 struct Made {
     id: Option<RawId>,
     // None: the name and the target stand before the fields.
     callsite: Option<u32>,
-    name: u32,
-    target: u32,
-    fields: Vec<SpanField>,
-    texts: Vec<u8>,
+    names: Names,
+    packed: Packed,
     // Whether there were more fields.
     is_cut: bool,
 }
@@ -54,15 +73,15 @@ pub(crate) struct Origins {
     sites: HashMap<usize, u32>,
     // Of each slot that was ever used.
     spans: Vec<Made>,
-    // The one that is being made.
-    next: Made,
+    // What is kept of the texts of the span that is being made, where it isn't all of them.
+    cut: Option<(Names, Packed)>,
 }
 
 impl Origins {
     /// Room for one more callsite, and its texts.
-    fn source(&mut self, meta: &Meta<'_>, place: Place) -> Result<Source, Error> {
+    fn source(&mut self, meta: &Meta<'_>, place: Place) -> Result<Source, Refusal> {
         reserve(&mut self.sources, 1)?;
-        self.sites.try_reserve(1).map_err(|_| Error::OutOfMemory)?;
+        self.sites.try_reserve(1).map_err(|_| Refusal::OUT_OF_MEMORY)?;
         Ok(Source {
             level: meta.level,
             name: copied(meta.name)?,
@@ -76,8 +95,8 @@ impl Origins {
         &mut self,
         meta: &Meta<'_>,
         site: Option<&'static Site>,
-        add: impl FnOnce() -> Result<u32, Error>,
-    ) -> Result<u32, Error> {
+        add: impl FnOnce() -> Result<u32, Refusal>,
+    ) -> Result<u32, Refusal> {
         let source = self.source(meta, site.map(Site::place))?;
         let number = add()?;
         // Callsites are numbered in ascending order.
@@ -94,50 +113,53 @@ impl Origins {
     }
 
     /// What is known of what is made at a callsite.
-    pub(crate) fn known(&self, callsite: u32, given: Given<'_>) -> Result<Known, Error> {
+    pub(crate) fn known(&self, callsite: u32, given: Given<'_>) -> Result<Known, Refusal> {
         let source = self.sources.get(callsite as usize);
         let meta = source.map(|source| Meta::new(source.level, &source.target, &source.name));
         known(&meta.unwrap_or(Meta::event(Level::Trace, "")), given)
     }
 
-    /// Room for one more span, by meta or at a callsite, whose texts these are.
-    #[inline]
-    pub(crate) fn reserve_span(
-        &mut self,
-        meta: Option<&Meta<'_>>,
-        callsite: Option<u32>,
-        packed: &Packed,
-    ) -> Result<(), Error> {
+    /// Room for one more span, whose texts these are, beginning with these names.
+    #[inline(always)]
+    pub(crate) fn reserve_span(&mut self, names: Names, packed: &Packed) -> Result<(), Refusal> {
         reserve(&mut self.spans, 1)?;
-        let next = &mut self.next;
-        next.fields.clear();
-        next.texts.clear();
-        next.callsite = callsite;
-        let (name, target) = meta.map_or((0, 0), |meta| (meta.name.len(), meta.target.len()));
-        // No span has such a name. Of a target that is longer nothing is kept.
-        let kept_name = if name > KEPT { 0 } else { name };
-        let kept_target = if kept_name + target > KEPT { 0 } else { target };
-        next.is_cut = (kept_name, kept_target) != (name, target);
-        // Both are at most KEPT.
-        (next.name, next.target) = (kept_name as u32, kept_target as u32);
-        let names = kept_name + kept_target;
-        reserve(&mut next.texts, names)?;
-        next.texts.extend_from_slice(&packed.texts()[..names]);
-        let (fields, bytes) = next.fitting(packed);
-        next.reserve_fields(fields, bytes)?;
-        next.add_fields(packed, name + target, fields, bytes);
+        if packed.is_below(KEPT) {
+            return Ok(());
+        }
+        self.cut = Some(cut(names, packed)?);
         Ok(())
     }
 
-    /// The span was made that room was made for last.
-    #[inline]
-    pub(crate) fn made(&mut self, id: RawId) {
+    /// The span was made that room was made for last. Its texts stay in its slot, whose last one's memory is used for
+    /// the next call's.
+    #[inline(always)]
+    pub(crate) fn made(&mut self, id: RawId, callsite: Option<u32>, names: Names, packed: &mut Packed) {
         // The registry uses its slots in ascending order, so there is room.
         if id.slot() == self.spans.len() {
-            self.spans.push(Made::default());
+            self.add_slot();
         }
-        self.next.id = Some(id);
-        std::mem::swap(&mut self.spans[id.slot()], &mut self.next);
+        let made = &mut self.spans[id.slot()];
+        (made.id, made.callsite) = (Some(id), callsite);
+        (made.names, made.is_cut) = (names, false);
+        if packed.is_below(KEPT) {
+            std::mem::swap(&mut made.packed, packed);
+        } else {
+            self.made_cut(id, packed);
+        }
+    }
+
+    #[cold]
+    fn add_slot(&mut self) {
+        self.spans.push(Made::default());
+    }
+
+    #[cold]
+    fn made_cut(&mut self, id: RawId, packed: &Packed) {
+        let made = &mut self.spans[id.slot()];
+        if let Some((kept, texts)) = self.cut.take() {
+            made.is_cut = kept != made.names || texts.fields().len() < packed.fields().len();
+            (made.names, made.packed) = (kept, texts);
+        }
     }
 
     fn of(&mut self, id: RawId) -> Option<&mut Made> {
@@ -145,10 +167,10 @@ impl Origins {
     }
 
     /// Room for these fields of a span.
-    pub(crate) fn reserve_record(&mut self, id: RawId, packed: &Packed) -> Result<(), Error> {
+    pub(crate) fn reserve_record(&mut self, id: RawId, packed: &Packed) -> Result<(), Refusal> {
         self.of(id).map_or(Ok(()), |made| {
             let (fields, bytes) = made.fitting(packed);
-            made.reserve_fields(fields, bytes)
+            made.packed.reserve(fields, bytes)
         })
     }
 
@@ -156,22 +178,23 @@ impl Origins {
     pub(crate) fn recorded(&mut self, id: RawId, packed: &Packed) {
         if let Some(made) = self.of(id) {
             let (fields, bytes) = made.fitting(packed);
-            made.add_fields(packed, 0, fields, bytes);
+            made.packed.add(&packed.fields()[..fields], &packed.texts()[..bytes]);
+            made.is_cut |= fields < packed.fields().len();
         }
     }
 
     /// What is known of a span that is the last of its slot.
-    pub(crate) fn details(&mut self, id: RawId) -> Result<Option<Details>, Error> {
+    pub(crate) fn details(&mut self, id: RawId) -> Result<Option<Details>, Refusal> {
         let Some(made) = self.spans.get(id.slot()).filter(|made| made.id == Some(id)) else {
             return Ok(None);
         };
-        let (name, target) = (made.name as usize, made.target as usize);
+        let Names { name, target } = made.names;
         let source = made.callsite.and_then(|number| self.sources.get(number as usize));
-        let mut texts = made.texts.as_slice();
+        let mut texts = made.packed.texts();
         let (own_name, own_target) = (taken(&mut texts, name)?, taken(&mut texts, target)?);
         let mut fields = Vec::new();
-        reserve(&mut fields, made.fields.len())?;
-        for field in &made.fields {
+        reserve(&mut fields, made.packed.fields().len())?;
+        for field in made.packed.fields() {
             let key = taken(&mut texts, field.key_len as usize)?;
             fields.push((key, taken(&mut texts, field.value_len as usize)?));
         }
@@ -187,32 +210,44 @@ impl Origins {
 
 impl Made {
     // How many of the packed fields are kept, and how many bytes of theirs.
-    #[inline]
     fn fitting(&self, packed: &Packed) -> (usize, usize) {
-        let (mut fields, mut bytes) = (0, 0);
-        for field in packed.fields() {
-            let more = field.key_len as usize + field.value_len as usize;
-            if self.is_cut || self.texts.len() + bytes + more > KEPT {
-                break;
-            }
-            (fields, bytes) = (fields + 1, bytes + more);
+        if self.is_cut {
+            return (0, 0);
         }
-        (fields, bytes)
+        fitting(self.packed.texts().len(), packed)
     }
+}
 
-    #[inline]
-    fn reserve_fields(&mut self, fields: usize, bytes: usize) -> Result<(), Error> {
-        reserve(&mut self.texts, bytes)?;
-        reserve(&mut self.fields, fields)
+// How many fields fit behind so many bytes, and how many bytes of theirs.
+fn fitting(before: usize, packed: &Packed) -> (usize, usize) {
+    let (mut fields, mut bytes) = (0, 0);
+    for field in packed.fields() {
+        let more = field.key_len as usize + field.value_len as usize;
+        if before + bytes + more > KEPT {
+            break;
+        }
+        (fields, bytes) = (fields + 1, bytes + more);
     }
+    (fields, bytes)
+}
 
-    // So many of the fields, which stand behind the first bytes and take so many.
-    #[inline]
-    fn add_fields(&mut self, packed: &Packed, first: usize, fields: usize, bytes: usize) {
-        self.texts.extend_from_slice(&packed.texts()[first..first + bytes]);
-        self.fields.extend_from_slice(&packed.fields()[..fields]);
-        self.is_cut |= fields < packed.fields().len();
-    }
+// What is kept of the texts of a new span: as many of the fields as have room, and none where the target hasn't. No
+// span has a name that hasn't.
+#[cold]
+fn cut(names: Names, packed: &Packed) -> Result<(Names, Packed), Refusal> {
+    let name = if names.name > KEPT { 0 } else { names.name };
+    let target = if name + names.target > KEPT { 0 } else { names.target };
+    let kept = Names { name, target };
+    let (fields, bytes) = if kept == names {
+        fitting(kept.bytes(), packed)
+    } else {
+        (0, 0)
+    };
+    let texts = &packed.texts()[..kept.bytes() + bytes];
+    let mut copy = Packed::default();
+    copy.reserve(fields, texts.len())?;
+    copy.add(&packed.fields()[..fields], texts);
+    Ok((kept, copy))
 }
 
 fn address(site: &'static Site) -> usize {
@@ -220,7 +255,7 @@ fn address(site: &'static Site) -> usize {
 }
 
 // So many bytes of the beginning, which are taken away.
-fn taken(texts: &mut &[u8], bytes: usize) -> Result<String, Error> {
+fn taken(texts: &mut &[u8], bytes: usize) -> Result<String, Refusal> {
     let (text, rest) = texts.split_at(bytes);
     *texts = rest;
     // They were texts before they were packed.
@@ -229,26 +264,26 @@ fn taken(texts: &mut &[u8], bytes: usize) -> Result<String, Error> {
 
 #[cfg(test)]
 mod tests {
-    use super::{Origins, KEPT};
-    use crate::error::Error;
+    use super::{Names, Origins, KEPT};
     use crate::level::Level;
     use crate::meta::{Fields, Meta, RawId};
     use crate::packed::Packed;
+    use crate::refusal::Refusal;
 
     fn id(number: u64) -> RawId {
         RawId::from_u64(number).expect("not 0")
     }
 
-    fn make(origins: &mut Origins, number: u64, fields: Fields<'_>) -> Result<(), Error> {
+    fn make(origins: &mut Origins, number: u64, fields: Fields<'_>) -> Result<(), Refusal> {
         let meta = Meta::new(Level::Info, "app", "a");
         let mut packed = Packed::default();
         packed.pack(&[meta.name, meta.target], fields)?;
-        origins.reserve_span(Some(&meta), None, &packed)?;
-        origins.made(id(number));
+        origins.reserve_span(Names::of(&meta), &packed)?;
+        origins.made(id(number), None, Names::of(&meta), &mut packed);
         Ok(())
     }
 
-    fn record(origins: &mut Origins, number: u64, fields: Fields<'_>) -> Result<(), Error> {
+    fn record(origins: &mut Origins, number: u64, fields: Fields<'_>) -> Result<(), Refusal> {
         let mut packed = Packed::default();
         packed.pack(&[], fields)?;
         origins.reserve_record(id(number), &packed)?;
@@ -257,7 +292,7 @@ mod tests {
     }
 
     #[test]
-    fn the_last_span_of_a_slot_is_known() -> Result<(), Error> {
+    fn the_last_span_of_a_slot_is_known() -> Result<(), Refusal> {
         let mut origins = Origins::default();
         make(&mut origins, 1, &[("k", "v")])?;
         make(&mut origins, 2, &[])?;
@@ -279,7 +314,7 @@ mod tests {
     }
 
     #[test]
-    fn long_texts_are_cut() -> Result<(), Error> {
+    fn long_texts_are_cut() -> Result<(), Refusal> {
         let mut origins = Origins::default();
         let long = "x".repeat(KEPT / 2);
         make(&mut origins, 1, &[("k", &long), ("l", &long), ("m", "")])?;

@@ -1,7 +1,7 @@
 //! What is owed: what drops and ends of threads could not do because the ring was full or memory was refused.
 #![forbid(unsafe_code)]
-use crate::error::Error;
 use crate::meta::RawId;
+use crate::refusal::Refusal;
 use std::collections::VecDeque;
 
 /// Something that is still to be done.
@@ -30,9 +30,9 @@ pub(crate) struct Owing {
 
 impl Owing {
     /// Of so many workers.
-    pub(crate) fn new(workers: usize) -> Result<Owing, Error> {
+    pub(crate) fn new(workers: usize) -> Result<Owing, Refusal> {
         let mut inside = Vec::new();
-        inside.try_reserve_exact(workers).map_err(|_| Error::OutOfMemory)?;
+        inside.try_reserve_exact(workers).map_err(|_| Refusal::OUT_OF_MEMORY)?;
         inside.resize_with(workers, Vec::new);
         let mut owing = Owing {
             list: VecDeque::new(),
@@ -46,32 +46,32 @@ impl Owing {
 
     // For the ends of all workers, for all that is held, and for so many more.
     #[inline]
-    fn reserve(&mut self, more: usize) -> Result<(), Error> {
+    fn reserve(&mut self, more: usize) -> Result<(), Refusal> {
         let room = self.inside.len() + self.held + more;
         if room <= self.list.capacity() {
             return Ok(());
         }
         let missing = room - self.list.len();
-        self.list.try_reserve(missing).map_err(|_| Error::OutOfMemory)
+        self.list.try_reserve(missing).map_err(|_| Refusal::OUT_OF_MEMORY)
     }
 
     /// Room for the handle of a new span, whose slot may be one that no span had before.
     #[inline]
-    pub(crate) fn reserve_span(&mut self) -> Result<(), Error> {
-        self.closes.try_reserve(1).map_err(|_| Error::OutOfMemory)?;
+    pub(crate) fn reserve_span(&mut self) -> Result<(), Refusal> {
+        self.closes.try_reserve(1).map_err(|_| Refusal::OUT_OF_MEMORY)?;
         self.reserve(1)
     }
 
     /// Room for one handle more of a span.
-    pub(crate) fn reserve_handle(&mut self) -> Result<(), Error> {
+    pub(crate) fn reserve_handle(&mut self) -> Result<(), Refusal> {
         self.reserve(1)
     }
 
     /// Room for one entry more of a worker.
     #[inline]
-    pub(crate) fn reserve_entry(&mut self, worker: u32) -> Result<(), Error> {
+    pub(crate) fn reserve_entry(&mut self, worker: u32) -> Result<(), Refusal> {
         let inside = &mut self.inside[worker as usize];
-        inside.try_reserve(1).map_err(|_| Error::OutOfMemory)?;
+        inside.try_reserve(1).map_err(|_| Refusal::OUT_OF_MEMORY)?;
         self.reserve(1)
     }
 
@@ -121,26 +121,27 @@ impl Owing {
     }
 
     /// Owes an exit; refused where the worker has no entry of the span whose exit isn't owed already.
-    pub(crate) fn owe_exit(&mut self, worker: u32, id: RawId) -> Result<(), Error> {
+    #[cold]
+    pub(crate) fn owe_exit(&mut self, worker: u32, id: RawId) -> Result<(), Refusal> {
         self.has_room()?;
         if !self.left(worker, id) {
-            return Err(Error::NotEntered);
+            return Err(Refusal::NOT_ENTERED);
         }
         self.list.push_back(Owed::Exit { worker, id });
         Ok(())
     }
 
     /// Owes a close of a span of which so many handles are out; refused where so many are owed already.
-    pub(crate) fn owe_close(&mut self, worker: u32, id: RawId, handles: u32) -> Result<(), Error> {
+    pub(crate) fn owe_close(&mut self, worker: u32, id: RawId, handles: u32) -> Result<(), Refusal> {
         self.has_room()?;
         let owed = self.closes.get_mut(id.slot()).filter(|owed| **owed < handles);
-        *owed.ok_or(Error::Unknown)? += 1;
+        *owed.ok_or(Refusal::UNKNOWN)? += 1;
         self.list.push_back(Owed::Close { worker, id });
         Ok(())
     }
 
     /// Owes the end of a worker, whose exits can't come to be owed any longer.
-    pub(crate) fn owe_end(&mut self, worker: u32) -> Result<(), Error> {
+    pub(crate) fn owe_end(&mut self, worker: u32) -> Result<(), Refusal> {
         self.has_room()?;
         self.left_all(worker);
         self.list.push_back(Owed::Leave { worker });
@@ -148,8 +149,8 @@ impl Owing {
     }
 
     // It has. Were there none, that would be an answer too.
-    fn has_room(&mut self) -> Result<(), Error> {
-        self.list.try_reserve(1).map_err(|_| Error::OutOfMemory)
+    fn has_room(&mut self) -> Result<(), Refusal> {
+        self.list.try_reserve(1).map_err(|_| Refusal::OUT_OF_MEMORY)
     }
 
     #[inline]
@@ -181,15 +182,15 @@ impl Owing {
 #[cfg(test)]
 mod tests {
     use super::{Owed, Owing};
-    use crate::error::Error;
     use crate::meta::RawId;
+    use crate::refusal::Refusal;
 
     fn id(number: u64) -> RawId {
         RawId::from_u64(number).expect("not 0")
     }
 
     #[test]
-    fn no_more_is_owed_than_is_held() -> Result<(), Error> {
+    fn no_more_is_owed_than_is_held() -> Result<(), Refusal> {
         let (a, b) = (id(1), id(2));
         let mut owing = Owing::new(2)?;
         for made in [a, b] {
@@ -201,17 +202,17 @@ mod tests {
             owing.entered(worker, entered);
         }
         owing.owe_close(0, a, 1)?;
-        assert_eq!(owing.owe_close(1, a, 1), Err(Error::Unknown));
-        assert_eq!(owing.owe_close(0, id(3), 9), Err(Error::Unknown));
+        assert_eq!(owing.owe_close(1, a, 1), Err(Refusal::UNKNOWN));
+        assert_eq!(owing.owe_close(0, id(3), 9), Err(Refusal::UNKNOWN));
         owing.owe_exit(0, a)?;
         owing.owe_exit(0, a)?;
-        assert_eq!(owing.owe_exit(0, a), Err(Error::NotEntered));
+        assert_eq!(owing.owe_exit(0, a), Err(Refusal::NOT_ENTERED));
         // Whoever owed too much took nothing from others.
         owing.owe_exit(0, b)?;
         owing.owe_close(1, b, 1)?;
-        assert_eq!(owing.owe_exit(1, a), Err(Error::NotEntered));
+        assert_eq!(owing.owe_exit(1, a), Err(Refusal::NOT_ENTERED));
         owing.owe_end(1)?;
-        assert_eq!(owing.owe_exit(1, b), Err(Error::NotEntered));
+        assert_eq!(owing.owe_exit(1, b), Err(Refusal::NOT_ENTERED));
         assert_eq!(owing.len(), 6);
         assert_eq!(owing.first(), Some(Owed::Close { worker: 0, id: a }));
         owing.done();
@@ -219,7 +220,7 @@ mod tests {
     }
 
     #[test]
-    fn to_owe_what_is_held_takes_no_memory() -> Result<(), Error> {
+    fn to_owe_what_is_held_takes_no_memory() -> Result<(), Refusal> {
         let mut owing = Owing::new(3)?;
         for number in 1..=1000 {
             owing.reserve_span()?;

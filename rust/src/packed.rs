@@ -1,8 +1,8 @@
 //! Texts as the C interface takes them: one after another, with their lengths beside them.
 #![forbid(unsafe_code)]
-use crate::error::Error;
 use crate::meta::Fields;
 use crate::raw::SpanField;
+use crate::refusal::Refusal;
 
 /// Buffers that grew past this are given back before the next call.
 const KEPT: usize = 64 * 1024;
@@ -16,31 +16,51 @@ pub(crate) struct Packed {
 
 impl Packed {
     /// Packs `first`, then the keys and values.
-    pub(crate) fn pack(&mut self, first: &[&str], fields: Fields<'_>) -> Result<(), Error> {
+    #[inline(always)]
+    pub(crate) fn pack(&mut self, first: &[&str], fields: Fields<'_>) -> Result<(), Refusal> {
         if self.texts.capacity() > KEPT || self.fields.capacity() > KEPT {
             *self = Packed::default();
         }
         self.texts.clear();
         self.fields.clear();
-        if first.is_empty() && fields.is_empty() {
-            return Ok(());
-        }
-        let texts = first.iter().chain(fields.iter().flat_map(|(key, value)| [key, value]));
-        let bytes = texts.map(|text| text.len()).try_fold(0, usize::checked_add);
-        reserve(&mut self.texts, bytes.ok_or(Error::OutOfMemory)?)?;
-        reserve(&mut self.fields, fields.len())?;
         for text in first {
-            self.texts.extend_from_slice(text.as_bytes());
+            self.push(text)?;
         }
+        reserve(&mut self.fields, fields.len())?;
         for (key, value) in fields {
             self.fields.push(SpanField {
                 key_len: length(key)?,
                 value_len: length(value)?,
             });
-            self.texts.extend_from_slice(key.as_bytes());
-            self.texts.extend_from_slice(value.as_bytes());
+            self.push(key)?;
+            self.push(value)?;
         }
         Ok(())
+    }
+
+    #[inline]
+    fn push(&mut self, text: &str) -> Result<(), Refusal> {
+        reserve(&mut self.texts, text.len())?;
+        self.texts.extend_from_slice(text.as_bytes());
+        Ok(())
+    }
+
+    /// Room for so many more fields and bytes.
+    pub(crate) fn reserve(&mut self, fields: usize, bytes: usize) -> Result<(), Refusal> {
+        reserve(&mut self.texts, bytes)?;
+        reserve(&mut self.fields, fields)
+    }
+
+    /// Adds these, for which there is room.
+    pub(crate) fn add(&mut self, fields: &[SpanField], texts: &[u8]) {
+        self.texts.extend_from_slice(texts);
+        self.fields.extend_from_slice(fields);
+    }
+
+    /// Whether it has at most so many bytes of texts, and memory for not many more.
+    #[inline]
+    pub(crate) fn is_below(&self, bytes: usize) -> bool {
+        self.texts.len() <= bytes && self.texts.capacity() <= 2 * bytes && self.fields.capacity() <= bytes / 8
     }
 
     pub(crate) fn fields(&self) -> &[SpanField] {
@@ -53,19 +73,19 @@ impl Packed {
 }
 
 /// The length of a text, which the interface takes in 32 bits.
-pub(crate) fn length(text: &str) -> Result<u32, Error> {
-    u32::try_from(text.len()).map_err(|_| Error::BadData)
+pub(crate) fn length(text: &str) -> Result<u32, Refusal> {
+    u32::try_from(text.len()).map_err(|_| Refusal::BAD_DATA)
 }
 
 /// Room for so many more, or want of memory.
-pub(crate) fn reserve<T>(list: &mut Vec<T>, more: usize) -> Result<(), Error> {
-    list.try_reserve(more).map_err(|_| Error::OutOfMemory)
+pub(crate) fn reserve<T>(list: &mut Vec<T>, more: usize) -> Result<(), Refusal> {
+    list.try_reserve(more).map_err(|_| Refusal::OUT_OF_MEMORY)
 }
 
 /// A text's copy, or want of memory.
-pub(crate) fn copied(text: &str) -> Result<String, Error> {
+pub(crate) fn copied(text: &str) -> Result<String, Refusal> {
     let mut copy = String::new();
-    copy.try_reserve_exact(text.len()).map_err(|_| Error::OutOfMemory)?;
+    copy.try_reserve_exact(text.len()).map_err(|_| Refusal::OUT_OF_MEMORY)?;
     copy.push_str(text);
     Ok(copy)
 }

@@ -4,6 +4,7 @@ use crate::builder::RegistryBuilder;
 use crate::error::Error;
 use crate::level::Level;
 use crate::meta::{Counts, Fields, Found, Id, Meta, Parent, RawId, RawParent};
+use crate::refusal::Refusal;
 use crate::seats::Caller;
 use crate::shared::{wait, Shared};
 use crate::site::NO_KEY;
@@ -87,8 +88,8 @@ impl Registry {
         self.user.key
     }
 
-    #[inline]
-    pub(crate) fn call<T>(&self, call: impl FnMut(&mut State, u32) -> Result<T, Error>) -> Result<T, Error> {
+    #[inline(always)]
+    pub(crate) fn call<T>(&self, call: impl FnMut(&mut State, u32) -> Result<T, Refusal>) -> Result<T, Refusal> {
         let as_worker = |state: &mut State, caller: Caller| Ok(state.worker(caller));
         self.shared().call(as_worker, call)
     }
@@ -121,7 +122,7 @@ impl Registry {
     /// [`Backlog`](Error::Backlog) or [`OutOfMemory`](Error::OutOfMemory) where something is owed and can't be done
     /// now.
     pub fn worker(&self) -> Result<u32, Error> {
-        self.call(|_, worker| Ok(worker))
+        Ok(self.call(|_, worker| Ok(worker))?)
     }
 
     /// Whether some layer admits spans and events of this level and target. It takes no lock and no place in the ring.
@@ -145,7 +146,8 @@ impl Registry {
     /// [`BadData`](Error::BadData).
     pub fn span(&self, meta: &Meta<'_>, parent: Parent, fields: Fields<'_>) -> Result<Span, Error> {
         let parent = self.own_parent(parent)?;
-        let id = self.call(|state, worker| state.new_span(worker, meta, parent, fields.into()))?;
+        let id = self.call(|state, worker| state.new_span(worker, meta, parent, fields.into()));
+        let id = id.map_err(|refusal| refusal.naming(Some(meta.name), fields))?;
         Ok(id.map_or_else(Span::none, |id| Span::of(self, id)))
     }
 
@@ -156,7 +158,8 @@ impl Registry {
     /// Those of [`span`](Registry::span).
     pub fn new_span(&self, meta: &Meta<'_>, parent: Parent, fields: Fields<'_>) -> Result<Option<Id>, Error> {
         let parent = self.own_parent(parent)?;
-        let made = self.call(|state, worker| state.new_span(worker, meta, parent, fields.into()))?;
+        let made = self.call(|state, worker| state.new_span(worker, meta, parent, fields.into()));
+        let made = made.map_err(|refusal| refusal.naming(Some(meta.name), fields))?;
         Ok(made.map(|raw| self.id_of(raw)))
     }
 
@@ -167,7 +170,8 @@ impl Registry {
     /// [`Backlog`](Error::Backlog), [`OutOfMemory`](Error::OutOfMemory), [`BadData`](Error::BadData).
     pub fn record(&self, id: Id, fields: Fields<'_>) -> Result<(), Error> {
         let id = self.own(id)?;
-        self.call(|state, worker| state.record(worker, id, fields.into()))
+        let recorded = self.call(|state, worker| state.record(worker, id, fields.into()));
+        recorded.map_err(|refusal| refusal.naming(None, fields))
     }
 
     /// Tells an event. Each layer that admits it sees it in the innermost span that the thread is inside of and the
@@ -177,7 +181,8 @@ impl Registry {
     /// [`BadName`](Error::BadName) for the name or a key, [`Backlog`](Error::Backlog),
     /// [`OutOfMemory`](Error::OutOfMemory), [`BadData`](Error::BadData).
     pub fn event(&self, meta: &Meta<'_>, message: &str, fields: Fields<'_>) -> Result<(), Error> {
-        self.call(|state, worker| state.event(worker, meta, message, fields.into()))
+        let told = self.call(|state, worker| state.event(worker, meta, message, fields.into()));
+        told.map_err(|refusal| refusal.naming(Some(meta.name), fields))
     }
 
     /// The calling thread enters a span. True where it wasn't inside of it already: only such an entry holds the span.
@@ -191,9 +196,10 @@ impl Registry {
     }
 
     /// As which worker too.
+    #[inline(always)]
     pub(crate) fn enter_as(&self, id: RawId) -> Result<(bool, u32), Error> {
         let enter = |state: &mut State, worker| Ok((state.enter(worker, id)?, worker));
-        self.shared().call(State::worker_to_enter, enter)
+        Ok(self.shared().call(State::worker_to_enter, enter)?)
     }
 
     /// The calling thread leaves its topmost entry of a span. True where the span closed.
@@ -203,7 +209,7 @@ impl Registry {
     /// [`Backlog`](Error::Backlog), [`OutOfMemory`](Error::OutOfMemory).
     pub fn exit(&self, id: Id) -> Result<bool, Error> {
         let id = self.own(id)?;
-        self.call(|state, worker| state.exit(worker, id))
+        Ok(self.call(|state, worker| state.exit(worker, id))?)
     }
 
     /// One more handle of a span, which the caller has to give back by [`try_close`](Registry::try_close).
@@ -213,7 +219,7 @@ impl Registry {
     /// [`Backlog`](Error::Backlog), [`OutOfMemory`](Error::OutOfMemory).
     pub fn clone_span(&self, id: Id) -> Result<(), Error> {
         let id = self.own(id)?;
-        self.call(|state, worker| state.clone_span(worker, id))
+        Ok(self.call(|state, worker| state.clone_span(worker, id))?)
     }
 
     /// Gives a handle of a span back. True where the span closed: nothing else holds it.
@@ -223,7 +229,7 @@ impl Registry {
     /// [`Backlog`](Error::Backlog), [`OutOfMemory`](Error::OutOfMemory).
     pub fn try_close(&self, id: Id) -> Result<bool, Error> {
         let id = self.own(id)?;
-        self.call(|state, worker| state.try_close(worker, id))
+        Ok(self.call(|state, worker| state.try_close(worker, id))?)
     }
 
     /// [`exit`](Registry::exit) for callers that can't make it again: what can't be done now is owed, as where a guard
@@ -235,19 +241,19 @@ impl Registry {
     pub fn exit_or_owe(&self, id: Id) -> Result<(), Error> {
         let id = self.own(id)?;
         let caller = workers::caller(self.shared());
-        self.shared().with(|state| {
-            let worker = state.worker_of(caller).ok_or(Error::NotEntered)?;
+        Ok(self.shared().with(|state| {
+            let worker = state.worker_of(caller).ok_or(Refusal::NOT_ENTERED)?;
             state.exit_or_owe(worker, id)
-        })
+        })?)
     }
 
     /// As this worker, if the thread still has that number: else it has left all spans.
     pub(crate) fn exit_as(&self, id: RawId, worker: u32) -> Result<(), Error> {
         let caller = workers::caller(self.shared());
-        self.shared().with(|state| match state.worker_of(caller) {
+        Ok(self.shared().with(|state| match state.worker_of(caller) {
             Some(number) if number == worker => state.exit_or_owe(worker, id),
             _ => Ok(()),
-        })
+        })?)
     }
 
     /// [`try_close`](Registry::try_close) for callers that can't make it again: what can't be done now is owed, as
@@ -262,10 +268,10 @@ impl Registry {
 
     pub(crate) fn close_raw(&self, id: RawId) -> Result<(), Error> {
         let caller = workers::caller(self.shared());
-        self.shared().with(|state| {
+        Ok(self.shared().with(|state| {
             let worker = state.worker_or_outsider(caller);
             state.close_or_owe(worker, id)
-        })
+        })?)
     }
 
     /// The innermost span that the calling thread is inside of; entries that repeat a span are skipped. After entering
@@ -318,7 +324,7 @@ impl Registry {
     /// [`Backlog`](Error::Backlog) or [`OutOfMemory`](Error::OutOfMemory) where some of it can't be done now; that
     /// stays owed.
     pub fn settle(&self) -> Result<(), Error> {
-        self.shared().with_place(State::settle)
+        Ok(self.shared().with_place(State::settle)?)
     }
 }
 

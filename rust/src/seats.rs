@@ -4,24 +4,30 @@
 //! over where none is free, that of the longest idle thread first. Calls of a thread without a number are made as the
 //! *outsider*, a worker that is never inside a span.
 #![forbid(unsafe_code)]
-use crate::error::Error;
+use crate::refusal::Refusal;
 
 /// No thread.
-const NOBODY: u64 = 0;
+pub(crate) const NOBODY: u64 = 0;
 /// A thread that has ended and is still inside: its number is nobody's until it has left.
 const GONE: u64 = u64::MAX;
 /// No seat.
-const NONE: u32 = u32::MAX;
+pub(crate) const NONE: u32 = u32::MAX;
 
 /// A thread of the process that calls, as it is known before the lock is taken.
 #[derive(Clone, Copy, Debug)]
 pub(crate) struct Caller {
-    /// From 1 on, and never the same for two threads.
+    /// From 1 on, and never the same for two threads; [`NOBODY`] where it can't give a number back when it ends.
     pub(crate) thread: u64,
-    /// The number that it had last in this registry.
-    pub(crate) last: Option<u32>,
-    /// Whether it can give a number back when it ends.
-    pub(crate) may_own: bool,
+    /// The number that it had last in this registry, or [`NONE`].
+    pub(crate) last: u32,
+}
+
+impl Caller {
+    /// Whether it may have a number.
+    #[inline]
+    pub(crate) fn may_own(self) -> bool {
+        self.thread != NOBODY
+    }
 }
 
 #[derive(Clone, Copy, Debug)]
@@ -45,11 +51,11 @@ pub(crate) struct Seats {
 }
 
 impl Seats {
-    pub(crate) fn new(workers: u32) -> Result<Seats, Error> {
+    pub(crate) fn new(workers: u32) -> Result<Seats, Refusal> {
         let (mut seats, mut free) = (Vec::new(), Vec::new());
         let room = workers as usize;
-        seats.try_reserve_exact(room).map_err(|_| Error::OutOfMemory)?;
-        free.try_reserve_exact(room).map_err(|_| Error::OutOfMemory)?;
+        seats.try_reserve_exact(room).map_err(|_| Refusal::OUT_OF_MEMORY)?;
+        free.try_reserve_exact(room).map_err(|_| Refusal::OUT_OF_MEMORY)?;
         let seat = Seat {
             thread: NOBODY,
             depth: 0,
@@ -78,13 +84,14 @@ impl Seats {
     }
 
     /// The number that the thread has.
+    #[inline]
     pub(crate) fn of(&self, caller: Caller) -> Option<u32> {
-        let last = caller.last?;
-        let seat = self.seats.get(last as usize)?;
-        (seat.thread == caller.thread).then_some(last)
+        let seat = self.seats.get(caller.last as usize)?;
+        (seat.thread == caller.thread).then_some(caller.last)
     }
 
     /// As which worker the thread makes a call: by the number that it has, or by a free one, or as the outsider.
+    #[cold]
     pub(crate) fn of_or_free(&mut self, caller: Caller) -> u32 {
         let mine = self.of(caller);
         mine.or_else(|| self.take_free(caller))
@@ -92,13 +99,22 @@ impl Seats {
     }
 
     /// The number by which the thread may enter a span: the one that it has, a free one, or that of an idle thread.
-    pub(crate) fn entering(&mut self, caller: Caller) -> Result<u32, Error> {
-        let mine = self.of(caller).or_else(|| self.take_free(caller));
-        mine.or_else(|| self.take_over(caller)).ok_or(Error::TooManyThreads)
+    #[inline]
+    pub(crate) fn entering(&mut self, caller: Caller) -> Result<u32, Refusal> {
+        match self.of(caller) {
+            Some(mine) => Ok(mine),
+            None => self.taking(caller),
+        }
+    }
+
+    #[cold]
+    fn taking(&mut self, caller: Caller) -> Result<u32, Refusal> {
+        let free = self.take_free(caller);
+        free.or_else(|| self.take_over(caller)).ok_or(Refusal::TOO_MANY_THREADS)
     }
 
     fn take_free(&mut self, caller: Caller) -> Option<u32> {
-        if !caller.may_own {
+        if !caller.may_own() {
             return None;
         }
         let at = self.free.pop()?;
@@ -108,7 +124,7 @@ impl Seats {
     }
 
     fn take_over(&mut self, caller: Caller) -> Option<u32> {
-        if !caller.may_own || self.first == NONE {
+        if !caller.may_own() || self.first == NONE {
             return None;
         }
         let at = self.first;
@@ -119,6 +135,7 @@ impl Seats {
     }
 
     /// The worker has one entry more.
+    #[inline]
     pub(crate) fn entered(&mut self, worker: u32) {
         if self.seats[worker as usize].depth == 0 {
             self.is_idle_no_more(worker);
@@ -127,6 +144,7 @@ impl Seats {
     }
 
     /// The worker has one entry fewer.
+    #[inline]
     pub(crate) fn left(&mut self, worker: u32) {
         let seat = &mut self.seats[worker as usize];
         seat.depth -= 1;
@@ -154,6 +172,7 @@ impl Seats {
         self.free.push(worker);
     }
 
+    #[inline]
     fn becomes_idle(&mut self, at: u32) {
         let seat = &mut self.seats[at as usize];
         (seat.before, seat.after) = (self.last, NONE);
@@ -164,6 +183,7 @@ impl Seats {
         self.last = at;
     }
 
+    #[inline]
     fn is_idle_no_more(&mut self, at: u32) {
         let Seat { before, after, .. } = self.seats[at as usize];
         match before {
@@ -179,19 +199,18 @@ impl Seats {
 
 #[cfg(test)]
 mod tests {
-    use super::{Caller, Seats};
-    use crate::error::Error;
+    use super::{Caller, Seats, NOBODY, NONE};
+    use crate::refusal::Refusal;
 
     fn caller(thread: u64, last: Option<u32>) -> Caller {
         Caller {
             thread,
-            last,
-            may_own: true,
+            last: last.unwrap_or(NONE),
         }
     }
 
     #[test]
-    fn free_numbers_are_taken_in_order() -> Result<(), Error> {
+    fn free_numbers_are_taken_in_order() -> Result<(), Refusal> {
         let mut seats = Seats::new(2)?;
         assert_eq!(
             [1, 2, 3].map(|thread| seats.of_or_free(caller(thread, None))),
@@ -205,13 +224,13 @@ mod tests {
     }
 
     #[test]
-    fn the_longest_idle_thread_loses_its_number() -> Result<(), Error> {
+    fn the_longest_idle_thread_loses_its_number() -> Result<(), Refusal> {
         let mut seats = Seats::new(3)?;
         for thread in 1..4 {
             let at = seats.entering(caller(thread, None))?;
             seats.entered(at);
         }
-        assert_eq!(seats.entering(caller(4, None)), Err(Error::TooManyThreads));
+        assert_eq!(seats.entering(caller(4, None)), Err(Refusal::TOO_MANY_THREADS));
         for worker in [1, 2, 0] {
             seats.left(worker);
         }
@@ -222,18 +241,18 @@ mod tests {
         seats.entered(2);
         assert_eq!(seats.entering(caller(1, Some(0))), Ok(0));
         seats.entered(0);
-        assert_eq!(seats.entering(caller(3, Some(2))), Err(Error::TooManyThreads));
+        assert_eq!(seats.entering(caller(3, Some(2))), Err(Refusal::TOO_MANY_THREADS));
         Ok(())
     }
 
     #[test]
-    fn a_thread_that_ends_inside_keeps_its_number_from_others() -> Result<(), Error> {
+    fn a_thread_that_ends_inside_keeps_its_number_from_others() -> Result<(), Refusal> {
         let mut seats = Seats::new(1)?;
         assert_eq!(seats.entering(caller(1, None)), Ok(0));
         seats.entered(0);
         assert_eq!(seats.ends(caller(1, Some(0))), Some(0));
         seats.left(0);
-        assert_eq!(seats.entering(caller(2, None)), Err(Error::TooManyThreads));
+        assert_eq!(seats.entering(caller(2, None)), Err(Refusal::TOO_MANY_THREADS));
         seats.free(0);
         assert_eq!((seats.taken(), seats.entering(caller(2, None))), (0, Ok(0)));
         assert_eq!(seats.ends(caller(2, Some(0))), None);
@@ -242,15 +261,14 @@ mod tests {
     }
 
     #[test]
-    fn a_thread_that_can_give_nothing_back_takes_nothing() -> Result<(), Error> {
+    fn a_thread_that_can_give_nothing_back_takes_nothing() -> Result<(), Refusal> {
         let mut seats = Seats::new(1)?;
         let late = Caller {
-            thread: 7,
-            last: None,
-            may_own: false,
+            thread: NOBODY,
+            last: NONE,
         };
         assert_eq!(seats.of_or_free(late), 1);
-        assert_eq!(seats.entering(late), Err(Error::TooManyThreads));
+        assert_eq!(seats.entering(late), Err(Refusal::TOO_MANY_THREADS));
         Ok(())
     }
 }

@@ -1,8 +1,8 @@
 //! The lock, and what may be asked without it.
 #![forbid(unsafe_code)]
-use crate::error::Error;
 use crate::interest::Interest;
 use crate::lost::{Losses, Lost};
+use crate::refusal::Refusal;
 use crate::ring::Ring;
 use crate::seats::Caller;
 use crate::state::State;
@@ -45,6 +45,7 @@ impl Shared {
     /// Runs a call under the lock. No code of the program's runs there but its global allocator, which must not call
     /// the registry. So where a thread panicked with the lock, it was between two calls of the registry, each of which
     /// is done whole or refused: the poison says nothing.
+    #[inline(always)]
     pub(crate) fn with<T>(&self, call: impl FnOnce(&mut State) -> T) -> T {
         let mut state: MutexGuard<'_, State> = self.state.lock().unwrap_or_else(PoisonError::into_inner);
         let result = call(&mut state);
@@ -53,26 +54,36 @@ impl Shared {
     }
 
     /// The same. Where the registry waits for the drain, it is made until it isn't refused for that.
-    #[inline]
-    pub(crate) fn with_place<T>(&self, mut call: impl FnMut(&mut State) -> Result<T, Error>) -> Result<T, Error> {
+    #[inline(always)]
+    pub(crate) fn with_place<T>(&self, mut call: impl FnMut(&mut State) -> Result<T, Refusal>) -> Result<T, Refusal> {
         let mut turn: u32 = 0;
         loop {
-            match self.with(&mut call) {
-                Err(Error::Backlog) if self.ring.waits() && !workers::is_writing(self) => wait(turn),
-                result => return result,
+            let result = self.with(|state| call(state));
+            if !matches!(result, Err(Refusal::BACKLOG)) || !self.has_waited(turn) {
+                return result;
             }
             turn = turn.saturating_add(1);
         }
     }
 
+    // Where a call waits for a place, it does that.
+    #[cold]
+    fn has_waited(&self, turn: u32) -> bool {
+        let waits = self.ring.waits() && !workers::is_writing(self);
+        if waits {
+            wait(turn);
+        }
+        waits
+    }
+
     /// A thread's call: what is owed comes first, then the thread's number, then the call, and then, where there is
     /// room, what was lost.
-    #[inline]
+    #[inline(always)]
     pub(crate) fn call<T>(
         self: &Arc<Shared>,
-        as_worker: impl Fn(&mut State, Caller) -> Result<u32, Error>,
-        mut call: impl FnMut(&mut State, u32) -> Result<T, Error>,
-    ) -> Result<T, Error> {
+        as_worker: impl Fn(&mut State, Caller) -> Result<u32, Refusal>,
+        mut call: impl FnMut(&mut State, u32) -> Result<T, Refusal>,
+    ) -> Result<T, Refusal> {
         let caller = workers::caller(self);
         self.with_place(|state| {
             state.settle()?;

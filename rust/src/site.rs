@@ -85,6 +85,7 @@ impl Site {
             return None;
         }
         let callsite = registry.shared().with(|state| state.callsite_of(self));
+        let callsite = callsite.map_err(|refusal| refusal.naming(Some(self.meta.name), &[]));
         // A callsite's number that would say the same is not kept.
         if let Some(number) = callsite.ok().filter(|&number| number != UNWANTED) {
             self.keep(registry, number);

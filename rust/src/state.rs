@@ -1,15 +1,15 @@
 //! What lies under the lock: the proved registry, what is owed to it, and which threads have which numbers.
 #![forbid(unsafe_code)]
-use crate::error::Error;
 use crate::level::Level;
 use crate::lost::{Lost, TARGET};
 use crate::meta::{Counts, Fields, Given, Meta, RawId, RawParent};
 use crate::notes::{known, What};
 use crate::open::Open;
-use crate::origins::Origins;
+use crate::origins::{Names, Origins};
 use crate::owed::{Owed, Owing};
 use crate::packed::{reserve, Packed};
 use crate::raw::{Core, SpanFound};
+use crate::refusal::Refusal;
 use crate::ring::Ring;
 use crate::seats::{Caller, Seats};
 use crate::site::Site;
@@ -24,17 +24,20 @@ pub(crate) struct State {
     // The core has one worker more, the outsider, which is inside of no span.
     seats: Seats,
     origins: Origins,
-    // What the call does that is being made, where a layer asks for notes.
+    // Whether a layer asks for notes.
+    has_notes: bool,
+    // What the call does that is being made, where one does.
     noted: Option<What>,
     // What was lost when that was last told.
     told: Lost,
 }
 
 impl State {
-    pub(crate) fn new(mut core: Core, ring: Arc<Ring>) -> Result<State, Error> {
+    pub(crate) fn new(mut core: Core, ring: Arc<Ring>) -> Result<State, Refusal> {
         let workers = core.counts().workers - 1;
         Ok(State {
             core,
+            has_notes: ring.notes().is_some(),
             ring,
             packed: Packed::default(),
             owing: Owing::new(workers as usize)?,
@@ -47,7 +50,7 @@ impl State {
 
     /// Does what is owed, in order, up to the first that can't be done now.
     #[inline]
-    pub(crate) fn settle(&mut self) -> Result<(), Error> {
+    pub(crate) fn settle(&mut self) -> Result<(), Refusal> {
         if self.owes() {
             self.pay_all()
         } else {
@@ -56,17 +59,17 @@ impl State {
     }
 
     #[cold]
-    fn pay_all(&mut self) -> Result<(), Error> {
+    fn pay_all(&mut self) -> Result<(), Refusal> {
         while let Some(next) = self.owing.first() {
             match self.pay(next) {
-                Err(error) if error.may_pass() => return Err(error),
+                Err(refusal) if refusal.may_pass() => return Err(refusal),
                 _ => self.owing.done(),
             }
         }
         Ok(())
     }
 
-    fn pay(&mut self, payment: Owed) -> Result<(), Error> {
+    fn pay(&mut self, payment: Owed) -> Result<(), Refusal> {
         match payment {
             Owed::Exit { worker, id } => self.give_back_entry(worker, id).map(drop),
             Owed::Close { worker, id } => self.try_close(worker, id).map(drop),
@@ -75,36 +78,41 @@ impl State {
     }
 
     /// Does this after all that is owed, or owes it too.
-    pub(crate) fn exit_or_owe(&mut self, worker: u32, id: RawId) -> Result<(), Error> {
+    #[inline]
+    pub(crate) fn exit_or_owe(&mut self, worker: u32, id: RawId) -> Result<(), Refusal> {
         match self.settle().and_then(|()| self.exit(worker, id)) {
-            Err(error) if error.may_pass() => self.owing.owe_exit(worker, id),
+            Err(refusal) if refusal.may_pass() => self.owing.owe_exit(worker, id),
             result => result.map(drop),
         }
     }
 
     /// Does this after all that is owed, or owes it too.
-    pub(crate) fn close_or_owe(&mut self, worker: u32, id: RawId) -> Result<(), Error> {
+    #[inline]
+    pub(crate) fn close_or_owe(&mut self, worker: u32, id: RawId) -> Result<(), Refusal> {
         match self.settle().and_then(|()| self.try_close(worker, id)) {
-            Err(error) if error.may_pass() => {
-                let handles = self.core.find(id).map_or(0, |found| found.handles);
-                self.owing.owe_close(worker, id, handles)
-            }
+            Err(refusal) if refusal.may_pass() => self.owe_close(worker, id),
             result => result.map(drop),
         }
     }
 
+    #[cold]
+    fn owe_close(&mut self, worker: u32, id: RawId) -> Result<(), Refusal> {
+        let handles = self.core.find(id).map_or(0, |found| found.handles);
+        self.owing.owe_close(worker, id, handles)
+    }
+
     /// The thread leaves all spans, after all that is owed or as it is owed too, and its number is free then.
-    pub(crate) fn thread_ends(&mut self, caller: Caller) -> Result<(), Error> {
+    pub(crate) fn thread_ends(&mut self, caller: Caller) -> Result<(), Refusal> {
         let Some(worker) = self.seats.ends(caller) else {
             return Ok(());
         };
         match self.settle().and_then(|()| self.leave(worker)) {
-            Err(error) if error.may_pass() => self.owing.owe_end(worker),
+            Err(refusal) if refusal.may_pass() => self.owing.owe_end(worker),
             result => result,
         }
     }
 
-    fn leave(&mut self, worker: u32) -> Result<(), Error> {
+    fn leave(&mut self, worker: u32) -> Result<(), Refusal> {
         while let Some(id) = self.core.current_span(worker)? {
             self.give_back_entry(worker, id)?;
         }
@@ -120,96 +128,118 @@ impl State {
     }
 
     /// The same where it takes no number, as for a drop.
+    #[inline]
     pub(crate) fn worker_or_outsider(&self, caller: Caller) -> u32 {
         self.worker_of(caller).unwrap_or_else(|| self.seats.outsider())
     }
 
     /// The number that the thread has.
+    #[inline]
     pub(crate) fn worker_of(&self, caller: Caller) -> Option<u32> {
         self.seats.of(caller)
     }
 
     /// As which worker the thread may enter a span: by its number, or one that it takes, also an idle thread's.
-    pub(crate) fn worker_to_enter(&mut self, caller: Caller) -> Result<u32, Error> {
+    #[inline]
+    pub(crate) fn worker_to_enter(&mut self, caller: Caller) -> Result<u32, Refusal> {
         self.seats.entering(caller)
     }
 
     // A call that takes a place of the ring: where lines may be thrown away for one, they are.
     #[inline]
-    fn placed<T>(&mut self, mut call: impl FnMut(&mut Core, &Packed) -> Result<T, Error>) -> Result<T, Error> {
+    fn placed<T>(&mut self, mut call: impl FnMut(&mut Core, &Packed) -> Result<T, Refusal>) -> Result<T, Refusal> {
         loop {
             match call(&mut self.core, &self.packed) {
-                Err(Error::Backlog) if self.ring.makes_place() => {}
+                Err(Refusal::BACKLOG) if self.ring.makes_place() => {}
                 result => return result,
             }
         }
     }
 
+    #[inline]
     pub(crate) fn new_span(
         &mut self,
         worker: u32,
         meta: &Meta<'_>,
         parent: RawParent,
         given: Given<'_>,
-    ) -> Result<Option<RawId>, Error> {
-        let fields = given.fields;
+    ) -> Result<Option<RawId>, Refusal> {
+        let names = Names::of(meta);
         self.owing.reserve_span()?;
-        self.packed.pack(&[meta.name, meta.target], fields)?;
-        self.origins.reserve_span(Some(meta), None, &self.packed)?;
+        self.packed.pack(&[meta.name, meta.target], given.fields)?;
+        self.origins.reserve_span(names, &self.packed)?;
         self.noting(|_| Ok(What::Made(known(meta, given)?)))?;
-        let id = self.placed(|core, packed| core.new_span(worker, parent, meta, packed));
-        let id = id.map_err(|error| error.naming(Some(meta.name), fields))?;
-        Ok(id.inspect(|&id| self.made(id)))
+        let id = self.placed(|core, packed| core.new_span(worker, parent, meta, packed))?;
+        if let Some(id) = id {
+            self.made(id, None, names);
+        }
+        Ok(id)
     }
 
     /// Its number.
-    pub(crate) fn add_callsite(&mut self, meta: &Meta<'_>, site: Option<&'static Site>) -> Result<u32, Error> {
+    pub(crate) fn add_callsite(&mut self, meta: &Meta<'_>, site: Option<&'static Site>) -> Result<u32, Refusal> {
         self.packed.pack(&[meta.name, meta.target], &[])?;
         let State {
             core, packed, origins, ..
         } = self;
-        let number = origins.add(meta, site, || core.add_callsite(meta, packed));
-        number.map_err(|error| error.naming(Some(meta.name), &[]))
+        origins.add(meta, site, || core.add_callsite(meta, packed))
     }
 
     /// The number of the callsite of a place in the program, which is added at its first call.
-    pub(crate) fn callsite_of(&mut self, site: &'static Site) -> Result<u32, Error> {
+    pub(crate) fn callsite_of(&mut self, site: &'static Site) -> Result<u32, Refusal> {
         if let Some(number) = self.origins.number(site) {
             return Ok(number);
         }
         self.add_callsite(site.meta(), Some(site))
     }
 
+    #[inline(always)]
     pub(crate) fn new_span_at(
         &mut self,
         worker: u32,
         callsite: u32,
         parent: RawParent,
         given: Given<'_>,
-    ) -> Result<Option<RawId>, Error> {
-        let fields = given.fields;
+    ) -> Result<Option<RawId>, Refusal> {
+        let names = Names::default();
         self.owing.reserve_span()?;
-        self.packed.pack(&[], fields)?;
-        self.origins.reserve_span(None, Some(callsite), &self.packed)?;
+        self.packed.pack(&[], given.fields)?;
+        self.origins.reserve_span(names, &self.packed)?;
         self.noting(|origins| Ok(What::Made(origins.known(callsite, given)?)))?;
-        let id = self.placed(|core, packed| core.new_span_at(worker, parent, callsite, packed));
-        let id = id.map_err(|error| error.naming(None, fields))?;
-        Ok(id.inspect(|&id| self.made(id)))
+        let id = self.placed(|core, packed| core.new_span_at(worker, parent, callsite, packed))?;
+        if let Some(id) = id {
+            self.made(id, Some(callsite), names);
+        }
+        Ok(id)
     }
 
-    fn made(&mut self, id: RawId) {
+    #[inline(always)]
+    fn made(&mut self, id: RawId, callsite: Option<u32>, names: Names) {
         self.owing.made(id);
-        self.origins.made(id);
-        if self.ring.notes().is_some() {
-            let parent = self.core.find(id).and_then(|found| RawId::from_u64(found.parent));
-            self.noted = self.noted.take().map(|what| what.of_span(id, parent));
-            self.note_now();
+        self.origins.made(id, callsite, names, &mut self.packed);
+        if self.has_notes {
+            self.note_span(id);
         }
+    }
+
+    #[cold]
+    fn note_span(&mut self, id: RawId) {
+        let parent = self.core.find(id).and_then(|found| RawId::from_u64(found.parent));
+        self.noted = self.noted.take().map(|what| what.of_span(id, parent));
+        self.note_now();
     }
 
     // What is to be noted of a call, if a layer asks for notes, with room for it.
     #[inline]
-    fn noting(&mut self, what: impl FnOnce(&Origins) -> Result<What, Error>) -> Result<(), Error> {
+    fn noting(&mut self, what: impl FnOnce(&Origins) -> Result<What, Refusal>) -> Result<(), Refusal> {
+        if self.has_notes {
+            self.note_soon(what)?;
+        }
+        Ok(())
+    }
+
+    #[cold]
+    fn note_soon(&mut self, what: impl FnOnce(&Origins) -> Result<What, Refusal>) -> Result<(), Refusal> {
         if let Some(notes) = self.ring.notes() {
             notes.reserve()?;
             self.noted = Some(what(&self.origins)?);
@@ -220,7 +250,7 @@ impl State {
     // The call was accepted.
     #[inline]
     fn note(&mut self) {
-        if self.ring.notes().is_some() {
+        if self.has_notes {
             self.note_now();
         }
     }
@@ -234,7 +264,7 @@ impl State {
         }
     }
 
-    pub(crate) fn clone_span(&mut self, worker: u32, id: RawId) -> Result<(), Error> {
+    pub(crate) fn clone_span(&mut self, worker: u32, id: RawId) -> Result<(), Refusal> {
         self.owing.reserve_handle()?;
         self.noting(|_| Ok(What::Other))?;
         self.placed(|core, _| core.clone_span(worker, id))?;
@@ -243,7 +273,8 @@ impl State {
         Ok(())
     }
 
-    pub(crate) fn enter(&mut self, worker: u32, id: RawId) -> Result<bool, Error> {
+    #[inline]
+    pub(crate) fn enter(&mut self, worker: u32, id: RawId) -> Result<bool, Refusal> {
         self.owing.reserve_entry(worker)?;
         self.noting(|_| Ok(What::Other))?;
         let first = self.placed(|core, _| core.enter(worker, id))?;
@@ -253,13 +284,15 @@ impl State {
         Ok(first)
     }
 
-    pub(crate) fn exit(&mut self, worker: u32, id: RawId) -> Result<bool, Error> {
+    #[inline(always)]
+    pub(crate) fn exit(&mut self, worker: u32, id: RawId) -> Result<bool, Refusal> {
         let closed = self.give_back_entry(worker, id)?;
         self.owing.left(worker, id);
         Ok(closed)
     }
 
-    fn give_back_entry(&mut self, worker: u32, id: RawId) -> Result<bool, Error> {
+    #[inline(always)]
+    fn give_back_entry(&mut self, worker: u32, id: RawId) -> Result<bool, Refusal> {
         self.noting(|_| Ok(What::Other))?;
         let closed = self.placed(|core, _| core.exit(worker, id))?;
         self.note();
@@ -268,7 +301,8 @@ impl State {
         Ok(closed)
     }
 
-    pub(crate) fn try_close(&mut self, worker: u32, id: RawId) -> Result<bool, Error> {
+    #[inline]
+    pub(crate) fn try_close(&mut self, worker: u32, id: RawId) -> Result<bool, Refusal> {
         self.noting(|_| Ok(What::Other))?;
         let closed = self.placed(|core, _| core.try_close(worker, id))?;
         self.note();
@@ -276,23 +310,26 @@ impl State {
         Ok(closed)
     }
 
-    pub(crate) fn record(&mut self, worker: u32, id: RawId, given: Given<'_>) -> Result<(), Error> {
-        let fields = given.fields;
-        self.packed.pack(&[], fields)?;
+    pub(crate) fn record(&mut self, worker: u32, id: RawId, given: Given<'_>) -> Result<(), Refusal> {
+        self.packed.pack(&[], given.fields)?;
         self.origins.reserve_record(id, &self.packed)?;
         self.noting(|_| Ok(What::Record(id, given.all_kinds()?)))?;
-        let recorded = self.placed(|core, packed| core.record(worker, id, packed));
-        recorded.map_err(|error| error.naming(None, fields))?;
+        self.placed(|core, packed| core.record(worker, id, packed))?;
         self.origins.recorded(id, &self.packed);
         self.note();
         Ok(())
     }
 
-    pub(crate) fn event(&mut self, worker: u32, meta: &Meta<'_>, message: &str, given: Given<'_>) -> Result<(), Error> {
+    pub(crate) fn event(
+        &mut self,
+        worker: u32,
+        meta: &Meta<'_>,
+        message: &str,
+        given: Given<'_>,
+    ) -> Result<(), Refusal> {
         self.packed.pack(&[meta.name, meta.target, message], given.fields)?;
         self.noting(|_| Ok(What::Made(known(meta, given)?)))?;
-        let told = self.placed(|core, packed| core.event(worker, meta, message, packed));
-        told.map_err(|error| error.naming(Some(meta.name), given.fields))?;
+        self.placed(|core, packed| core.event(worker, meta, message, packed))?;
         self.note();
         Ok(())
     }
@@ -303,17 +340,16 @@ impl State {
         callsite: u32,
         message: &str,
         given: Given<'_>,
-    ) -> Result<(), Error> {
+    ) -> Result<(), Refusal> {
         self.packed.pack(&[message], given.fields)?;
         self.noting(|origins| Ok(What::Made(origins.known(callsite, given)?)))?;
-        let told = self.placed(|core, packed| core.event_at(worker, callsite, message, packed));
-        told.map_err(|error| error.naming(None, given.fields))?;
+        self.placed(|core, packed| core.event_at(worker, callsite, message, packed))?;
         self.note();
         Ok(())
     }
 
     /// Tells something of the registry itself, as the outsider, if the ring has room: nothing is thrown away for it.
-    fn tell_of_itself(&mut self, message: &str, fields: Fields<'_>) -> Result<(), Error> {
+    fn tell_of_itself(&mut self, message: &str, fields: Fields<'_>) -> Result<(), Refusal> {
         let meta = Meta::event(Level::Warn, TARGET);
         self.packed.pack(&[meta.name, meta.target, message], fields)?;
         self.noting(|_| Ok(What::Made(known(&meta, fields.into())?)))?;
@@ -324,7 +360,7 @@ impl State {
 
     /// Tells what was lost since the last telling, as the outsider, if the ring has room. It takes memory, unlike the
     /// losses themselves.
-    pub(crate) fn tell(&mut self, lost: Lost) -> Result<(), Error> {
+    pub(crate) fn tell(&mut self, lost: Lost) -> Result<(), Refusal> {
         let news = lost.since(&self.told);
         if news.is_nothing() {
             // It was told before its thread said so.
@@ -340,7 +376,7 @@ impl State {
         Ok(())
     }
 
-    pub(crate) fn current_span(&mut self, worker: u32) -> Result<Option<RawId>, Error> {
+    pub(crate) fn current_span(&mut self, worker: u32) -> Result<Option<RawId>, Refusal> {
         self.core.current_span(worker)
     }
 
@@ -349,7 +385,7 @@ impl State {
     }
 
     /// Each span that is open, by ascending slot.
-    pub(crate) fn open_spans(&mut self) -> Result<Vec<Open>, Error> {
+    pub(crate) fn open_spans(&mut self) -> Result<Vec<Open>, Refusal> {
         let ids = self.core.open_ids()?;
         let mut open = Vec::new();
         reserve(&mut open, ids.len())?;
@@ -360,7 +396,7 @@ impl State {
     }
 
     /// A span, the spans at it or below it that keep it open, and those between them and it.
-    pub(crate) fn why_open(&mut self, id: RawId) -> Result<Vec<Open>, Error> {
+    pub(crate) fn why_open(&mut self, id: RawId) -> Result<Vec<Open>, Refusal> {
         let mut seen = HashSet::from([id.get()]);
         let mut open = vec![self.open_span(id.get())?];
         for holder in self.core.holders_of(id)? {
@@ -376,16 +412,16 @@ impl State {
         Ok(open)
     }
 
-    fn open_span(&mut self, id: u64) -> Result<Open, Error> {
-        let id = RawId::from_u64(id).ok_or(Error::Unknown)?;
-        let found = self.core.find(id).ok_or(Error::Unknown)?;
+    fn open_span(&mut self, id: u64) -> Result<Open, Refusal> {
+        let id = RawId::from_u64(id).ok_or(Refusal::UNKNOWN)?;
+        let found = self.core.find(id).ok_or(Refusal::UNKNOWN)?;
         // All workers' stacks are looked through, so not for a span that none is inside of.
         let inside = if found.entries > 0 {
             self.core.workers_inside(id)?
         } else {
             Vec::new()
         };
-        let details = self.origins.details(id)?.ok_or(Error::Unknown)?;
+        let details = self.origins.details(id)?.ok_or(Refusal::UNKNOWN)?;
         Ok(Open {
             id,
             found,
@@ -395,12 +431,12 @@ impl State {
     }
 
     /// Tells of these that they are open, as the outsider, up to the first for which the ring has no room. How many.
-    pub(crate) fn tell_open(&mut self, spans: &[Open]) -> Result<usize, Error> {
+    pub(crate) fn tell_open(&mut self, spans: &[Open]) -> Result<usize, Refusal> {
         for (told, span) in spans.iter().enumerate() {
             let fields = span.fields();
             let fields: Vec<(&str, &str)> = fields.iter().map(|(key, value)| (*key, &**value)).collect();
             match self.tell_of_itself("open", &fields) {
-                Err(Error::Backlog) => return Ok(told),
+                Err(Refusal::BACKLOG) => return Ok(told),
                 told => told?,
             }
         }
@@ -431,6 +467,7 @@ impl State {
         self.calls() + self.owing.calls()
     }
 
+    #[inline]
     pub(crate) fn owes(&self) -> bool {
         self.owing.len() > 0
     }

@@ -1,6 +1,6 @@
 //! Which thread calls, and which number it had last in which registry.
 #![forbid(unsafe_code)]
-use crate::seats::Caller;
+use crate::seats::{Caller, NOBODY, NONE};
 use crate::shared::Shared;
 use std::cell::{Cell, RefCell};
 use std::sync::atomic::{AtomicU64, Ordering};
@@ -12,19 +12,21 @@ static THREADS: AtomicU64 = AtomicU64::new(0);
 /// A registry in which this thread may have a number, to be given back when it ends.
 struct Place {
     registry: Weak<Shared>,
-    // The number that it had last.
-    worker: Option<u32>,
+    // The number that it had last, or none.
+    worker: u32,
 }
 
 /// A place for each registry that this thread called.
 struct Places(Vec<Place>);
 
+const NO_CALL: (u64, u32) = (0, 0);
+
 thread_local! {
     // None of these two needs a drop, so a look at them costs little, and they are there while the places are dropped.
     static THREAD: Cell<u64> = const { Cell::new(0) };
     // The number of the registry that was last called, and the worker's number there: mostly the next call is the
-    // same.
-    static LAST: Cell<Option<(u64, u32)>> = const { Cell::new(None) };
+    // same. Registries are numbered from 1 on.
+    static LAST: Cell<(u64, u32)> = const { Cell::new(NO_CALL) };
     static PLACES: RefCell<Places> = const { RefCell::new(Places(Vec::new())) };
     // The number of the registry whose lines this thread is writing.
     static WRITING: Cell<Option<u64>> = const { Cell::new(None) };
@@ -32,13 +34,12 @@ thread_local! {
 
 impl Drop for Places {
     fn drop(&mut self) {
-        LAST.set(None);
+        LAST.set(NO_CALL);
         for place in self.0.drain(..) {
             if let Some(shared) = place.registry.upgrade() {
                 let caller = Caller {
                     thread: thread(),
                     last: place.worker,
-                    may_own: false,
                 };
                 let _left_or_owed = shared.with(|state| state.thread_ends(caller));
             }
@@ -56,13 +57,13 @@ fn thread() -> u64 {
 /// The calling thread, for a call of this registry.
 #[inline]
 pub(crate) fn caller(shared: &Arc<Shared>) -> Caller {
-    match LAST.get() {
-        Some((registry, worker)) if registry == shared.number() => Caller {
-            thread: THREAD.get(),
-            last: Some(worker),
-            may_own: true,
-        },
-        _ => looked_up(shared),
+    let (registry, worker) = LAST.get();
+    if registry != shared.number() {
+        return looked_up(shared);
+    }
+    Caller {
+        thread: THREAD.get(),
+        last: worker,
     }
 }
 
@@ -78,22 +79,24 @@ fn looked_up(shared: &Arc<Shared>) -> Caller {
         places.try_reserve(1).ok()?;
         places.push(Place {
             registry: Arc::downgrade(shared),
-            worker: None,
+            worker: NONE,
         });
-        Some(None)
+        Some(NONE)
     };
     let place = PLACES.try_with(place).ok().flatten();
+    if let Some(worker) = place.filter(|&worker| worker != NONE) {
+        LAST.set((shared.number(), worker));
+    }
     Caller {
-        thread: thread(),
-        last: place.flatten(),
-        may_own: place.is_some(),
+        thread: if place.is_some() { thread() } else { NOBODY },
+        last: place.unwrap_or(NONE),
     }
 }
 
 /// The call was made as this worker.
 #[inline]
 pub(crate) fn called_as(shared: &Arc<Shared>, caller: Caller, worker: u32) {
-    if caller.may_own && LAST.get() != Some((shared.number(), worker)) {
+    if caller.last != worker && caller.may_own() {
         keep(shared, worker);
     }
 }
@@ -104,11 +107,11 @@ fn keep(shared: &Arc<Shared>, worker: u32) {
         let places = &mut places.borrow_mut().0;
         let is_this = |place: &&mut Place| place.registry.as_ptr() == Arc::as_ptr(shared);
         let place = places.iter_mut().find(is_this)?;
-        place.worker = Some(worker);
+        place.worker = worker;
         Some(())
     };
     if PLACES.try_with(put).ok().flatten().is_some() {
-        LAST.set(Some((shared.number(), worker)));
+        LAST.set((shared.number(), worker));
     }
 }
 

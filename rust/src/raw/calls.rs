@@ -9,6 +9,7 @@ use super::{
 use crate::error::Error;
 use crate::meta::{Meta, RawId, RawParent};
 use crate::packed::{length, Packed};
+use crate::refusal::Refusal;
 
 /// What a registry is made of.
 pub(crate) struct Start<'a> {
@@ -47,7 +48,7 @@ impl Core {
                 start.texts.len(),
             )
         };
-        Error::of_status(status)?;
+        Refusal::of_status(status)?;
         Ok((Core { handle: core }, Lines::of(drain)))
     }
 
@@ -58,7 +59,7 @@ impl Core {
         parent: RawParent,
         meta: &Meta<'_>,
         packed: &Packed,
-    ) -> Result<Option<RawId>, Error> {
+    ) -> Result<Option<RawId>, Refusal> {
         let meta = raw_meta(meta)?;
         let (kind, parent) = raw_parent(parent);
         let (fields, texts) = (packed.fields(), packed.texts());
@@ -79,18 +80,18 @@ impl Core {
                 &mut id,
             )
         };
-        Error::of_status(status)?;
+        Refusal::of_status(status)?;
         Ok(RawId::from_u64(id))
     }
 
     /// The number of the callsite that is added. The texts are its name and its target.
-    pub(crate) fn add_callsite(&mut self, meta: &Meta<'_>, packed: &Packed) -> Result<u32, Error> {
+    pub(crate) fn add_callsite(&mut self, meta: &Meta<'_>, packed: &Packed) -> Result<u32, Refusal> {
         let meta = raw_meta(meta)?;
         let texts = packed.texts();
         let mut number = 0;
         // SAFETY: the handle is full and lent to this call alone, and each pointer is of a value or of a slice with
         // its length.
-        Error::of_status(unsafe {
+        Refusal::of_status(unsafe {
             span_registry_add_callsite(&mut self.handle, &meta, texts.as_ptr(), texts.len(), &mut number)
         })?;
         Ok(number)
@@ -103,7 +104,7 @@ impl Core {
         parent: RawParent,
         callsite: u32,
         packed: &Packed,
-    ) -> Result<Option<RawId>, Error> {
+    ) -> Result<Option<RawId>, Refusal> {
         let (kind, parent) = raw_parent(parent);
         let (fields, texts) = (packed.fields(), packed.texts());
         let mut id = 0;
@@ -123,43 +124,43 @@ impl Core {
                 &mut id,
             )
         };
-        Error::of_status(status)?;
+        Refusal::of_status(status)?;
         Ok(RawId::from_u64(id))
     }
 
-    pub(crate) fn clone_span(&mut self, worker: u32, id: RawId) -> Result<(), Error> {
+    pub(crate) fn clone_span(&mut self, worker: u32, id: RawId) -> Result<(), Refusal> {
         // SAFETY: the handle is full and lent to this call alone.
-        Error::of_status(unsafe { span_registry_clone_span(&mut self.handle, worker, id.get()) })
+        Refusal::of_status(unsafe { span_registry_clone_span(&mut self.handle, worker, id.get()) })
     }
 
     /// Whether the entry is no duplicate.
-    pub(crate) fn enter(&mut self, worker: u32, id: RawId) -> Result<bool, Error> {
+    pub(crate) fn enter(&mut self, worker: u32, id: RawId) -> Result<bool, Refusal> {
         let mut first = 0;
         // SAFETY: the handle is full and lent to this call alone, and `first` is this call's.
-        Error::of_status(unsafe { span_registry_enter(&mut self.handle, worker, id.get(), &mut first) })?;
+        Refusal::of_status(unsafe { span_registry_enter(&mut self.handle, worker, id.get(), &mut first) })?;
         Ok(first != 0)
     }
 
     /// Whether the span closed.
-    pub(crate) fn exit(&mut self, worker: u32, id: RawId) -> Result<bool, Error> {
+    pub(crate) fn exit(&mut self, worker: u32, id: RawId) -> Result<bool, Refusal> {
         let mut closed = 0;
         // SAFETY: the handle is full and lent to this call alone, and `closed` is this call's.
-        Error::of_status(unsafe { span_registry_exit(&mut self.handle, worker, id.get(), &mut closed) })?;
+        Refusal::of_status(unsafe { span_registry_exit(&mut self.handle, worker, id.get(), &mut closed) })?;
         Ok(closed != 0)
     }
 
     /// Whether the span closed.
-    pub(crate) fn try_close(&mut self, worker: u32, id: RawId) -> Result<bool, Error> {
+    pub(crate) fn try_close(&mut self, worker: u32, id: RawId) -> Result<bool, Refusal> {
         let mut closed = 0;
         // SAFETY: the handle is full and lent to this call alone, and `closed` is this call's.
-        Error::of_status(unsafe { span_registry_try_close(&mut self.handle, worker, id.get(), &mut closed) })?;
+        Refusal::of_status(unsafe { span_registry_try_close(&mut self.handle, worker, id.get(), &mut closed) })?;
         Ok(closed != 0)
     }
 
-    pub(crate) fn record(&mut self, worker: u32, id: RawId, packed: &Packed) -> Result<(), Error> {
+    pub(crate) fn record(&mut self, worker: u32, id: RawId, packed: &Packed) -> Result<(), Refusal> {
         let (fields, texts) = (packed.fields(), packed.texts());
         // SAFETY: the handle is full and lent to this call alone, and each pointer is of a slice with its length.
-        Error::of_status(unsafe {
+        Refusal::of_status(unsafe {
             span_registry_record(
                 &mut self.handle,
                 worker,
@@ -172,13 +173,19 @@ impl Core {
         })
     }
 
-    pub(crate) fn event(&mut self, worker: u32, meta: &Meta<'_>, message: &str, packed: &Packed) -> Result<(), Error> {
+    pub(crate) fn event(
+        &mut self,
+        worker: u32,
+        meta: &Meta<'_>,
+        message: &str,
+        packed: &Packed,
+    ) -> Result<(), Refusal> {
         let meta = raw_meta(meta)?;
         let message_len = length(message)?;
         let (fields, texts) = (packed.fields(), packed.texts());
         // SAFETY: the handle is full and lent to this call alone, and each pointer is of a value or of a slice with
         // its length.
-        Error::of_status(unsafe {
+        Refusal::of_status(unsafe {
             span_registry_event(
                 &mut self.handle,
                 worker,
@@ -192,11 +199,17 @@ impl Core {
         })
     }
 
-    pub(crate) fn event_at(&mut self, worker: u32, callsite: u32, message: &str, packed: &Packed) -> Result<(), Error> {
+    pub(crate) fn event_at(
+        &mut self,
+        worker: u32,
+        callsite: u32,
+        message: &str,
+        packed: &Packed,
+    ) -> Result<(), Refusal> {
         let message_len = length(message)?;
         let (fields, texts) = (packed.fields(), packed.texts());
         // SAFETY: the handle is full and lent to this call alone, and each pointer is of a slice with its length.
-        Error::of_status(unsafe {
+        Refusal::of_status(unsafe {
             span_registry_event_at(
                 &mut self.handle,
                 worker,
@@ -214,14 +227,14 @@ impl Core {
         let mut found = SpanFound::default();
         // SAFETY: the handle is full and lent to this call alone, and `found` is this call's.
         let status = unsafe { span_registry_find(&mut self.handle, id.get(), &mut found) };
-        Error::of_status(status).ok()?;
+        Refusal::of_status(status).ok()?;
         Some(found)
     }
 
-    pub(crate) fn current_span(&mut self, worker: u32) -> Result<Option<RawId>, Error> {
+    pub(crate) fn current_span(&mut self, worker: u32) -> Result<Option<RawId>, Refusal> {
         let mut id = 0;
         // SAFETY: the handle is full and lent to this call alone, and `id` is this call's.
-        Error::of_status(unsafe { span_registry_current_span(&mut self.handle, worker, &mut id) })?;
+        Refusal::of_status(unsafe { span_registry_current_span(&mut self.handle, worker, &mut id) })?;
         Ok(RawId::from_u64(id))
     }
 
@@ -250,7 +263,7 @@ fn raw_parent(parent: RawParent) -> (u32, u64) {
     }
 }
 
-fn raw_meta(meta: &Meta<'_>) -> Result<SpanMeta, Error> {
+fn raw_meta(meta: &Meta<'_>) -> Result<SpanMeta, Refusal> {
     Ok(SpanMeta {
         level: meta.level.verbosity(),
         name_len: length(meta.name)?,

@@ -3,16 +3,16 @@ use super::{
     span_registry_holders_of, span_registry_open_ids, span_registry_workers_inside, Core, SpanHeld, SpanRegistry,
     SHORT_BUFFER,
 };
-use crate::error::Error;
 use crate::meta::RawId;
 use crate::packed::reserve;
+use crate::refusal::Refusal;
 
 /// How many values a list has room for at first.
 const ROOM: usize = 16;
 
 /// A list that a call of the interface fills: where it is longer than the room for it, its length is told. `call` is
 /// given where the values go, how many there is room for, and where their number goes.
-fn list<T: Copy + Default>(mut call: impl FnMut(*mut T, usize, *mut usize) -> u32) -> Result<Vec<T>, Error> {
+fn list<T: Copy + Default>(mut call: impl FnMut(*mut T, usize, *mut usize) -> u32) -> Result<Vec<T>, Refusal> {
     let (mut values, mut room) = (Vec::new(), ROOM);
     loop {
         values.clear();
@@ -21,7 +21,7 @@ fn list<T: Copy + Default>(mut call: impl FnMut(*mut T, usize, *mut usize) -> u3
         let mut length = 0;
         let status = call(values.as_mut_ptr(), values.len(), &mut length);
         if status != SHORT_BUFFER || length <= room {
-            Error::of_status(status)?;
+            Refusal::of_status(status)?;
             values.truncate(length);
             return Ok(values);
         }
@@ -35,7 +35,7 @@ impl Core {
     }
 
     /// The ids of the open spans, by ascending slot.
-    pub(crate) fn open_ids(&mut self) -> Result<Vec<u64>, Error> {
+    pub(crate) fn open_ids(&mut self) -> Result<Vec<u64>, Refusal> {
         let handle = self.handle();
         // SAFETY: the handle is full and lent to this call alone, and `list` gives values of its own with their
         // number.
@@ -44,7 +44,7 @@ impl Core {
 
     /// What keeps a span open: the spans at it or below it that have handles or entries of their own, by ascending
     /// slot.
-    pub(crate) fn holders_of(&mut self, id: RawId) -> Result<Vec<SpanHeld>, Error> {
+    pub(crate) fn holders_of(&mut self, id: RawId) -> Result<Vec<SpanHeld>, Refusal> {
         let handle = self.handle();
         // SAFETY: the handle is full and lent to this call alone, and `list` gives values of its own with their
         // number.
@@ -52,7 +52,7 @@ impl Core {
     }
 
     /// The workers that are inside a span, by their numbers.
-    pub(crate) fn workers_inside(&mut self, id: RawId) -> Result<Vec<u32>, Error> {
+    pub(crate) fn workers_inside(&mut self, id: RawId) -> Result<Vec<u32>, Refusal> {
         let handle = self.handle();
         // SAFETY: the handle is full and lent to this call alone, and `list` gives values of its own with their
         // number.

@@ -1,0 +1,124 @@
+//! How many allocations a round takes once the memory of slots and buffers is there, this crate's own and the
+//! library's.
+//!
+//! The library takes its memory by three functions of the toolchain's shim, for which this program has its own.
+mod common;
+
+use common::info;
+use span_registry::{Drain, Error, Parent, Registry};
+use std::alloc::{GlobalAlloc, Layout, System};
+use std::ffi::c_void;
+use std::sync::atomic::{AtomicU64, Ordering};
+
+static TAKEN: AtomicU64 = AtomicU64::new(0);
+
+struct Counting;
+
+#[global_allocator]
+static ALLOCATOR: Counting = Counting;
+
+// SAFETY: it is the system's.
+unsafe impl GlobalAlloc for Counting {
+    unsafe fn alloc(&self, layout: Layout) -> *mut u8 {
+        TAKEN.fetch_add(1, Ordering::Relaxed);
+        // SAFETY: the caller's.
+        unsafe { System.alloc(layout) }
+    }
+
+    unsafe fn realloc(&self, at: *mut u8, layout: Layout, size: usize) -> *mut u8 {
+        TAKEN.fetch_add(1, Ordering::Relaxed);
+        // SAFETY: the caller's.
+        unsafe { System.realloc(at, layout, size) }
+    }
+
+    unsafe fn dealloc(&self, at: *mut u8, layout: Layout) {
+        // SAFETY: the caller's.
+        unsafe { System.dealloc(at, layout) }
+    }
+}
+
+#[repr(C)]
+pub struct Block {
+    is_there: bool,
+    at: *mut c_void,
+}
+
+extern "C" {
+    fn malloc(size: usize) -> *mut c_void;
+    fn realloc(at: *mut c_void, size: usize) -> *mut c_void;
+    fn free(at: *mut c_void);
+}
+
+fn block(at: *mut c_void) -> Block {
+    TAKEN.fetch_add(1, Ordering::Relaxed);
+    Block {
+        is_there: !at.is_null(),
+        at,
+    }
+}
+
+/// A block of `size` bytes, aligned as `align` says, which is below 17.
+#[no_mangle]
+pub extern "C" fn rattle_alloc(size: usize, align: usize) -> Block {
+    // SAFETY: any size may be asked for.
+    block(unsafe { malloc(size.max(align)) })
+}
+
+/// # Safety
+/// The block came from these functions and wasn't given back.
+#[no_mangle]
+pub unsafe extern "C" fn rattle_realloc(at: *mut c_void, _old: usize, size: usize, align: usize) -> Block {
+    // SAFETY: the caller's.
+    block(unsafe { realloc(at, size.max(align)) })
+}
+
+/// # Safety
+/// The block came from these functions and wasn't given back.
+#[no_mangle]
+pub unsafe extern "C" fn rattle_dealloc(at: *mut c_void) {
+    // SAFETY: the caller's.
+    unsafe { free(at) }
+}
+
+const ROUNDS: u64 = 1000;
+
+/// Allocations a round, with the reading, once as many rounds were made before.
+fn of_rounds(
+    registry: &Registry,
+    drain: &mut Drain,
+    round: impl Fn(&Registry) -> Result<(), Error>,
+) -> Result<u64, Error> {
+    let mut before = 0;
+    for count in 0..2 * ROUNDS {
+        if count == ROUNDS {
+            before = TAKEN.load(Ordering::Relaxed);
+        }
+        round(registry)?;
+        assert_eq!(drain.line(), None);
+    }
+    Ok((TAKEN.load(Ordering::Relaxed) - before) / ROUNDS)
+}
+
+#[test]
+fn a_round_takes_few_allocations() -> Result<(), Error> {
+    const FIELDS: &[(&str, &str)] = &[("k", "value")];
+    let (registry, mut drain) = Registry::builder().build()?;
+    let site = registry.callsite(&info("request"))?;
+    let round = |registry: &Registry, made: Option<span_registry::Id>| {
+        let id = made.expect("there is no layer");
+        registry.enter(id)?;
+        registry.exit(id)?;
+        registry.try_close(id).map(drop)
+    };
+    let by_ids = of_rounds(&registry, &mut drain, |registry| {
+        round(registry, registry.new_span(&info("request"), Parent::Current, FIELDS)?)
+    })?;
+    let at_callsite = of_rounds(&registry, &mut drain, |registry| {
+        round(registry, registry.new_span_at(&site, Parent::Current, FIELDS)?)
+    })?;
+    let as_span = of_rounds(&registry, &mut drain, |registry| {
+        registry.span_at(&site, Parent::Current, FIELDS)?.try_in_scope(|| ())
+    })?;
+    assert_eq!((by_ids, at_callsite, as_span), (8, 5, 6));
+    Ok(())
+}
