@@ -33,7 +33,7 @@ async fn request(number: usize) {
     yield_now().await;
     assert_eq!(Span::current().id(), own.id());
     assert_eq!(query(number).await, number * 2);
-    sleep(Duration::from_millis(1)).await;
+    yield_now().await;
     assert_eq!(Span::current().id(), own.id());
 }
 
@@ -84,8 +84,8 @@ fn futures_are_entered_and_left_at_each_poll() {
         let kinds = run(&runtime, tasks);
         let told = |kind: &str| kinds.get(kind).copied().unwrap_or(0);
         assert_eq!((told("new"), told("close"), told("event")), (2 * tasks, 2 * tasks, tasks), "{kinds:?}");
-        // The four polls of the request, and the two of its query, are the least.
-        assert!(told("enter") == told("exit") && told("enter") >= 6 * tasks, "{kinds:?}");
+        // Four polls of each request, and two of its query.
+        assert_eq!((told("enter"), told("exit")), (6 * tasks, 6 * tasks), "{kinds:?}");
     }
 }
 
