@@ -39,7 +39,7 @@ fn place_of(reason: Error) -> usize {
 /// and lines that were thrown away unread.
 ///
 /// Layers that admit `WARN` of the target `span_registry` are told of what is new, once there is room again, as an
-/// event `lost` with a field for each reason, by a worker that is no thread: `event 0 w8 - WARN lost backlog=3`.
+/// event `lost` with a field for each reason, by a worker that is no thread: `event 0 w256 - WARN lost backlog=3`.
 #[derive(Clone, Copy, Debug, Default, PartialEq, Eq, Hash)]
 pub struct Lost {
     calls: [u64; REASONS.len()],
