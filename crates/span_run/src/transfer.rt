@@ -15,8 +15,9 @@ use std::io::{Read, Write};
 /// The most bytes that a script may have.
 const MOST_BYTES: usize = 16_777_216;
 
-// So many bytes are written by one call at most: a writer with a buffer takes them there, and a write of the buffer that
-// is interrupted is made again. More bytes it would hand on, and an interruption of that would be an error.
+// So many bytes are written by one call at most. A writer with a buffer of as many takes them there, and makes a write of
+// its buffer again where that is interrupted; more bytes it would hand on, and an interruption of that is an error. No
+// clause says so: the built program's devices are interrupted by a test.
 const PIECE: usize = 4096;
 
 /// Reads a script to its end.
@@ -51,7 +52,7 @@ pub fn read_script<R: Read>(alloc: Global, input: &mut Counted<R>) -> Result<Vec
     Err(RunFault::Script(0, Reason::TooLong))
 }
 
-/// Writes the text by as many calls as the writer asks for.
+/// Writes the text, by calls of at most 4096 bytes each, and as many as the writer asks for.
 ///
 /// On an error a front of the text went out, and nothing else.
 pub fn write_text<W: Write>(output: &mut Counted<W>, text: &[u8]) -> Result<(), RunFault>

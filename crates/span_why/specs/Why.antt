@@ -43,7 +43,7 @@ abbrev pub blanks : ℕ → List ℕ
 blanks zero = []
 blanks (suc levels) = codes "  " ++ blanks levels
 
--- a span that stands so deep is indented by its depth, and from the 32nd level on by no more
+-- a span that stands so deep is indented by its depth, by 32 levels at most
 abbrev pub indent : ℕ → List ℕ
 indent depth = blanks (min depth 32)
 

@@ -11,7 +11,7 @@ use span_id::Level;
 use std::io;
 use std::io::Write;
 
-/// From this level on no line is indented more than the one above it: a chain of many spans would be mostly blanks.
+// How many levels are indented at most: else the lines of a long chain would be mostly blanks.
 const DEEPEST: usize = 32;
 
 /// Appends the line of a span that stands so deep in its tree. The only error is that memory was refused.
