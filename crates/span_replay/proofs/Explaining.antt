@@ -7,20 +7,20 @@ use Rattle.span_layers.specs.declared.form.Form.{Form}
 use Rattle.std.specs.Result.{result_ok}
 use Rattle.serde_json.specs.Data.{Data}
 use Rattle.span_core.specs.Core.{CoreView}
-use Rattle.span_replay.specs.Explained.{Reached, label_of, label_by, label_in, named_by, made_id, lines_after, reached_after, told_in, text_about, explained, turn_reached, why_run}
+use Rattle.span_replay.specs.Explained.{Reached, label_of, label_by, label_in, named_by, made_id, lines_after, told_in, text_about, explained, turn_reached, why_run}
 use Rattle.span_replay.specs.Labels.{Bound}
-use Rattle.span_replay.specs.Meaning.{Turn, Transcript, Ending, finished, faulty, value_turn, line_turn}
-use Rattle.span_replay.specs.State.{State, first_state}
+use Rattle.span_replay.specs.Meaning.{Turn, Transcript, finished, faulty, value_turn, line_turn}
+use Rattle.span_replay.specs.State.{State}
 use Rattle.span_replay.specs.declared.run.explained.Explained.{Explained}
 use Rattle.span_replay.specs.inside.Reaching.{EndsAt, EndsAs, HasEnded, IsExplained, KnowsWorkers, SetsTo, text_of, resumed_why, begun_at}
 use Rattle.span_replay.specs.inside.Turns.{opened_state}
-use Rattle.span_replay.proofs.Reachings.{at_lines, why_more, same_id}
+use Rattle.span_replay.proofs.Reachings.{at_lines, why_more}
 use Rattle.span_replay.proofs.Resumed.{staged, value_same}
 use Rattle.span_replay.proofs.Stages.{same_at_each_stage}
 use Rattle.span_run.specs.declared.fault.RunFault.{RunFault}
 use Rattle.span_run.specs.declared.fault.RunFault.TheVariants.{Script}
 use Rattle.span_replay.proofs.LineTurns.{read_line}
-use Rattle.span_script.specs.Operation.{Stage, running, is_setup, json_of, operation_of}
+use Rattle.span_script.specs.Operation.{Stage, running, is_setup, json_of}
 use Rattle.span_script.specs.Reason.{StopsFor}
 use Rattle.span_script.specs.Script.{is_skipped, lines_of}
 use Rattle.span_script.specs.declared.reason.Reason.{Reason}

@@ -1,5 +1,5 @@
 -- The one flush at the end of a run: what stands before it and after it, and the failed calls that are counted.
-use Rattle.std.proofs.Common.{◌≡◌, ℕ, ◌+◌, List, [], Bool, Some, None, Result, Ok, Err, IfSome, arith, sym, subst, append-nil, inr}
+use Rattle.std.proofs.Common.{◌≡◌, ℕ, ◌+◌, List, [], Bool, Some, None, Result, Ok, Err, IfSome, arith, sym, subst, append-nil, inl, inr}
 use Rattle.std.specs.Io.KnownBytes.{Appends, Keeps}
 use Rattle.std.proofs.KnownBytes.{Appends-kept}
 use Rattle.span_run.specs.Counted.{one_more}
@@ -56,7 +56,7 @@ script_counts reads reads' writes writes' e number reason is p = subst (FailsAsC
 
 -- ---- the flush fails
 
-whole_front : (a b : Known) (text : List ℕ) → Appends a b text → AppendsFront a b text
+pub whole_front : (a b : Known) (text : List ℕ) → Appends a b text → AppendsFront a b text
 whole_front a b text p = record { front = text; rest = []; whole = sym (append-nil text); taken = p }
 
 device_fails : (hooks : ℕ) (i a b : Known) → IsWhole hooks i a b → IfSome i (λ bytes. Fails (meaning hooks bytes) a b (Device Write))
@@ -94,3 +94,15 @@ ends_read reads reads' writes writes' (Err (Device Read)) same p = absurd (omega
 ends_read reads reads' writes writes' (Err (Device Write)) same p = (same, p.1)
 ends_read reads reads' writes writes' (Err (Refused fault)) same p = p
 ends_read reads reads' writes writes' (Err (Held party)) same p = p
+
+-- ---- what the one flush says of a text, said of what follows from it
+
+pub once_for : {W X : Type 0} → (W → X) → (flushes flushes' : ℕ) (flushed : Bool) (r : Result ℕ RunFault) → FlushesOnce W flushes flushes' flushed r → FlushesOnce X flushes flushes' flushed r
+once_for f flushes flushes' flushed (Ok left) p = (f p.0, p.1, p.2)
+once_for f flushes flushes' flushed (Err (Script number reason)) p = (f p.0, p.1, p.2)
+once_for f flushes flushes' flushed (Err Memory) p = p
+once_for f flushes flushes' flushed (Err (Device Read)) p = p
+once_for f flushes flushes' flushed (Err (Device Write)) (inl p) = inl p
+once_for f flushes flushes' flushed (Err (Device Write)) (inr p) = inr (f p.0, p.1)
+once_for f flushes flushes' flushed (Err (Refused fault)) p = p
+once_for f flushes flushes' flushed (Err (Held party)) p = p

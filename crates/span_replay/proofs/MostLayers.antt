@@ -1,5 +1,5 @@
 -- A script means the same, however many layers more than 64 there may be.
-use Rattle.std.proofs.Common.{◌≡◌, ℕ, ◌+◌, ◌≤◌, ◌&&◌, Bool, true, false, List, [], ◌∷◌, length, refl, ap, ◌∙◌, subst, arith, cond, min, inl, inr, Some, None, IfSome, Result, Ok, Err}
+use Rattle.std.proofs.Common.{◌≡◌, ℕ, ◌+◌, ◌≤◌, ◌&&◌, Bool, true, false, List, [], ◌∷◌, length, refl, ap, ◌∙◌, subst, arith, cond, min, Some, None, IfSome, Result, Ok, Err}
 use Rattle.std.proofs.lemmas.Bool.{ltb-true, ltb-false}
 use Rattle.std.specs.Prelude.{nat_lt, nat_le}
 use Rattle.std.specs.Io.KnownBytes.{Appends}
@@ -7,9 +7,8 @@ use Rattle.serde_json.specs.Data.{Data}
 use Rattle.span_replay.specs.Meaning.{Turn, Transcript, after, at_stage, stage_after, layer_turn, turn_of, value_turn, read_turn, line_turn, turn_then, faulty, run, meaning}
 use Rattle.span_replay.specs.Replayed.{FlushesOnce, IsReplayed, IsWhole, Runs}
 use Rattle.span_replay.specs.State.{State, first_state}
+use Rattle.span_replay.proofs.Flushes.{once_for}
 use Rattle.span_run.specs.declared.fault.RunFault.{RunFault}
-use Rattle.span_run.specs.declared.fault.RunFault.TheVariants.{Script, Memory, Device, Refused, Held}
-use Rattle.span_run.specs.declared.fault.Side.TheVariants.{Read, Write}
 use Rattle.span_run.proofs.Fronts.{Known}
 use Rattle.span_script.specs.Operation.{NewLayer, Operation, set_limits, add_layer, make, on_span, record_fields, tell, find, json_of, operation_of}
 use Rattle.span_script.specs.Reason.{◌>>=◌}
@@ -93,16 +92,6 @@ replayed_same layers n (Some bytes) a b r is p = subst (λ meant. Runs meant a b
 whole_same : (layers n : ℕ) (i a b : Known) → n ≡ min layers 64 → IsWhole n i a b → IsWhole layers i a b
 whole_same layers n None a b is p = tt
 whole_same layers n (Some bytes) a b is p = subst (λ meant. Appends a b meant.text) (most_same layers n is bytes) p
-
-once_for : {W X : Type 0} → (W → X) → (flushes flushes' : ℕ) (flushed : Bool) (r : Result ℕ RunFault) → FlushesOnce W flushes flushes' flushed r → FlushesOnce X flushes flushes' flushed r
-once_for f flushes flushes' flushed (Ok left) p = (f p.0, p.1, p.2)
-once_for f flushes flushes' flushed (Err (Script number reason)) p = (f p.0, p.1, p.2)
-once_for f flushes flushes' flushed (Err Memory) p = p
-once_for f flushes flushes' flushed (Err (Device Read)) p = p
-once_for f flushes flushes' flushed (Err (Device Write)) (inl p) = inl p
-once_for f flushes flushes' flushed (Err (Device Write)) (inr p) = inr (f p.0, p.1)
-once_for f flushes flushes' flushed (Err (Refused fault)) p = p
-once_for f flushes flushes' flushed (Err (Held party)) p = p
 
 pub flushed_same : (layers n : ℕ) (i a b : Known) (flushes flushes' : ℕ) (flushed : Bool) (r : Result ℕ RunFault) → n ≡ min layers 64
     → FlushesOnce (IsWhole n i a b) flushes flushes' flushed r → FlushesOnce (IsWhole layers i a b) flushes flushes' flushed r

@@ -1,16 +1,16 @@
 -- The lines of a script that run with nothing written.
-use Rattle.std.proofs.Common.{◌≡◌, ℕ, ◌+◌, Bool, true, false, List, [], ◌∷◌, refl, sym, ap, ◌∙◌, subst, Option, Some, None, Result, Ok, Err, IfErr, OnOk, cond, length, arith}
-use Rattle.std.specs.Prelude.{⊤, ◌==◌, option_and_then, if◌then◌else◌}
+use Rattle.std.proofs.Common.{◌≡◌, ℕ, ◌+◌, true, false, List, [], ◌∷◌, refl, sym, ap, ◌∙◌, subst, Option, Some, None, Result, Ok, Err, IfErr, OnOk, arith}
+use Rattle.std.specs.Prelude.{⊤, ◌==◌, option_and_then}
 use Rattle.std.specs.Result.{result_ok}
 use Rattle.serde_json.specs.Data.{Data}
 use Rattle.span_replay.specs.Explained.{Reached, label_of, label_by, label_in, named_by, other_id, made_id, lines_after, reached_after, explained, turn_reached, why_run}
-use Rattle.span_replay.specs.Meaning.{Turn, Transcript, finished, faulty, at_stage, stage_after, turn_of, value_turn, line_turn}
+use Rattle.span_replay.specs.Meaning.{Turn, Transcript, faulty, at_stage, stage_after, turn_of, value_turn, line_turn}
 use Rattle.span_replay.specs.State.{State}
 use Rattle.span_replay.specs.inside.Ended.{fault_at}
 use Rattle.span_replay.specs.inside.Reaching.{HasReached, Halts, EndsAt, HasEnded, KnowsWorkers, resumed_why}
 use Rattle.span_replay.specs.inside.Running.{IsTurn, StopsAs}
-use Rattle.span_replay.proofs.Callings.{line_calls, calls_run, read_stops}
-use Rattle.span_replay.proofs.LineTurns.{read_line, json_stops}
+use Rattle.span_replay.proofs.Callings.{line_calls, calls_run}
+use Rattle.span_replay.proofs.LineTurns.{read_line}
 use Rattle.span_replay.proofs.Setups.{value_does}
 use Rattle.span_run.specs.declared.fault.RunFault.{RunFault}
 use Rattle.span_script.specs.Operation.{Operation, running, json_of, operation_of}

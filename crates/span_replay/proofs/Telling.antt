@@ -1,20 +1,22 @@
 -- Why spans are open: from the bytes that are read to those that are written.
-use Rattle.std.proofs.Common.{◌≡◌, ℕ, ◌+◌, ◌<◌, ◌≤◌, Bool, true, false, List, [], ◌++◌, length, refl, ap, sym, ◌∙◌, subst, Option, Some, None, Result, Ok, Err, IfSome, IfOk, OnOk, IsOk, arith, length-append, append-nil}
+use Rattle.std.proofs.Common.{◌≡◌, ℕ, ◌+◌, ◌<◌, ◌≤◌, Bool, true, List, [], ◌++◌, length, refl, ap, sym, ◌∙◌, subst, Option, Some, None, Result, Ok, Err, IfSome, IfOk, OnOk, IsOk, arith, length-append, append-nil, inl}
 use Rattle.std.specs.Io.KnownBytes.{Appends, Consumes, IsAtEnd, Keeps}
 use Rattle.std.specs.Prelude.{nat_le}
 use Rattle.std.proofs.KnownBytes.{Appends-kept}
 use Rattle.std.proofs.lemmas.Bool.{lt-leb}
 use Rattle.span_run.proofs.Fronts.{Known}
 use Rattle.span_run.specs.Device.{AppendsFront, ReadFails}
+use Rattle.span_run.specs.Counted.{one_more}
 use Rattle.span_run.specs.RunFault.{EndsAsCounted}
 use Rattle.span_run.specs.declared.fault.RunFault.{RunFault}
 use Rattle.span_run.specs.declared.fault.RunFault.TheVariants.{Script, Memory, Device, Refused, Held}
 use Rattle.span_run.specs.declared.fault.Side.TheVariants.{Read, Write}
-use Rattle.span_replay.specs.Explained.{first_reached, why_run, why_meaning}
+use Rattle.span_replay.specs.Explained.{IsWholeWhy, first_reached, why_run, why_meaning}
 use Rattle.span_replay.specs.Meaning.{Transcript, faulty}
-use Rattle.span_replay.specs.Replayed.{Fails, Runs}
+use Rattle.span_replay.specs.Replayed.{FlushesOnce, Runs}
 use Rattle.span_replay.specs.declared.run.explained.Explained.{Explained}
 use Rattle.span_replay.specs.inside.Reaching.{EndsAs, HasEnd, IsExplained, IsOfReading}
+use Rattle.span_replay.proofs.Flushes.{flush_once, once_for, whole_front}
 use Rattle.span_replay.proofs.Written.{empty_front}
 use Rattle.span_script.specs.Script.{lines_of, most_bytes}
 use Rattle.span_script.specs.declared.reason.Reason.{Reason}
@@ -85,9 +87,6 @@ device_front meant a b fault d p = subst (λ f. Runs meant a b (Err f)) (sym d) 
 pub told_front : (meant : Transcript) (e : Explained) (a b : Known) (text : List ℕ) (fault : RunFault) → IsExplained meant e → text ≡ e.text.items → fault ≡ Device Write → AppendsFront a b text → Runs meant a b (Err fault)
 told_front meant e a b text fault is same d p = device_front meant a b fault d (subst (AppendsFront a b) (same ∙ is.text_is) p)
 
-whole_front : (a b : Known) (text : List ℕ) → Appends a b text → AppendsFront a b text
-whole_front a b text p = record { front = text; rest = []; whole = sym (append-nil text); taken = p }
-
 pub told_unflushed : (meant : Transcript) (e : Explained) (a b c : Known) (text : List ℕ) (fault : RunFault) → IsExplained meant e → text ≡ e.text.items → Appends a b text → Keeps b c → fault ≡ Device Write → Runs meant a c (Err fault)
 told_unflushed meant e a b c text fault is same p k d =
     device_front meant a c fault d (whole_front a c meant.text (Appends-kept a b c meant.text (subst (Appends a b) (same ∙ is.text_is) p) k))
@@ -110,3 +109,47 @@ pub explained_runs : (i a b : Known) (hooks : ℕ) (about : Option (List ℕ)) (
     → IfSome i (λ xs. Runs (why_meaning hooks about xs) a b r)
 explained_runs None a b hooks about e r p q = tt
 explained_runs (Some xs) a b hooks about e r p q = q (why_meaning hooks about xs) p
+
+-- ---- the one flush
+
+-- the script was not read
+pub unread_once : (Whole : Type 0) (flushes : ℕ) (flushed : Bool) (fault : RunFault) → IsOfReading fault → FlushesOnce Whole flushes flushes flushed (Err fault)
+unread_once Whole flushes flushed (Script number reason) p = absurd p
+unread_once Whole flushes flushed Memory p = refl
+unread_once Whole flushes flushed (Device Read) p = refl
+unread_once Whole flushes flushed (Device Write) p = absurd p
+unread_once Whole flushes flushed (Refused fault) p = absurd p
+unread_once Whole flushes flushed (Held party) p = absurd p
+
+-- a front of the text was written
+pub front_once : (Whole : Type 0) (flushes flushes' : ℕ) (flushed : Bool) (fault : RunFault) → flushes' ≡ flushes → fault ≡ Device Write → FlushesOnce Whole flushes flushes' flushed (Err fault)
+front_once Whole flushes flushes' flushed fault same d = subst (λ f. FlushesOnce Whole flushes flushes' flushed (Err f)) (sym d) (inl same)
+
+ended_once : {Whole : Type 0} (ended : Result ℕ RunFault) (flushes flushes' : ℕ) (flushed : Bool) → HasEnd ended → Whole → flushes' ≡ one_more flushes → flushed ≡ true → FlushesOnce Whole flushes flushes' flushed ended
+ended_once (Ok left) flushes flushes' flushed h p once done = (p, once, done)
+ended_once (Err (Script number reason)) flushes flushes' flushed h p once done = (p, once, done)
+ended_once (Err Memory) flushes flushes' flushed h p once done = absurd h
+ended_once (Err (Device side)) flushes flushes' flushed h p once done = absurd h
+ended_once (Err (Refused fault)) flushes flushes' flushed h p once done = absurd h
+ended_once (Err (Held party)) flushes flushes' flushed h p once done = absurd h
+
+text_kept : (e : Explained) (a b c : Known) (text : List ℕ) → text ≡ e.text.items → Appends a b text → Keeps b c → Appends a c e.text.items
+text_kept e a b c text same p k = Appends-kept a b c e.text.items (subst (Appends a b) same p) k
+
+-- all of it was written and flushed
+pub told_once : (e : Explained) (a b c : Known) (text : List ℕ) (flushes flushes' flushes'' : ℕ) (flushed : Bool) → HasEnd e.ended → text ≡ e.text.items → Appends a b text → Keeps b c → flushes' ≡ flushes → flushes'' ≡ one_more flushes' → flushed ≡ true
+    → FlushesOnce (Appends a c e.text.items) flushes flushes'' flushed e.ended
+told_once e a b c text flushes flushes' flushes'' flushed h is p k same once done = ended_once e.ended flushes flushes'' flushed h (text_kept e a b c text is p k) (once ∙ ap one_more same) done
+
+-- all of it was written, and the flush failed
+pub unflushed_once : (e : Explained) (a b c : Known) (text : List ℕ) (flushes flushes' flushes'' : ℕ) (flushed : Bool) (fault : RunFault) → text ≡ e.text.items → Appends a b text → Keeps b c → flushes' ≡ flushes → flushes'' ≡ one_more flushes' → fault ≡ Device Write
+    → FlushesOnce (Appends a c e.text.items) flushes flushes'' flushed (Err fault)
+unflushed_once e a b c text flushes flushes' flushes'' flushed fault is p k same once d = flush_once flushes flushes'' flushed fault (text_kept e a b c text is p k) (once ∙ ap one_more same) d
+
+whole_why : (i a b : Known) (hooks : ℕ) (about : Option (List ℕ)) (e : Explained) → IfSome i (λ xs. IsExplained (why_meaning hooks about xs) e) → Appends a b e.text.items → IsWholeWhy hooks about i a b
+whole_why None a b hooks about e is p = tt
+whole_why (Some xs) a b hooks about e is p = subst (Appends a b) is.text_is p
+
+pub explained_once : (i a b : Known) (hooks : ℕ) (about : Option (List ℕ)) (e : Explained) (flushes flushes' : ℕ) (flushed : Bool) (r : Result ℕ RunFault) → IfSome i (λ xs. IsExplained (why_meaning hooks about xs) e)
+    → FlushesOnce (Appends a b e.text.items) flushes flushes' flushed r → FlushesOnce (IsWholeWhy hooks about i a b) flushes flushes' flushed r
+explained_once i a b hooks about e flushes flushes' flushed r is p = once_for (whole_why i a b hooks about e is) flushes flushes' flushed r p

@@ -1,6 +1,7 @@
 -- Why spans are open where a script's lines end: what `why` writes, as a function of the script's bytes, of how many
 -- layers there may be and of what is asked about.
-use Rattle.std.specs.Prelude.{ℕ, ◌+◌, ◌-◌, ◌==◌, if◌then◌else◌, nat_lt, nat_le, List, [], ◌∷◌, ◌++◌, length, map, filter, replicate, count_by, slice_index_or, slice_set, Option, Some, None, option_and_then, Result, Ok, Err, Vec}
+use Rattle.std.specs.Prelude.{ℕ, ◌+◌, ◌-◌, ◌==◌, if◌then◌else◌, nat_lt, nat_le, List, [], ◌∷◌, ◌++◌, length, map, filter, replicate, count_by, slice_index_or, slice_set, Option, Some, None, IfSome, option_and_then, Result, Ok, Err}
+use Rattle.std.specs.Io.KnownBytes.{Appends}
 use Rattle.std.specs.Result.{result_ok}
 use Rattle.serde_json.specs.Data.{Data}
 use Rattle.span_id.specs.Id.{slot_of}
@@ -11,7 +12,6 @@ use Rattle.span_replay.specs.Labels.{Bound, id_in}
 use Rattle.span_replay.specs.Meaning.{Turn, Ending, finished, faulty, Transcript, line_turn}
 use Rattle.span_replay.specs.State.{State, first_state}
 use Rattle.span_script.specs.Operation.{Operation, make, json_of, operation_of}
-use Rattle.span_script.specs.Reason.{◌>>=◌}
 use Rattle.span_script.specs.Script.{lines_of, most_bytes}
 use Rattle.span_script.specs.declared.reason.Reason.{Reason}
 use Rattle.span_script.specs.declared.reason.Reason.TheVariants.{TooLong}
@@ -125,3 +125,7 @@ abbrev pub why_meaning : ℕ → Option (List ℕ) → List ℕ → Transcript
 why_meaning hooks about bytes =
     if nat_le (length bytes) most_bytes then why_run hooks about 1 first_reached (lines_of bytes)
     else record { text = []; ending = faulty 0 TooLong }
+
+-- the whole text that is meant was written, where the script's bytes are known
+abbrev pub IsWholeWhy : ℕ → Option (List ℕ) → Option (List ℕ) → Option (List ℕ) → Option (List ℕ) → Type 0
+IsWholeWhy hooks about script old new = IfSome script (λ bytes. Appends old new (why_meaning hooks about bytes).text)

@@ -1,13 +1,13 @@
 //! Running a whole script with nothing written but why spans are open where its lines end.
 ghost use Rattle.std.specs.Prelude.{◌≡◌, ◌+◌, ◌^◌, ◌<◌, ◌≤◌, ℕ, [], false, length, vec_len, option_copied};
 ghost use Rattle.std.specs.Prelude.{IfOk, IfErr, IfSome, IfNone, IsOk, OnOk};
-ghost use Rattle.std.specs.Io.KnownBytes.{IsAtEnd, Keeps};
+ghost use Rattle.std.specs.Io.KnownBytes.{Appends, IsAtEnd, Keeps};
 ghost use Rattle.span_json.specs.Seen.{view};
 ghost use Rattle.span_run.specs.Counted.{inner_of, calls_of, failed_of, flushes_of, flushed_of};
 ghost use Rattle.span_run.specs.RunFault.{EndsAsCounted};
-ghost use Rattle.span_replay.specs.Explained.{first_reached, label_by, label_in, why_meaning, why_run};
+ghost use Rattle.span_replay.specs.Explained.{IsWholeWhy, first_reached, label_by, label_in, why_meaning, why_run};
 ghost use Rattle.span_replay.specs.Meaning.{Transcript, line_turn, value_turn};
-ghost use Rattle.span_replay.specs.Replayed.{Runs};
+ghost use Rattle.span_replay.specs.Replayed.{FlushesOnce, KeepsUnread, Runs};
 ghost use Rattle.span_replay.specs.inside.Reaching.{HasEnd, IsExplained, IsOfReading, SetsTo};
 ghost use Rattle.span_replay.specs.inside.Reaching.{begun_at, opened_at, reached_at, resumed_why, set_up_at};
 ghost use Rattle.span_replay.specs.inside.Running.{IsWritten};
@@ -35,8 +35,9 @@ use std::io::{Read, Write};
 /// a label names. So it does after a fault of the script too.
 ///
 /// The input is read to its end first. There may be so many layers. Where the result is `Ok` it is how many spans are
-/// open. After `Memory` and `Device` a front of the text went out. The output is flushed by one call, which is the
-/// last: where memory is refused or a device fails before it, there is none.
+/// open. After `Memory` and `Device` a front of the text went out, and nothing where it was the reader that failed. The
+/// output is flushed by one call, which is the last, after a fault of the script too: where memory is refused or a
+/// device fails before it, there is none.
 pub fn why_with_layers<R: Read, W: Write>(
     alloc: Global,
     input: &mut Counted<R>,
@@ -51,6 +52,11 @@ pub fn why_with_layers<R: Read, W: Write>(
         Runs (why_meaning layers (option_copied about.entry) bytes)
         (W.contents (inner_of output.old)) (W.contents (inner_of output.new)) result) }
     ensures whole { OnOk result (IsAtEnd (R.remaining (inner_of input.new))) }
+    ensures unread { IfErr result (KeepsUnread (W.contents (inner_of output.old)) (W.contents (inner_of output.new))) }
+    ensures flushed { FlushesOnce
+        (IsWholeWhy layers (option_copied about.entry) (R.remaining (inner_of input.old))
+        (W.contents (inner_of output.old)) (W.contents (inner_of output.new)))
+        (flushes_of output.old) (flushes_of output.new) (flushed_of output.new) result }
     ensures counts { EndsAsCounted
         (failed_of input.old) (failed_of input.new) (failed_of output.old) (failed_of output.new) result }
     ensures reads { calls_of input.new ≤ calls_of input.old + 16777217 }
@@ -68,6 +74,9 @@ fn tell<W: Write>(explained: Explained, output: &mut Counted<W>) -> Result<u64, 
     ensures runs { (meant : Transcript) → IsExplained meant explained →
         Runs meant (W.contents (inner_of output.old)) (W.contents (inner_of output.new)) result }
     ensures ok { OnOk result (IsOk explained.ended) }
+    ensures flushed { FlushesOnce
+        (Appends (W.contents (inner_of output.old)) (W.contents (inner_of output.new)) explained.text.items)
+        (flushes_of output.old) (flushes_of output.new) (flushed_of output.new) result }
     ensures counts { EndsAsCounted 0 0 (failed_of output.old) (failed_of output.new) result }
 {
     match write_text(output, explained.text.as_slice()) {

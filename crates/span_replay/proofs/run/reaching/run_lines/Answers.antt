@@ -1,4 +1,4 @@
-use Rattle.std.proofs.Common.{rules, arith, refl, sym, ◌∙◌, drop_of_length-le}
+use Rattle.std.proofs.Common.{rules, arith, refl, sym, drop_of_length-le}
 use Rattle.span_replay.proofs.Reachings.{skipped_reached, why_more, why_ends, why_fails, knows}
 use Rattle.span_replay.proofs.run.reaching.run_lines.Goals as goal
 

@@ -1,6 +1,5 @@
 use Rattle.std.proofs.Common.{arith, refl, sym, ◌∙◌, rules, drop_of_length-le}
 use Rattle.span_replay.specs.inside.Setup.{hooks_in, setup_state}
-use Rattle.span_replay.proofs.LineTurns.{skipped_line}
 use Rattle.span_replay.proofs.Openings.{when_some, when_none}
 use Rattle.span_replay.proofs.Explaining.{set_up_more, set_up_called, set_up_fault, set_up_ends, skipped_set_up, refused_at}
 use Rattle.span_replay.proofs.run.why.explain_all.Goals as goal
