@@ -1,10 +1,13 @@
 -- A script means the same, however many layers more than 64 there may be.
-use Rattle.std.proofs.Common.{◌≡◌, ℕ, ◌+◌, ◌≤◌, ◌&&◌, Bool, true, false, List, [], ◌∷◌, length, refl, ap, ◌∙◌, subst, arith, cond, min, Some, None, IfSome, Result, Ok, Err}
+use Rattle.std.proofs.Common.{◌≡◌, ℕ, ◌+◌, ◌≤◌, ◌&&◌, Bool, true, false, List, Option, [], ◌∷◌, length, refl, ap, ◌∙◌, subst, arith, cond, min, Some, None, IfOk, IfSome, Result, Ok, Err}
 use Rattle.std.proofs.lemmas.Bool.{ltb-true, ltb-false}
 use Rattle.std.specs.Prelude.{nat_lt, nat_le}
 use Rattle.std.specs.Io.KnownBytes.{Appends}
 use Rattle.serde_json.specs.Data.{Data}
 use Rattle.span_replay.specs.Meaning.{Turn, Transcript, after, at_stage, stage_after, layer_turn, turn_of, value_turn, read_turn, line_turn, turn_then, faulty, run, meaning}
+use Rattle.span_replay.specs.Explained.{Reached, first_reached, label_in, reached_after, turn_reached, why_run}
+use Rattle.span_replay.specs.inside.Reaching.{IsExplained}
+use Rattle.span_replay.specs.declared.run.explained.Explained.{Explained}
 use Rattle.span_replay.specs.Replayed.{FlushesOnce, IsReplayed, IsWhole, Runs}
 use Rattle.span_replay.specs.State.{State, first_state}
 use Rattle.span_replay.proofs.Flushes.{once_for}
@@ -96,3 +99,37 @@ whole_same layers n (Some bytes) a b is p = subst (λ meant. Appends a b meant.t
 pub flushed_same : (layers n : ℕ) (i a b : Known) (flushes flushes' : ℕ) (flushed : Bool) (r : Result ℕ RunFault) → n ≡ min layers 64
     → FlushesOnce (IsWhole n i a b) flushes flushes' flushed r → FlushesOnce (IsWhole layers i a b) flushes flushes' flushed r
 flushed_same layers n i a b flushes flushes' flushed r is p = once_for (whole_same layers n i a b is) flushes flushes' flushed r p
+
+-- ---- the same of what `why` tells
+
+reached_same : (about : Option (List ℕ)) (number : ℕ) (reached : Reached) (label : Option (List ℕ)) (turn : Result Turn Reason) (f g : Reached → Transcript)
+    → ((reached : Reached) → f reached ≡ g reached) → turn_reached about number reached label turn f ≡ turn_reached about number reached label turn g
+reached_same about number reached label (Ok turn) f g same = same (reached_after number reached label turn.state)
+reached_same about number reached label (Err reason) f g same = refl
+
+why_run_same : (h k : ℕ) → 64 ≤ h → 64 ≤ k → (about : Option (List ℕ)) (lines : List (List ℕ)) (number : ℕ) (reached : Reached)
+    → why_run h about number reached lines ≡ why_run k about number reached lines
+unfolding why_run
+why_run_same h k many many' about [] number reached = refl
+why_run_same h k many many' about (line ∷ lines) number reached =
+    ap (λ turn. turn_reached about number reached (label_in reached.state line) turn (λ new. why_run h about (number + 1) new lines)) (line_same h k many many' reached.state line)
+    ∙ reached_same about number reached (label_in reached.state line) (line_turn k reached.state line) _ _ (λ new. why_run_same h k many many' about lines (number + 1) new)
+
+why_by : (layers n : ℕ) (b : Bool) → nat_lt layers 64 ≡ b → n ≡ min layers 64 → (about : Option (List ℕ)) (number : ℕ) (reached : Reached) (lines : List (List ℕ))
+    → why_run n about number reached lines ≡ why_run layers about number reached lines
+why_by layers n true few is about number reached lines =
+    let low = ltb-true layers 64 few in ap (λ h. why_run h about number reached lines) (omega (arith, is))
+why_by layers n false many is about number reached lines =
+    let high = ltb-false layers 64 many in
+    why_run_same n layers (omega (arith, is)) high about lines number reached
+
+pub explained_same : (layers n : ℕ) (about : Option (List ℕ)) (number : ℕ) (reached : Reached) (lines : List (List ℕ)) (explained : Explained) → n ≡ min layers 64
+    → IsExplained (why_run n about number reached lines) explained → IsExplained (why_run layers about number reached lines) explained
+explained_same layers n about number reached lines explained is p =
+    subst (λ meant. IsExplained meant explained) (why_by layers n (nat_lt layers 64) refl is about number reached lines) p
+
+pub all_explained_same : (layers n : ℕ) (about : Option (List ℕ)) (reached : Reached) (lines : List (List ℕ)) (result : Result Explained RunFault) → n ≡ min layers 64 → reached ≡ first_reached
+    → IfOk result (IsExplained (why_run n about 1 reached lines)) → IfOk result (IsExplained (why_run layers about 1 first_reached lines))
+all_explained_same layers n about reached lines (Ok explained) is first p =
+    explained_same layers n about 1 first_reached lines explained is (subst (λ at. IsExplained (why_run n about 1 at lines) explained) first p)
+all_explained_same layers n about reached lines (Err fault) is first p = tt

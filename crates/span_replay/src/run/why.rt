@@ -23,7 +23,7 @@ use crate::run::script::Script;
 use crate::run::setup::{Opened, Setup};
 use span_core::Core;
 use span_json::{Scratch, Value};
-use span_layers::{Admit, Admitters, ByForm, ByRule, Formatters, Hooks, Say};
+use span_layers::{Admit, Admitters, ByForm, ByRule, Formatters, Hooks, MAX_LAYERS, Say};
 use span_outlet::Latest;
 use span_run::{Counted, RunFault, flush, read_script, write_text};
 use span_script::{Stop, cut_line, is_setup_line, is_skipped, json_line};
@@ -129,7 +129,8 @@ fn explain_script(
         (IsExplained (why_run layers (option_copied about.entry) 1 first_reached (lines_of script.now))) }
     ensures memory { IfErr result (λ fault. fault ≡ RunFault.Memory) }
 {
-    match plain_hooks(alloc, layers) {
+    // No script has more than MAX_LAYERS layers.
+    match plain_hooks(alloc, layers.min(MAX_LAYERS)) {
         Ok(hooks) => explain_all(alloc, script, Setup::new(alloc, hooks), about),
         Err(_) => Err(RunFault::Memory),
     }
