@@ -1,7 +1,7 @@
 //! Running a whole script with nothing written but why spans are open where its lines end.
-ghost use Rattle.std.specs.Prelude.{◌≡◌, ◌+◌, ◌^◌, ◌<◌, ◌≤◌, ℕ, [], false, length, vec_len, option_copied};
+ghost use Rattle.std.specs.Prelude.{◌≡◌, ◌+◌, ◌^◌, ◌<◌, ◌≤◌, ℕ, [], false, length, option_copied};
 ghost use Rattle.std.specs.Prelude.{IfOk, IfErr, IfSome, IfNone, IsOk, OnOk};
-ghost use Rattle.std.specs.Io.KnownBytes.{Appends, IsAtEnd, Keeps};
+ghost use Rattle.std.specs.Io.KnownBytes.{Appends, IsAtEnd};
 ghost use Rattle.span_json.specs.Seen.{view};
 ghost use Rattle.span_run.specs.Counted.{inner_of, calls_of, failed_of, flushes_of, flushed_of};
 ghost use Rattle.span_run.specs.RunFault.{EndsAsCounted};
@@ -23,7 +23,7 @@ use crate::run::script::Script;
 use crate::run::setup::{Opened, Setup};
 use span_core::Core;
 use span_json::{Scratch, Value};
-use span_layers::{Admit, Admitters, ByForm, ByRule, Formatters, Hooks, MAX_LAYERS, Say};
+use span_layers::{Admit, Admitters, Formatters, MAX_LAYERS, Say};
 use span_outlet::Latest;
 use span_run::{Counted, RunFault, flush, read_script, write_text};
 use span_script::{Stop, cut_line, is_setup_line, is_skipped, json_line};
