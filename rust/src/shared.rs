@@ -84,16 +84,24 @@ impl Shared {
         as_worker: impl Fn(&mut State, Caller) -> Result<u32, Refusal>,
         mut call: impl FnMut(&mut State, u32) -> Result<T, Refusal>,
     ) -> Result<T, Refusal> {
-        let caller = workers::caller(self);
-        self.with_place(|state| {
-            state.settle()?;
-            let worker = as_worker(state, caller)?;
-            // A refused call may have taken a number too.
-            workers::called_as(self, caller, worker);
-            let answer = call(state, worker)?;
-            self.tell(state);
-            Ok(answer)
-        })
+        let mut turn: u32 = 0;
+        loop {
+            // While it waited, the thread may have taken a number or lost it.
+            let caller = workers::caller(self);
+            let result = self.with(|state| {
+                state.settle()?;
+                let worker = as_worker(state, caller)?;
+                // A refused call may have taken a number too.
+                workers::called_as(self, caller, worker);
+                let answer = call(state, worker)?;
+                self.tell(state);
+                Ok(answer)
+            });
+            if !matches!(result, Err(Refusal::BACKLOG)) || !self.has_waited(turn) {
+                return result;
+            }
+            turn = turn.saturating_add(1);
+        }
     }
 
     /// By which it is told from all others of the process, also those that are gone.

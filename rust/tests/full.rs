@@ -143,3 +143,24 @@ impl std::io::Write for Stuck {
         Ok(())
     }
 }
+
+#[test]
+fn a_thread_that_waits_takes_one_number() -> Result<(), Error> {
+    let builder = Registry::builder().workers(3).ring(1).on_full(OnFull::Wait);
+    let (registry, mut drain) = builder.layer(Layer::compact()).build()?;
+    event!(registry, Level::Info, "1");
+    let waiting = registry.clone();
+    let thread = thread::spawn(move || event!(waiting, Level::Info, "2"));
+    while registry.counts().threads < 2 {
+        thread::sleep(Duration::from_millis(1));
+    }
+    thread::sleep(Duration::from_millis(20));
+    let mut lines = Vec::new();
+    while lines.len() < 2 {
+        lines.extend(texts(&mut drain));
+    }
+    thread.join().expect("no panic");
+    assert_eq!(lines, ["event 0 w0 - INFO 1", "event 0 w1 - INFO 2"]);
+    assert_eq!(registry.counts().threads, 1);
+    Ok(())
+}
