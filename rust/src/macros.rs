@@ -1,9 +1,18 @@
 //! Spans and events whose values are formatted where they stand, and only where a layer wants them.
 #![forbid(unsafe_code)]
 
-/// A new span with fields of any values that can be displayed. The target is the module's path, and the parent the
-/// current span, unless they are given. A key may be a keyword as it stands: `type = 1`, since `r#type` is no name.
-/// Target, level and name are constants.
+/// A new span: `registry, [target: "..",] [parent: ..,] Level::.., "name" [, fields]`. The target is the module's
+/// path, and the parent the current span, unless they are given; `parent: None` makes a root. Target, level and name
+/// are constants.
+///
+/// Fields are written as in `tracing`:
+///
+/// | | key | value |
+/// |---|---|---|
+/// | `user = 1 + 1`, `type = 2` | `user`, `type` | displayed; numbers and truths keep their [`Kind`](crate::Kind) |
+/// | `http.status = 200`, `"user-name" = 3` | `http.status`, `user-name` | the same |
+/// | `user = %value`, `user = ?value` | `user` | the text of `Display`, of `Debug` |
+/// | `user`, `%user`, `?user`, `user.name` | `user`, `user.name` | the variable or its field |
 ///
 /// Where no layer wants the span, it costs a load and a branch: no value is formatted, and no lock and no place in the
 /// ring is taken.
@@ -54,36 +63,124 @@ macro_rules! try_span {
 #[doc(hidden)]
 #[macro_export]
 macro_rules! __span {
-    (@made $call:ident, $none:expr, $registry:expr, $target:expr, $parent:expr, $level:expr, $name:expr
-        $(, $key:ident = $value:expr)* $(,)?) => {{
+    (@made $call:ident, $none:expr, $registry:expr, $target:expr, $parent:expr, $level:expr, $name:expr,
+        [$(($form:ident $key:expr, $value:expr))*] []) => {{
         static SITE: $crate::__private::Site =
             $crate::__private::Site::span($level, $target, $name, ::core::file!(), ::core::line!());
         // What the values borrow or lock ends with this statement, and not with the caller's.
         let made = match SITE.wanted_by(&$registry) {
             ::core::option::Option::Some(wanted) => wanted.$call(
                 $crate::Parent::from($parent),
-                [$($crate::__field!($key, $value)),*],
+                [$($crate::__field!($form $key, $value)),*],
             ),
             ::core::option::Option::None => $none,
         };
         made
     }};
-    (@made $($other:tt)*) => {
+    (@of [$($head:tt)*] $level:expr, $name:expr $(, $($fields:tt)*)?) => {
+        $crate::__fields!(span { __span @made $($head)*, $level, $name } [] $($($fields)*)?)
+    };
+    (@of [$($head:tt)*] $level:expr $(,)?) => {
+        ::core::compile_error!("a span has a name, behind the level: Level::.., \"name\"")
+    };
+    (@of $($other:tt)*) => {
         ::core::compile_error!(
             "a span is: registry, [target: \"..\",] [parent: ..,] Level::.., \"name\" [, key = value]*"
         )
     };
-    ($call:ident, $none:expr, $registry:expr, target: $target:expr, parent: $parent:expr, $($rest:tt)+) => {
-        $crate::__span!(@made $call, $none, $registry, $target, $parent, $($rest)+)
+    ($call:ident, $none:expr, Level::$level:ident $($rest:tt)*) => {
+        ::core::compile_error!("the registry comes first: registry, Level::.., \"name\"")
     };
-    ($call:ident, $none:expr, $registry:expr, target: $target:expr, $($rest:tt)+) => {
-        $crate::__span!(@made $call, $none, $registry, $target, $crate::Parent::Current, $($rest)+)
+    ($call:ident, $none:expr, target: $($rest:tt)*) => {
+        ::core::compile_error!("the registry comes first: registry, target: \"..\", Level::.., \"name\"")
     };
-    ($call:ident, $none:expr, $registry:expr, parent: $parent:expr, $($rest:tt)+) => {
-        $crate::__span!(@made $call, $none, $registry, ::core::module_path!(), $parent, $($rest)+)
+    ($call:ident, $none:expr, parent: $($rest:tt)*) => {
+        ::core::compile_error!("the registry comes first: registry, parent: .., Level::.., \"name\"")
     };
-    ($call:ident, $none:expr, $registry:expr, $($rest:tt)+) => {
-        $crate::__span!(@made $call, $none, $registry, ::core::module_path!(), $crate::Parent::Current, $($rest)+)
+    ($call:ident, $none:expr, $registry:expr, target: $target:expr, parent: $parent:expr, $($rest:tt)*) => {
+        $crate::__span!(@of [$call, $none, $registry, $target, $parent] $($rest)*)
+    };
+    ($call:ident, $none:expr, $registry:expr, parent: $parent:expr, target: $($rest:tt)*) => {
+        ::core::compile_error!("`target:` comes before `parent:`: registry, target: \"..\", parent: .., Level::..")
+    };
+    ($call:ident, $none:expr, $registry:expr, target: $target:expr, $($rest:tt)*) => {
+        $crate::__span!(@of [$call, $none, $registry, $target, $crate::Parent::Current] $($rest)*)
+    };
+    ($call:ident, $none:expr, $registry:expr, parent: $parent:expr, $($rest:tt)*) => {
+        $crate::__span!(@of [$call, $none, $registry, ::core::module_path!(), $parent] $($rest)*)
+    };
+    ($call:ident, $none:expr, $registry:expr, $($rest:tt)*) => {
+        $crate::__span!(@of [$call, $none, $registry, ::core::module_path!(), $crate::Parent::Current] $($rest)*)
+    };
+    ($($other:tt)*) => {
+        $crate::__span!(@of $($other)*)
+    };
+}
+
+/// Fields one after another, and behind those of an event its message; then it calls what stands in braces with both.
+/// What stands first says whether they are a `span`'s, an `event`'s, or an event's in braces (`inner`).
+#[doc(hidden)]
+#[macro_export]
+macro_rules! __fields {
+    (inner { $next:ident [$($to:tt)*] [$($message:tt)*] } [$($done:tt)*] $(,)?) => {
+        $crate::$next!($($to)*, [$($done)*] [$($message)*])
+    };
+    ($of:ident { $next:ident $($to:tt)* } [$($done:tt)*] $(,)?) => {
+        $crate::$next!($($to)*, [$($done)*] [])
+    };
+    ($of:ident $to:tt [$($done:tt)*] $key:ident $(.$more:ident)* = ?$value:expr $(, $($rest:tt)*)?) => {
+        $crate::__fields!($of $to [$($done)* (debug $crate::__key!($key $($more)*), $value)] $($($rest)*)?)
+    };
+    ($of:ident $to:tt [$($done:tt)*] $key:ident $(.$more:ident)* = %$value:expr $(, $($rest:tt)*)?) => {
+        $crate::__fields!($of $to [$($done)* (display $crate::__key!($key $($more)*), $value)] $($($rest)*)?)
+    };
+    ($of:ident $to:tt [$($done:tt)*] $key:ident $(.$more:ident)* = $value:expr $(, $($rest:tt)*)?) => {
+        $crate::__fields!($of $to [$($done)* (of_kind $crate::__key!($key $($more)*), $value)] $($($rest)*)?)
+    };
+    ($of:ident $to:tt [$($done:tt)*] $key:literal = ?$value:expr $(, $($rest:tt)*)?) => {
+        $crate::__fields!($of $to [$($done)* (debug $key, $value)] $($($rest)*)?)
+    };
+    ($of:ident $to:tt [$($done:tt)*] $key:literal = %$value:expr $(, $($rest:tt)*)?) => {
+        $crate::__fields!($of $to [$($done)* (display $key, $value)] $($($rest)*)?)
+    };
+    ($of:ident $to:tt [$($done:tt)*] $key:literal = $value:expr $(, $($rest:tt)*)?) => {
+        $crate::__fields!($of $to [$($done)* (of_kind $key, $value)] $($($rest)*)?)
+    };
+    ($of:ident $to:tt [$($done:tt)*] ?$key:ident $(.$more:ident)* $(, $($rest:tt)*)?) => {
+        $crate::__fields!($of $to [$($done)* (debug $crate::__key!($key $($more)*), $key $(.$more)*)] $($($rest)*)?)
+    };
+    ($of:ident $to:tt [$($done:tt)*] %$key:ident $(.$more:ident)* $(, $($rest:tt)*)?) => {
+        $crate::__fields!($of $to [$($done)* (display $crate::__key!($key $($more)*), $key $(.$more)*)] $($($rest)*)?)
+    };
+    ($of:ident $to:tt [$($done:tt)*] $key:ident $(.$more:ident)* $(, $($rest:tt)*)?) => {
+        $crate::__fields!($of $to [$($done)* (of_kind $crate::__key!($key $($more)*), $key $(.$more)*)] $($($rest)*)?)
+    };
+    (event { $next:ident $($to:tt)* } $done:tt $message:literal $($arguments:tt)*) => {
+        $crate::$next!($($to)*, $done [$message $($arguments)*])
+    };
+    (event { $next:ident $($to:tt)* } $done:tt $message:ident!$($arguments:tt)*) => {
+        $crate::$next!($($to)*, $done [$message!$($arguments)*])
+    };
+    ($of:ident $to:tt $done:tt $key:ident $(.$more:ident)* = $value:expr; $($rest:tt)*) => {
+        ::core::compile_error!("fields have commas between them, and no `;`")
+    };
+    ($of:ident $to:tt $done:tt $key:ident: $($rest:tt)*) => {
+        ::core::compile_error!("a field is `key = value`; `target:` and `parent:` stand before the level")
+    };
+    (span $to:tt $done:tt $message:literal $($rest:tt)*) => {
+        ::core::compile_error!("a span has no message behind its name: put it into a field, or into an event")
+    };
+    ($of:ident $to:tt $done:tt $($other:tt)*) => {
+        ::core::compile_error!("a field is: key = value, key = ?value, key = %value, key, ?key or %key")
+    };
+}
+
+/// A key of one name or several with dots between them.
+#[doc(hidden)]
+#[macro_export]
+macro_rules! __key {
+    ($key:ident $($more:ident)*) => {
+        ::core::concat!(::core::stringify!($key) $(, ".", ::core::stringify!($more))*)
     };
 }
 
@@ -91,25 +188,31 @@ macro_rules! __span {
 #[doc(hidden)]
 #[macro_export]
 macro_rules! __field {
-    ($key:ident, $value:expr) => {
+    (of_kind $key:expr, $value:expr) => {
         match &$value {
             value => {
                 #[allow(unused_imports)]
                 use $crate::__private::{OfKind as _, OfText as _};
                 let asked = &$crate::__private::Asked(value);
-                (
-                    ::core::stringify!($key),
-                    ::std::string::ToString::to_string(value),
-                    asked.kind(),
-                )
+                ($key, ::std::string::ToString::to_string(value), asked.kind())
             }
         }
     };
+    (display $key:expr, $value:expr) => {
+        ($key, ::std::string::ToString::to_string(&$value), $crate::Kind::Text)
+    };
+    (debug $key:expr, $value:expr) => {
+        ($key, ::std::format!("{:?}", &$value), $crate::Kind::Text)
+    };
 }
 
-/// An event with a formatted message, and fields of any values that can be displayed. The target is the module's path,
-/// unless it is given. Target and level are constants. Where no layer wants it, it costs what [`span!`](crate::span)
+/// An event: `registry, [target: "..",] Level::.., [fields,] ["message", ..]`. Fields are those of
+/// [`span!`](crate::span), and may stand in braces; the message comes last, with what it formats. The target is the
+/// module's path, unless it is given. Target and level are constants. Where no layer wants it, it costs what a span
 /// does.
+///
+/// It is told in the span that the thread is inside of, and can't be given a parent: the proved registry has no call
+/// for that.
 ///
 /// It answers no error: where it is refused, [`Registry::lost`](crate::Registry::lost) counts it.
 /// [`try_event!`](crate::try_event) answers why.
@@ -158,31 +261,60 @@ macro_rules! try_event {
 #[macro_export]
 macro_rules! __event {
     (@told $call:ident, $none:expr, $registry:expr, $target:expr, $level:expr,
-        { $($key:ident = $value:expr),* $(,)? }, $($message:tt)+) => {{
+        [$(($form:ident $key:expr, $value:expr))*] [$($message:tt)*]) => {{
         static SITE: $crate::__private::Site =
             $crate::__private::Site::event($level, $target, ::core::file!(), ::core::line!());
         // As of a span.
         let told = match SITE.wanted_by(&$registry) {
             ::core::option::Option::Some(wanted) => wanted.$call(
-                &::std::format!($($message)+),
-                [$($crate::__field!($key, $value)),*],
+                &$crate::__message!($($message)*),
+                [$($crate::__field!($form $key, $value)),*],
             ),
             ::core::option::Option::None => $none,
         };
         told
     }};
-    (@told $call:ident, $none:expr, $registry:expr, $target:expr, $level:expr, { $($other:tt)* } $($rest:tt)*) => {
+    (@of [$($head:tt)*] $level:expr, { $($fields:tt)* } $(, $($message:tt)*)?) => {
+        $crate::__fields!(inner { __event [@told $($head)*, $level] [$($($message)*)?] } [] $($fields)*)
+    };
+    (@of [$($head:tt)*] $level:expr, $($rest:tt)+) => {
+        $crate::__fields!(event { __event @told $($head)*, $level } [] $($rest)+)
+    };
+    (@of $($other:tt)*) => {
         ::core::compile_error!(
-            "an event is: registry, [target: \"..\",] Level::.., [{ key = value [, key = value]* },] \"message\""
+            "an event is: registry, [target: \"..\",] Level::.., [key = value,]* \"message\" [, argument]*"
         )
     };
-    (@told $call:ident, $none:expr, $registry:expr, $target:expr, $level:expr, $($message:tt)+) => {
-        $crate::__event!(@told $call, $none, $registry, $target, $level, {}, $($message)+)
+    ($call:ident, $none:expr, Level::$level:ident $($rest:tt)*) => {
+        ::core::compile_error!("the registry comes first: registry, Level::.., \"message\"")
     };
-    ($call:ident, $none:expr, $registry:expr, target: $target:expr, $($rest:tt)+) => {
-        $crate::__event!(@told $call, $none, $registry, $target, $($rest)+)
+    ($call:ident, $none:expr, target: $($rest:tt)*) => {
+        ::core::compile_error!("the registry comes first: registry, target: \"..\", Level::.., \"message\"")
     };
-    ($call:ident, $none:expr, $registry:expr, $($rest:tt)+) => {
-        $crate::__event!(@told $call, $none, $registry, ::core::module_path!(), $($rest)+)
+    ($call:ident, $none:expr, $registry:expr, $(target: $target:expr,)? parent: $($rest:tt)*) => {
+        ::core::compile_error!(
+            "an event can't be given a parent: it is told in the span that the thread is inside of; enter the span"
+        )
+    };
+    ($call:ident, $none:expr, $registry:expr, target: $target:expr, $($rest:tt)*) => {
+        $crate::__event!(@of [$call, $none, $registry, $target] $($rest)*)
+    };
+    ($call:ident, $none:expr, $registry:expr, $($rest:tt)*) => {
+        $crate::__event!(@of [$call, $none, $registry, ::core::module_path!()] $($rest)*)
+    };
+    ($($other:tt)*) => {
+        $crate::__event!(@of $($other)*)
+    };
+}
+
+/// An event's message, which may be left out.
+#[doc(hidden)]
+#[macro_export]
+macro_rules! __message {
+    () => {
+        ""
+    };
+    ($($message:tt)+) => {
+        ::std::format!($($message)+)
     };
 }

@@ -162,6 +162,13 @@ impl From<Id> for Parent {
     }
 }
 
+/// `None` is no parent: the new span is a root.
+impl From<Option<Id>> for Parent {
+    fn from(id: Option<Id>) -> Parent {
+        id.map_or(Parent::Root, Parent::Of)
+    }
+}
+
 /// A disabled span is no parent: the new one is a root.
 impl From<&Span> for Parent {
     fn from(span: &Span) -> Parent {
