@@ -1,7 +1,9 @@
 //! Callsites: places of a program whose meta is handed over once.
 #![forbid(unsafe_code)]
 use crate::error::Error;
-use crate::meta::{Fields, Given, Id, Meta, Parent};
+use crate::meta::{Fields, Given, Id, Meta, Parent, RawId};
+use crate::names::{are_marked, is_marked, with_written, NO_NAME};
+use crate::refusal::Refusal;
 use crate::registry::Registry;
 use crate::span::Span;
 
@@ -56,8 +58,14 @@ impl Registry {
     /// # }
     /// ```
     pub fn callsite(&self, meta: &Meta<'_>) -> Result<Callsite, Error> {
-        let number = self.shared().with(|state| state.add_callsite(meta, None));
-        let number = number.map_err(|refusal| refusal.naming(Some(meta.name), &[]))?;
+        let add = |meta: &Meta<'_>| self.shared().with(|state| state.add_callsite(meta, None));
+        let number = if is_marked(meta.name) {
+            Err(Refusal::BAD_NAME)
+        } else {
+            add(meta)
+        };
+        let number = number
+            .or_else(|refusal| with_written(refusal, meta.name, Given::NONE, |name, _| add(&Meta { name, ..*meta })))?;
         Ok(Callsite {
             registry: self.shared().number(),
             number,
@@ -74,10 +82,8 @@ impl Registry {
     }
 
     pub(crate) fn span_at_number(&self, number: u32, parent: Parent, fields: Given<'_>) -> Result<Span, Error> {
-        let parent = self.own_parent(parent)?;
-        let id = self.call(|state, worker| state.new_span_at(worker, number, parent, fields));
-        let id = id.map_err(|refusal| refusal.naming(None, fields.fields))?;
-        Ok(id.map_or_else(Span::none, |id| Span::of(self, id)))
+        let span = self.made_at(number, parent, fields, |id| Span::of(self, id))?;
+        Ok(span.unwrap_or_default())
     }
 
     /// [`new_span`](Registry::new_span) with the meta of a callsite.
@@ -85,11 +91,30 @@ impl Registry {
     /// # Errors
     /// Those of [`span_at`](Registry::span_at).
     pub fn new_span_at(&self, callsite: &Callsite, parent: Parent, fields: Fields<'_>) -> Result<Option<Id>, Error> {
-        let number = callsite.number_in(self)?;
+        self.made_at(callsite.number_in(self)?, parent, fields.into(), |id| self.id_of(id))
+    }
+
+    // What is told of the span that is made. Each way has a copy of its own.
+    #[inline(always)]
+    fn made_at<T>(
+        &self,
+        number: u32,
+        parent: Parent,
+        fields: Given<'_>,
+        told: impl FnOnce(RawId) -> T,
+    ) -> Result<Option<T>, Error> {
         let parent = self.own_parent(parent)?;
-        let made = self.call(|state, worker| state.new_span_at(worker, number, parent, fields.into()));
-        let made = made.map_err(|refusal| refusal.naming(None, fields))?;
-        Ok(made.map(|raw| self.id_of(raw)))
+        let made = if are_marked(NO_NAME, fields.fields) {
+            Err(Refusal::BAD_NAME)
+        } else {
+            self.call(|state, worker| state.new_span_at(worker, number, parent, fields))
+        };
+        let made = made.or_else(|refusal| {
+            with_written(refusal, NO_NAME, fields, |_, given| {
+                self.call(|state, worker| state.new_span_at(worker, number, parent, given))
+            })
+        })?;
+        Ok(made.map(told))
     }
 
     /// [`event`](Registry::event) with the meta of a callsite.
@@ -102,7 +127,15 @@ impl Registry {
     }
 
     pub(crate) fn event_at_number(&self, number: u32, message: &str, fields: Given<'_>) -> Result<(), Error> {
-        let told = self.call(|state, worker| state.event_at(worker, number, message, fields));
-        told.map_err(|refusal| refusal.naming(None, fields.fields))
+        let told = if are_marked(NO_NAME, fields.fields) {
+            Err(Refusal::BAD_NAME)
+        } else {
+            self.call(|state, worker| state.event_at(worker, number, message, fields))
+        };
+        told.or_else(|refusal| {
+            with_written(refusal, NO_NAME, fields, |_, given| {
+                self.call(|state, worker| state.event_at(worker, number, message, given))
+            })
+        })
     }
 }

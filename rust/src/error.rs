@@ -23,8 +23,8 @@ pub enum Error {
     NotEntered,
     /// More than 64 layers.
     TooManyLayers,
-    /// A span's, an event's or a callsite's name, or a field's key, is empty, over 64 bytes, or has a byte outside
-    /// ASCII letters, digits, `_`, `.` and `-`.
+    /// A span's, an event's or a callsite's name, or a field's key, has over 64 bytes as it is
+    /// [written](crate::Meta::name).
     BadName(BadName),
     /// The ring is full: nobody read the [`Drain`](crate::Drain) for so many calls. The same call may succeed later.
     Backlog,
@@ -211,11 +211,8 @@ impl fmt::Display for Error {
             Error::NotEntered => "not entered: the thread isn't inside this span",
             Error::TooManyLayers => "too many layers: at most 64",
             Error::BadName(name) => {
-                let rule = "1 to 64 ASCII letters, digits, `_`, `.` and `-`";
-                return write!(
-                    f,
-                    "bad name: {name:?} has to be {rule}; put the rest into a field's value"
-                );
+                let rule = "over 64 bytes, with 3 for each but ASCII letters, digits, `_`, `.` and `-`";
+                return write!(f, "bad name: {name:?} has {rule}; put the rest into a field's value");
             }
             Error::Backlog => "backlog: the ring is full; read the drain, or choose with `RegistryBuilder::on_full`",
             Error::BadLimits(BadLimit { limit, value }) => {
@@ -279,7 +276,7 @@ mod tests {
     #[test]
     fn a_bad_name_is_told_as_far_as_it_is_kept() {
         let text = |name| Error::bad_name(name).to_string();
-        assert!(text("GET /users").starts_with("bad name: \"GET /users\" has to be 1 to 64"));
+        assert!(text("GET /users").starts_with("bad name: \"GET /users\" has over 64 bytes"));
         let long = format!("{}\u{e9}", "n".repeat(21));
         assert!(text(&long).contains(&format!("{:?}..", "n".repeat(21))));
         assert_ne!(Error::bad_name("a b"), Error::bad_name("a c"));

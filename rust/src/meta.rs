@@ -81,7 +81,9 @@ pub struct Meta<'a> {
     pub level: Level,
     /// Where it comes from, as a module's path: any text.
     pub target: &'a str,
-    /// Its name: 1 to 64 ASCII letters, digits, `_`, `.` and `-`.
+    /// Its name. One that has other bytes than ASCII letters, digits, `_`, `.` and `-`, or that begins with `--`, or
+    /// is empty, is written in lines as `--` and then its bytes, each but letters, digits, `_` and `.` as `-` and two
+    /// hexadecimal digits: `GET /users` as `--GET-20-2Fusers`. As it is written it has at most 64 bytes.
     pub name: &'a str,
 }
 
@@ -99,7 +101,7 @@ impl<'a> Meta<'a> {
     }
 }
 
-/// Fields in order, each a key (which has a name's bytes) and a value, which is any text.
+/// Fields in order, each a key, which is written as [a name](Meta::name) is, and a value, which is any text.
 pub type Fields<'a> = &'a [(&'a str, &'a str)];
 
 /// Fields with the kinds of their values; those that have none are texts.
@@ -116,6 +118,11 @@ impl<'a> From<Fields<'a>> for Given<'a> {
 }
 
 impl Given<'_> {
+    pub(crate) const NONE: Given<'static> = Given {
+        fields: &[],
+        kinds: &[],
+    };
+
     /// The kind of each.
     pub(crate) fn all_kinds(&self) -> Result<Vec<Kind>, Refusal> {
         let mut kinds = Vec::new();

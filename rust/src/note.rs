@@ -5,6 +5,7 @@ use crate::json::{parts, unescaped, Parts, Quoted};
 use crate::kind::Kind;
 use crate::level::Level;
 use crate::meta::{Id, RawId};
+use crate::names::read;
 use crate::notes::Book;
 use std::fmt;
 use std::time::Duration;
@@ -84,7 +85,8 @@ pub struct Note {
     pub target: String,
     /// The name of the span or of the event.
     pub name: String,
-    /// The names from the root on, with colons between them; of an event those of its span, or `-`.
+    /// The names from the root on as lines [write](crate::Meta::name) them, with colons between them; of an event
+    /// those of its span, or `-`.
     pub path: String,
     /// Of an event.
     pub message: Option<String>,
@@ -154,7 +156,7 @@ impl Sources<'_> {
 fn fields(parts: &Parts<'_>, kinds: &[Kind]) -> Vec<NoteField> {
     let kinds = kinds.iter().copied().chain(std::iter::repeat(Kind::Text));
     let field = |(&(key, value), kind): (&(&str, &str), Kind)| NoteField {
-        key: unescaped(key),
+        key: read(&unescaped(key)).into_owned(),
         kind,
         value: unescaped(value),
     };

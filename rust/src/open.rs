@@ -104,9 +104,9 @@ impl OpenSpan {
 /// `request (1) path=/users, src/main.rs:7: 2 handles, 1 thread inside (w3), 1 open child`
 impl fmt::Display for OpenSpan {
     fn fmt(&self, f: &mut fmt::Formatter<'_>) -> fmt::Result {
-        write!(f, "{} ({})", self.name, self.id)?;
+        write!(f, "{} ({})", self.name.escape_debug(), self.id)?;
         for (key, value) in &self.fields {
-            write!(f, " {key}={}", value.escape_debug())?;
+            write!(f, " {}={}", key.escape_debug(), value.escape_debug())?;
         }
         if self.is_cut {
             f.write_str(" ..")?;

@@ -2,6 +2,7 @@
 #![forbid(unsafe_code)]
 use crate::level::Level;
 use crate::meta::{Given, Meta, RawId};
+use crate::names::read;
 use crate::notes::{known, Known};
 use crate::packed::{copied, reserve, Packed};
 use crate::refusal::Refusal;
@@ -84,7 +85,7 @@ impl Origins {
         self.sites.try_reserve(1).map_err(|_| Refusal::OUT_OF_MEMORY)?;
         Ok(Source {
             level: meta.level,
-            name: copied(meta.name)?,
+            name: copied(&read(meta.name))?,
             target: copied(meta.target)?,
             place,
         })
@@ -196,10 +197,10 @@ impl Origins {
         reserve(&mut fields, made.packed.fields().len())?;
         for field in made.packed.fields() {
             let key = taken(&mut texts, field.key_len as usize)?;
-            fields.push((key, taken(&mut texts, field.value_len as usize)?));
+            fields.push((read(&key).into_owned(), taken(&mut texts, field.value_len as usize)?));
         }
         Ok(Some(Details {
-            name: source.map_or(Ok(own_name), |source| copied(&source.name))?,
+            name: source.map_or_else(|| Ok(read(&own_name).into_owned()), |source| copied(&source.name))?,
             target: source.map_or(Ok(own_target), |source| copied(&source.target))?,
             place: source.and_then(|source| source.place),
             fields,

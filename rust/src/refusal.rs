@@ -1,8 +1,6 @@
 //! Why a call under the lock was refused: small, so that each answer fits into registers.
 #![forbid(unsafe_code)]
 use crate::error::Error;
-use crate::meta::Fields;
-use crate::names::is_name;
 use crate::raw;
 
 /// A refusal by its number in the C interface, or this crate's own: an [`Error`] without what only its text tells.
@@ -31,16 +29,6 @@ impl Refusal {
     /// As [`Error::may_pass`].
     pub(crate) fn may_pass(self) -> bool {
         matches!(self, Refusal::BACKLOG | Refusal::OUT_OF_MEMORY)
-    }
-
-    /// The error; where it is a bad name, it says which of these it was: the first that is none.
-    #[cold]
-    pub(crate) fn naming(self, name: Option<&str>, fields: Fields<'_>) -> Error {
-        if self != Refusal::BAD_NAME {
-            return self.into();
-        }
-        let mut names = name.into_iter().chain(fields.iter().map(|(key, _)| *key));
-        Error::bad_name(names.find(|name| !is_name(name)).unwrap_or_default())
     }
 }
 
@@ -77,16 +65,6 @@ mod tests {
             let error = Error::from(refusal);
             assert_eq!((error.number(), error.may_pass()), (status, refusal.may_pass()));
         }
-    }
-
-    #[test]
-    fn the_first_name_that_is_none_is_told() {
-        let fields = [("k", ""), ("a key", ""), ("", "")];
-        let bad = Refusal::BAD_NAME;
-        assert_eq!(bad.naming(Some("a b"), &fields), Error::bad_name("a b"));
-        assert_eq!(bad.naming(Some("a"), &fields), Error::bad_name("a key"));
-        assert_eq!(bad.naming(None, &fields[2..]), Error::bad_name(""));
-        assert_eq!(Refusal::BACKLOG.naming(Some("a b"), &[]), Error::Backlog);
         assert_eq!(Error::from(Refusal::TOO_MANY_THREADS), Error::TooManyThreads);
     }
 

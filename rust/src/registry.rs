@@ -4,6 +4,7 @@ use crate::builder::RegistryBuilder;
 use crate::error::Error;
 use crate::level::Level;
 use crate::meta::{Counts, Fields, Found, Id, Meta, Parent, RawId, RawParent};
+use crate::names::{are_marked, with_written, NO_NAME};
 use crate::refusal::Refusal;
 use crate::seats::Caller;
 use crate::shared::{wait, Shared};
@@ -145,9 +146,7 @@ impl Registry {
     /// [`Full`](Error::Full), [`Backlog`](Error::Backlog), [`OutOfMemory`](Error::OutOfMemory),
     /// [`BadData`](Error::BadData).
     pub fn span(&self, meta: &Meta<'_>, parent: Parent, fields: Fields<'_>) -> Result<Span, Error> {
-        let parent = self.own_parent(parent)?;
-        let id = self.call(|state, worker| state.new_span(worker, meta, parent, fields.into()));
-        let id = id.map_err(|refusal| refusal.naming(Some(meta.name), fields))?;
+        let id = self.made(meta, parent, fields)?;
         Ok(id.map_or_else(Span::none, |id| Span::of(self, id)))
     }
 
@@ -157,10 +156,22 @@ impl Registry {
     /// # Errors
     /// Those of [`span`](Registry::span).
     pub fn new_span(&self, meta: &Meta<'_>, parent: Parent, fields: Fields<'_>) -> Result<Option<Id>, Error> {
+        Ok(self.made(meta, parent, fields)?.map(|raw| self.id_of(raw)))
+    }
+
+    fn made(&self, meta: &Meta<'_>, parent: Parent, fields: Fields<'_>) -> Result<Option<RawId>, Error> {
         let parent = self.own_parent(parent)?;
-        let made = self.call(|state, worker| state.new_span(worker, meta, parent, fields.into()));
-        let made = made.map_err(|refusal| refusal.naming(Some(meta.name), fields))?;
-        Ok(made.map(|raw| self.id_of(raw)))
+        let made = if are_marked(meta.name, fields) {
+            Err(Refusal::BAD_NAME)
+        } else {
+            self.call(|state, worker| state.new_span(worker, meta, parent, fields.into()))
+        };
+        made.or_else(|refusal| {
+            with_written(refusal, meta.name, fields.into(), |name, given| {
+                let meta = Meta { name, ..*meta };
+                self.call(|state, worker| state.new_span(worker, &meta, parent, given))
+            })
+        })
     }
 
     /// Puts fields at the end of a span's list. A repeated key stands twice.
@@ -170,8 +181,16 @@ impl Registry {
     /// [`Backlog`](Error::Backlog), [`OutOfMemory`](Error::OutOfMemory), [`BadData`](Error::BadData).
     pub fn record(&self, id: Id, fields: Fields<'_>) -> Result<(), Error> {
         let id = self.own(id)?;
-        let recorded = self.call(|state, worker| state.record(worker, id, fields.into()));
-        recorded.map_err(|refusal| refusal.naming(None, fields))
+        let recorded = if are_marked(NO_NAME, fields) {
+            Err(Refusal::BAD_NAME)
+        } else {
+            self.call(|state, worker| state.record(worker, id, fields.into()))
+        };
+        recorded.or_else(|refusal| {
+            with_written(refusal, NO_NAME, fields.into(), |_, given| {
+                self.call(|state, worker| state.record(worker, id, given))
+            })
+        })
     }
 
     /// Tells an event. Each layer that admits it sees it in the innermost span that the thread is inside of and the
@@ -181,8 +200,17 @@ impl Registry {
     /// [`BadName`](Error::BadName) for the name or a key, [`Backlog`](Error::Backlog),
     /// [`OutOfMemory`](Error::OutOfMemory), [`BadData`](Error::BadData).
     pub fn event(&self, meta: &Meta<'_>, message: &str, fields: Fields<'_>) -> Result<(), Error> {
-        let told = self.call(|state, worker| state.event(worker, meta, message, fields.into()));
-        told.map_err(|refusal| refusal.naming(Some(meta.name), fields))
+        let told = if are_marked(meta.name, fields) {
+            Err(Refusal::BAD_NAME)
+        } else {
+            self.call(|state, worker| state.event(worker, meta, message, fields.into()))
+        };
+        told.or_else(|refusal| {
+            with_written(refusal, meta.name, fields.into(), |name, given| {
+                let meta = Meta { name, ..*meta };
+                self.call(|state, worker| state.event(worker, &meta, message, given))
+            })
+        })
     }
 
     /// The calling thread enters a span. True where it wasn't inside of it already: only such an entry holds the span.

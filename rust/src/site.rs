@@ -4,6 +4,8 @@ use crate::error::Error;
 use crate::kind::Kind;
 use crate::level::Level;
 use crate::meta::{Given, Meta, Parent};
+use crate::names::{is_marked, with_written};
+use crate::refusal::Refusal;
 use crate::registry::Registry;
 use crate::span::Span;
 use std::sync::atomic::{AtomicU64, Ordering};
@@ -49,10 +51,6 @@ impl Site {
         }
     }
 
-    pub(crate) fn meta(&self) -> &Meta<'static> {
-        &self.meta
-    }
-
     /// Its file and its line.
     pub(crate) fn place(&self) -> (&'static str, u32) {
         (self.file, self.line)
@@ -84,13 +82,27 @@ impl Site {
             self.keep(registry, UNWANTED);
             return None;
         }
-        let callsite = registry.shared().with(|state| state.callsite_of(self));
-        let callsite = callsite.map_err(|refusal| refusal.naming(Some(self.meta.name), &[]));
+        let callsite = self.callsite_in(registry);
         // A callsite's number that would say the same is not kept.
         if let Some(number) = callsite.ok().filter(|&number| number != UNWANTED) {
             self.keep(registry, number);
         }
         Some(callsite)
+    }
+
+    fn callsite_in(&'static self, registry: &Registry) -> Result<u32, Error> {
+        let callsite = |meta: &Meta<'_>| registry.shared().with(|state| state.callsite_of(self, meta));
+        let name = self.meta.name;
+        let found = if is_marked(name) {
+            Err(Refusal::BAD_NAME)
+        } else {
+            callsite(&self.meta)
+        };
+        found.or_else(|refusal| {
+            with_written(refusal, name, Given::NONE, |name, _| {
+                callsite(&Meta { name, ..self.meta })
+            })
+        })
     }
 
     fn keep(&self, registry: &Registry, number: u32) {

@@ -3,6 +3,7 @@
 use crate::level::Level;
 use crate::lost::{Lost, TARGET};
 use crate::meta::{Counts, Fields, Given, Meta, RawId, RawParent};
+use crate::names::read;
 use crate::notes::{known, What};
 use crate::open::Open;
 use crate::origins::{Names, Origins};
@@ -168,7 +169,15 @@ impl State {
         self.owing.reserve_span()?;
         self.packed.pack(&[meta.name, meta.target], given.fields)?;
         self.origins.reserve_span(names, &self.packed)?;
-        self.noting(|_| Ok(What::Made(known(meta, given)?)))?;
+        self.noting(|_| {
+            Ok(What::Made(known(
+                &Meta {
+                    name: &read(meta.name),
+                    ..*meta
+                },
+                given,
+            )?))
+        })?;
         let id = self.placed(|core, packed| core.new_span(worker, parent, meta, packed))?;
         if let Some(id) = id {
             self.made(id, None, names);
@@ -185,12 +194,12 @@ impl State {
         origins.add(meta, site, || core.add_callsite(meta, packed))
     }
 
-    /// The number of the callsite of a place in the program, which is added at its first call.
-    pub(crate) fn callsite_of(&mut self, site: &'static Site) -> Result<u32, Refusal> {
+    /// The number of the callsite of a place in the program, which is added with this meta at its first call.
+    pub(crate) fn callsite_of(&mut self, site: &'static Site, meta: &Meta<'_>) -> Result<u32, Refusal> {
         if let Some(number) = self.origins.number(site) {
             return Ok(number);
         }
-        self.add_callsite(site.meta(), Some(site))
+        self.add_callsite(meta, Some(site))
     }
 
     #[inline(always)]
@@ -328,7 +337,15 @@ impl State {
         given: Given<'_>,
     ) -> Result<(), Refusal> {
         self.packed.pack(&[meta.name, meta.target, message], given.fields)?;
-        self.noting(|_| Ok(What::Made(known(meta, given)?)))?;
+        self.noting(|_| {
+            Ok(What::Made(known(
+                &Meta {
+                    name: &read(meta.name),
+                    ..*meta
+                },
+                given,
+            )?))
+        })?;
         self.placed(|core, packed| core.event(worker, meta, message, packed))?;
         self.note();
         Ok(())

@@ -1,5 +1,6 @@
 //! The same random calls on the proved registry and on one in plain Rust, which was written from the rules alone: each
 //! answer, each line and what is found of each span have to be the same.
+mod common;
 #[path = "../examples/border/plain/mod.rs"]
 #[allow(dead_code)]
 mod plain;
@@ -9,7 +10,7 @@ use span_registry::{Callsite, Drain, Error, FmtSpan, Form, Id, Layer, Level, Met
 
 const RUNS: u64 = 400;
 const CALLS: usize = 150;
-const NAMES: [&str; 5] = ["a", "b.c", "d_e-f", "", "no name"];
+const NAMES: [&str; 4] = ["a", "b.c", "d_e-f", common::LONG];
 const TARGETS: [&str; 5] = ["app", "app::db", "apple", "lib", ""];
 const VALUES: [&str; 4] = ["", "1", "x\ny\\z", "\"ä\u{1}\" \r"];
 

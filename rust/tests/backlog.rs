@@ -1,7 +1,7 @@
 //! Where nobody reads the drain: what is refused, what is owed, and when it is done.
 mod common;
 
-use common::{assert_empty, compact, id, info, span, texts, Ids};
+use common::{assert_empty, compact, id, info, span, texts, Ids, LONG};
 use span_registry::{retry, Error, Layer, Parent, Registry, Targets};
 use std::thread;
 use std::time::Duration;
@@ -21,7 +21,7 @@ fn each_call_is_refused_while_the_ring_is_full() -> Result<(), Error> {
     assert_eq!(ids.event("m"), Err(Error::Backlog));
     assert_eq!(ids.close(1), Err(Error::Backlog));
     assert_eq!(ids.exit(2), Err(Error::Unknown));
-    assert_eq!(ids.make("a b"), Err(Error::bad_name("a b")));
+    assert_eq!(ids.make(LONG), Err(Error::bad_name(LONG)));
     assert_eq!(ids.find(1), Some((0, 1, 1, 2)));
     assert_eq!(drain.line(), None);
     assert_eq!(ids.exit(1), Ok(false));

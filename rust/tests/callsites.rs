@@ -1,7 +1,7 @@
 //! Callsites: spans and events at them are what the same calls by meta are, and what is refused.
 mod common;
 
-use common::{assert_empty, compact, id, info, texts};
+use common::{assert_empty, compact, id, info, texts, LONG};
 use span_registry::{Callsite, Drain, Error, Fields, Layer, Level, Meta, Parent, Registry, Span};
 use std::thread;
 
@@ -175,8 +175,7 @@ fn another_registry_refuses_it() -> Result<(), Error> {
 fn what_no_span_could_have_is_refused_at_once() -> Result<(), Error> {
     let (registry, mut drain) = compact().build()?;
     let longest = "n".repeat(64);
-    let too_long = "n".repeat(65);
-    for name in ["", "two words", "\u{e9}", &too_long] {
+    for name in [LONG, &" ".repeat(21), &"\u{e9}".repeat(11)] {
         assert_eq!(registry.callsite(&info(name)), Err(Error::bad_name(name)), "{name:?}");
         let by_meta = registry.span(&info(name), Parent::Root, &[]).map(drop);
         assert_eq!(by_meta, Err(Error::bad_name(name)), "{name:?}");
@@ -193,11 +192,14 @@ fn calls_at_it_are_refused_as_by_meta() -> Result<(), Error> {
     let place = registry.callsite(&info("a"))?;
     let make = |parent, fields| registry.new_span_at(&place, parent, fields);
     assert_eq!(
-        make(Parent::Of(id(&registry, 1)), &[("", "")]),
-        Err(Error::bad_name(""))
+        make(Parent::Of(id(&registry, 1)), &[(LONG, "")]),
+        Err(Error::bad_name(LONG))
     );
     assert_eq!(make(Parent::Of(id(&registry, 1)), &[]), Err(Error::Unknown));
-    assert_eq!(registry.event_at(&place, "m", &[(" ", "")]), Err(Error::bad_name(" ")));
+    assert_eq!(
+        registry.event_at(&place, "m", &[(LONG, "")]),
+        Err(Error::bad_name(LONG))
+    );
     let a = make(Parent::Root, &[])?.expect("wanted");
     assert_eq!(make(Parent::Root, &[]), Err(Error::Full));
     assert_eq!(registry.event_at(&place, "m", &[]), Err(Error::Backlog));

@@ -1,7 +1,7 @@
 //! That logging never fails the program: what is refused is counted, by reason, and the rest goes on.
 mod common;
 
-use common::{assert_empty, compact, span, texts, Ids};
+use common::{assert_empty, compact, span, texts, Ids, LONG};
 use span_registry::{event, span, try_event, try_span, Error, Level, Registry};
 use std::panic::{catch_unwind, AssertUnwindSafe};
 use std::sync::Mutex;
@@ -16,10 +16,10 @@ fn what_is_refused_is_counted_by_reason_and_told_once_there_is_room() -> Result<
     let own = a.try_clone()?;
     event!(registry, Level::Info, "1");
     // The ring is full.
-    assert!(span!(registry, Level::Info, "GET /users").is_disabled());
+    assert!(span!(registry, Level::Info, LONG).is_disabled());
     assert!(span!(registry, parent: &stranger, Level::Info, "a").is_disabled());
     assert!(span!(registry, parent: span_registry::Parent::Root, Level::Info, "b").is_disabled());
-    a.record(&[("no key", "")]);
+    a.record(&[(LONG, "")]);
     assert!(!a.enter().is_first());
     event!(registry, Level::Info, { k = 2 }, "2");
     assert_eq!(a.record(&[("k", "v")]).in_scope(|| 3), 3);
@@ -35,7 +35,7 @@ fn what_is_refused_is_counted_by_reason_and_told_once_there_is_room() -> Result<
     let told = format!("event 0 w1 - WARN lost {reasons}");
     assert_eq!(texts(&mut drain), ["new 1 w0 a", "event 0 w0 - INFO 1", &told]);
     // What is told is new.
-    a.record(&[("", "")]);
+    a.record(&[(LONG, "")]);
     event!(registry, Level::Info, "3");
     let wanted = ["event 0 w0 - INFO 3", "event 0 w1 - WARN lost bad_name=1"];
     assert_eq!(texts(&mut drain), wanted);
@@ -54,7 +54,7 @@ fn losses_are_told_to_layers_that_admit_them() -> Result<(), Error> {
     });
     let (registry, mut drain) = builder.build()?;
     let a = span(&registry, "a");
-    a.record(&[("", "")]);
+    a.record(&[(LONG, "")]);
     let inside = a.try_enter()?;
     drop(inside);
     let lines: Vec<_> = drain.lines().map(|line| (line.layer, line.text)).collect();
@@ -71,7 +71,7 @@ fn losses_are_told_to_layers_that_admit_them() -> Result<(), Error> {
 fn what_was_lost_is_written_at_the_end() -> Result<(), Box<dyn std::error::Error>> {
     let (registry, mut drain) = compact().build()?;
     drop(span!(registry, Level::Info, "a"));
-    assert!(span!(registry, Level::Info, "a b").is_disabled());
+    assert!(span!(registry, Level::Info, LONG).is_disabled());
     let mut out = Vec::new();
     drain.run_until(&mut out, &std::sync::atomic::AtomicBool::new(true))?;
     let out = String::from_utf8(out)?;

@@ -204,7 +204,7 @@ fn told_inside(registry: &Registry, inner: &span_registry::Span) {
 #[test]
 fn what_the_registry_tells_of_itself_is_a_note_too() -> Result<(), Error> {
     let (registry, mut drain) = Registry::builder().workers(1).layer(Layer::tree()).build()?;
-    assert!(span!(registry, Level::Info, "a b").is_disabled());
+    assert!(span!(registry, Level::Info, common::LONG).is_disabled());
     let note = drain.note().expect("a line");
     assert_eq!(
         (&*note.target, note.level, note.message.as_deref()),

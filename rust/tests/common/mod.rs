@@ -2,6 +2,9 @@
 #![allow(dead_code)]
 use span_registry::{Drain, Error, Fields, Id, Layer, Level, Meta, Parent, Registry, RegistryBuilder, Span};
 
+/// No name: it has 65 bytes.
+pub const LONG: &str = "nnnnnnnnnnnnnnnnnnnnnnnnnnnnnnnnnnnnnnnnnnnnnnnnnnnnnnnnnnnnnnnnn";
+
 /// A span or an event of the module `app` at INFO.
 pub fn info(name: &str) -> Meta<'_> {
     Meta::new(Level::Info, "app", name)
