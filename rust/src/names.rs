@@ -1,8 +1,5 @@
-//! Which texts are names and keys as the proved registry takes them, and how all others are written.
-//!
-//! **A name that has other bytes than ASCII letters, digits, `_`, `.` and `-`, or that begins with `--`, or is empty,
-//! is written as `--` and then its bytes, each but letters, digits, `_` and `.` as `-` and two hexadecimal digits.**
-//! So `GET /users` is written `--GET-20-2Fusers`, and whoever undoes that gets the same bytes.
+//! Which texts are names and keys as the proved registry takes them, and how all others are written: by the rule that
+//! [`Meta::name`](crate::Meta::name) states. Whoever undoes it gets the same bytes.
 #![forbid(unsafe_code)]
 use crate::error::Error;
 use crate::meta::{Fields, Given};

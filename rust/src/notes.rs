@@ -3,6 +3,7 @@
 use crate::kind::Kind;
 use crate::level::Level;
 use crate::meta::{Given, Meta, RawId};
+use crate::names::read;
 use crate::packed::copied;
 use crate::refusal::Refusal;
 use std::collections::VecDeque;
@@ -27,6 +28,12 @@ pub(crate) fn known(meta: &Meta<'_>, given: Given<'_>) -> Result<Known, Refusal>
         name: copied(meta.name)?,
         kinds: given.all_kinds()?,
     })
+}
+
+/// The same, where the name is as lines write it.
+pub(crate) fn known_as_written(meta: &Meta<'_>, given: Given<'_>) -> Result<Known, Refusal> {
+    let name = &read(meta.name);
+    known(&Meta { name, ..*meta }, given)
 }
 
 /// What a call did.

@@ -14,6 +14,9 @@ use crate::writer::Guard;
 use std::collections::{HashMap, HashSet};
 use std::fmt;
 
+/// What a search under the lock finds.
+type Found = Result<Vec<Open>, Refusal>;
+
 /// An open span, as it is found under the lock.
 pub(crate) struct Open {
     pub(crate) id: RawId,
@@ -153,7 +156,7 @@ impl OpenSpans {
     }
 
     // Of a list that is found under the lock, after what is owed, as far as that can be done now.
-    fn found(shared: &Shared, find: impl FnOnce(&mut State) -> Result<Vec<Open>, Refusal>) -> Result<OpenSpans, Error> {
+    fn found(shared: &Shared, find: impl FnOnce(&mut State) -> Found) -> Result<OpenSpans, Error> {
         let open = shared.with(|state| {
             let _owing = state.settle();
             find(state)

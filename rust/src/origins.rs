@@ -315,6 +315,22 @@ mod tests {
     }
 
     #[test]
+    fn a_target_that_is_too_long_is_left_out() -> Result<(), Refusal> {
+        let (mut origins, mut packed) = (Origins::default(), Packed::default());
+        for (number, target, is_cut) in [(1, "app".to_owned(), false), (2, "t".repeat(KEPT), true)] {
+            let meta = Meta::new(Level::Info, &target, "a");
+            packed.pack(&[meta.name, meta.target], &[("k", "v")])?;
+            origins.reserve_span(Names::of(&meta), &packed)?;
+            origins.made(id(number), None, Names::of(&meta), &mut packed);
+            let details = origins.details(id(number))?.expect("known");
+            assert_eq!((&*details.name, details.fields.len()), ("a", usize::from(!is_cut)));
+            assert_eq!((details.target == target, details.is_cut), (!is_cut, is_cut));
+            assert_eq!(packed.texts().is_empty(), !is_cut);
+        }
+        Ok(())
+    }
+
+    #[test]
     fn long_texts_are_cut() -> Result<(), Refusal> {
         let mut origins = Origins::default();
         let long = "x".repeat(KEPT / 2);

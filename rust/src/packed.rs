@@ -4,8 +4,11 @@ use crate::meta::Fields;
 use crate::raw::SpanField;
 use crate::refusal::Refusal;
 
-/// Buffers that grew past this are given back before the next call.
-const KEPT: usize = 64 * 1024;
+/// A buffer of texts that grew past this is given back before the next call, so that slots of spans keep only small
+/// ones.
+const KEPT: usize = 8 * 1024;
+/// The same of one of fields.
+const KEPT_FIELDS: usize = KEPT / 16;
 
 /// The texts of one call. Its memory is used again for the next call.
 #[derive(Default)]
@@ -18,7 +21,7 @@ impl Packed {
     /// Packs `first`, then the keys and values.
     #[inline(always)]
     pub(crate) fn pack(&mut self, first: &[&str], fields: Fields<'_>) -> Result<(), Refusal> {
-        if self.texts.capacity() > KEPT || self.fields.capacity() > KEPT {
+        if self.texts.capacity() > KEPT || self.fields.capacity() > KEPT_FIELDS {
             *self = Packed::default();
         }
         self.texts.clear();
@@ -57,10 +60,10 @@ impl Packed {
         self.fields.extend_from_slice(fields);
     }
 
-    /// Whether it has at most so many bytes of texts, and memory for not many more.
+    /// Whether it has at most so many bytes of texts, and its memory is kept for the next call.
     #[inline]
     pub(crate) fn is_below(&self, bytes: usize) -> bool {
-        self.texts.len() <= bytes && self.texts.capacity() <= 2 * bytes && self.fields.capacity() <= bytes / 8
+        self.texts.len() <= bytes && self.texts.capacity() <= KEPT && self.fields.capacity() <= KEPT_FIELDS
     }
 
     pub(crate) fn fields(&self) -> &[SpanField] {

@@ -3,8 +3,7 @@
 use crate::level::Level;
 use crate::lost::{Lost, TARGET};
 use crate::meta::{Counts, Fields, Given, Meta, RawId, RawParent};
-use crate::names::read;
-use crate::notes::{known, What};
+use crate::notes::{known_as_written, What};
 use crate::open::Open;
 use crate::origins::{Names, Origins};
 use crate::owed::{Owed, Owing};
@@ -169,15 +168,7 @@ impl State {
         self.owing.reserve_span()?;
         self.packed.pack(&[meta.name, meta.target], given.fields)?;
         self.origins.reserve_span(names, &self.packed)?;
-        self.noting(|_| {
-            Ok(What::Made(known(
-                &Meta {
-                    name: &read(meta.name),
-                    ..*meta
-                },
-                given,
-            )?))
-        })?;
+        self.noting(|_| Ok(What::Made(known_as_written(meta, given)?)))?;
         let id = self.placed(|core, packed| core.new_span(worker, parent, meta, packed))?;
         if let Some(id) = id {
             self.made(id, None, names);
@@ -337,15 +328,7 @@ impl State {
         given: Given<'_>,
     ) -> Result<(), Refusal> {
         self.packed.pack(&[meta.name, meta.target, message], given.fields)?;
-        self.noting(|_| {
-            Ok(What::Made(known(
-                &Meta {
-                    name: &read(meta.name),
-                    ..*meta
-                },
-                given,
-            )?))
-        })?;
+        self.noting(|_| Ok(What::Made(known_as_written(meta, given)?)))?;
         self.placed(|core, packed| core.event(worker, meta, message, packed))?;
         self.note();
         Ok(())
@@ -369,7 +352,7 @@ impl State {
     fn tell_of_itself(&mut self, message: &str, fields: Fields<'_>) -> Result<(), Refusal> {
         let meta = Meta::event(Level::Warn, TARGET);
         self.packed.pack(&[meta.name, meta.target, message], fields)?;
-        self.noting(|_| Ok(What::Made(known(&meta, fields.into())?)))?;
+        self.noting(|_| Ok(What::Made(known_as_written(&meta, fields.into())?)))?;
         self.core.event(self.seats.outsider(), &meta, message, &self.packed)?;
         self.note();
         Ok(())
