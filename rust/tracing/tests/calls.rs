@@ -7,9 +7,9 @@ use std::fmt;
 use tracing::dispatcher::with_default;
 use tracing::field::Empty;
 use tracing::span::Id;
-use tracing::{debug, debug_span, event, info, info_span, span, trace_span, warn, Span};
+use tracing::{debug, debug_span, event, info, info_span, span, trace_span, warn, Dispatch, Span};
 use tracing_span_registry::ProvedSubscriber;
-use tracing_subscriber::filter::LevelFilter;
+use tracing_subscriber::filter::{EnvFilter, LevelFilter};
 use tracing_subscriber::prelude::*;
 
 #[test]
@@ -131,14 +131,18 @@ fn with_no_layer_spans_are_made_and_nothing_is_told() {
 fn a_global_filter_of_tracing_subscriber_may_stand_above() {
     let _alone = alone();
     let (subscriber, _, mut drain) = over(compact());
-    let dispatch = tracing::Dispatch::new(subscriber.clone().with(LevelFilter::INFO));
-    with_default(&dispatch, || {
-        let span = info_span!("s");
-        let _inside = span.enter();
-        debug!("not wanted");
-        assert!(debug_span!("not wanted").is_disabled());
-    });
-    assert_eq!(texts(&mut drain), ["new 1 w0 s", "enter 1 w0 s", "exit 1 w0 s", "close 1 w0 s"]);
+    let run = |dispatch: Dispatch| {
+        with_default(&dispatch, || {
+            let span = info_span!("s");
+            let _inside = span.enter();
+            debug!("not wanted");
+            assert!(debug_span!("not wanted").is_disabled());
+        });
+        texts(&mut drain).iter().map(|line| line.split(' ').next().unwrap_or_default().to_owned()).collect::<Vec<_>>()
+    };
+    let both = [LevelFilter::INFO.boxed(), EnvFilter::new("info").boxed()]
+        .map(|filter| Dispatch::new(subscriber.clone().with(filter)));
+    assert_eq!(both.map(run), [["new", "enter", "exit", "close"]; 2]);
     assert_clean(&subscriber);
 }
 
