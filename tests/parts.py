@@ -70,8 +70,8 @@ PARTS = [
     Part("the C interface", "span_ffi valgrind", "python3 tests/c_interface.py --library {span_ffi}"),
     Part("the C interface of the store", "span_store_ffi valgrind",
          "python3 tests/c_store.py --library {span_store_ffi}"),
-    Part("tracing-subscriber over the store", "span_store_ffi cargo",
-         "python3 tests/tracing.py --library {span_store_ffi}"),
+    Part("tracing over the store and over the registry", "span_store_ffi span_ffi cargo",
+         "python3 tests/tracing.py --library {span_store_ffi} --registry-library {span_ffi}"),
     Part("the Rust package", "span_ffi cargo",
          "env SPAN_REGISTRY_LIB={library} CARGO_TARGET_DIR={room}/target rust/test"),
 ]

@@ -1,16 +1,17 @@
-"""Runs the real tracing-subscriber over the proved store: its own tests and ours, beside the original. The last line is
-'N passed, M failed'.
+"""Runs the real tracing-subscriber over the proved store, its own tests and ours, beside the original; and the package
+rust/tracing over the proved registry. The last line is 'N passed, M failed'.
 
-The crate is laid over by rust/tracing-subscriber/lay, with the library of `rt lib` in crates/span_store_ffi, which is
-made first where it isn't there or a source is newer, or with that of --library. Then
+tracing-subscriber is laid over by rust/tracing-subscriber/lay, with the library of `rt lib` in crates/span_store_ffi,
+which is made first where it isn't there or a source is newer, or with that of --library. Then
 - the crate's own tests run, over the original and over the copy, and each file of them has to pass as many tests there.
   The original's numbers are those of this run. What tests need of tracing_mock, which isn't published, is in
   tests/tracing/mock;
 - the programs of tests/tracing/programs run over both. Texts have to be the same, and answers differ where
   tests/tracing/differing.txt says so, and in no other place; what has to hold holds over the copy; and where the
   original is known to fail it is run, too, so that what docs/FROM_TRACING.md says of it is seen;
-- some of these run under valgrind;
-- the tests of rust/tracing run over the library of crates/span_ffi, where that is built.
+- some of these run under valgrind.
+Over the library of crates/span_ffi, where that is built, the tests of rust/tracing run: of ProvedRegistry (the part
+outside), and of ProvedSubscriber with its example (the part under), these under valgrind too.
 
 Without cargo and patch, or without Debian's packages of the crates' sources, nothing is run, and that is said.
 """
@@ -18,7 +19,6 @@ Without cargo and patch, or without Debian's packages of the crates' sources, no
 import argparse
 import os
 import re
-import resource
 import shutil
 import subprocess
 import sys
@@ -26,27 +26,11 @@ import tempfile
 import time
 from pathlib import Path
 
+from tracing_yard import OURS, REGISTRY, VALGRIND, Count, Yard, missing, run
+
 TOP = Path(__file__).resolve().parent.parent
-OURS = TOP / "rust/tracing-subscriber"
 PARTS = TOP / "tests/tracing"
 CRATE = TOP / "crates/span_store_ffi"
-REGISTRY = Path("/usr/share/cargo/registry")
-# Debian's packages, and the folder that each brings.
-PACKAGES = {
-    "librust-tracing-dev": "tracing-0.1.37",
-    "librust-tracing-subscriber-dev": "tracing-subscriber-0.3.16",
-    "librust-tracing-futures-dev": "tracing-futures-0.2.5",
-    "librust-tokio-dev": "tokio-1.*",
-}
-CONFIG = f"""[source.crates-io]
-replace-with = "debian"
-
-[source.debian]
-directory = "{REGISTRY}"
-
-[net]
-offline = true
-"""
 # What has to end well over the copy: the program, its words, and how many seconds it may take.
 SOUND = [
     ("chain", ["1000000"], 120),
@@ -86,8 +70,6 @@ UNSOUND = [
 ]
 # How many programs at random are compared.
 PROGRAMS = 6000
-# How many times as long as its limit says a program may take: the machine may be slow, and others at work on it.
-PATIENCE = 4
 # What a program ends with where the machine lacks what it needs.
 LACKING = 77
 # What runs under valgrind, and whether that also looks for memory that is lost.
@@ -98,34 +80,13 @@ CHECKED = [
     ("last", [], True),
     ("stress", ["0", "5", "3", "400"], True),
 ]
-# The memory of the program that is to run out of it.
-LITTLE = {"memory": 256 << 20}
-VALGRIND = ["valgrind", "--quiet", "--error-exitcode=99", "--fair-sched=yes"]
 LOST = ["--leak-check=full", "--show-leak-kinds=definite", "--errors-for-leak-kinds=definite"]
-
-
-class Count:
-    """How many checks passed and failed."""
-
-    def __init__(self):
-        self.passed = 0
-        self.failed = 0
-
-    def check(self, is_right, what):
-        if is_right:
-            self.passed += 1
-        else:
-            self.failed += 1
-            print(f"failed: {what}")
-
-
-def missing():
-    """What isn't there of what is needed; none where all is."""
-    for command in ("cargo", "patch"):
-        if shutil.which(command) is None:
-            return f"the command {command} is not on the PATH"
-    lacks = [package for package, folder in PACKAGES.items() if not list(REGISTRY.glob(folder))]
-    return f"Debian's packages {', '.join(lacks)} aren't installed" if lacks else None
+# The tests of ProvedSubscriber, and what its example lists.
+UNDER = ["calls", "threads", "futures", "endings"]
+UNDER_LEAK = r"lost: nothing\nopen:\nGET__users \(\d+\) name=GET /users number=7, examples/leak.rs:\d+: 1 handle\n$"
+# The parts, by the library that they need.
+PARTS_OF_STORE = ["programs", "example", "suites"]
+PARTS_OF_REGISTRY = ["outside", "under"]
 
 
 def current_library():
@@ -139,33 +100,6 @@ def current_library():
     if done.returncode != 0:
         sys.stdout.write(done.stdout + done.stderr)
     return library if done.returncode == 0 else None
-
-
-class Yard:
-    """A folder in which crates are built: with the original, and with the copy that stands on the proved store."""
-
-    def __init__(self, folder, library, jobs):
-        self.folder = folder
-        self.library = library
-        self.jobs = jobs
-        (folder / ".cargo").mkdir(parents=True, exist_ok=True)
-        (folder / ".cargo/config.toml").write_text(CONFIG)
-
-    def lay(self, folder):
-        shutil.rmtree(folder, ignore_errors=True)
-        folder.parent.mkdir(parents=True, exist_ok=True)
-        source = REGISTRY / "tracing-subscriber-0.3.16"
-        subprocess.run([OURS / "lay", folder, "--from", source, "--library", self.library], check=True)
-
-    def cargo(self, command, folder, *words):
-        """Runs cargo, with one folder of what is built for all crates."""
-        line = ["cargo", command, "--offline", "-j", str(self.jobs), *words]
-        # One test at a time: tests with dispatchers of their own in one process may switch off each other's call sites,
-        # since tracing-core asks the thread's default alone for their interest while it knows of one dispatcher only.
-        environment = {**os.environ, "CARGO_TARGET_DIR": str(self.folder / "target"), "RUST_BACKTRACE": "0",
-                       "RUST_TEST_THREADS": "1"}
-        return subprocess.run(line, cwd=folder, env=environment, stdin=subprocess.DEVNULL, text=True,
-                              stdout=subprocess.PIPE, stderr=subprocess.STDOUT)
 
 
 def copy_crate(yard, name, folder):
@@ -261,23 +195,6 @@ def build_programs(yard, name, *words):
             shutil.copyfile(yard.folder / "target/release" / source.stem, bins / source.stem)
             (bins / source.stem).chmod(0o755)
     return bins
-
-
-def run(program, words=(), seconds=60, before=()):
-    """What a program says, and its status; none where it took too long."""
-    environment = {**os.environ, "RUST_BACKTRACE": "0"}
-    memory = LITTLE.get(program.name)
-
-    def limit():
-        if memory is not None:
-            resource.setrlimit(resource.RLIMIT_AS, (memory, memory))
-
-    try:
-        done = subprocess.run([*before, program, *words], capture_output=True, text=True,
-                              timeout=PATIENCE * seconds, env=environment, preexec_fn=limit)
-    except subprocess.TimeoutExpired:
-        return "it took too long", None
-    return done.stdout + ("" if done.returncode == 0 else done.stderr[-2000:]), done.returncode
 
 
 def differing():
@@ -414,25 +331,68 @@ def run_example(yard, count):
     count.check(done.returncode == 0 and listed == LEAK, f"the example of a leak: {done.stdout[-3000:]}")
 
 
-def run_outside(yard, library, count):
-    """The tests of the package rust/tracing, which stands beside the crate, over the library of crates/span_ffi."""
+def run_tests(yard, count, folder, *words):
+    """Runs tests by cargo, counts what they count, and gives what was said."""
+    done = yard.cargo("test", folder, "--no-fail-fast", *words)
+    found = re.findall(r"^test result: \w+\. (\d+) passed; (\d+) failed", done.stdout, re.MULTILINE)
+    passed, failed = (sum(int(pair[at]) for pair in found) for at in (0, 1))
+    print(f"rust/tracing, {' '.join(words)}: {passed} passed, {failed} failed")
+    count.passed += passed
+    count.failed += failed
+    if done.returncode != 0 or passed == 0:
+        count.check(False, f"the tests of rust/tracing run: {done.stdout[-5000:]}")
+    return done.stdout
+
+
+def run_outside(yard, folder, count):
+    """The tests of ProvedRegistry, which stands beside the crate."""
+    run_tests(yard, count, folder, "--test", "layers")
+
+
+def run_under(yard, folder, count):
+    """The tests of ProvedSubscriber and of what all of the package shares, and its example."""
+    said = run_tests(yard, count, folder, "--lib", *(word for name in UNDER for word in ("--test", name)))
+    run_tests(yard, count, folder, "--doc")
+    done = yard.cargo("run", folder, "--quiet", "--example", "leak")
+    is_listed = re.search(UNDER_LEAK, done.stdout) is not None
+    count.check(done.returncode == 0 and is_listed, f"the example of rust/tracing: {done.stdout[-3000:]}")
+    built = dict(re.findall(r"^ +Running tests/(\w+)\.rs \((.+)\)$", said, re.MULTILINE))
+    count.check(sorted(built) == sorted(UNDER), f"each file of tests was run: {said[-3000:]}")
+    if shutil.which("valgrind") is None:
+        print("not run under valgrind: it isn't there")
+        return
+    before = ["env", "SPAN_REGISTRY_UNDER_MEMCHECK=1", *VALGRIND, "--trace-children=yes"]
+    for name, program in built.items():
+        said, status = run(folder / program, ["--test-threads=1"], 120, before)
+        count.check(status == 0, f"valgrind, {name} of rust/tracing: status {status}\n{said[-3000:]}")
+
+
+def run_over_registry(yard, library, parts, count):
+    """The parts over the library of crates/span_ffi, in a copy of rust/."""
     if not library.is_file():
         print(f"not run: the tests of rust/tracing, since there is no {library}")
         return
     folder = yard.folder / "rust"
     shutil.copytree(TOP / "rust", folder, dirs_exist_ok=True, ignore=shutil.ignore_patterns("target", "Cargo.lock"))
     os.environ["SPAN_REGISTRY_LIB"] = str(library.resolve().parent)
-    done = yard.cargo("test", folder / "tracing", "--no-fail-fast")
-    found = re.findall(r"^test result: \w+\. (\d+) passed; (\d+) failed", done.stdout, re.MULTILINE)
-    passed, failed = (sum(int(pair[at]) for pair in found) for at in (0, 1))
-    print(f"rust/tracing: {passed} passed, {failed} failed")
-    count.passed += passed
-    count.failed += failed
-    if done.returncode != 0 or passed == 0:
-        count.check(False, f"the tests of rust/tracing run: {done.stdout[-5000:]}")
+    if "outside" in parts:
+        run_outside(yard, folder / "tracing", count)
+    if "under" in parts:
+        run_under(yard, folder / "tracing", count)
 
 
-def main():
+def run_over_store(yard, parts, seconds, seed, count):
+    """The parts over the store's library."""
+    if "programs" in parts:
+        run_programs(yard, count, seconds, seed)
+    if "example" in parts:
+        run_lay(yard, count)
+        run_example(yard, count)
+    if "suites" in parts:
+        run_suites(yard, count)
+
+
+def asked_for():
     parser = argparse.ArgumentParser(description=__doc__, formatter_class=argparse.RawDescriptionHelpFormatter)
     parser.add_argument("--library", type=Path, help="the static library libspan_store_ffi.a to test")
     parser.add_argument("--seconds", type=int, default=60, help="how long stress runs (60)")
@@ -441,29 +401,28 @@ def main():
     parser.add_argument("--folder", type=Path, help="where to build; it is kept then")
     parser.add_argument("--registry-library", type=Path, default=TOP / "crates/span_ffi/out/libspan_ffi.a",
                         help="libspan_ffi.a, on which rust/tracing stands")
-    parser.add_argument("--part", choices=["suites", "programs", "example", "outside"], help="this part alone")
-    asked = parser.parse_args()
-    count = Count()
+    parser.add_argument("--part", choices=[*PARTS_OF_STORE, *PARTS_OF_REGISTRY], help="this part alone")
+    return parser.parse_args()
+
+
+def main():
+    asked, count = asked_for(), Count()
     sys.stdout.reconfigure(line_buffering=True)
     lack = missing()
     if lack is not None:
         print(f"not run: {lack}\n0 passed, 0 failed")
         return 0
-    library = asked.library.resolve() if asked.library else current_library()
-    if library is None or not library.is_file():
-        print("there is no library\n0 passed, 1 failed")
-        return 1
+    parts, library = [asked.part] if asked.part else [*PARTS_OF_STORE, *PARTS_OF_REGISTRY], None
+    if set(parts) & set(PARTS_OF_STORE):
+        library = asked.library.resolve() if asked.library else current_library()
+        if library is None or not library.is_file():
+            print("there is no library\n0 passed, 1 failed")
+            return 1
     with tempfile.TemporaryDirectory() as made:
         yard = Yard((asked.folder or Path(made)).resolve(), library, asked.jobs)
-        if asked.part in (None, "programs"):
-            run_programs(yard, count, asked.seconds, asked.seed)
-        if asked.part in (None, "example"):
-            run_lay(yard, count)
-            run_example(yard, count)
-        if asked.part in (None, "outside"):
-            run_outside(yard, asked.registry_library, count)
-        if asked.part in (None, "suites"):
-            run_suites(yard, count)
+        run_over_store(yard, parts, asked.seconds, asked.seed, count)
+        if set(parts) & set(PARTS_OF_REGISTRY):
+            run_over_registry(yard, asked.registry_library, parts, count)
     print(f"{count.passed} passed, {count.failed} failed")
     return int(count.failed > 0)
 
