@@ -82,7 +82,7 @@ CHECKED = [
 ]
 LOST = ["--leak-check=full", "--show-leak-kinds=definite", "--errors-for-leak-kinds=definite"]
 # The tests of ProvedSubscriber, and what its example lists.
-UNDER = ["calls", "threads", "futures", "endings"]
+UNDER = ["against", "calls", "threads", "futures", "endings"]
 UNDER_LEAK = r"lost: nothing\nopen:\nGET__users \(\d+\) name=GET /users number=7, examples/leak.rs:\d+: 1 handle\n$"
 # The parts, by the library that they need.
 PARTS_OF_STORE = ["programs", "example", "suites"]
