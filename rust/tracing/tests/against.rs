@@ -1,10 +1,10 @@
-//! Programs at random: `ProvedSubscriber` tells after each call what the real registry tells a layer.
+//! Calls at random: after each `ProvedSubscriber` tells what the real registry tells a layer; and by several threads.
 mod common;
 use common::{alone, assert_clean, many, over};
-use span_registry::{Drain, Layer as Lines, Note, NoteKind};
+use span_registry::{Drain, Layer as Lines, Note, NoteKind, OnFull};
 use std::collections::HashMap;
-use std::mem;
 use std::sync::{Arc, Mutex};
+use std::{mem, thread};
 use tracing::dispatcher::with_default;
 use tracing::field::Empty;
 use tracing::span::{Attributes, EnteredSpan, Id, Record};
@@ -174,4 +174,63 @@ fn programs_at_random_are_told_as_by_the_real_registry() {
         assert_clean(&subscriber);
     }
     assert!(closed > many(500) * 20, "{closed} closed");
+}
+
+/// Calls of one of the threads, which share spans by the pool.
+fn share(seed: u64, calls: usize, pool: &Mutex<Vec<Span>>) {
+    let (mut dice, mut spans, mut entered) = (Dice(seed), Vec::new(), Vec::new());
+    for _ in 0..calls {
+        call(&mut dice, &mut spans, &mut entered);
+        let mut pool = pool.lock().expect("no panic");
+        if dice.below(4) == 0 {
+            pool.extend(dice.taken(&mut spans));
+            spans.extend(dice.taken(&mut pool));
+        }
+    }
+}
+
+/// Each span that is told of is new, and then closes once, with no child open; so do all of them.
+fn assert_each_closes_after_its_children(told: Vec<Told>) {
+    // Of each open span its parent and how many children are open.
+    let mut open: HashMap<usize, (usize, usize)> = HashMap::from([(0, (0, 0))]);
+    for (kind, id, parent) in told {
+        assert!(kind == NoteKind::New || open.contains_key(&id), "{kind:?} of {id}");
+        match kind {
+            NoteKind::New => {
+                open.get_mut(&parent).expect("the parent is open").1 += 1;
+                assert_eq!(open.insert(id, (parent, 0)), None);
+            }
+            NoteKind::Close => {
+                let (parent, children) = open.remove(&id).expect("it is open");
+                assert_eq!(children, 0, "{id}");
+                open.get_mut(&parent).expect("the parent is open").1 -= 1;
+            }
+            _ => {}
+        }
+    }
+    assert_eq!(open, HashMap::from([(0, (0, 0))]));
+}
+
+#[test]
+fn of_threads_at_random_each_span_closes_once_and_after_its_children() {
+    let _alone = alone();
+    let builder = ProvedSubscriber::builder().layer(Lines::tree()).on_full(OnFull::Wait).slots(1 << 16);
+    let (subscriber, dispatch, mut drain) = over(builder);
+    let (pool, mut numbers, mut told) = (Mutex::new(Vec::new()), Numbers::default(), Vec::new());
+    thread::scope(|scope| {
+        let shares = |seed| with_default(&dispatch, || share(seed, many(20_000), &pool));
+        let threads: Vec<_> = (1..=4).map(|seed| scope.spawn(move || shares(seed))).collect();
+        while threads.iter().any(|thread| !thread.is_finished()) {
+            told.extend(notes(&mut drain, &mut numbers));
+            thread::yield_now();
+        }
+    });
+    told.extend(notes(&mut drain, &mut numbers));
+    for span in mem::take(&mut *pool.lock().expect("no panic")) {
+        drop(span);
+        told.extend(notes(&mut drain, &mut numbers));
+    }
+    assert_each_closes_after_its_children(told);
+    assert!(numbers.1 > many(20_000), "{} spans", numbers.1);
+    assert_clean(&subscriber);
 }
