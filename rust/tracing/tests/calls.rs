@@ -4,6 +4,7 @@ use common::{alone, assert_clean, assert_closed, compact, over, texts};
 use span_registry::{Error, Kind, Layer, Level, NoteKind};
 use std::cell::Cell;
 use std::fmt;
+use std::panic::{catch_unwind, AssertUnwindSafe};
 use tracing::dispatcher::with_default;
 use tracing::field::Empty;
 use tracing::span::Id;
@@ -255,6 +256,33 @@ fn a_value_may_make_spans() {
     with_default(&dispatch, || drop(info_span!("outer", v = ?Speaking)));
     let lines = texts(&mut drain);
     assert!(lines.iter().any(|line| line.ends_with(" w0 outer v=spoke")), "{lines:?}");
+    assert_clean(&subscriber);
+}
+
+#[test]
+fn a_value_that_panics_leaves_nothing() {
+    struct Panics;
+    impl fmt::Debug for Panics {
+        fn fmt(&self, _: &mut fmt::Formatter<'_>) -> fmt::Result {
+            panic!("while a value is formatted")
+        }
+    }
+    let _alone = alone();
+    let (subscriber, dispatch, mut drain) = over(compact());
+    with_default(&dispatch, || {
+        let span = info_span!("s", later = Empty);
+        let calls: [&dyn Fn(); 3] =
+            [&|| drop(info_span!("never", v = ?Panics)), &|| info!(v = ?Panics, "never"), &|| {
+                span.record("later", tracing::field::debug(Panics));
+            }];
+        for call in calls {
+            let within = span.clone();
+            let panics = AssertUnwindSafe(|| within.in_scope(call));
+            assert!(catch_unwind(panics).is_err());
+        }
+    });
+    let lines = texts(&mut drain);
+    assert_eq!((lines.len(), lines.last().map(String::as_str)), (8, Some("close 1 w0 s")));
     assert_clean(&subscriber);
 }
 

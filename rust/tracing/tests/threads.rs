@@ -1,7 +1,7 @@
 //! Programs of many threads, many callsites, and writers that are slow or fail.
 mod common;
 use common::{alone, assert_clean, assert_closed, compact, many, over, texts};
-use span_registry::OnFull;
+use span_registry::{Error, OnFull};
 use std::io;
 use std::sync::atomic::{AtomicBool, Ordering};
 use std::sync::{Barrier, Condvar, Mutex, OnceLock};
@@ -13,6 +13,7 @@ use tracing::field::FieldSet;
 use tracing::metadata::Kind;
 use tracing::subscriber::Interest;
 use tracing::{info, info_span, Dispatch, Level, Metadata, Span};
+use tracing_span_registry::Lost;
 
 /// At most so many threads are behind it at once.
 struct Gate {
@@ -256,8 +257,8 @@ impl io::Write for Speaking {
     }
 }
 
-/// How many calls and lines were lost, and how the writer ended, of 4 threads over a small ring.
-fn written(on_full: OnFull, out: impl io::Write + Send + 'static) -> (u64, u64, io::Result<u64>) {
+/// What was lost, and how the writer ended, of 4 threads over a small ring.
+fn written(on_full: OnFull, out: impl io::Write + Send + 'static) -> (Lost, io::Result<u64>) {
     const THREADS: usize = 4;
     let spans = many(300) as u64;
     let (subscriber, guard) = compact().ring(8).on_full(on_full).spawn_writer(out).expect("it fits");
@@ -269,29 +270,29 @@ fn written(on_full: OnFull, out: impl io::Write + Send + 'static) -> (u64, u64, 
         }
     });
     let ended = guard.finish();
-    let lost = subscriber.lost();
-    if on_full != OnFull::Refuse {
-        assert_eq!(subscriber.registry().counts().made, spans * THREADS as u64);
-    }
     assert_closed(&subscriber);
-    (lost.calls(), lost.lines(), ended)
+    let (made, lost) = (subscriber.registry().counts().made, subscriber.lost());
+    assert!(made == spans * THREADS as u64 || on_full == OnFull::Refuse, "{made} made");
+    // Where an entry was refused, its exit and what else goes with it is no misuse.
+    assert_eq!(lost.calls(), lost.by(Error::Backlog), "{lost}");
+    (lost, ended)
 }
 
 #[test]
 fn a_writer_that_is_slow_or_fails_holds_nobody_up() {
     let _alone = alone();
     let all = 4 * 4 * many(300) as u64;
-    let (calls, lines, ended) = written(OnFull::Wait, Slow);
-    assert_eq!((calls, lines, ended.expect("it is only slow")), (0, 0, all));
-    let (calls, lines, ended) = written(OnFull::DropOldest, Slow);
-    assert!(calls == 0 && lines > 0, "{calls} calls, {lines} lines");
+    let (lost, ended) = written(OnFull::Wait, Slow);
+    assert_eq!((lost.to_string(), ended.expect("it is only slow")), ("nothing".to_owned(), all));
+    let (lost, ended) = written(OnFull::DropOldest, Slow);
+    assert!(lost.calls() == 0 && lost.lines() > 0, "{lost}");
     // The lines by which what was thrown away is told come on top.
-    assert!(ended.expect("it is only slow") + lines >= all);
-    let (calls, _, ended) = written(OnFull::Refuse, Slow);
-    assert!(calls > 0 && ended.is_ok(), "{calls} calls");
+    assert!(ended.expect("it is only slow") + lost.lines() >= all);
+    let (lost, ended) = written(OnFull::Refuse, Slow);
+    assert!(lost.calls() > 0 && ended.is_ok(), "{lost}");
     for on_full in [OnFull::Wait, OnFull::DropOldest] {
-        let (calls, _, ended) = written(on_full, Failing);
-        assert_eq!((calls, ended.expect_err("it fails").to_string()), (0, "full".to_owned()));
+        let (lost, ended) = written(on_full, Failing);
+        assert_eq!((lost.calls(), ended.expect_err("it fails").to_string()), (0, "full".to_owned()));
     }
 }
 
