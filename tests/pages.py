@@ -20,7 +20,7 @@ WORDS_OF_A_SENTENCE_IN_README = 30
 
 # Of each page the most words that it may have, and how many it is to come to.
 MOST = {
-    "README.md": (850, 900), "CHANGELOG.md": (200, 100), "bench/README.md": (300, 100),
+    "README.md": (900, 900), "CHANGELOG.md": (200, 100), "bench/README.md": (300, 100),
     "crates/hostile_use/README.md": (250, 250), "crates/span_benchmark/README.md": (150, 120),
     "crates/span_core/README.md": (500, 450), "crates/span_core_tests/README.md": (100, 70),
     "crates/span_ffi/README.md": (300, 290), "crates/span_forest/README.md": (200, 160),
@@ -38,10 +38,10 @@ MOST = {
     "crates/tracerun/README.md": (100, 100),
     "crates/tracerun_command_line/README.md": (100, 80), "crates/two_workers/README.md": (150, 110),
     "crates/workloads/README.md": (300, 270), "docs/BENCHMARKS.md": (3600, 3600), "docs/CONTRIBUTING.md": (1800, 1800),
-    "docs/DECISIONS.md": (3300, 3500), "docs/FORMATS.md": (2050, 2000), "docs/FROM_TRACING.md": (1300, 1300),
+    "docs/DECISIONS.md": (3300, 3500), "docs/FORMATS.md": (2300, 2000), "docs/FROM_TRACING.md": (1300, 1300),
     "docs/LAYERS.md": (1050, 1000),
     "docs/PROMISES.md": (1250, 1200), "docs/PROOFS.md": (2050, 2000), "docs/THEOREM.md": (550, 700),
-    "examples/README.md": (200, 100), "rust/README.md": (1700, 1200), "rust/tracing-subscriber/README.md": (600, 600),
+    "examples/README.md": (200, 100), "rust/README.md": (1950, 1200), "rust/tracing-subscriber/README.md": (600, 600),
     "rust/tracing/README.md": (600, 600), "tests/README.md": (300, 100),
 }
 # Pages whose words a script takes from elsewhere. (What docs/THEOREM.md says beside quotations is written for it.)
