@@ -90,7 +90,7 @@ impl Drain {
     pub fn line(&mut self) -> Option<Line> {
         let (layer, length) = self.next_text(|_| true)?;
         self.ready = None;
-        let text = String::from_utf8_lossy(&self.buffer[..length]).into_owned();
+        let text = text_of(&self.buffer[..length]);
         Some(Line { layer, text })
     }
 
@@ -191,16 +191,20 @@ impl Drain {
     // Where the ring is empty, what is owed can be done, and what was lost told, and both may give lines. It is asked
     // before each look for a line whether to go on: batches without one may come for ever.
     fn next_ready(&mut self, goes_on: impl Fn(&Shared) -> bool) -> Option<(usize, usize)> {
+        let has_notes = self.shared.ring().notes().is_some();
         while self.ready.is_none() && goes_on(&self.shared) {
             let room = self.buffer.len() - 1;
             let (next, batch) = {
                 let mut lines = self.shared.ring().lines();
-                (lines.next(&mut self.buffer[..room]), lines.counts().0)
+                let next = lines.next(&mut self.buffer[..room]);
+                (next, if has_notes { lines.counts().0 } else { 0 })
             };
             match next {
                 Next::Line { layer, length } => {
                     self.ready = Some((layer as usize, length));
-                    self.note = self.noted(layer as usize, length, batch);
+                    if has_notes {
+                        self.note = self.noted(layer as usize, length, batch);
+                    }
                 }
                 Next::Long { length } => self.buffer.resize(length + 1, 0),
                 Next::None if !self.settles() => return None,
@@ -233,13 +237,20 @@ impl Drain {
     // As `next_ready`, with its text in the buffer.
     fn next_text(&mut self, goes_on: impl Fn(&Shared) -> bool) -> Option<(usize, usize)> {
         let (layer, _) = self.next_ready(goes_on)?;
+        if self.note.is_some() {
+            self.put_note(layer);
+        }
+        self.ready
+    }
+
+    #[cold]
+    fn put_note(&mut self, layer: usize) {
         if let Some(note) = self.note.take() {
             let text = note.to_string();
             self.buffer.resize(self.buffer.len().max(text.len() + 1), 0);
             self.buffer[..text.len()].copy_from_slice(text.as_bytes());
             self.ready = Some((layer, text.len()));
         }
-        self.ready
     }
 
     // Whether something was owed or lost, and some of it was done or told now.
@@ -335,6 +346,14 @@ impl Drain {
             wait(idle);
             idle = idle.saturating_add(1);
         }
+    }
+}
+
+// Lines are UTF-8, and to look whether they are is quicker than to make them so.
+fn text_of(line: &[u8]) -> String {
+    match std::str::from_utf8(line) {
+        Ok(text) => text.to_owned(),
+        Err(_) => String::from_utf8_lossy(line).into_owned(),
     }
 }
 
