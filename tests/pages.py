@@ -4,10 +4,10 @@
 usage: pages.py [--words]
 
 A page may have as many words as MOST says, blocks of code aside; one that a script makes from what stands elsewhere
-(MADE) as many as come out. A link names a file, and where it goes on with '#' a
-heading of it. No sentence of more than eight words stands in two pages, and none of README.md has more than thirty.
-Code and quoted lines are not looked at. With --words it prints what each page has, may have and is to come to. The
-last line is 'N passed, M failed'.
+(MADE) as many as come out. A link names a file, and where it goes on with '#' a heading of it. No sentence of more than
+eight words stands in two pages, and none of README.md has more than thirty. Code and quoted lines are not looked at.
+CHANGELOG.md and the packages in Rust have the version of the command line. With --words it prints what each page has,
+may have and is to come to. The last line is 'N passed, M failed'.
 """
 import re
 import sys
@@ -116,6 +116,17 @@ def long_sentences(pages):
         yield is_short, f"README.md has a sentence of over {WORDS_OF_A_SENTENCE_IN_README} words: {sentence}"
 
 
+def versions(pages):
+    """The version of the command line is that of the packages in Rust, and the newest in CHANGELOG.md."""
+    of = TOP.joinpath("crates/tracerun_command_line/src/lib.rt").read_text(encoding="utf-8")
+    version = re.search(r'\.version\("(.*)"\)', of)[1]
+    newest = re.search(r"^## (\S+)", pages["CHANGELOG.md"], flags=re.M)[1]
+    yield newest == version, f"CHANGELOG.md begins with {newest}, and the version is {version}"
+    for name in ("rust/Cargo.toml", "rust/tracing/Cargo.toml"):
+        text = TOP.joinpath(name).read_text(encoding="utf-8")
+        yield f'\nversion = "{version}"\n' in text, f"{name}: its version isn't {version}"
+
+
 def show_words(pages):
     rows = {name: (words_of(pages.get(name, "")), *most) for name, most in MOST.items()}
     rows["in all"] = tuple(map(sum, zip(*rows.values())))
@@ -130,7 +141,7 @@ def main():
     if sys.argv[1:] not in ([], ["--words"]):
         sys.exit(__doc__)
     pages, passed, failed = read_pages(), 0, 0
-    for is_good, said in (it for look in (lengths, links, repeated, long_sentences) for it in look(pages)):
+    for is_good, said in (it for look in (lengths, links, repeated, long_sentences, versions) for it in look(pages)):
         passed, failed = passed + is_good, failed + (not is_good)
         if not is_good:
             print(f"FAILED {said}")

@@ -44,7 +44,7 @@ const AFTER_WHY_HELP: &str =
 /// The program's command line.
 fn command<'a>(alloc: Global) -> Result<Command<'a>, AllocError> {
     Command::new(alloc, "tracerun")
-        .version("0.1.0")
+        .version("0.2.0")
         .about(ABOUT)
         .after_help(AFTER_HELP)
         .subcommand_required(true)
