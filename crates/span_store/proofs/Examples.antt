@@ -1,9 +1,11 @@
 -- Worked cases, computed from the definitions alone.
-use Rattle.std.proofs.Common.{◌≡◌, ℕ, [], ◌∷◌, Some, None, refl}
+use Rattle.std.proofs.Common.{◌≡◌, ℕ, Bool, true, false, [], ◌∷◌, Some, None, refl}
 use Rattle.span_id.specs.declared.fault.Fault.TheVariants.{Unknown, CountFull, Full}
 use Rattle.span_slots.specs.Table.{next_id}
+use Rattle.span_store.specs.declared.details.SpanDetails.{SpanDetails}
 use Rattle.span_store.specs.Node.{Node}
 use Rattle.span_store.specs.Store.{StoreView}
+use Rattle.span_store.specs.Details.{all_details}
 use Rattle.span_store.specs.Calls.{Add, Keep, Release, Ended, refusal, after, told, after_all, times_told}
 
 -- two slots, each with two ids, and two holders at most
@@ -84,3 +86,25 @@ nothing_is_left = refl
 
 told_once_each : times_told 1 two (Release 1 ∷ Release 2 ∷ Ended 2 ∷ Ended 1 ∷ []) ≡ 1
 told_once_each = refl
+
+-- what is told of the spans: a root that its handle and its child hold
+abbrev told_root : ℕ → ℕ → Bool → SpanDetails
+told_root handles children closing =
+    record { id = 1; parent = None; word = 11; handles = handles; children = children; closing = closing }
+
+abbrev told_child : ℕ → Bool → SpanDetails
+told_child handles closing =
+    record { id = 2; parent = Some 1; word = 22; handles = handles; children = 0; closing = closing }
+
+nothing_is_told : all_details empty.table.entries ≡ []
+nothing_is_told = refl
+
+both_are_told : all_details two.table.entries ≡ told_root 1 1 false ∷ told_child 1 false ∷ []
+both_are_told = refl
+
+-- the child is closing: it still holds the root
+closing_is_told : all_details released.table.entries ≡ told_root 0 1 false ∷ told_child 0 true ∷ []
+closing_is_told = refl
+
+ended_is_not_told : all_details root_alone.table.entries ≡ told_root 0 0 true ∷ []
+ended_is_not_told = refl

@@ -17,4 +17,6 @@ pub mod Gone
 pub mod Numbers
 pub mod Made
 pub mod Walks
+pub mod Places
+pub mod Told
 mod Examples

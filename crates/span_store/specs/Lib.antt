@@ -2,4 +2,5 @@ pub mod Node
 pub mod Spans
 pub mod Store
 pub mod Calls
+pub mod Details
 pub mod inside

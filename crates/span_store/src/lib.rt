@@ -6,6 +6,7 @@
 #![tactic(auto)]
 
 mod adding;
+mod details;
 mod entry;
 mod reading;
 mod store;
@@ -13,5 +14,6 @@ mod store;
 mod tests;
 mod writing;
 
+pub use details::SpanDetails;
 pub use entry::Entry;
 pub use store::{Store, laws};

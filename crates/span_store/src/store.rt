@@ -3,11 +3,13 @@ ghost use Rattle.span_id.specs.Id.{IsId};
 ghost use Rattle.span_slots.specs.Table.{value_at, id_from, next_id, IsIssued};
 ghost use Rattle.span_store.specs.Node.{node_of};
 ghost use Rattle.span_store.specs.Spans.{IsClosing, children, total_handles};
+ghost use Rattle.span_store.specs.Details.{all_details};
 ghost use Rattle.span_store.specs.Calls.{Add, Keep, Release, Ended, refusal, after, told};
 
 pub mod laws;
 
 use crate::adding::place;
+use crate::details::{SpanDetails, all_details};
 use crate::entry::Entry;
 use crate::reading::{checked_parent, is_closing, is_held, may_be_held};
 use crate::writing::{add_child, add_handle, drop_child, drop_handle};
@@ -18,7 +20,8 @@ use std::marker::Model;
 
 /// Spans under their ids, with what holds them.
 ///
-/// No call but `new` takes memory, and each other call costs the same however many spans are there, but for `id_from`.
+/// No call but `new` and `span_details` takes memory, and each other call costs the same however many spans are there,
+/// but for `id_from`.
 /// What a store promises beside its calls' contracts is said by the functions of [`laws`].
 #[derive(Debug, Drop)]
 pub struct Store {
@@ -83,6 +86,17 @@ impl Store {
         ensures { result ≡ id_from self.now.table.entries slot }
     {
         self.slots.id_from(slot)
+    }
+
+    /// All spans that are there by ascending slot, each with its parent, its word, what holds it, and whether it is
+    /// closing. Who finds spans that were to be gone learns here which they are, and what keeps each.
+    ///
+    /// It looks at each slot that was ever used, and changes nothing. The only error is `Memory`.
+    pub fn span_details(&self) -> Result<Vec<SpanDetails>, Fault>
+        ensures list { IfOk result (λ list. list.items ≡ all_details self.now.table.entries) }
+        ensures memory { IfErr result (λ fault. fault ≡ Fault.Memory) }
+    {
+        all_details(&self.slots)
     }
 
     /// How many spans are there, the closing ones among them.

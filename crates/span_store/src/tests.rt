@@ -1,4 +1,4 @@
-use crate::Store;
+use crate::{SpanDetails, Store};
 use span_id::{Bits, Fault, Id, Limits};
 use std::alloc::Global;
 use std::test::Fail;
@@ -108,5 +108,61 @@ fn a_walk_meets_open_and_closing_spans_by_their_slots(rt: HostRuntime) -> Result
     assert_eq!(rt; again, Id::pack(0, 1));
     assert_eq!(rt; spans.id_from(1), Some(second));
     assert_eq!(rt; spans.id_from(u32::MAX), None);
+    Ok(())
+}
+
+// What is told of a root of slot 0, made with word 11, and of its child, made with word 22.
+fn of_root(handles: u32, children: u32, closing: bool) -> SpanDetails {
+    SpanDetails {
+        id: Id::pack(0, 0),
+        parent: None,
+        word: 11,
+        handles,
+        children,
+        closing,
+    }
+}
+
+fn of_child(handles: u32, closing: bool) -> SpanDetails {
+    SpanDetails {
+        id: Id::pack(1, 0),
+        parent: Some(Id::pack(0, 0)),
+        word: 22,
+        handles,
+        children: 0,
+        closing,
+    }
+}
+
+#[test]
+fn it_tells_what_holds_each_span(rt: HostRuntime) -> Result<(), Fail> {
+    let mut spans = store(rt.alloc(), 4, 9)?;
+    assert!(rt; spans.span_details()?.is_empty());
+    let root = spans.add(None, Bits(0), 11)?;
+    let child = spans.add(Some(root), Bits(0), 22)?;
+    assert_eq!(rt; spans.keep(child), Ok(()));
+    let told = spans.span_details()?;
+    assert_eq!(rt;
+        told.as_slice(),
+        [of_root(1, 1, false), of_child(2, false)].as_slice()
+    );
+    Ok(())
+}
+
+#[test]
+fn it_tells_which_spans_are_closing(rt: HostRuntime) -> Result<(), Fail> {
+    let mut spans = store(rt.alloc(), 4, 9)?;
+    let root = spans.add(None, Bits(0), 11)?;
+    let child = spans.add(Some(root), Bits(0), 22)?;
+    assert_eq!(rt; spans.release(root), Ok(false));
+    assert_eq!(rt; spans.release(child), Ok(true));
+    let told = spans.span_details()?;
+    assert_eq!(rt;
+        told.as_slice(),
+        [of_root(0, 1, false), of_child(0, true)].as_slice()
+    );
+    assert_eq!(rt; spans.ended(child), Ok(Some(root)));
+    let told = spans.span_details()?;
+    assert_eq!(rt; told.as_slice(), [of_root(0, 0, true)].as_slice());
     Ok(())
 }

@@ -2,12 +2,14 @@
 //!
 //! `Add`, `Keep`, `Release` and `Ended` stand for the calls; `after` is the store after one of them, `after_all` after
 //! any number, and `told` the span that a call tells to be closing now.
-ghost use Rattle.std.specs.Prelude.{◌≡◌, ◌≢◌, ℕ, ◌+◌, ◌<◌, ◌≤◌, ◌↔◌, List, [], ◌∷◌, map, Option, Some, None, length};
+ghost use Rattle.std.specs.Prelude.{◌≡◌, ◌≢◌, ℕ, ◌+◌, ◌<◌, ◌≤◌, ◌↔◌, List, [], ◌∷◌, map, Option, Some, None, length, IsTrue, All, AllPairs, Contains};
+ghost use Rattle.std.specs.List.Sorted.{IsStrictlyIncreasing};
 ghost use Rattle.span_id.specs.Id.{IsId, slot_of};
 ghost use Rattle.span_id.specs.declared.fault.Fault.TheVariants.{Unknown};
 ghost use Rattle.span_slots.specs.Table.{value_at, id_from, ids_from, next_id, IsIssued};
 ghost use Rattle.span_store.specs.Node.{Node, new_node};
 ghost use Rattle.span_store.specs.Spans.{IsThere, IsOpen, IsClosing, parent_of, count, total_handles};
+ghost use Rattle.span_store.specs.Details.{all_details};
 ghost use Rattle.span_store.specs.Calls.{Call, Add, Keep, Release, Ended, refusal, after, told, after_all, NeverEnds, times_told, times_accepted, is_add, is_keep, is_release, is_ended, handles_then, spans_then};
 
 use super::Store;
@@ -128,6 +130,19 @@ pub fn a_walk_meets_each_span_once(store: &Store)
         ids_from store.now.table.entries slot ≡ [] }
 {
     a_walk_meets_each_id_once(&store.slots);
+}
+
+/// `span_details` tells of each span that is there once, by ascending slot, and of no other; and exactly those are closing
+/// that nothing holds.
+pub fn spans_are_told_once(store: &Store)
+    ensures exact { (id : ℕ) →
+        Contains (map (λ told. told.id) (all_details store.now.table.entries)) id ↔ IsThere store.now.table.entries id }
+    ensures once { AllPairs (λ first later. first.id ≢ later.id) (all_details store.now.table.entries) }
+    ensures ascending { IsStrictlyIncreasing (map (λ told. slot_of told.id) (all_details store.now.table.entries)) }
+    ensures closing { All (λ told. IsTrue told.closing ↔ ((told.handles ≡ 0) × (told.children ≡ 0)))
+        (all_details store.now.table.entries) }
+{
+    each_slot_has_one_id(&store.slots);
 }
 
 /// What a span was made with stays: as long as it is there, its parent, its bits and its word are those of its start,
