@@ -12,7 +12,7 @@ import tempfile
 from itertools import product
 from pathlib import Path
 
-from c_interface import RUNS, TOP, WRAPS, built, counted
+from c_interface import CHECKED, TOP, WRAPS, built, counted
 
 CRATE = TOP / "crates/span_store_ffi"
 # The crates that the library is made of.
@@ -49,7 +49,7 @@ def main():
     ]
     passed = failed = 0
     with tempfile.TemporaryDirectory() as folder:
-        for (program_name, wraps, arguments), (run_name, flags, runner) in product(programs, RUNS):
+        for (program_name, wraps, arguments), (run_name, flags, runner) in product(programs, CHECKED):
             name = f"{program_name} {run_name}"
             source = TOP / f"tests/c/{program_name}.c"
             program = built(library, source, Path(folder) / name.replace(" ", "_"), [*flags, *wraps])
