@@ -132,8 +132,8 @@ pub fn a_walk_meets_each_span_once(store: &Store)
     a_walk_meets_each_id_once(&store.slots);
 }
 
-/// `span_details` tells of each span that is there once, by ascending slot, and of no other; and exactly those are closing
-/// that nothing holds.
+/// `span_details` tells of each span that is there once, by ascending slot, and of no other; and exactly those are
+/// closing that nothing holds.
 pub fn spans_are_told_once(store: &Store)
     ensures exact { (id : ℕ) →
         Contains (map (λ told. told.id) (all_details store.now.table.entries)) id ↔ IsThere store.now.table.entries id }
