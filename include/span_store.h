@@ -9,13 +9,15 @@
  * threads do; and nothing is there where nothing is held and no end is owed.
  *
  * Every call answers a status, and SPAN_STORE_OK alone means that it was done. Any other status left the store and
- * every output as they were. What a pointer points to has to be there: no pointer may be NULL, and no output may
- * overlap another output or a handle. Between calls on one store in two threads stands a lock, a start or join, or the
- * like: calls that only ask are no exception. No call may come from a signal handler. The library takes its memory by
- * malloc and gives it back by free, both in span_store_new and span_store_free alone: no other call takes any. */
+ * every output as they were, but for what is said of it here. What a pointer points to has to be there: no pointer may
+ * be NULL, and no output may overlap another output or a handle. Between calls on one store in two threads stands a
+ * lock, a start or join, or the like: calls that only ask are no exception. No call may come from a signal handler. The
+ * library takes its memory by malloc in span_store_new, and gives it back by free in span_store_free.
+ * span_store_details takes some, which it has given back when it ends; no other call takes any. */
 #ifndef SPAN_STORE_H
 #define SPAN_STORE_H
 
+#include <stddef.h>
 #include <stdint.h>
 
 #ifdef __cplusplus
@@ -35,7 +37,8 @@ enum {
     SPAN_STORE_BAD_LIMITS = 8,    /* a limit is outside its range */
     SPAN_STORE_OUT_OF_MEMORY = 10,
     SPAN_STORE_EMPTY_HANDLE = 12,
-    SPAN_STORE_HANDLE_IN_USE = 13 /* a handle that was to be filled isn't empty */
+    SPAN_STORE_HANDLE_IN_USE = 13, /* a handle that was to be filled isn't empty */
+    SPAN_STORE_SHORT_BUFFER = 16  /* the list is longer than the buffer: how long it is was told */
 };
 
 /* An id is a number from 1 to 2^56, and no two spans of a store ever have the same. parent 0: a root; bits and word:
@@ -45,6 +48,13 @@ typedef struct SpanStoreFound {
     uint32_t handles, children;
 } SpanStoreFound;
 
+/* What is told of a span that is there. children: how many spans that are there have it for their parent; closing: 1
+ * where nothing holds it any longer, and its end wasn't told yet, else 0. */
+typedef struct SpanStoreDetails {
+    uint64_t id, parent, word;
+    uint32_t handles, children, closing;
+} SpanStoreDetails;
+
 /* handles: those of all spans; spans: how many are there, the closing ones among them */
 typedef struct SpanStoreCounts {
     uint64_t handles;
@@ -53,7 +63,7 @@ typedef struct SpanStoreCounts {
 
 /* The version of this interface that the program was built for, and the one that the library has. They rise where a
  * program that was built for an earlier one would go wrong. */
-#define SPAN_STORE_ABI_VERSION 1
+#define SPAN_STORE_ABI_VERSION 2
 uint32_t span_store_abi_version(void);
 
 /* Fills an empty handle with a store that has no span. slots, 1 to 2^24: how many spans may be there at once; all are
@@ -96,6 +106,12 @@ uint32_t span_store_find(SpanStore *store, uint64_t id, SpanStoreFound *found);
  * longer, and each span that is there throughout comes once. A whole walk looks once at each slot that was ever used.
  * SPAN_STORE_UNKNOWN where the number is neither 0 nor an id. */
 uint32_t span_store_next(SpanStore *store, uint64_t id, uint64_t *next);
+
+/* All spans that are there, closing or not, and what holds each, by ascending slot, written to the beginning of a
+ * buffer that has room for into_len of them, and that is there also where that is 0. len: how many they are, also where
+ * they are more than that; then nothing is written (SPAN_STORE_SHORT_BUFFER). It looks once at each slot that was ever
+ * used. SPAN_STORE_OUT_OF_MEMORY where there is none. */
+uint32_t span_store_details(SpanStore *store, SpanStoreDetails *into, size_t into_len, size_t *len);
 
 uint32_t span_store_counts(SpanStore *store, SpanStoreCounts *counts);
 

@@ -148,6 +148,8 @@ static void test_limits(void) {
 static void test_handles(void) {
     SpanStoreFound found = {1, 2, 3, 4, 5};
     SpanStoreCounts counts = {6, 7};
+    SpanStoreDetails details = {.id = 96};
+    size_t len = 97;
     uint64_t id = 99;
     uint32_t closing = 98;
     CHECK(span_store_free(&store) == SPAN_STORE_EMPTY_HANDLE);
@@ -159,6 +161,7 @@ static void test_handles(void) {
     CHECK(span_store_find(&store, 1, &found) == SPAN_STORE_EMPTY_HANDLE);
     CHECK(span_store_next(&store, 0, &id) == SPAN_STORE_EMPTY_HANDLE);
     CHECK(span_store_counts(&store, &counts) == SPAN_STORE_EMPTY_HANDLE);
+    CHECK(span_store_details(&store, &details, 1, &len) == SPAN_STORE_EMPTY_HANDLE && len == 97 && details.id == 96);
     CHECK(id == 99 && closing == 98 && store.at == NULL);
     CHECK(found.parent == 1 && found.bits == 2 && found.word == 3 && found.handles == 4 && found.children == 5);
     CHECK(counts.handles == 6 && counts.spans == 7);
@@ -193,6 +196,54 @@ static void test_walk(void) {
     close_store();
 }
 
+static int is_told(const SpanStoreDetails *told, SpanStoreDetails wanted) {
+    return told->id == wanted.id && told->parent == wanted.parent && told->word == wanted.word
+        && told->handles == wanted.handles && told->children == wanted.children && told->closing == wanted.closing;
+}
+
+/* which spans are there, and what holds each */
+static void test_details(void) {
+    SpanStoreDetails into[4] = {{.id = 91}, {.id = 92}, {.id = 93}, {.id = 94}};
+    size_t len = 99;
+    open_store(8, 9, 9);
+    CHECK(span_store_details(&store, into, 4, &len) == SPAN_STORE_OK && len == 0 && into[0].id == 91);
+    uint64_t gone = made(0, 0, 0), root = made(0, 5, 77), child = made(root, 6, UINT64_MAX), leaf = made(child, 7, 99);
+    CHECK(span_store_keep(&store, root) == SPAN_STORE_OK && released(gone) == 1 && ended(gone) == 0);
+    CHECK(released(child) == 0 && released(leaf) == 1);
+    CHECK(span_store_details(&store, into, 2, &len) == SPAN_STORE_SHORT_BUFFER && len == 3 && into[0].id == 91);
+    CHECK(span_store_details(&store, into, 0, &len) == SPAN_STORE_SHORT_BUFFER && len == 3);
+    CHECK(span_store_details(&store, into, 4, &len) == SPAN_STORE_OK && len == 3);
+    CHECK(is_told(&into[0], (SpanStoreDetails){root, 0, 77, 2, 1, 0}));
+    /* no handle is left, but a child that is closing: it holds its parent until it ended */
+    CHECK(is_told(&into[1], (SpanStoreDetails){child, root, UINT64_MAX, 0, 1, 0}));
+    CHECK(is_told(&into[2], (SpanStoreDetails){leaf, child, 99, 0, 0, 1}));
+    CHECK(into[3].id == 94);
+    CHECK(ended(leaf) == child);
+    CHECK(span_store_details(&store, into, 2, &len) == SPAN_STORE_OK && len == 2);
+    CHECK(is_told(&into[1], (SpanStoreDetails){child, root, UINT64_MAX, 0, 0, 1}) && into[2].id == leaf);
+    CHECK(has_counts(2, 2));
+    close_store();
+}
+
+/* each allocation of the list is refused in turn: then nothing is written */
+static void test_details_without_memory(void) {
+    SpanStoreDetails into[2] = {{.id = 91}, {.id = 92}};
+    size_t len = 99;
+    uint32_t status = SPAN_STORE_OUT_OF_MEMORY;
+    open_store(4, 9, 9);
+    uint64_t root = made(0, 0, 1), child = made(root, 0, 2);
+    for (long allowed = 0; status == SPAN_STORE_OUT_OF_MEMORY && allowed < 9; allowed++) {
+        CHECK(len == 99 && into[0].id == 91 && into[1].id == 92);
+        allocations_left = allowed;
+        status = span_store_details(&store, into, 2, &len);
+        allocations_left = -1;
+    }
+    CHECK(status == SPAN_STORE_OK && len == 2);
+    CHECK(is_told(&into[0], (SpanStoreDetails){root, 0, 1, 1, 1, 0}));
+    CHECK(is_told(&into[1], (SpanStoreDetails){child, root, 2, 1, 0, 0}));
+    close_store();
+}
+
 /* words that own memory, and a store that is let go with spans there: the sanitizer and valgrind see a leak */
 static void test_words_are_given_back(void) {
     SpanStoreFound found;
@@ -213,7 +264,7 @@ static void test_words_are_given_back(void) {
     close_store();
 }
 
-/* memory is asked for in span_store_new alone */
+/* memory is asked for in span_store_new and for span_store_details alone */
 static void test_refused_memory(void) {
     uint32_t status;
     long allowed = 0;
@@ -340,6 +391,8 @@ int main(void) {
     test_limits();
     test_handles();
     test_walk();
+    test_details();
+    test_details_without_memory();
     test_words_are_given_back();
     test_refused_memory();
     test_threads();

@@ -177,6 +177,20 @@ static void compare_walk(uint32_t spans) {
     check(met == spans, "a walk meets all");
 }
 
+static void compare_details(uint32_t spans) {
+    SpanStoreDetails into[MOST_SLOTS];
+    size_t len = 99;
+    check(span_store_details(&store, into, MOST_SLOTS, &len) == SPAN_STORE_OK && len == spans, "details of all");
+    for (size_t at = 0; at < len && at < MOST_SLOTS; at++) {
+        const SpanStoreDetails *told = &into[at];
+        const Span *span = span_of(told->id);
+        check(span != NULL && told->parent == span->parent && told->word == span->word
+            && told->handles == span->handles && told->children == children(told->id)
+            && told->closing == (holders(span) == 0), "details");
+        check(at == 0 || (into[at - 1].id - 1) % 16777216 < (told->id - 1) % 16777216, "details by slots");
+    }
+}
+
 static void compare(void) {
     SpanStoreCounts counts = {99, 99};
     uint64_t handles = 0;
@@ -191,6 +205,7 @@ static void compare(void) {
     check(span_store_counts(&store, &counts) == SPAN_STORE_OK && counts.handles == handles && counts.spans == spans,
         "counts");
     compare_walk(spans);
+    compare_details(spans);
 }
 
 /* mostly the id of a span that is there, else one that was given once or is near one, or any number */

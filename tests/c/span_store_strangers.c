@@ -84,6 +84,14 @@ static int nothing_changed(void) {
         && counts.handles == 1 && counts.spans == 2;
 }
 
+/* the list has the two that are there, and no other */
+static int only_these_are_told(void) {
+    SpanStoreDetails into[5];
+    size_t len = 0;
+    return span_store_details(&store, into, 5, &len) == SPAN_STORE_OK && len == 2 && into[0].id == OPEN
+        && into[0].closing == 0 && into[1].id == CLOSING && into[1].closing == 1;
+}
+
 static void refuses(uint64_t id) {
     SpanStoreFound found = {1, 2, 3, 4, 5};
     uint64_t told = 99;
@@ -102,7 +110,7 @@ int main(void) {
     check(opens_with_a_past() && nothing_changed(), "the store", OPEN);
     for (size_t row = 0; row < sizeof strangers / sizeof strangers[0]; row++) {
         refuses(strangers[row].id);
-        check(nothing_changed(), strangers[row].kind, strangers[row].id);
+        check(nothing_changed() && only_these_are_told(), strangers[row].kind, strangers[row].id);
     }
     check(passes(GENERATION + 3), "the next span", GENERATION + 3);
     check(span_store_free(&store) == SPAN_STORE_OK, "it is freed", OPEN);

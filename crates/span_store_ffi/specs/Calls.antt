@@ -18,7 +18,7 @@ use Rattle.span_store_ffi.specs.Ends.{IfDone, flag}
 
 -- the version of the interface
 abbrev pub abi_version : ℕ
-abi_version = 1
+abi_version = 2
 
 -- A call was accepted, and the store is as it is after it; or it was refused with this fault, and nothing changed.
 abbrev pub Makes : Call → StoreView → Status → StoreView → Type 0

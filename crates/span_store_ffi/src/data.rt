@@ -18,3 +18,16 @@ pub struct SpanStoreCounts {
     pub handles: u64,
     pub spans: u32,
 }
+
+/// A span that is there, and what holds it. The parent is 0 for a root; closing is 1 where nothing holds it any longer,
+/// else 0.
+#[repr(C)]
+#[derive(Clone, Copy)]
+pub struct SpanStoreDetails {
+    pub id: u64,
+    pub parent: u64,
+    pub word: u64,
+    pub handles: u32,
+    pub children: u32,
+    pub closing: u32,
+}

@@ -6,6 +6,8 @@ ghost use Rattle.span_store_ffi.specs.Status.{meaning};
 ghost use Rattle.span_store_ffi.specs.Ends.{Ends, Keeps};
 ghost use Rattle.span_store_ffi.specs.Calls.{Adds, KeepsSpan, Releases, EndsSpan, Finds, TellsNext, Counts, Opens, said_parent, id_number, limits_of, empty_store, WhyNotOpened, abi_version};
 
+mod details;
+
 use crate::data::{SpanStoreCounts, SpanStoreFound};
 use crate::handle::SpanStore;
 use crate::held::Held;
@@ -25,7 +27,7 @@ fn id_of(store: &Store, number: u64) -> Option<Id>
 }
 
 // An id as a number, 0 where there is none.
-fn id_number(id: Option<Id>) -> u64
+pub(crate) fn id_number(id: Option<Id>) -> u64
     ensures { result ≡ id_number id }
 {
     match id {
@@ -56,7 +58,7 @@ fn open(alloc: Global, slots: u32, last_generation: u32, max_count: u32) -> Resu
 pub extern "C" fn span_store_abi_version() -> u32
     ensures { result ≡ abi_version }
 {
-    1
+    2
 }
 
 /// Fills an empty handle with a new store.

@@ -8,6 +8,6 @@ mod held;
 mod parts;
 mod status;
 
-pub use data::{SpanStoreCounts, SpanStoreFound};
+pub use data::{SpanStoreCounts, SpanStoreDetails, SpanStoreFound};
 pub use handle::SpanStore;
 pub use status::Status;

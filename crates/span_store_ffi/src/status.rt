@@ -15,10 +15,12 @@ pub enum Status {
     EmptyHandle,
     /// Something lies in a handle that was to be filled.
     HandleInUse,
+    /// What was to be told is more than the buffer has room for.
+    ShortBuffer,
 }
 
 impl Status {
-    /// The number for C: 0 where the call was done, the fault's where it was refused, and 12 or 13 for the others.
+    /// The number for C: 0 where the call was done, the fault's where it was refused, and 12, 13 or 16 for the others.
     pub fn number(self) -> u32
         ensures value { result ≡ status_number self }
         ensures meaning { meaning result ≡ Some self }
@@ -28,6 +30,7 @@ impl Status {
             Status::Refused(fault) => u32::from(fault.number()),
             Status::EmptyHandle => 12,
             Status::HandleInUse => 13,
+            Status::ShortBuffer => 16,
         }
     }
 }

@@ -13,7 +13,7 @@ use std::{
 };
 
 /// The version of include/span_store.h that the calls here are of.
-const ABI_VERSION: u32 = 1;
+const ABI_VERSION: u32 = 2;
 
 /// `SpanStore` of include/span_store.h.
 #[repr(C)]
