@@ -18,7 +18,8 @@ PAGES = ("*.md", "docs/*.md", "crates/*/*.md", "rust/*.md", "rust/*/*.md", "benc
 WORDS_OF_A_SENTENCE = 8
 WORDS_OF_A_SENTENCE_IN_README = 30
 
-# Of each page the most words that it may have, and how many it is to come to.
+# Of each page the most words that it may have, and how many it is to come to. (Of docs/BENCHMARKS.md 1,500 beside the
+# tables that scripts write.)
 MOST = {
     "README.md": (900, 900), "CHANGELOG.md": (250, 100), "bench/README.md": (300, 100),
     "crates/hostile_use/README.md": (250, 250), "crates/span_benchmark/README.md": (150, 120),
@@ -37,7 +38,7 @@ MOST = {
     "crates/span_storm/README.md": (300, 240), "crates/span_why/README.md": (100, 100),
     "crates/tracerun/README.md": (100, 100),
     "crates/tracerun_command_line/README.md": (100, 80), "crates/two_workers/README.md": (150, 110),
-    "crates/workloads/README.md": (300, 270), "docs/BENCHMARKS.md": (3600, 3600), "docs/CONTRIBUTING.md": (1800, 1800),
+    "crates/workloads/README.md": (300, 270), "docs/BENCHMARKS.md": (2225, 2225), "docs/CONTRIBUTING.md": (1800, 1800),
     "docs/DECISIONS.md": (3350, 3500), "docs/FORMATS.md": (2300, 2000), "docs/FROM_TRACING.md": (1300, 1300),
     "docs/LAYERS.md": (1050, 1000),
     "docs/PROMISES.md": (1350, 1200), "docs/PROOFS.md": (2050, 2000), "docs/THEOREM.md": (550, 700),
