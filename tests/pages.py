@@ -42,7 +42,7 @@ MOST = {
     "docs/DECISIONS.md": (3350, 3500), "docs/FORMATS.md": (2300, 2000), "docs/FROM_TRACING.md": (1300, 1300),
     "docs/LAYERS.md": (1050, 1000),
     "docs/PROMISES.md": (1350, 1200), "docs/PROOFS.md": (2050, 2000), "docs/THEOREM.md": (550, 700),
-    "examples/README.md": (200, 100), "rust/README.md": (1950, 1200), "rust/tracing-subscriber/README.md": (600, 600),
+    "examples/README.md": (200, 100), "rust/README.md": (1200, 1200), "rust/tracing-subscriber/README.md": (600, 600),
     "rust/tracing/README.md": (600, 600), "tests/README.md": (300, 100),
 }
 # Pages whose words a script takes from elsewhere. (What docs/THEOREM.md says beside quotations is written for it.)
