@@ -41,7 +41,7 @@ MOST = {
     "crates/workloads/README.md": (220, 220), "docs/BENCHMARKS.md": (2225, 2225), "docs/CONTRIBUTING.md": (1800, 1800),
     "docs/DECISIONS.md": (3350, 3500), "docs/FORMATS.md": (2000, 2000), "docs/FROM_TRACING.md": (1300, 1300),
     "docs/LAYERS.md": (1050, 1000),
-    "docs/PROMISES.md": (1350, 1200), "docs/PROOFS.md": (2050, 2000), "docs/THEOREM.md": (550, 700),
+    "docs/PROMISES.md": (1060, 1060), "docs/PROOFS.md": (1850, 1850), "docs/THEOREM.md": (550, 700),
     "examples/README.md": (200, 100), "rust/README.md": (1200, 1200), "rust/tracing-subscriber/README.md": (600, 600),
     "rust/tracing/README.md": (600, 600), "tests/README.md": (300, 100),
 }
