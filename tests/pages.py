@@ -39,7 +39,7 @@ MOST = {
     "crates/tracerun/README.md": (75, 75),
     "crates/tracerun_command_line/README.md": (70, 70), "crates/two_workers/README.md": (115, 115),
     "crates/workloads/README.md": (220, 220), "docs/BENCHMARKS.md": (2225, 2225), "docs/CONTRIBUTING.md": (1800, 1800),
-    "docs/DECISIONS.md": (3350, 3500), "docs/FORMATS.md": (2000, 2000), "docs/FROM_TRACING.md": (1300, 1300),
+    "docs/DECISIONS.md": (3050, 3050), "docs/FORMATS.md": (2000, 2000), "docs/FROM_TRACING.md": (1300, 1300),
     "docs/LAYERS.md": (1050, 1000),
     "docs/PROMISES.md": (1060, 1060), "docs/PROOFS.md": (1850, 1850), "docs/THEOREM.md": (550, 700),
     "examples/README.md": (200, 100), "rust/README.md": (1200, 1200), "rust/tracing-subscriber/README.md": (600, 600),
