@@ -168,6 +168,14 @@ uint32_t span_registry_new_span_at(SpanRegistry *registry, uint32_t worker, uint
 uint32_t span_registry_event_at(SpanRegistry *registry, uint32_t worker, uint32_t callsite, uint32_t message_len,
     const SpanField *fields, size_t fields_len, const uint8_t *texts, size_t texts_len);
 
+/* wanted: 1 where some layer's rule admits what has this target and level, else 0, also where there is no layer. Rules
+ * never change, so the answer may be kept. SPAN_BAD_DATA where the target is no UTF-8 or the level isn't there. */
+uint32_t span_registry_wants(SpanRegistry *registry, uint32_t level, const uint8_t *target, size_t target_len,
+    uint32_t *wanted);
+
+/* The same of the target and the level of a callsite. It takes no memory. */
+uint32_t span_registry_callsite_wants(SpanRegistry *registry, uint32_t callsite, uint32_t *wanted);
+
 /* SPAN_UNKNOWN where the span isn't open. */
 uint32_t span_registry_find(SpanRegistry *registry, uint64_t id, SpanFound *found);
 

@@ -363,7 +363,37 @@ static void test_many(void) {
     close_both();
 }
 
+static void test_wants(void) {
+    const SpanLimits limits = {16, 4294967295u, 4294967295u, 1, 64};
+    const SpanLayer layers[] = {{0, 15, 1}, {1, 9, 1}};
+    const SpanRule rules[] = {{0, 2}, {7, 4}};
+    const SpanMeta trace = {4, 1, 8}, debug = {3, 1, 3};
+    uint32_t wanted = 9, deep = 9, other = 9;
+    CHECK(span_registry_wants(&registry, 2, (const uint8_t *)"app", 3, &wanted) == SPAN_EMPTY_HANDLE && wanted == 9);
+    CHECK(span_registry_new(&registry, &drain, &limits, layers, 2, rules, 2, (const uint8_t *)"app::db", 7) == SPAN_OK);
+    CHECK(span_registry_wants(&registry, 2, (const uint8_t *)"app", 3, &wanted) == SPAN_OK && wanted == 1);
+    CHECK(span_registry_wants(&registry, 3, (const uint8_t *)"app", 3, &wanted) == SPAN_OK && wanted == 0);
+    CHECK(span_registry_wants(&registry, 4, (const uint8_t *)"app::db2", 8, &wanted) == SPAN_OK && wanted == 1);
+    CHECK(span_registry_wants(&registry, 4, (const uint8_t *)"", 0, &wanted) == SPAN_OK && wanted == 0);
+    wanted = 9;
+    CHECK(span_registry_wants(&registry, 5, (const uint8_t *)"app", 3, &wanted) == SPAN_BAD_DATA && wanted == 9);
+    CHECK(span_registry_wants(&registry, 2, (const uint8_t *)"\xff", 1, &wanted) == SPAN_BAD_DATA && wanted == 9);
+    allocations_left = 0;
+    CHECK(span_registry_wants(&registry, 2, (const uint8_t *)"app", 3, &wanted) == SPAN_OUT_OF_MEMORY && wanted == 9);
+    allocations_left = -1;
+    CHECK(span_registry_add_callsite(&registry, &trace, (const uint8_t *)"aapp::db2", 9, &deep) == SPAN_OK);
+    CHECK(span_registry_add_callsite(&registry, &debug, (const uint8_t *)"aapp", 4, &other) == SPAN_OK);
+    allocations_left = 0;
+    CHECK(span_registry_callsite_wants(&registry, deep, &wanted) == SPAN_OK && wanted == 1);
+    CHECK(span_registry_callsite_wants(&registry, other, &wanted) == SPAN_OK && wanted == 0);
+    CHECK(span_registry_callsite_wants(&registry, other + 1, &wanted) == SPAN_NO_SUCH_CALLSITE && wanted == 0);
+    allocations_left = -1;
+    CHECK(span_registry_free(&registry) == SPAN_OK && span_drain_free(&drain) == SPAN_OK);
+    CHECK(span_registry_callsite_wants(&registry, 0, &wanted) == SPAN_EMPTY_HANDLE && wanted == 0);
+}
+
 int main(void) {
+    test_wants();
     test_numbers();
     test_texts_are_kept();
     test_same_as_by_meta();

@@ -1,13 +1,11 @@
 -- What a core knows of the lower parts of a stack stays true where the forest changes: a span that is open keeps its
 -- layers, and of one that closed none is left.
-use Rattle.std.proofs.Common.{◌≡◌, ◌≢◌, ℕ, zero, suc, ◌<◌, Bool, true, false, ◌||◌, cond, List, [], ◌∷◌, ◌++◌, length, get_or, set, eqb, Option, Some, None, refl, sym, ap, ◌∙◌, subst, inl, inr}
+use Rattle.std.proofs.Common.{◌≡◌, ◌≢◌, ℕ, ◌+◌, ◌*◌, ◌<◌, Bool, true, false, ◌||◌, cond, List, [], ◌∷◌, ◌++◌, length, take, drop, get_or, set, Option, Some, None, refl, sym, ap, ◌∙◌, subst, inl, inr}
 use Rattle.std.specs.Prelude.{◌⊎◌, is_some}
-use Rattle.std.specs.List.{slice_get}
 use Rattle.std.specs.Option.{option_map, option_map_or}
-use Rattle.std.proofs.lemmas.Bool.{cases_Bool, cases_lt, false≢true, eq-eqb}
+use Rattle.std.proofs.lemmas.Bool.{cases_Bool, cases_lt, false≢true}
 use Rattle.std.proofs.lemmas.Bool.Decides.{eqb_tells}
-use Rattle.std.proofs.lemmas.List.{get_or_past}
-use Rattle.std.proofs.lemmas.Option.{get_or_from_slice_get}
+use Rattle.std.proofs.lemmas.List.{get_or_past, take-append-drop}
 use Rattle.span_id.specs.Bits.{has_bit}
 use Rattle.span_forest.specs.declared.span.Holder.{Holder}
 use Rattle.span_forest.specs.declared.span.Holder.TheVariants.{Entry}
@@ -19,6 +17,7 @@ use Rattle.span_forest.specs.Release.{spans_left}
 use Rattle.span_forest.proofs.Adds.{find-with_other}
 use Rattle.span_forest.proofs.Nodes.{find-changed_same, find-changed_other}
 use Rattle.span_stack.specs.Stack.{has}
+use Rattle.span_stack.proofs.Entries.{has-append}
 use Rattle.span_core.specs.declared.summary.Summary.{Summary}
 use Rattle.span_core.specs.World.{IsWorld}
 use Rattle.span_core.specs.Happening.{bits_in}
@@ -28,18 +27,11 @@ use Rattle.span_core.proofs.Telling.{has_bit-none}
 use Rattle.span_core.proofs.Remembering.{KeepsPaths, one_more, one_less, find-left}
 use Rattle.span_core.proofs.Summaries.{summarises_more, summary_set, summary_other}
 
--- what stands at a place stands in the stack
-has_at : (ids : List ℕ) (place id : ℕ) → slice_get ids place ≡ Some id → has ids id ≡ true
-has_at [] place id is = cc
-has_at (x ∷ ids) zero id is =
-    let same : x ≡ id = get_or_from_slice_get (x ∷ ids) 0 id id is in
-    ap (λ b. b || has ids id) (eq-eqb x id same)
-has_at (x ∷ ids) (suc place) id is =
-    ap (λ b. eqb x id || b) (has_at ids place id is) ∙ or_true (eqb x id)
-  where
-    or_true : (b : Bool) → (b || true) ≡ true
-    or_true true = refl
-    or_true false = refl
+-- what stands below a place stands in the stack
+has_below : (ids : List ℕ) (place id : ℕ) → has (take place ids) id ≡ true → has ids id ≡ true
+has_below ids place id is =
+    ap (λ xs. has xs id) (sym (take-append-drop place ids)) ∙ has-append (take place ids) (drop place ids) id
+    ∙ ap (λ b. b || has (drop place ids) id) is
 
 -- no span in the stack is admitted by more layers
 summary_on : (old new : Spans) (stacks : List (List ℕ)) (summary : Summary)
@@ -49,8 +41,9 @@ summary_on old new stacks summary fewer before = record {
   blocks = record {
     within = before.blocks.within;
     each = λ nth block at. record {
-      none = λ place id layer above below there isnt.
-          fewer id layer (has_at (get_or stacks summary.worker []) place id there) ((before.blocks.each nth block at).none place id layer above below there isnt);
+      none = λ id layer outside inside isnt.
+          fewer id layer (has_below (get_or stacks summary.worker []) (nth * 64 + 64) id inside)
+          ((before.blocks.each nth block at).none id layer outside inside isnt);
     };
   };
 }

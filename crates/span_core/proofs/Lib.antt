@@ -38,3 +38,4 @@ pub mod WorkersInside
 pub mod KeptOpen
 pub mod OneWorld
 pub mod Detailed
+pub mod Listened

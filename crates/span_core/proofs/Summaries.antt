@@ -1,17 +1,18 @@
 -- What a core knows of the lower parts of a stack stays true, whatever a call does.
-use Rattle.std.proofs.Common.{◌≡◌, ◌≢◌, ℕ, zero, suc, ◌+◌, ◌-◌, ◌*◌, ◌<◌, ◌≤◌, Bool, true, false, not, ◌&&◌, List, [], ◌∷◌, ◌++◌, length, reverse, take, drop, get_or, set, Option, Some, None, refl, sym, ap, ◌∙◌, subst, inl, inr, arith}
+use Rattle.std.proofs.Common.{◌≡◌, ◌≢◌, ℕ, zero, suc, ◌+◌, ◌-◌, ◌*◌, ◌<◌, ◌≤◌, Bool, true, false, not, ◌&&◌, ◌||◌, List, [], ◌∷◌, ◌++◌, length, reverse, take, drop, get_or, set, eqb, Option, Some, None, refl, sym, ap, ◌∙◌, subst, inl, inr, arith}
 use Rattle.std.specs.Prelude.{IfSome, IfNone}
 use Rattle.std.specs.List.{slice_get, find as first_that}
-use Rattle.std.specs.Option.{option_map_or}
-use Rattle.std.proofs.lemmas.Bool.{cases_Bool, cases_lt, false≢true, and_parts}
-use Rattle.std.proofs.lemmas.List.{length-append, append-nil, take-append-drop, take_more, get_or_append_left, get_or-set_same, get_or-set_other, reverse-append, reverse-reverse}
-use Rattle.std.proofs.Math.Seq.{get_or-append_seam}
+use Rattle.std.proofs.lemmas.Bool.{cases_Bool, cases_lt, false≢true, eq-eqb, and_parts, or_parts}
+use Rattle.std.proofs.lemmas.Bool.Decides.{eqb_tells}
+use Rattle.std.proofs.lemmas.List.{length-append, append-nil, take-append-drop, take-append-le, take_more, get_or_append_left, get_or-set_same, get_or-set_other, reverse-append, reverse-reverse}
+use Rattle.std.proofs.Math.Seq.{get_or-append_seam, take-add}
 use Rattle.std.proofs.lemmas.Option.{slice_get_within, slice_get-get_or, get_or_from_slice_get}
 use Rattle.span_id.specs.declared.bits.Bits.{Bits}
 use Rattle.span_id.specs.Bits.{has_bit}
 use Rattle.span_forest.specs.Spans.{Spans}
-use Rattle.span_stack.specs.Stack.{has, first_places, top, without_last}
-use Rattle.span_stack.proofs.Stacks.{first_places-push, without_last-at}
+use Rattle.span_stack.specs.Stack.{has, first_places, walk, top, without_last}
+use Rattle.span_stack.proofs.Stacks.{or_true, has-first_places, first_places-push, without_last-at}
+use Rattle.span_stack.proofs.Entries.{has-append}
 use Rattle.span_core.specs.declared.summary.Summary.{Summary}
 use Rattle.span_core.specs.Happening.{bits_in, contextual_span}
 use Rattle.span_core.specs.inside.Summary.{AdmitNone, Summarises, IsSummary}
@@ -36,25 +37,69 @@ length-take_le (suc n) (x ∷ xs) = let step = length-take_le n xs in omega arit
 
 -- ---- the layers that admit none
 
--- one entry more
-pub admit_more : (spans : Spans) (ids : List ℕ) (from place mask bits new : ℕ) → AdmitNone spans ids from place mask
-    → bits ≡ option_map_or (bits_in spans) (slice_get ids place) 0
+-- an id is looked for among the entries, and among those of them that are no duplicates
+or_swap : (a b : Bool) → (a || (b || false)) ≡ (b || a)
+or_swap true true = refl
+or_swap true false = refl
+or_swap false true = refl
+or_swap false false = refl
+
+has-reverse : (ids : List ℕ) (id : ℕ) → has (reverse ids) id ≡ has ids id
+has-reverse [] id = refl
+has-reverse (x ∷ ids) id =
+    ap (λ xs. has xs id) (reverse-append (x ∷ []) ids)
+    ∙ has-append (reverse ids) (x ∷ []) id
+    ∙ ap (λ b. b || has (x ∷ []) id) (has-reverse ids id)
+    ∙ or_swap (has ids id) (eqb x id)
+
+has-walk : (ids : List ℕ) (id : ℕ) → has (walk ids) id ≡ has ids id
+has-walk ids id = has-reverse (first_places ids) id ∙ has-first_places ids id
+
+-- the layers of a mask admit none of those that a walk has passed
+abbrev pub AdmitNonePassed : Spans → List ℕ → ℕ → ℕ → ℕ → List ℕ → Type 0
+AdmitNonePassed spans ids from to mask left =
+    (id layer : ℕ) → has (take from ids) id ≡ false → has (take to ids) id ≡ true → has left id ≡ false → has_bit mask layer ≡ true
+    → has_bit (bits_in spans id) layer ≡ false
+
+-- it passed none yet
+pub none_passed : (spans : Spans) (ids : List ℕ) (from to mask : ℕ) (left : List ℕ) → walk (take to ids) ≡ left ++ walk (take from ids)
+    → AdmitNonePassed spans ids from to mask left
+none_passed spans ids from to mask left parts = λ id layer outside inside passed admits.
+    absurd (false≢true
+    (sym (ap (λ b. b || has (walk (take from ids)) id) passed ∙ (has-walk (take from ids) id ∙ outside))
+    ∙ sym (has-append left (walk (take from ids)) id) ∙ sym (ap (λ xs. has xs id) parts) ∙ has-walk (take to ids) id ∙ inside))
+
+-- it passes one more
+pub one_passed : (spans : Spans) (ids : List ℕ) (from to mask bits new next : ℕ) (left rest : List ℕ) → left ≡ next ∷ rest
+    → bits ≡ bits_in spans next
     → ((layer : ℕ) → has_bit new layer ≡ (has_bit mask layer && not (has_bit bits layer)))
-    → AdmitNone spans ids from (place + 1) new
-admit_more spans ids from place mask bits new so_far bits_are less = record {
-  none = λ p id layer above below at admits.
-      (let parts = and_parts (has_bit mask layer) (not (has_bit bits layer)) (sym (less layer) ∙ admits) in
-      elim (cases_lt p place) [
-        | inl lower ↦ so_far.none p id layer above lower at parts.0
-        | inr same ↦ (let here : p ≡ place = omega arith in
-            ap (λ b. has_bit b layer) (sym (bits_are ∙ ap (λ o. option_map_or (bits_in spans) o 0) (ap (slice_get ids) (sym here) ∙ at)))
-            ∙ isnt (has_bit bits layer) parts.1)
-      ]);
-}
+    → AdmitNonePassed spans ids from to mask left → AdmitNonePassed spans ids from to new rest
+one_passed spans ids from to mask bits new next left rest is bits_are less before = λ id layer outside inside passed admits.
+    let parts = and_parts (has_bit mask layer) (not (has_bit bits layer)) (sym (less layer) ∙ admits) in
+    elim (eqb_tells next id) [
+      | inl t ↦ ap (λ b. has_bit b layer) (ap (bits_in spans) (sym t.1) ∙ sym bits_are) ∙ isnt (has_bit bits layer) parts.1
+      | inr t ↦ before id layer outside inside
+          (ap (λ xs. has xs id) is ∙ ap (λ b. b || has rest id) t.0 ∙ passed) parts.0
+    ]
   where
     isnt : (b : Bool) → not b ≡ true → b ≡ false
     isnt true h = absurd (false≢true h)
     isnt false h = refl
+
+-- it has passed all
+pub all_passed : (spans : Spans) (ids : List ℕ) (from to mask : ℕ) (left : List ℕ) → left ≡ []
+    → AdmitNonePassed spans ids from to mask left → AdmitNone spans ids from to mask
+all_passed spans ids from to mask left is before = record {
+  none = λ id layer outside inside admits. before id layer outside inside (ap (λ xs. has xs id) is) admits;
+}
+
+-- so it is in another stack with the same entries there
+admit_same : (spans : Spans) (ids other : List ℕ) (from to mask : ℕ) → take from other ≡ take from ids → take to other ≡ take to ids
+    → AdmitNone spans ids from to mask → AdmitNone spans other from to mask
+admit_same spans ids other from to mask below upto before = record {
+  none = λ id layer outside inside admits.
+      before.none id layer (ap (λ xs. has xs id) (sym below) ∙ outside) (ap (λ xs. has xs id) (sym upto) ∙ inside) admits;
+}
 
 -- ---- blocks and entries, more and fewer
 
@@ -97,12 +142,12 @@ summarises_none spans ids = record {
 pub summarises_more : (spans : Spans) (ids further : List ℕ) (blocks : List Bits) → Summarises spans ids blocks → Summarises spans (ids ++ further) blocks
 summarises_more spans ids further blocks before = record {
   within = omega (arith, before.within, length-append ids further);
-  each = λ nth block at. record {
-    none = λ place id layer above below there admits.
-        (let inside = slice_get_within blocks nth block at in
-        (before.each nth block at).none place id layer above below
-        (get_back ids further place id (omega (arith, inside, below, before.within)) there) admits);
-  };
+  each = λ nth block at.
+      (let inside = slice_get_within blocks nth block at in
+      admit_same spans ids (ids ++ further) (nth * 64) (nth * 64 + 64) block.0
+      (take-append-le (nth * 64) ids further (omega (arith, inside, before.within)))
+      (take-append-le (nth * 64 + 64) ids further (omega (arith, inside, before.within)))
+      (before.each nth block at));
 }
 
 -- fewer entries on top, none of them in a block
@@ -110,10 +155,12 @@ summarises_less : (spans : Spans) (ids further : List ℕ) (blocks : List Bits) 
     → Summarises spans (ids ++ further) blocks → Summarises spans ids blocks
 summarises_less spans ids further blocks within before = record {
   within = within;
-  each = λ nth block at. record {
-    none = λ place id layer above below there admits.
-        (before.each nth block at).none place id layer above below (get_more ids further place id there) admits;
-  };
+  each = λ nth block at.
+      (let inside = slice_get_within blocks nth block at in
+      admit_same spans (ids ++ further) ids (nth * 64) (nth * 64 + 64) block.0
+      (sym (take-append-le (nth * 64) ids further (omega (arith, inside, within))))
+      (sym (take-append-le (nth * 64 + 64) ids further (omega (arith, inside, within))))
+      (before.each nth block at));
 }
 
 -- ---- the topmost entry of an id is taken out
@@ -183,36 +230,37 @@ pub seen_none : (p : ℕ → Bool) (o : Option ℕ) (whole part rest : List ℕ)
 seen_none p None whole part rest is parts = ap (first_that p) parts ∙ find_later p part rest (sym is)
 seen_none p (Some id) whole part rest is parts = tt
 
--- the one at the front passes, or it fails
-pub found_here : (p : ℕ → Bool) (left rest : List ℕ) (id : ℕ) → left ≡ id ∷ rest → p id ≡ true → Some id ≡ first_that p left
-found_here p left rest id is passes = sym (ap (first_that p) is ∙ (rw passes refl))
-
-pub found_later : (p : ℕ → Bool) (left rest : List ℕ) (id : ℕ) → left ≡ id ∷ rest → p id ≡ false → first_that p rest ≡ first_that p left
-found_later p left rest id is fails = sym (ap (first_that p) is ∙ (rw fails refl))
-
--- an entry on top that the layer doesn't admit
-seen_push : (spans : Spans) (ids : List ℕ) (id layer : ℕ) → has_bit (bits_in spans id) layer ≡ false
+-- an entry on top that is a duplicate, or that the layer doesn't admit
+seen_push : (spans : Spans) (ids : List ℕ) (id layer : ℕ) → (has ids id ≡ false → has_bit (bits_in spans id) layer ≡ false)
     → contextual_span spans (ids ++ id ∷ []) layer ≡ contextual_span spans ids layer
 seen_push spans ids id layer isnt =
     let p : ℕ → Bool = λ other. has_bit (bits_in spans other) layer in
     ap (λ xs. first_that p (reverse xs)) (first_places-push ids id)
     ∙ elim (cases_Bool (has ids id)) [
       | inl t ↦ rw t refl
-      | inr f ↦ rw f (ap (first_that p) (reverse-append (first_places ids) (id ∷ [])) ∙ (rw isnt refl))
+      | inr f ↦ rw f (ap (first_that p) (reverse-append (first_places ids) (id ∷ [])) ∙ (rw (isnt f) refl))
     ]
 
 -- several of them
 seen_below : (spans : Spans) (ids : List ℕ) (from layer n : ℕ) → from + n ≤ length ids
-    → ((place id : ℕ) → from ≤ place → place < from + n → slice_get ids place ≡ Some id → has_bit (bits_in spans id) layer ≡ false)
+    → ((id : ℕ) → has (take from ids) id ≡ false → has (take (from + n) ids) id ≡ true → has_bit (bits_in spans id) layer ≡ false)
     → contextual_span spans (take (from + n) ids) layer ≡ contextual_span spans (take from ids) layer
 seen_below spans ids from layer zero within none = ap (λ k. contextual_span spans (take k ids) layer) (omega arith)
 seen_below spans ids from layer (suc n) within none =
     let there : from + n < length ids = omega (arith, within) in
     let top = get_or ids (from + n) 0 in
-    ap (λ k. contextual_span spans (take k ids) layer) (omega arith)
-    ∙ ap (λ xs. contextual_span spans xs layer) (take_more ids (from + n) 0 there)
-    ∙ seen_push spans (take (from + n) ids) top layer (none (from + n) top (omega arith) (omega arith) (slice_get-get_or ids (from + n) 0 there))
-    ∙ seen_below spans ids from layer n (omega (arith, within)) (λ place id above below at. none place id above (omega (arith, below)) at)
+    let more : take (from + suc n) ids ≡ take (from + n) ids ++ top ∷ [] =
+    ap (λ k. take k ids) (omega arith) ∙ take_more ids (from + n) 0 there in
+    ap (λ xs. contextual_span spans xs layer) more
+    ∙ seen_push spans (take (from + n) ids) top layer
+    (λ absent. none top
+    ((or_parts (has (take from ids) top) (has (take n (drop from ids)) top)
+    (sym (has-append (take from ids) (take n (drop from ids)) top) ∙ ap (λ xs. has xs top) (sym (take-add from n ids)) ∙ absent)).0)
+    (ap (λ xs. has xs top) more ∙ has-append (take (from + n) ids) (top ∷ []) top
+    ∙ ap (λ b. has (take (from + n) ids) top || (b || false)) (eq-eqb top top refl) ∙ or_true (has (take (from + n) ids) top)))
+    ∙ seen_below spans ids from layer n (omega (arith, within))
+    (λ id outside inside. none id outside
+    (ap (λ xs. has xs id) more ∙ has-append (take (from + n) ids) (top ∷ []) id ∙ ap (λ b. b || has (top ∷ []) id) inside))
 
 -- a whole block
 pub seen_skipped : (spans : Spans) (ids : List ℕ) (blocks : List Bits) (nth layer : ℕ) (block : Bits) → Summarises spans ids blocks
@@ -221,4 +269,4 @@ pub seen_skipped : (spans : Spans) (ids : List ℕ) (blocks : List Bits) (nth la
 seen_skipped spans ids blocks nth layer block before at isnt =
     let inside = slice_get_within blocks nth block at in
     seen_below spans ids (nth * 64) layer 64 (omega (arith, inside, before.within))
-    (λ place id above below there. (before.each nth block at).none place id layer above below there isnt)
+    (λ id outside inside. (before.each nth block at).none id layer outside inside isnt)

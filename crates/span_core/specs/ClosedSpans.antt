@@ -38,6 +38,7 @@ gives_back (exit worker id) = true
 gives_back (try_close worker id) = true
 gives_back _ = false
 
+-- the kind of the notes that announce a close
 abbrev pub is_close : Kind → Bool
 is_close OnClose = true
 is_close _ = false

@@ -19,6 +19,7 @@ use Rattle.span_outlet.specs.Request.{Request, new_span, enter, exit, try_close,
 abbrev pub bits_in : Spans → ℕ → ℕ
 bits_in spans id = option_map_or (λ node. node.bits) (find spans id) 0
 
+-- the fields of a span; those of no span where there is none
 abbrev pub fields_in : Spans → ℕ → List KeyValue
 fields_in spans id = option_map_or (λ node. node.fields) (find spans id) []
 
@@ -85,6 +86,7 @@ happenings rules old _ _ new = []
 abbrev pub is_told : List Filter → Happening → ℕ → Bool
 is_told rules what layer = has_bit what.admitted layer && layer_wants rules layer what.kind
 
+-- the numbers of the layers that are told, ascending
 abbrev pub layers_told : List Filter → Happening → List ℕ
 layers_told rules what = filter (is_told rules what) (range_with_len 0 (length rules))
 

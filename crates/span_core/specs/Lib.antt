@@ -11,4 +11,5 @@ pub mod GivenBack
 pub mod Handles
 pub mod Shown
 pub mod Details
+pub mod Wanted
 pub mod inside

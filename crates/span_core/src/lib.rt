@@ -24,6 +24,7 @@ mod notes;
 mod recent;
 mod stacks;
 mod summary;
+mod wanted;
 
 use crate::laws::{
     entries_are_counted_once, entries_are_the_workers_inside, made_spans_are_open_or_closed,

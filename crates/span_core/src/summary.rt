@@ -1,6 +1,5 @@
 //! Which layers see nothing in the lower parts of a worker's stack, so that a look through a deep one skips them.
-ghost use Rattle.std.specs.Prelude.{◌≡◌, ◌+◌, ◌^◌, ◌<◌, ℕ, List, [], length, take, slice_get, slice_index_or, slice_set};
-ghost use Rattle.std.specs.Option.{option_map_or};
+ghost use Rattle.std.specs.Prelude.{◌≡◌, ◌+◌, ◌^◌, ◌<◌, ◌≤◌, ℕ, List, [], length, take, slice_index_or, slice_set};
 ghost use Rattle.span_forest.specs.Spans.{Spans};
 ghost use Rattle.span_id.specs.declared.bits.Bits.{Bits};
 ghost use Rattle.span_stack.specs.Stack.{without_last, ids_of_each};
@@ -26,8 +25,8 @@ pub(crate) const NEAR: usize = 128;
 // How many blocks a call summarises at most.
 const AT_ONCE: u64 = 4;
 
-/// For each of the lowest blocks of one worker's stack, layers that admit none of its entries. It only spares looks:
-/// what it leaves out is looked at. The worker is the one with a deep stack that told an event last.
+/// For each of the lowest blocks of one worker's stack, layers that admit none of its entries, duplicates apart. It only
+/// spares looks: what it leaves out is looked at. The worker is the one with a deep stack that told an event last.
 #[derive(Drop)]
 pub(crate) struct Summary {
     pub(crate) worker: u32,
@@ -59,7 +58,7 @@ impl Summary {
     }
 
     /// Summarises a few more blocks of a worker's stack, where it is deep: of no more entries than earlier events looked
-    /// at in vain, the duplicates that they skipped apart, so that whatever calls are made, this takes no more time than
+    /// at in vain, and skipping duplicates as they did, so that whatever calls are made, this takes no more time than
     /// their looks took. What they looked at is used up by the next event in a deep stack. Where the blocks are another
     /// worker's they are forgotten, and none is summarised in that call: so workers with deep stacks that tell events by
     /// turns summarise none. Where memory is refused it is fewer blocks, which is no error.
@@ -130,26 +129,17 @@ fn add_block(blocks: &mut Vec<Bits>, forest: &Forest, stack: &SpanStack)
     blocks.push_reserved(none_admit(forest, stack, from));
 }
 
-// Layers that admit none of the entries of the block that begins at this place.
+// Layers that admit none of the entries of the block that begins at this place, duplicates apart.
 fn none_admit(forest: &Forest, stack: &SpanStack, from: usize) -> Bits
-    requires { from + BLOCK < 2 ^ 64 }
+    requires fits { from + BLOCK < 2 ^ 64 }
+    requires within { from + BLOCK ≤ length stack.now.ids }
     ensures { AdmitNone forest.now.spans stack.now.ids from (from + BLOCK) result.0 }
 {
     let mut none = Bits::all();
-    for place in from..from + BLOCK {
-        none = none.without(bits_at(forest, stack, place));
+    for id in stack.walk_between(from, from + BLOCK) {
+        none = none.without(bits_of(forest, id));
     }
     none
-}
-
-// The layers that admit the entry at a place.
-fn bits_at(forest: &Forest, stack: &SpanStack, place: usize) -> Bits
-    ensures { result.0 ≡ option_map_or (bits_in forest.now.spans) (slice_get stack.now.ids place) 0 }
-{
-    match stack.get(place) {
-        Some(id) => bits_of(forest, id),
-        None => Bits(0),
-    }
 }
 
 // The layers that admit a span that is open, and none where it isn't.

@@ -7,5 +7,6 @@ pub mod Opening
 pub mod Calls
 pub mod Holding
 pub mod Callsites
+pub mod Wants
 pub mod Lines
 pub mod inside

@@ -12,3 +12,4 @@ mod queries;
 mod registry;
 mod spans;
 mod texts;
+mod wants;

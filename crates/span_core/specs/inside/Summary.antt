@@ -2,21 +2,22 @@
 -- it.
 --
 -- A stack that is cut into blocks of 64 entries, the lowest block first, has for some of the lowest blocks a set of
--- layers that admit none of the block's entries. So a layer in that set sees nothing there. The set may leave layers
--- out, and blocks may have no set: then the entries themselves are looked at.
+-- layers that admit none of the block's entries, duplicates apart. So a layer in that set sees nothing there. The set may
+-- leave layers out, and blocks may have no set: then the entries themselves are looked at.
 --
 -- It stays true whatever a call does: an id in a stack is of an open span, which keeps its layers until it closes; of a
 -- span that closed no layer is left. An entry on top leaves those below where they are.
-use Rattle.std.specs.Prelude.{◌≡◌, ℕ, ◌+◌, ◌*◌, ◌<◌, ◌≤◌, true, false, List, [], length, slice_get, slice_index_or, Some}
+use Rattle.std.specs.Prelude.{◌≡◌, ℕ, ◌+◌, ◌*◌, ◌≤◌, true, false, List, [], length, take, slice_get, slice_index_or, Some}
 use Rattle.span_id.specs.declared.bits.Bits.{Bits}
 use Rattle.span_id.specs.Bits.{has_bit}
 use Rattle.span_forest.specs.Spans.{Spans}
+use Rattle.span_stack.specs.Stack.{has}
 use Rattle.span_core.specs.declared.summary.Summary.{Summary}
 use Rattle.span_core.specs.Happening.{bits_in}
 
--- the layers of this mask admit none of the entries from a place to below another
+-- the layers of this mask admit none of the spans that stand in a stack first from a place to below another
 pub record AdmitNone (spans : Spans) (ids : List ℕ) (from to mask : ℕ) : Type 0 where
-  pub none : (place id layer : ℕ) → from ≤ place → place < to → slice_get ids place ≡ Some id → has_bit mask layer ≡ true
+  pub none : (id layer : ℕ) → has (take from ids) id ≡ false → has (take to ids) id ≡ true → has_bit mask layer ≡ true
       → has_bit (bits_in spans id) layer ≡ false
 
 -- the blocks stand whole in the stack, and each has such layers

@@ -133,7 +133,7 @@ pub(crate) fn event_call(
 }
 
 // Where a layer sees an event: the topmost entry, duplicates skipped, that the layer admits. Blocks in which it admits
-// none are skipped. At how many entries it looked in vain is added to a count.
+// none are skipped. The entries above the blocks at which it looked in vain are added to a count.
 pub(crate) fn contextual_span(
     forest: &Forest,
     stack: &SpanStack,
@@ -147,16 +147,18 @@ pub(crate) fn contextual_span(
     let entries = stack.len();
     let summarised = blocks.len() * BLOCK;
     let near = summarised.max(entries.saturating_sub(NEAR));
-    if let Some(id) = topmost(forest, stack, near, entries, layer, in_vain) {
+    if let Some(id) = topmost(forest, stack, near, entries, layer) {
         return Some(id);
     }
-    if let Some(id) = topmost(forest, stack, summarised, near, layer, in_vain) {
+    *in_vain = in_vain.saturating_add((entries - near) as u64);
+    if let Some(id) = topmost(forest, stack, summarised, near, layer) {
         return Some(id);
     }
+    *in_vain = in_vain.saturating_add((near - summarised) as u64);
     for nth in (0..blocks.len()).rev() {
         if !blocks[nth].has(layer) {
             let from = nth * BLOCK;
-            if let Some(id) = topmost(forest, stack, from, from + BLOCK, layer, in_vain) {
+            if let Some(id) = topmost(forest, stack, from, from + BLOCK, layer) {
                 return Some(id);
             }
         }
@@ -165,31 +167,17 @@ pub(crate) fn contextual_span(
 }
 
 // The topmost entry from one place to below another, duplicates skipped, that a layer admits. Where it admits none of
-// them, it sees what it sees below the first place, and they are added to the count of those looked at in vain: not the
-// duplicates, which are skipped in far less time.
-fn topmost(
-    forest: &Forest,
-    stack: &SpanStack,
-    from: usize,
-    to: usize,
-    layer: u32,
-    in_vain: &mut u64,
-) -> Option<Id>
+// them, it sees what it sees below the first place.
+fn topmost(forest: &Forest, stack: &SpanStack, from: usize, to: usize, layer: u32) -> Option<Id>
     requires order { from ≤ to }
     requires within { to ≤ length stack.now.ids }
     ensures some { IfSome result (λ id. Some id ≡ seen_in forest.now.spans (take to stack.now.ids) layer) }
     ensures none { IfNone result (seen_in forest.now.spans (take to stack.now.ids) layer
         ≡ seen_in forest.now.spans (take from stack.now.ids) layer) }
 {
-    let mut looked_at = 0u64;
-    for id in stack.walk_between(from, to) {
-        if admits(forest, id, layer) {
-            return Some(id);
-        }
-        looked_at = looked_at.saturating_add(1);
-    }
-    *in_vain = in_vain.saturating_add(looked_at);
-    None
+    stack
+        .walk_between(from, to)
+        .find(|id| admits(forest, *id, layer))
 }
 
 // Whether a layer admits a span that is open.

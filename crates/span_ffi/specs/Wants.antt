@@ -1,0 +1,31 @@
+-- What the calls do that tell whether anything listens.
+use Rattle.std.specs.Prelude.{◌≡◌, ℕ, ◌≤◌, List, slice_get, None, IsSomeAnd}
+use Rattle.std.specs.Str.{IsUtf8}
+use Rattle.span_id.specs.declared.fault.Fault.TheVariants.{Memory}
+use Rattle.span_id.specs.Meta.{PlainMeta}
+use Rattle.span_core.specs.Wanted.{some_rule_admits}
+use Rattle.span_core.specs.Core.{CoreView}
+use Rattle.span_ffi.specs.declared.status.Status.{Status}
+use Rattle.span_ffi.specs.declared.status.Status.TheVariants.{Done, Refused, BadData, NoSuchCallsite}
+use Rattle.span_ffi.specs.Ends.{flag}
+use Rattle.span_ffi.specs.Data.{said_level}
+
+-- the level is there, and the bytes are a text
+abbrev pub IsAsked : ℕ → List ℕ → Type 0
+IsAsked level target = (level ≤ 4) × IsUtf8 target
+
+-- 1 is told where some layer's rule admits the target at the level, else 0
+abbrev pub TellsWanted : ℕ → List ℕ → ℕ → CoreView → Status → CoreView → Type 0
+TellsWanted level target wanted old Done new =
+    IsAsked level target × (wanted ≡ flag (some_rule_admits old.rules target (said_level level))) × (new ≡ old)
+TellsWanted level target wanted old BadData new = (IsAsked level target → ⊥) × (new ≡ old)
+TellsWanted level target wanted old (Refused Memory) new = IsAsked level target × (new ≡ old)
+TellsWanted level target wanted old _ new = ⊥
+
+-- the same of the target and the level of a callsite
+abbrev pub TellsWantedAt : ℕ → ℕ → List PlainMeta → CoreView → Status → CoreView → Type 0
+TellsWantedAt callsite wanted callsites old Done new =
+    IsSomeAnd (slice_get callsites callsite) (λ meta. wanted ≡ flag (some_rule_admits old.rules meta.target meta.level))
+    × (new ≡ old)
+TellsWantedAt callsite wanted callsites old NoSuchCallsite new = (slice_get callsites callsite ≡ None) × (new ≡ old)
+TellsWantedAt callsite wanted callsites old _ new = ⊥

@@ -1,0 +1,100 @@
+//! Whether anything listens.
+ghost use Rattle.std.specs.Prelude.{◌≡◌, Some, IfOk, string_bytes};
+ghost use Rattle.span_ffi.specs.Status.{meaning};
+ghost use Rattle.span_ffi.specs.Ends.{Ends, Keeps};
+ghost use Rattle.span_ffi.specs.Registry.{OnCore, WithCallsites};
+ghost use Rattle.span_ffi.specs.Wants.{TellsWanted, TellsWantedAt};
+
+use crate::callsites::Callsites;
+use crate::reading::read_level;
+use crate::registry::RingCore;
+use crate::registry_handle::SpanRegistry;
+use crate::status::Status;
+use span_id::{Fault, Level, Meta};
+use std::alloc::{AllocError, Global};
+use std::str;
+
+// What is asked for: a target and a level.
+fn asked(alloc: Global, level: Level, target: &str) -> Result<Meta, AllocError>
+    ensures target { IfOk result (λ meta. string_bytes meta.target ≡ target.now) }
+    ensures level { IfOk result (λ meta. meta.level ≡ level) }
+{
+    let target = String::from_str(alloc, target)?;
+    Ok(Meta {
+        name: String::new(alloc),
+        target,
+        level,
+    })
+}
+
+fn wants(alloc: Global, core: &RingCore, level: u32, target: &[u8], wanted: &mut u32) -> Status
+    ensures wanted { TellsWanted level target.now wanted.new core.now result core.now }
+    ensures kept { Keeps (Some result) wanted.old wanted.new }
+{
+    let Some(level) = read_level(level) else {
+        return Status::BadData;
+    };
+    let Ok(target) = str::from_utf8(target) else {
+        return Status::BadData;
+    };
+    match asked(alloc, level, target) {
+        Ok(meta) => {
+            *wanted = u32::from(core.wants(&meta));
+            Status::Done
+        }
+        Err(_) => Status::Refused(Fault::Memory),
+    }
+}
+
+/// Whether some layer's rule admits what has this target and level: 1, else 0. A layer's rules never change, so the
+/// answer doesn't either.
+#[unsafe(no_mangle)]
+pub extern "C" fn span_registry_wants(
+    alloc: Global,
+    registry: &mut SpanRegistry,
+    level: u32,
+    target: &[u8],
+    wanted: &mut u32,
+) -> u32
+    ensures wanted { Ends registry.old.held (OnCore (TellsWanted level target.now wanted.new)) (meaning result)
+        registry.new.held }
+    ensures kept { Keeps (meaning result) wanted.old wanted.new }
+{
+    let Some(held) = registry.take(alloc) else {
+        return Status::EmptyHandle.number();
+    };
+    let status = wants(alloc, &held.core, level, target, wanted);
+    registry.put(held);
+    status.number()
+}
+
+fn callsite_wants(core: &RingCore, callsites: &Callsites, callsite: u32, wanted: &mut u32) -> Status
+    ensures wanted { TellsWantedAt callsite wanted.new callsites.now core.now result core.now }
+    ensures kept { Keeps (Some result) wanted.old wanted.new }
+{
+    let Some(meta) = callsites.get(callsite) else {
+        return Status::NoSuchCallsite;
+    };
+    *wanted = u32::from(core.wants(meta.as_meta()));
+    Status::Done
+}
+
+/// What `span_registry_wants` tells of the target and the level of a callsite. It takes no memory.
+#[unsafe(no_mangle)]
+pub extern "C" fn span_registry_callsite_wants(
+    alloc: Global,
+    registry: &mut SpanRegistry,
+    callsite: u32,
+    wanted: &mut u32,
+) -> u32
+    ensures wanted { Ends registry.old.held (WithCallsites (TellsWantedAt callsite wanted.new)) (meaning result)
+        registry.new.held }
+    ensures kept { Keeps (meaning result) wanted.old wanted.new }
+{
+    let Some(held) = registry.take(alloc) else {
+        return Status::EmptyHandle.number();
+    };
+    let status = callsite_wants(&held.core, &held.callsites, callsite, wanted);
+    registry.put(held);
+    status.number()
+}
