@@ -18,8 +18,8 @@ PAGES = ("*.md", "docs/*.md", "crates/*/*.md", "rust/*.md", "rust/*/*.md", "benc
 WORDS_OF_A_SENTENCE = 8
 WORDS_OF_A_SENTENCE_IN_README = 30
 
-# Of each page the most words that it may have, and how many it is to come to. (Of docs/BENCHMARKS.md 1,500 beside the
-# tables that scripts write.)
+# Of each page the most words that it may have, and how many it is to come to. (Of docs/BENCHMARKS.md 1,500, and 729 in
+# the tables that scripts write.)
 MOST = {
     "README.md": (900, 900), "CHANGELOG.md": (175, 175), "bench/README.md": (275, 275),
     "crates/hostile_use/README.md": (205, 205), "crates/span_benchmark/README.md": (115, 115),
@@ -38,7 +38,7 @@ MOST = {
     "crates/span_storm/README.md": (235, 235), "crates/span_why/README.md": (65, 65),
     "crates/tracerun/README.md": (75, 75),
     "crates/tracerun_command_line/README.md": (70, 70), "crates/two_workers/README.md": (115, 115),
-    "crates/workloads/README.md": (220, 220), "docs/BENCHMARKS.md": (2225, 2225), "docs/CONTRIBUTING.md": (1800, 1800),
+    "crates/workloads/README.md": (220, 220), "docs/BENCHMARKS.md": (2229, 2229), "docs/CONTRIBUTING.md": (1800, 1800),
     "docs/DECISIONS.md": (3000, 3000), "docs/FORMATS.md": (2000, 2000), "docs/FROM_TRACING.md": (1300, 1300),
     "docs/LAYERS.md": (1000, 1000),
     "docs/PROMISES.md": (1020, 1020), "docs/PROOFS.md": (1800, 1800), "docs/THEOREM.md": (550, 550),
