@@ -72,6 +72,16 @@ impl Registry {
         })
     }
 
+    /// Whether some layer admits what is made at a callsite: the proved registry's own answer, under its lock.
+    /// [`enabled`](Registry::enabled) says it of any level and target, and takes none.
+    ///
+    /// # Errors
+    /// [`OtherRegistry`](Error::OtherRegistry).
+    pub fn enabled_at(&self, callsite: &Callsite) -> Result<bool, Error> {
+        let number = callsite.number_in(self)?;
+        Ok(self.shared().with(|state| state.callsite_wants(number))?)
+    }
+
     /// [`span`](Registry::span) with the meta of a callsite.
     ///
     /// # Errors

@@ -209,6 +209,14 @@ unsafe extern "C" {
         texts: *const u8,
         texts_len: usize,
     ) -> u32;
+    fn span_registry_wants(
+        registry: *mut SpanRegistry,
+        level: u32,
+        target: *const u8,
+        target_len: usize,
+        wanted: *mut u32,
+    ) -> u32;
+    fn span_registry_callsite_wants(registry: *mut SpanRegistry, callsite: u32, wanted: *mut u32) -> u32;
     fn span_registry_find(registry: *mut SpanRegistry, id: u64, found: *mut SpanFound) -> u32;
     fn span_registry_current_span(registry: *mut SpanRegistry, worker: u32, id: *mut u64) -> u32;
     fn span_registry_counts(registry: *mut SpanRegistry, counts: *mut SpanCounts) -> u32;

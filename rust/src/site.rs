@@ -76,9 +76,7 @@ impl Site {
     // Its callsite, or why it can have none.
     #[cold]
     fn looked_up(&'static self, registry: &Registry) -> Option<Result<u32, Error>> {
-        let interest = registry.shared().interest();
-        let is_wanted = interest.admits(self.meta.level, self.meta.target) || self.is_of_spans && interest.is_silent();
-        if !is_wanted {
+        if !self.is_wanted(registry) {
             self.keep(registry, UNWANTED);
             return None;
         }
@@ -88,6 +86,16 @@ impl Site {
             self.keep(registry, number);
         }
         Some(callsite)
+    }
+
+    // Whether spans or events are made of it: where some layer's rule admits it, by the proved registry's own answer, and
+    // spans where there is no layer.
+    fn is_wanted(&self, registry: &Registry) -> bool {
+        let Meta { level, target, .. } = self.meta;
+        let interest = registry.shared().interest();
+        let asked = registry.shared().with(|state| state.wants(level, target));
+        // (where memory is refused, the rules as they were given say it)
+        asked.unwrap_or_else(|_| interest.admits(level, target)) || self.is_of_spans && interest.is_silent()
     }
 
     fn callsite_in(&'static self, registry: &Registry) -> Result<u32, Error> {

@@ -443,6 +443,16 @@ impl State {
         Ok(spans.len())
     }
 
+    /// Whether some layer admits it: the proved registry's own answer.
+    pub(crate) fn wants(&mut self, level: Level, target: &str) -> Result<bool, Refusal> {
+        self.core.wants(level, target)
+    }
+
+    /// The same of a callsite.
+    pub(crate) fn callsite_wants(&mut self, callsite: u32) -> Result<bool, Refusal> {
+        self.core.callsite_wants(callsite)
+    }
+
     pub(crate) fn counts(&mut self) -> Counts {
         let counts = self.core.counts();
         Counts {

@@ -113,11 +113,31 @@ fn enabled_is_what_the_registry_itself_does() -> Result<(), Error> {
                 !made.is_disabled(),
                 "{targets} {level} {target:?}"
             );
+            let callsite = registry.callsite(&meta)?;
+            assert_eq!(
+                registry.enabled_at(&callsite)?,
+                !made.is_disabled(),
+                "{targets} {level} {target:?}"
+            );
             most = if made.is_disabled() { most } else { Some(level) };
             drop(made);
             drain.lines().for_each(drop);
         }
         assert_eq!(registry.max_level(), most, "{targets}");
     }
+    Ok(())
+}
+
+#[test]
+fn a_callsite_is_asked_of_its_own_registry_and_without_a_layer_nothing_is_admitted() -> Result<(), Error> {
+    let (registry, _drain) = Registry::builder().build()?;
+    let (other, _of_other) = compact().build()?;
+    let meta = span_registry::Meta::new(Level::Error, "app", "a");
+    let (silent, loud) = (registry.callsite(&meta)?, other.callsite(&meta)?);
+    assert_eq!(
+        (registry.enabled_at(&silent), other.enabled_at(&loud)),
+        (Ok(false), Ok(true))
+    );
+    assert_eq!(registry.enabled_at(&loud), Err(Error::OtherRegistry));
     Ok(())
 }

@@ -1,8 +1,9 @@
-//! Lists that a registry is asked for.
+//! What a registry is asked that its calls don't answer: whether anything listens, and lists.
 use super::{
-    span_registry_holders_of, span_registry_open_ids, span_registry_workers_inside, Core, SpanHeld, SpanRegistry,
-    SHORT_BUFFER,
+    span_registry_callsite_wants, span_registry_holders_of, span_registry_open_ids, span_registry_wants,
+    span_registry_workers_inside, Core, SpanHeld, SpanRegistry, SHORT_BUFFER,
 };
+use crate::level::Level;
 use crate::meta::RawId;
 use crate::packed::reserve;
 use crate::refusal::Refusal;
@@ -32,6 +33,33 @@ fn list<T: Copy + Default>(mut call: impl FnMut(*mut T, usize, *mut usize) -> u3
 impl Core {
     fn handle(&mut self) -> *mut SpanRegistry {
         &mut self.handle
+    }
+
+    /// Whether some layer's rule admits what has this level and target.
+    pub(crate) fn wants(&mut self, level: Level, target: &str) -> Result<bool, Refusal> {
+        let mut wanted = 0;
+        // SAFETY: the handle is full and lent to this call alone; the target and its length are those of a text, and the
+        // output is a value of its own.
+        let status = unsafe {
+            span_registry_wants(
+                self.handle(),
+                level.verbosity(),
+                target.as_ptr(),
+                target.len(),
+                &mut wanted,
+            )
+        };
+        Refusal::of_status(status)?;
+        Ok(wanted == 1)
+    }
+
+    /// The same of a callsite.
+    pub(crate) fn callsite_wants(&mut self, callsite: u32) -> Result<bool, Refusal> {
+        let mut wanted = 0;
+        // SAFETY: the handle is full and lent to this call alone, and the output is a value of its own.
+        let status = unsafe { span_registry_callsite_wants(self.handle(), callsite, &mut wanted) };
+        Refusal::of_status(status)?;
+        Ok(wanted == 1)
     }
 
     /// The ids of the open spans, by ascending slot.
