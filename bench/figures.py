@@ -1,0 +1,184 @@
+#!/usr/bin/env python3
+"""Keeps what was measured in files, and fills the pages from them, so that no figure stands in a page without a source.
+
+usage: figures.py [--write]
+
+bench/figures/NAME.json says when something was measured, where, on which commit, by what command and who says so, and
+what came out: records in `rows`, or numbers by their names in `values`. What isn't known of it is `not known`.
+- `table` has the columns of a table of the rows: of each its head (a blank after it makes it another one), and its
+  cells as Python's `format` writes them. A cell whose value a row hasn't is empty. The table stands in a page between `<!-- figures NAME -->` and `<!-- end -->`,
+  with a line that says where it comes from.
+- `says` has for each page the texts in which values stand there, written likewise.
+
+What measures writes such a file by `record`, which keeps `table` and `says`. With --write the pages get what the files
+say; without it it's compared. No other figure may stand in a page: no table with a column of numbers, no number with a
+point, and none with a unit that is measured, but for those in NOT_MEASURED. The last line is 'N passed, M failed'.
+"""
+import datetime
+import json
+import os
+import platform
+import re
+import shlex
+import string
+import subprocess
+import sys
+from pathlib import Path
+
+TOP = Path(__file__).resolve().parent.parent
+FOLDER = TOP / "bench/figures"
+sys.path.insert(0, str(TOP / "tests"))
+
+from pages import FIGURES, prose, read_pages  # noqa: E402
+
+SOURCE = ("date", "machine", "processors", "commit", "toolchain", "command", "source")
+NUMBERS = re.compile(r"^\|[-:| ]*-:[-:| ]*$", flags=re.M)
+FIGURE = re.compile(
+    r"(?<![\w.,/^-])\d[\d,]*(?:\.\d+)? ?(?:ns|ms|s|%|MB|GB|min|minutes?|hours?|seconds?|times|instructions)(?!\w)"
+    r"|(?<![\w.,/])\d[\d,]*\.\d+(?![\w.]\d|\w)")
+VERSION = re.compile(r"\b(?:Python|Rust|rustc|glibc|Linux|tracing-subscriber)`? [\d.]+\d")
+# What looks like a figure, by page: an input, a wish, a bound that is set or part of a format.
+NOT_MEASURED = {
+    "bench/README.md": ["2 GB of memory", "over 1.2 where"],
+    "crates/span_benchmark/README.md": ["15 MB each"],
+    "docs/BENCHMARKS.md": ["entered 390 times", "53 times the script"],
+    "docs/DECISIONS.md": ["at most 75 minutes", "costs 2 to 3 seconds by itself"],
+    "docs/FORMATS.md": ["60 seconds"],
+    "rust/README.md": ["(1.82 or later)"],
+}
+
+
+def said_by(*words):
+    """The last line that a command prints, where it is there and succeeds."""
+    try:
+        done = subprocess.run(words, cwd=TOP, capture_output=True, text=True)
+    except OSError:
+        return "not known"
+    return done.stdout.strip().splitlines()[-1] if done.returncode == 0 and done.stdout.strip() else "not known"
+
+
+def machine():
+    names = re.findall(r"^model name\s*: (.*)$", Path("/proc/cpuinfo").read_text(), flags=re.M)
+    return names[0] if names else platform.machine()
+
+
+def record(name, rows=(), values=None):
+    """Writes a file of what the running script measured."""
+    path = FOLDER / f"{name}.json"
+    before = json.loads(path.read_text(encoding="utf-8")) if path.exists() else {}
+    script = Path(sys.argv[0]).resolve().relative_to(TOP).as_posix()
+    data = {
+        "date": datetime.date.today().isoformat(), "machine": machine(), "processors": os.cpu_count(),
+        "commit": said_by("git", "describe", "--always", "--dirty", "--abbrev=12"), "toolchain": said_by("rt", "version"),
+        "command": shlex.join([script, *sys.argv[1:]]), "source": "measured by this command",
+        "values": values or {}, "rows": list(rows), "table": before.get("table", {}), "says": before.get("says", {}),
+    }
+    FOLDER.mkdir(exist_ok=True)
+    path.write_text(json.dumps(data, indent=1, ensure_ascii=False) + "\n", encoding="utf-8")
+
+
+def read_figures():
+    return {path.stem: json.loads(path.read_text(encoding="utf-8")) for path in sorted(FOLDER.glob("*.json"))}
+
+
+def names_in(template):
+    return [name for _, name, _, _ in string.Formatter().parse(template) if name]
+
+
+def cell(template, row):
+    return "" if any(row.get(name) is None for name in names_in(template)) else template.format(**row)
+
+
+def block(name, data, page):
+    """The table of a file for a page, and the line below it."""
+    heads, cells = [head.strip() for head in data["table"]], list(data["table"].values())
+    lines = [heads, ["---"] + ["---:"] * (len(heads) - 1)]
+    lines += [[cell(it, row) for it in cells] for row in data["rows"]]
+    to = os.path.relpath(FOLDER / f"{name}.json", (TOP / page).parent)
+    place = f"{data['date']}, {data['machine']}, {data['processors']} processors, commit {data['commit']}"
+    return "".join(f"| {' | '.join(line)} |\n" for line in lines) + f"\n*{place}: [{data['source']}]({to}).*\n"
+
+
+def pattern_of(template):
+    """What finds a text in its page, whatever stands in place of its values."""
+    parts = string.Formatter().parse(template)
+    return "".join(re.escape(text) + ("" if name is None else r"\w(?:[\w,.]*\w)?") for text, name, _, _ in parts)
+
+
+def filled(page, text, figures):
+    """The page as the files say it is."""
+    def fill(found):
+        data = figures.get(found[1])
+        return f"<!-- figures {found[1]} -->\n{block(found[1], data, page)}<!-- end -->" if data else found[0]
+
+    text = FIGURES.sub(fill, text)
+    for data in figures.values():
+        for template in data["says"].get(page, []):
+            text = re.sub(pattern_of(template), lambda _: template.format(**data["values"]), text)
+    return text
+
+
+def sources(figures, pages):
+    """Each file says where its figures come from, has no name that is in no text, and stands in a page."""
+    used = {name for text in pages.values() for name in FIGURES.findall(text)}
+    for name in sorted(used | {*figures}):
+        data = figures.get(name, {})
+        yield all(data.get(it) for it in SOURCE), f"bench/figures/{name}.json doesn't say each of {', '.join(SOURCE)}"
+        told = {it for texts in data.get("says", {}).values() for text in texts for it in names_in(text)}
+        told |= {it for text in data.get("table", {}).values() for it in names_in(text)}
+        had = {*data.get("values", {})}.union(*data.get("rows", []))
+        yield told <= had, f"bench/figures/{name}.json has no {', '.join(sorted(told - had))}"
+        stands = set(data.get("says", {})) if name not in used else {*pages}
+        yield stands and stands <= {*pages}, f"what bench/figures/{name}.json has stands in no page"
+
+
+def texts(figures, pages):
+    """Each text stands in its page once, and what its numbers are is what its file has."""
+    for name, data in figures.items():
+        for page, templates in data["says"].items():
+            for template in templates:
+                found, text = re.findall(pattern_of(template), pages[page]), template.format(**data["values"])
+                yield found == [text], f"{page}, by bench/figures/{name}.json: {text}; it has {found or 'nothing'}"
+
+
+def tables(figures, pages):
+    for page, text in pages.items():
+        for found in FIGURES.finditer(text):
+            is_same = found[1] in figures and filled(page, found[0], figures) == found[0]
+            yield is_same, f"{page}: its figures {found[1]} aren't those of the file: bench/figures.py --write"
+
+
+def strangers(figures, pages):
+    """The figures of pages that no file has."""
+    for page, text in pages.items():
+        for data in figures.values():
+            for template in data["says"].get(page, []):
+                text = text.replace(template.format(**data["values"]), "")
+        text = re.sub(r"\]\([^)]*\)", "]", VERSION.sub("", prose(text)))
+        for it in NOT_MEASURED.get(page, []):
+            text = text.replace(it, "")
+        found = FIGURE.findall(text) + ["a table of numbers"] * len(NUMBERS.findall(text))
+        yield not found, f"{page}: no file of bench/figures has {'; '.join(found)}"
+
+
+def main():
+    if sys.argv[1:] not in ([], ["--write"]):
+        sys.exit(__doc__)
+    figures, pages, passed, failed = read_figures(), read_pages(), 0, 0
+    for look in (sources, texts, tables, strangers):
+        if look is texts and failed:
+            break  # the others take the files as they are
+        if look is texts and sys.argv[1:]:
+            pages = {page: filled(page, text, figures) for page, text in pages.items()}
+            for page, text in pages.items():
+                (TOP / page).write_text(text, encoding="utf-8")
+        for is_good, said in look(figures, pages):
+            passed, failed = passed + bool(is_good), failed + (not is_good)
+            if not is_good:
+                print(f"FAILED {said}")
+    print(f"{passed} passed, {failed} failed")
+    return 1 if failed else 0
+
+
+if __name__ == "__main__":
+    sys.exit(main())
