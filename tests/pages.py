@@ -3,7 +3,7 @@
 
 usage: pages.py [--words]
 
-A page may have as many words as MOST says, blocks of code and measured tables (bench/figures.py) aside; one that a
+A page may have as many words as MOST says, blocks of code and measured tables (tests/figures.py) aside; one that a
 script makes from what stands elsewhere (MADE) as many as come out. A link names a file, and where it goes on with '#' a
 heading of it. No sentence of more than eight words stands in two pages, and none of README.md has more than thirty.
 Code and quoted lines are not looked at.

@@ -44,7 +44,7 @@ ALONE = [
     Part("the page of the model", "", "python3 tests/model_page.py"),
     Part("the pages", "", "python3 tests/pages.py"),
     Part("the commands in the pages", "", "python3 tests/page_commands.py"),
-    Part("the figures in the pages", "", "python3 bench/figures.py"),
+    Part("the figures in the pages", "", "python3 tests/figures.py"),
     Part("the pictures of the pages", "", "python3 tests/pictures.py"),
     Part("the model on the worked cases", "", "python3 tests/test_model.py"),
     Part("the runner of the parts", "", "python3 tests/check_itself.py"),

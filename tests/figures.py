@@ -25,12 +25,9 @@ import subprocess
 import sys
 from pathlib import Path
 
-TOP = Path(__file__).resolve().parent.parent
+from pages import FIGURES, TOP, prose, read_pages
+
 FOLDER = TOP / "bench/figures"
-sys.path.insert(0, str(TOP / "tests"))
-
-from pages import FIGURES, prose, read_pages  # noqa: E402
-
 SOURCE = ("date", "machine", "processors", "commit", "toolchain", "command", "source")
 NUMBERS = re.compile(r"^\|[-:| ]*-:[-:| ]*$", flags=re.M)
 FIGURE = re.compile(
@@ -145,7 +142,7 @@ def tables(figures, pages):
     for page, text in pages.items():
         for found in FIGURES.finditer(text):
             is_same = found[1] in figures and filled(page, found[0], figures) == found[0]
-            yield is_same, f"{page}: its figures {found[1]} aren't those of the file: bench/figures.py --write"
+            yield is_same, f"{page}: its figures {found[1]} aren't those of the file: tests/figures.py --write"
 
 
 def strangers(figures, pages):
