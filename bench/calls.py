@@ -6,7 +6,9 @@ Each loop is run by `workloads call-costs` (crates/workloads) and by the peer in
 written by a reader of the ring in the same thread and dropped. Told are nanoseconds of CPU (user and system, the least
 of the runs) and allocations for each call. Storms without layers are told by the clock, the middle one of the runs. Chains of three lengths show whether time and memory grow as the length does.
 
-usage: calls.py [--calls N] [--runs N] [--storm-runs N] [--program FILE] [--peer FILE] [--json FILE]
+With --figures what pages have of it goes to bench/figures (tests/figures.py).
+
+usage: calls.py [--calls N] [--runs N] [--storm-runs N] [--program FILE] [--peer FILE] [--json FILE] [--figures]
 """
 import argparse
 import json
@@ -20,6 +22,10 @@ import tempfile
 from measure import become_parent_of_orphans, run_once
 
 HERE = os.path.dirname(os.path.abspath(__file__))
+sys.path.insert(0, os.path.join(os.path.dirname(HERE), "tests"))
+
+import figures  # noqa: E402
+
 PROGRAM = os.path.join(os.path.dirname(HERE), "crates", "workloads", "out", "workloads")
 PEER = os.path.join(HERE, "peer", "target", "release", "peer")
 COUNTS = 9  # the descriptor to which count_memory.c writes
@@ -133,6 +139,26 @@ def print_storms(rows):
         )
 
 
+def record(loops, chains):
+    """The figures of each shape, on a core and on a registry, and of the longest chain."""
+    rows = [
+        {
+            "layers": core["layers"], "fields": core["fields"], "depth": core["depth"],
+            "core": core["program"], "core_ratio": core["program"] / core["peer"],
+            "registry": registry["program"], "registry_ratio": registry["program"] / registry["peer"],
+            "allocations": core["program allocations"], "peer_allocations": core["peer allocations"],
+        }
+        for core, registry in zip(loops[::2], loops[1::2])
+    ]
+    figures.record("calls", rows)
+    longest = chains[-1]
+    values = {}
+    for name, of in (("", "program"), ("peer_", "peer")):
+        cpu, peak = longest[of]
+        values.update({f"{name}ns": cpu / longest["length"] * 1e9, f"{name}mb": peak / 1e6})
+    figures.record("chains", values=values)
+
+
 def main():
     parser = argparse.ArgumentParser(description=__doc__, formatter_class=argparse.RawDescriptionHelpFormatter)
     parser.add_argument("--calls", type=int, default=1_000_000)
@@ -141,6 +167,7 @@ def main():
     parser.add_argument("--program", default=PROGRAM)
     parser.add_argument("--peer", default=PEER)
     parser.add_argument("--json")
+    parser.add_argument("--figures", action="store_true")
     words = parser.parse_args()
     become_parent_of_orphans()
     programs = {"program": [words.program, "call-costs"], "peer": [words.peer]}
@@ -161,6 +188,8 @@ def main():
     if words.json:
         with open(words.json, "w", encoding="utf-8") as file:
             json.dump({"loops": loops, "storms": storms, "chains": chains}, file, indent=1)
+    if words.figures:
+        record(loops, chains)
 
 
 if __name__ == "__main__":

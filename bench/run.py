@@ -7,9 +7,11 @@ nothing, or by that of the peer that keeps its history (`kept`). All have to wri
 Scripts that cost more than their size are run at an eighth of each size. Storms are runs of `storm`, by so many workers; their time is by the clock, from the start of the program to its end,
 the middle one of the runs and the least one.
 
-With --out the tables, their numbers (results.json) and pictures of them (bench/draw.py) go to a folder.
+With --out the tables, their numbers (results.json) and pictures of them (bench/draw.py) go to a folder; with --figures
+what pages have of them goes to bench/figures (tests/figures.py).
 
-usage: run.py [--out FOLDER] [--sizes MIB,MIB,..] [--runs N] [--storm-runs N] [--program FILE] [--peer FILE] [--list] [NAME..]
+usage: run.py [--out FOLDER] [--figures] [--sizes MIB,MIB,..] [--runs N] [--storm-runs N] [--program FILE]
+              [--peer FILE] [--list] [NAME..]
 """
 import argparse
 import datetime
@@ -28,6 +30,10 @@ from scripts import ALL, COSTLY
 
 HERE = os.path.dirname(os.path.abspath(__file__))
 TOP = os.path.dirname(HERE)
+sys.path.insert(0, os.path.join(TOP, "tests"))
+
+import figures  # noqa: E402
+
 PROGRAM = os.path.join(TOP, "crates", "tracerun", "out", "tracerun")
 PEER = os.path.join(HERE, "peer", "target", "release", "peer")
 MEBIBYTE = 1024 * 1024
@@ -146,6 +152,35 @@ def write(folder, results):
     draw.draw_all(results, folder)
 
 
+def record(results):
+    """The figures of each kind at its largest size, with its growth, and of the storms."""
+    rows, kinds = results["replay"], tables.kinds_of(results["replay"])
+    scripts = [
+        {
+            "kind": row["kind"], "mib": row["mib"], "lines": row["lines"], "mb_in": row["size"] / 1e6,
+            "mb_out": row["output"] / 1e6, "cpu": row["program"]["cpu"], "peer_cpu": row["peer"]["cpu"],
+            "cpu_ratio": tables.ratio(row, "cpu"), "peak": row["program"]["peak"] / 1e6,
+            "peer_peak": row["peer"]["peak"] / 1e6, "peak_ratio": tables.ratio(row, "peak"),
+            "cpu_growth": tables.growth(tables.sizes_of(rows, kind), "program", "cpu"),
+            "peer_cpu_growth": tables.growth(tables.sizes_of(rows, kind), "peer", "cpu"),
+        }
+        for kind, row in zip(kinds, tables.largest_rows(rows))
+    ]
+    storms = [
+        {
+            "workers": row["workers"], "calls": row["calls"], "ms": row["program"]["middle_clock"] * 1e3,
+            "calls_a_second": row["calls"] / row["program"]["middle_clock"],
+            "peer_ms": row["peer"]["middle_clock"] * 1e3, "ratio": tables.ratio(row, "middle_clock"),
+            "cpu_ms": row["program"]["cpu"] * 1e3, "peer_cpu_ms": row["peer"]["cpu"] * 1e3,
+            "cpu_ratio": tables.ratio(row, "cpu"),
+        }
+        for row in results.get("storm", [])
+    ]
+    for name, of_name in (("scripts", scripts), ("storms", storms)):
+        if of_name:
+            figures.record(name, of_name)
+
+
 def sizes_of(text):
     sizes = sorted(float(it) for it in text.split(","))
     if not all(0 < it <= MOST_MIB for it in sizes):
@@ -158,6 +193,7 @@ def options():
     parser = argparse.ArgumentParser(description=told, formatter_class=argparse.RawDescriptionHelpFormatter)
     parser.add_argument("names", nargs="*", metavar="NAME", help=f"kinds of scripts, or {STORM}; none means all")
     parser.add_argument("--out", metavar="FOLDER", help="where tables, numbers and pictures go")
+    parser.add_argument("--figures", action="store_true", help="what pages have of it goes to bench/figures")
     parser.add_argument("--sizes", type=sizes_of, default=[1, 4, 16], metavar="MIB,..", help="default: 1,4,16")
     parser.add_argument("--runs", type=int, default=5, help="of each program for each script, default 5")
     parser.add_argument("--storm-runs", type=int, default=21, help="of each program for each storm, default 21")
@@ -190,6 +226,8 @@ def main():
     print(tables.all_tables(results), end="")
     if words.out:
         write(words.out, results)
+    if words.figures:
+        record(results)
 
 
 if __name__ == "__main__":

@@ -6,13 +6,14 @@ usage: figures.py [--write]
 bench/figures/NAME.json says when something was measured, where, on which commit, by what command and who says so, and
 what came out: records in `rows`, or numbers by their names in `values`. What isn't known of it is `not known`.
 - `table` has the columns of a table of the rows: of each its head (a blank after it makes it another one), and its
-  cells as Python's `format` writes them. A cell whose value a row hasn't is empty. The table stands in a page between `<!-- figures NAME -->` and `<!-- end -->`,
-  with a line that says where it comes from.
+  cells as Python's `format` writes them. A cell whose value a row hasn't is empty. The table stands in a page between
+  `<!-- figures NAME -->` and `<!-- end -->`, with a line that says where it comes from.
 - `says` has for each page the texts in which values stand there, written likewise.
 
 What measures writes such a file by `record`, which keeps `table` and `says`. With --write the pages get what the files
-say; without it it's compared. No other figure may stand in a page: no table with a column of numbers, no number with a
-point, and none with a unit that is measured, but for those in NOT_MEASURED. The last line is 'N passed, M failed'.
+say; without it they are compared. No other figure may stand in a page: no table with a column of numbers, no number
+with a point, and none with a unit that is measured, but for those in NOT_MEASURED. The last line is
+'N passed, M failed'.
 """
 import datetime
 import json
@@ -45,10 +46,10 @@ NOT_MEASURED = {
 }
 
 
-def said_by(*words):
+def said_by(*words, at=TOP):
     """The last line that a command prints, where it is there and succeeds."""
     try:
-        done = subprocess.run(words, cwd=TOP, capture_output=True, text=True)
+        done = subprocess.run(words, cwd=at, capture_output=True, text=True)
     except OSError:
         return "not known"
     return done.stdout.strip().splitlines()[-1] if done.returncode == 0 and done.stdout.strip() else "not known"
@@ -59,14 +60,14 @@ def machine():
     return names[0] if names else platform.machine()
 
 
-def record(name, rows=(), values=None):
-    """Writes a file of what the running script measured."""
+def record(name, rows=(), values=None, at=TOP):
+    """Writes a file of what the running script measured of a checkout."""
     path = FOLDER / f"{name}.json"
     before = json.loads(path.read_text(encoding="utf-8")) if path.exists() else {}
     script = Path(sys.argv[0]).resolve().relative_to(TOP).as_posix()
     data = {
         "date": datetime.date.today().isoformat(), "machine": machine(), "processors": os.cpu_count(),
-        "commit": said_by("git", "describe", "--always", "--dirty", "--abbrev=12"), "toolchain": said_by("rt", "version"),
+        "commit": said_by("git", "describe", "--always", "--dirty", at=at), "toolchain": said_by("rt", "version"),
         "command": shlex.join([script, *sys.argv[1:]]), "source": "measured by this command",
         "values": values or {}, "rows": list(rows), "table": before.get("table", {}), "says": before.get("says", {}),
     }
