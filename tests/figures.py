@@ -87,14 +87,19 @@ def cell(template, row):
     return "" if any(row.get(name) is None for name in names_in(template)) else template.format(**row)
 
 
+def said_of(data):
+    """When and where it was measured, and who says so."""
+    place = f"{data['date']}, {data['machine']}, {data['processors']} processors"
+    return f"{place}, commit {data['commit']}; {data['source']}"
+
+
 def block(name, data, page):
     """The table of a file for a page, and the line below it."""
     heads, cells = [head.strip() for head in data["table"]], list(data["table"].values())
     lines = [heads, ["---"] + ["---:"] * (len(heads) - 1)]
     lines += [[cell(it, row) for it in cells] for row in data["rows"]]
     to = os.path.relpath(FOLDER / f"{name}.json", (TOP / page).parent)
-    place = f"{data['date']}, {data['machine']}, {data['processors']} processors, commit {data['commit']}"
-    return "".join(f"| {' | '.join(line)} |\n" for line in lines) + f"\n*{place}: [{data['source']}]({to}).*\n"
+    return "".join(f"| {' | '.join(line)} |\n" for line in lines) + f"\n*[{said_of(data)}]({to}).*\n"
 
 
 def pattern_of(template):

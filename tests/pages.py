@@ -29,7 +29,7 @@ MOST = {
     "crates/span_ffi/README.md": (255, 255), "crates/span_forest/README.md": (155, 155),
     "crates/span_history/README.md": (145, 145), "crates/span_id/README.md": (115, 115),
     "crates/span_json/README.md": (70, 70), "crates/span_known/README.md": (80, 80),
-    "crates/span_layers/README.md": (130, 130), "crates/span_outlet/README.md": (375, 375),
+    "crates/span_layers/README.md": (130, 130), "crates/span_outlet/README.md": (380, 380),
     "crates/span_parts_tests/README.md": (85, 85), "crates/span_recent/README.md": (110, 110),
     "crates/span_registry/CALLING.md": (500, 500), "crates/span_registry/README.md": (335, 335),
     "crates/span_registry_tests/README.md": (40, 40), "crates/span_replay/README.md": (140, 140),

@@ -5,12 +5,14 @@ usage: pictures.py [--write]
 They stand in docs/pictures. Without --write it says whether they are what it draws. The last line is
 'N passed, M failed'.
 """
+import math
 import re
 import sys
-from pathlib import Path
 from xml.sax.saxutils import escape
 
-TOP = Path(__file__).resolve().parent.parent
+from figures import read_figures, said_of
+from pages import TOP
+
 HERE = TOP / "docs/pictures"
 
 STYLE = """
@@ -19,10 +21,12 @@ text { font-family: system-ui, 'Segoe UI', Helvetica, Arial, sans-serif; font-si
 .box { fill: #eef3fa; stroke: #5b7aa8 } .lock { fill: #fdf3e3; stroke: #b7791f }
 .free { fill: #e9f6ec; stroke: #3d8b54 } .line { stroke: #6e7781; stroke-width: 1.5; fill: none }
 .count { fill: #2563a8; font-weight: 600 } .gone { fill: #b42318 }
+.value { font-size: 11px } .grid { fill: #d0d7de }
 @media (prefers-color-scheme: dark) {
   text { fill: #e6edf3 } .small { fill: #9da7b3 } .page { fill: #0d1117 }
   .box { fill: #1b2637; stroke: #6f93c9 } .lock { fill: #33270f; stroke: #d29922 }
   .free { fill: #12291a; stroke: #56b870 } .line { stroke: #8b949e } .count { fill: #58a6ff } .gone { fill: #ff7b72 }
+  .grid { fill: #3d444d }
 }
 """
 ARROW = ('<defs><marker id="arrow" viewBox="0 0 8 8" refX="7" refY="4" markerWidth="8" markerHeight="8" orient="auto">'
@@ -189,7 +193,85 @@ def call():
     return picture
 
 
-PICTURES = {"architecture": architecture, "life": life, "call": call}
+# ---- the ring
+
+# How many places a ring has, how many batches were sent, and how many of them were taken.
+PLACES, SENT, TAKEN = 8, 9, 5
+BETWEEN = (
+    f"On one side the core, under the lock: before a call changes anything it asks for a place. Where none is free the "
+    f"call is refused as Backlog; else its notes are put, which can't fail. Between them {PLACES} places: {SENT} batches "
+    f"were sent, {TAKEN} of them taken, so {SENT - TAKEN} wait and {PLACES - SENT + TAKEN} places are free. On the other "
+    "side another thread, which takes no lock, takes the batches out in order and writes their lines. What was sent is "
+    "what was taken, and then what waits.")
+
+
+def ring():
+    picture = Picture(920, 210, "What the ring is between", BETWEEN)
+    picture.box(16, 54, 190, 84, ["the core", "one call at a time", "under the lock"], "lock")
+    picture.line((206, 96), (247, 96))
+    free = PLACES - SENT + TAKEN
+    for place in range(PLACES):
+        x = 250 + 48 * place
+        picture.bar(x, 74, 44, 44, "box" if place >= free else "line", 3)
+        if place >= free:
+            picture.text(x + 22, 101, str(SENT - place + free), "count", "middle")
+    picture.text(250 + 24 * free - 2, 62, "free places", "small", "middle")
+    picture.text(250 + 24 * (PLACES + free) - 2, 62, "batches that wait", "small", "middle")
+    end = 250 + 48 * PLACES - 4
+    picture.line((end, 96), (673, 96))
+    picture.box(676, 54, 228, 84, ["another thread", "Drain or LineReader", "takes no lock"], "free")
+    picture.text(16, 28, "asks for a place, before anything changes;")
+    picture.text(16, 44, "then puts the notes, which can't fail")
+    picture.text(904, 44, "takes batches in order, writes their lines", "small", "end")
+    picture.text(111, 166, "no place is free: Backlog,", "gone", "middle")
+    picture.text(111, 184, "and nothing has changed", "gone", "middle")
+    picture.text(790, 166, f"the lines of 1 to {TAKEN}", "count", "middle")
+    picture.line((250, 166), (250, 174), (end, 174), (end, 166), arrow=False)
+    picture.text((250 + end) / 2, 158, f"the ring: {PLACES} places", "name", "middle")
+    picture.text((250 + end) / 2, 196, f"1 to {SENT} were sent: 1 to {TAKEN} are taken, {TAKEN + 1} to {SENT} wait", "small",
+                 "middle")
+    return picture
+
+
+# ---- beside the peer
+
+# What is compared, in which name its ratio stands in the rows of a file, and how it's drawn.
+COMPARED = {"CPU": ("cpu_ratio", "box"), "peak memory": ("peak_ratio", "free"), "time by the clock": ("ratio", "lock")}
+
+
+def peer():
+    """Of each kind of script and each storm how much tracerun takes by what the peer takes."""
+    files = {name: read_figures()[name] for name in ("scripts", "storms")}
+    rows = [(row["kind"], row) for row in files["scripts"]["rows"]]
+    rows += [(f"storm, workers: {row['workers']}", row) for row in files["storms"]["rows"]]
+    bars = [(name, [(what, row[key], kind) for what, (key, kind) in COMPARED.items() if key in row]) for name, row in rows]
+    told = "; ".join(f"{name}: " + ", ".join(f"{what} {ratio:.2f}" for what, ratio, _ in of) for name, of in bars)
+    sources = list(dict.fromkeys(line for data in files.values() for line in said_of(data).split("; ")))
+    most = math.ceil(max(ratio for _, of in bars for _, ratio, _ in of))
+    left, top, down, wide = 200, 96, 29, 600 / most
+    bottom = top + down * len(bars)
+    picture = Picture(860, bottom + 22 + 17 * len(sources), "What tracerun takes by what the peer takes",
+                      f"{told}. {'; '.join(sources)}.")
+    picture.text(16, 26, "What tracerun takes, by what the peer takes, a program that does the same and has no proof", "name")
+    for number, (what, (_, kind)) in enumerate(COMPARED.items()):
+        picture.bar(16 + 150 * number, 42, 13, 13, kind, 2)
+        picture.text(36 + 150 * number, 53, what)
+    for mark in range(most + 1):
+        x = left + wide * mark
+        picture.bar(x - 0.5, top - 6, 1, bottom - top + 6, "grid")
+        picture.text(x, top - 11, "1, the peer" if mark == 1 else f"{mark}", "small", "middle")
+    for number, (name, of) in enumerate(bars):
+        y = top + down * number
+        picture.text(left - 10, y + 18, name, "small", "end")
+        for place, (_, ratio, kind) in enumerate(of):
+            picture.bar(left, y + 2 + 12 * place, wide * ratio, 11, kind, 1)
+            picture.text(left + wide * ratio + 5, y + 11 + 12 * place, f"{ratio:.2f}", "value")
+    for number, source in enumerate(sources):
+        picture.text(16, bottom + 24 + 17 * number, source)
+    return picture
+
+
+PICTURES = {"architecture": architecture, "life": life, "call": call, "ring": ring, "peer": peer}
 
 
 def main():
