@@ -105,7 +105,7 @@ def block(name, data, page):
 def pattern_of(template):
     """What finds a text in its page, whatever stands in place of its values."""
     parts = string.Formatter().parse(template)
-    return "".join(re.escape(text) + ("" if name is None else r"\w(?:[\w,.]*\w)?") for text, name, _, _ in parts)
+    return "".join(re.escape(text) + ("" if name is None else r"-?\w(?:[\w,.]*\w)?") for text, name, _, _ in parts)
 
 
 def filled(page, text, figures):
