@@ -7,6 +7,8 @@
                                     least of so many turns each; on a quiet machine
     bench/tracing.py benches        the crate's own four benches, with a stand-in for criterion: nanoseconds of the
                                     clock, as above
+    bench/tracing.py figures        instructions and clock, and what pages have of them into bench/figures/tracing.json,
+                                    from where tests/figures.py takes it
 
 Each line ends in ours over the original's; of the clock it has the calls a second of all threads, too. What is needed
 is what tests/tracing.py needs.
@@ -25,6 +27,7 @@ from pathlib import Path
 TOP = Path(__file__).resolve().parent.parent
 sys.path.insert(0, str(TOP / "tests"))
 
+import figures  # noqa: E402
 import tracing  # noqa: E402
 
 # Calls, work, layer and depth of each round.
@@ -52,6 +55,15 @@ TIMED = [
     ("raw", "all", "line", 8),
     ("raw", "all", "fmt", 1),
 ]
+# What pages tell: of a table's rows the names in the file; and a tree that all threads share, behind one lock.
+TOLD = {
+    "a root": ("raw", "span", "none", 0),
+    "a span, 1 below": ("raw", "span", "none", 1),
+    "a span, 100 below": ("raw", "span", "none", 100),
+    "an event": ("raw", "event", "none", 1),
+    "all with `fmt`, 1 below": ("raw", "all", "fmt", 1),
+}
+SHARED = ("raw", "shared", "line", 0)
 BENCHES = ["enter", "filter", "filter_log", "fmt"]
 SIDES = ("original", "copy")
 
@@ -88,12 +100,15 @@ def instructions_of(program, words, rounds):
 
 
 def instructions(programs):
+    """Of each round those of the original and ours."""
+    found = {}
     for words in ROUNDS:
         # What differs from run to run, as by the seeds of maps, is some thousands of instructions in all.
         few = 5000 if words[2] == "none" else 500 if words[3] < 100 else 100
-        figures = [(instructions_of(program, words, 3 * few) - instructions_of(program, words, few)) / (2 * few)
-                   for program in programs]
-        line(words, *figures, "instructions")
+        found[words] = [(instructions_of(program, words, 3 * few) - instructions_of(program, words, few)) / (2 * few)
+                        for program in programs]
+        line(words, *found[words], "instructions")
+    return found
 
 
 def figures_of(program, words, threads, rounds, turns):
@@ -109,16 +124,36 @@ def allocations(programs):
 
 
 def clock(programs, threads, turns, rounds):
+    """Of each round and number of threads the nanoseconds of the original and ours."""
+    found = {}
     for words in TIMED:
         for count in threads:
             least = [[float("inf")] * 3 for _ in programs]
             for _ in range(turns):
                 for at, program in enumerate(programs):
-                    figures = figures_of(program, words, count, rounds, 3)
-                    least[at] = [min(pair) for pair in zip(least[at], figures)]
-            line((*words, f"{count} threads"), *(figures[0] for figures in least), "ns")
-            line((*words, f"{count} threads"), *(figures[1] for figures in least), "ns of processor")
-            line((*words, f"{count} threads"), *(1e3 * count / figures[0] for figures in least), "million/s")
+                    again = figures_of(program, words, count, rounds, 3)
+                    least[at] = [min(pair) for pair in zip(least[at], again)]
+            line((*words, f"{count} threads"), *(it[0] for it in least), "ns")
+            line((*words, f"{count} threads"), *(it[1] for it in least), "ns of processor")
+            line((*words, f"{count} threads"), *(1e3 * count / it[0] for it in least), "million/s")
+            found[words, count] = [it[0] for it in least]
+    return found
+
+
+def record(by_callgrind, by_clock, threads):
+    """The figures of the rounds that pages tell of."""
+    rows = []
+    for name, words in TOLD.items():
+        there, ours = by_callgrind[words]
+        row = {"name": name, "instructions_there": there, "instructions": ours}
+        for count in threads:
+            row[f"ns_{count}_there"], row[f"ns_{count}"] = by_clock[words, count]
+        rows.append(row)
+    (span_there, span), more = by_callgrind[TOLD["a span, 1 below"]], sum(a < b for a, b in by_callgrind.values())
+    values = {"span_there": span_there, "span": span, "rounds": len(by_callgrind), "more": str(more or "none")}
+    for count in threads:
+        values[f"shared_{count}_there"], values[f"shared_{count}"] = by_clock[SHARED, count]
+    figures.record("tracing", rows, values)
 
 
 def benches_of(yard, name):
@@ -154,7 +189,7 @@ def benches(sides, turns):
 
 def main():
     parser = argparse.ArgumentParser(description=__doc__, formatter_class=argparse.RawDescriptionHelpFormatter)
-    parser.add_argument("what", choices=["instructions", "allocations", "clock", "benches"])
+    parser.add_argument("what", choices=["instructions", "allocations", "clock", "benches", "figures"])
     parser.add_argument("--library", type=Path, help="libspan_store_ffi.a; without it, that of rt lib")
     parser.add_argument("--folder", type=Path, help="where to build; it is kept then")
     parser.add_argument("--jobs", type=int, default=2)
@@ -176,6 +211,9 @@ def main():
             instructions(programs)
         elif asked.what == "allocations":
             allocations(programs)
+        elif asked.what == "figures":
+            by_callgrind = instructions(programs)
+            record(by_callgrind, clock(programs, asked.threads, asked.turns, asked.rounds), asked.threads)
         else:
             clock(programs, asked.threads, asked.turns, asked.rounds)
 
