@@ -2,12 +2,13 @@
 """A long run: storms one after the other, and then random calls by 8 threads on one registry, beside a slow reader
 behind a ring of 4 places, where a call that is refused for want of a place is made again. No part of ./check.
 
-usage: soak.py [--minutes M] [--storms N] [--program FILE] [--workloads FILE] [--seed S]
+usage: soak.py [--minutes M] [--storms N] [--program FILE] [--workloads FILE] [--seed S] [--figures]
 FILE is tracerun for the storms, and the program of the crate `workloads` for the calls. How many calls make a run of so many
 minutes is found by a short run first. The numbers at the end have to agree, and the most bytes that the program had taken
 and not given back may be MARGIN more in the whole run than in its first minute (its first half, where it has less than
 two minutes): `count_memory.c`, loaded before the C library, counts them. The resident size of each minute is shown and
-not judged, as the C library keeps what was given back. The last line is 'N passed, M failed'; the status is 0 where
+not judged, as the C library keeps what was given back. With --figures what a good run has of numbers goes to
+bench/figures/long-run.json, from where figures.py takes it to the pages. The last line is 'N passed, M failed'; the status is 0 where
 nothing failed.
 """
 import argparse
@@ -19,6 +20,7 @@ import sys
 import tempfile
 import time
 
+import figures
 from random_scripts import is_built
 from refused_memory import compiler
 from run_cases import PROGRAM, TOP
@@ -132,15 +134,24 @@ def told(name, found):
     return not found
 
 
-def soaked(program, minutes, seed):
+def record(run, numbers):
+    row = {"minutes": run.seconds / 60, "beside": "beside a line reader", "calls": numbers["calls"],
+           "calls_a_second": numbers["calls"] / run.seconds, "spans": numbers["made"], "notes": numbers["notes"],
+           "refused": run.refused(), "most": run.most, "first_minute": run.most_at_first()}
+    figures.record("long-run", [row])
+
+
+def soaked(program, minutes, seed, keeps):
     """Whether each part of the long run went well."""
     short = Run(program, SHORT_ROUNDS, seed, 0.01)
     yield told("the short run", list(faults(short, SHORT_ROUNDS)))
     rounds = max(SHORT_ROUNDS, int(SHORT_ROUNDS * minutes * 60 / short.seconds))
     run = Run(program, rounds, seed, 1)
-    yield told("the long run", list(faults(run, rounds)))
-    yield told("the long run", [] if is_level(run) else ["its memory grew"])
-    numbers = run.numbers()
+    is_good, stays_level, numbers = told("the long run", list(faults(run, rounds))), is_level(run), run.numbers()
+    yield is_good
+    yield told("the long run", [] if stays_level else ["its memory grew"])
+    if keeps and is_good and stays_level:
+        record(run, numbers)
     if numbers:
         calls = numbers["calls"]
         print(f"{run.seconds / 60:.1f} minutes, {rounds} rounds, {calls} calls, {calls / run.seconds:.0f} a second, "
@@ -154,13 +165,14 @@ def main():
     parser.add_argument("--program", default=PROGRAM)
     parser.add_argument("--workloads", default=WORKLOADS)
     parser.add_argument("--seed", type=int, default=1)
+    parser.add_argument("--figures", action="store_true")
     given = parser.parse_args()
     if not os.access(given.workloads, os.X_OK) or (given.storms and not is_built(given.program)):
         print("the programs are not built: cd crates/workloads && rt run")
         print("0 passed, 1 failed")
         return 1
     ended = [ends_well(start(given.program), f"storm {number}") for number in range(given.storms)]
-    ended += soaked(given.workloads, given.minutes, given.seed)
+    ended += soaked(given.workloads, given.minutes, given.seed, given.figures)
     print(f"{sum(ended)} passed, {len(ended) - sum(ended)} failed")
     return 0 if all(ended) else 1
 
