@@ -21,7 +21,7 @@ WORDS_OF_A_SENTENCE_IN_README = 30
 # Of each page the most words that it may have, and how many it is to come to. (Of docs/BENCHMARKS.md 1,500, and 729 in
 # the tables that scripts write.)
 MOST = {
-    "README.md": (900, 900), "CHANGELOG.md": (175, 175), "bench/README.md": (275, 275),
+    "README.md": (900, 900), "CHANGELOG.md": (190, 190), "bench/README.md": (275, 275),
     "crates/hostile_use/README.md": (205, 205), "crates/span_benchmark/README.md": (115, 115),
     "crates/span_core/README.md": (395, 395), "crates/span_core_tests/README.md": (50, 50),
     "crates/span_ffi/README.md": (255, 255), "crates/span_forest/README.md": (155, 155),
