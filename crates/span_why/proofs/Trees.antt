@@ -8,7 +8,7 @@ use Rattle.std.proofs.lemmas.List.Concat.{flat_map-append}
 use Rattle.std.proofs.lemmas.List.Folds.{flat_map-map}
 use Rattle.std.proofs.lemmas.List.Sums.{sum_by-append, sum_by-cons}
 use Rattle.span_why.specs.Why.{GrowsByFront, PlainOpenSpan, TreeLine, plain_open_span, children_of, tree_lines, whole_tree, line_text, span_line, blanks, inside_text, worker_text}
-use Rattle.span_why.specs.inside.Pending.{Leaves, lines_from, pending_tree, pending_lines, lines_text, tree_size, size_of, pending_size}
+use Rattle.span_why.specs.inside.Pending.{Leaves, tree_from, pending_tree, pending_lines, lines_text, tree_size, size_of, pending_size}
 use Rattle.span_why.specs.declared.tree.Pending.{Pending}
 use Rattle.span_why.specs.declared.open_span.Inside.{Inside}
 use Rattle.span_why.specs.declared.open_span.OpenSpan.{OpenSpan}
@@ -51,11 +51,11 @@ one_left mk pending new rest spans n span low high is pushed so_far =
 
 -- the trees of these spans are left, before those that were
 pub left_lines : (S : List PlainOpenSpan) (depth : ℕ) (spans : List (Bor OpenSpan)) (new old : List Pending) (kin : List PlainOpenSpan) → reverse new ≡ map (next_at depth) spans ++ reverse old → map plain_at spans ≡ kin
-    → pending_lines S new ≡ flat_map (lines_from S depth) kin ++ pending_lines S old
+    → pending_lines S new ≡ flat_map (tree_from S depth) kin ++ pending_lines S old
 left_lines S depth spans new old kin is same =
     ap (flat_map (pending_tree S)) is
     ∙ flat_map-append (pending_tree S) (map (next_at depth) spans) (reverse old)
-    ∙ ap (λ x. x ++ pending_lines S old) (flat_map-map (pending_tree S) (next_at depth) spans ∙ sym (flat_map-map (lines_from S depth) plain_at spans) ∙ ap (flat_map (lines_from S depth)) same)
+    ∙ ap (λ x. x ++ pending_lines S old) (flat_map-map (pending_tree S) (next_at depth) spans ∙ sym (flat_map-map (tree_from S depth) plain_at spans) ∙ ap (flat_map (tree_from S depth)) same)
 
 pub left_size : (S : List PlainOpenSpan) (depth : ℕ) (spans : List (Bor OpenSpan)) (new old : List Pending) (kin : List PlainOpenSpan) → reverse new ≡ map (next_at depth) spans ++ reverse old → map plain_at spans ≡ kin
     → pending_size S new ≡ sum_by (size_from S depth) kin + pending_size S old
@@ -84,7 +84,7 @@ unfolding tree_size
 sized_at S levels below span e = ap (λ n. tree_size S n span) e
 
 -- it has no line where it would stand deeper than the trees have levels
-pub no_lines : (S : List PlainOpenSpan) (depth : ℕ) (span : PlainOpenSpan) → length S ≤ depth → lines_text (lines_from S depth span) ≡ []
+pub no_lines : (S : List PlainOpenSpan) (depth : ℕ) (span : PlainOpenSpan) → length S ≤ depth → lines_text (tree_from S depth span) ≡ []
 no_lines S depth span h = ap lines_text (none_at S (length S - depth) depth span (omega (arith, h)))
 
 pub no_size : (S : List PlainOpenSpan) (depth : ℕ) (span : PlainOpenSpan) → length S ≤ depth → size_from S depth span ≡ 1
@@ -92,21 +92,21 @@ no_size S depth span h = one_at S (length S - depth) span (omega (arith, h))
 
 -- the lines of its children's trees
 abbrev pub lines_below : List PlainOpenSpan → ℕ → PlainOpenSpan → List TreeLine
-lines_below S depth span = flat_map (lines_from S (depth + 1)) (children_of S span.details.id)
+lines_below S depth span = flat_map (tree_from S (depth + 1)) (children_of S span.details.id)
 
-tree_more : (S : List PlainOpenSpan) (depth : ℕ) (span : PlainOpenSpan) → depth < length S → lines_text (lines_from S depth span) ≡ span_line depth span ++ lines_text (lines_below S depth span)
+tree_more : (S : List PlainOpenSpan) (depth : ℕ) (span : PlainOpenSpan) → depth < length S → lines_text (tree_from S depth span) ≡ span_line depth span ++ lines_text (lines_below S depth span)
 tree_more S depth span h = ap lines_text (more_at S (length S - depth) (length S - (depth + 1)) depth span (omega (arith, h)))
 
 tree_sized : (S : List PlainOpenSpan) (depth : ℕ) (span : PlainOpenSpan) → depth < length S → size_from S depth span ≡ 1 + sum_by (size_from S (depth + 1)) (children_of S span.details.id)
 tree_sized S depth span h = sized_at S (length S - depth) (length S - (depth + 1)) span (omega (arith, h))
 
 -- from a root on it is whole
-pub from_root : (S kin : List PlainOpenSpan) → flat_map (lines_from S 0) kin ≡ flat_map (whole_tree S) kin
+pub from_root : (S kin : List PlainOpenSpan) → flat_map (tree_from S 0) kin ≡ flat_map (whole_tree S) kin
 from_root S kin = let e : length S - 0 ≡ length S = omega arith in ap (λ n. flat_map (tree_lines S n 0) kin) e
 
 -- the line of a span is written, and its children are left
 pub next_leaves : (S : List PlainOpenSpan) (depth : ℕ) (span : PlainOpenSpan) (text written : List ℕ) (old new : List TreeLine) → depth < length S → written ≡ text ++ span_line depth span → new ≡ lines_below S depth span ++ old
-    → Leaves text written (lines_text (lines_from S depth span) ++ lines_text old) (lines_text new)
+    → Leaves text written (lines_text (tree_from S depth span) ++ lines_text old) (lines_text new)
 next_leaves S depth span text written old new h line left = record {
   front = span_line depth span;
   is =
@@ -117,15 +117,15 @@ next_leaves S depth span text written old new h line left = record {
 }
 
 -- the line of a span is written, and its children are not
-pub next_front : (S : List PlainOpenSpan) (depth : ℕ) (span : PlainOpenSpan) (text written : List ℕ) → depth < length S → written ≡ text ++ span_line depth span → GrowsByFront text written (lines_text (lines_from S depth span))
+pub next_front : (S : List PlainOpenSpan) (depth : ℕ) (span : PlainOpenSpan) (text written : List ℕ) → depth < length S → written ≡ text ++ span_line depth span → GrowsByFront text written (lines_text (tree_from S depth span))
 next_front S depth span text written h line = record { front = span_line depth span; rest = lines_text (lines_below S depth span); whole = tree_more S depth span h; grown = line }
 
 pub next_size : (S : List PlainOpenSpan) (depth : ℕ) (span : PlainOpenSpan) (rest new : ℕ) → depth < length S → new ≡ sum_by (size_from S (depth + 1)) (children_of S span.details.id) + rest → new + 1 ≡ size_from S depth span + rest
 next_size S depth span rest new h left = let sized = tree_sized S depth span h in omega (arith, left, sized)
 
 -- no more is left where a span has no children
-pub childless : (S : List PlainOpenSpan) (id : ℕ) (kin : List PlainOpenSpan) (depth : ℕ) (rest : List TreeLine) → [] ≡ kin → kin ≡ children_of S id → rest ≡ flat_map (lines_from S depth) (children_of S id) ++ rest
-childless S id kin depth rest none same = ap (λ k. flat_map (lines_from S depth) k ++ rest) (none ∙ same)
+pub childless : (S : List PlainOpenSpan) (id : ℕ) (kin : List PlainOpenSpan) (depth : ℕ) (rest : List TreeLine) → [] ≡ kin → kin ≡ children_of S id → rest ≡ flat_map (tree_from S depth) (children_of S id) ++ rest
+childless S id kin depth rest none same = ap (λ k. flat_map (tree_from S depth) k ++ rest) (none ∙ same)
 
 pub childless_size : (S : List PlainOpenSpan) (id : ℕ) (kin : List PlainOpenSpan) (depth rest : ℕ) → [] ≡ kin → kin ≡ children_of S id → rest ≡ sum_by (size_from S depth) (children_of S id) + rest
 childless_size S id kin depth rest none same =
@@ -172,7 +172,7 @@ leaves_all S spans new old text none is = record {
   front = [];
   is =
       sym (ap lines_text
-      (left_lines S 0 spans new old (map plain_at spans) is refl ∙ ap (λ o. flat_map (lines_from S 0) (map plain_at spans) ++ pending_lines S o) none ∙ append-nil (flat_map (lines_from S 0) (map plain_at spans)) ∙ from_root S (map plain_at spans)));
+      (left_lines S 0 spans new old (map plain_at spans) is refl ∙ ap (λ o. flat_map (tree_from S 0) (map plain_at spans) ++ pending_lines S o) none ∙ append-nil (flat_map (tree_from S 0) (map plain_at spans)) ∙ from_root S (map plain_at spans)));
   grown = sym (append-nil text);
 }
 

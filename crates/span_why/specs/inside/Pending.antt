@@ -4,12 +4,12 @@ use Rattle.span_why.specs.Why.{PlainOpenSpan, TreeLine, plain_open_span, childre
 use Rattle.span_why.specs.declared.tree.Pending.{Pending}
 
 -- the lines of the tree of a span that stands so deep, whose root's tree has as many levels as there are open spans
-abbrev pub lines_from : List PlainOpenSpan → ℕ → PlainOpenSpan → List TreeLine
-lines_from spans depth span = tree_lines spans (length spans - depth) depth span
+abbrev pub tree_from : List PlainOpenSpan → ℕ → PlainOpenSpan → List TreeLine
+tree_from spans depth span = tree_lines spans (length spans - depth) depth span
 
 -- the lines of one of the trees
 abbrev pub pending_tree : List PlainOpenSpan → Pending → List TreeLine
-pending_tree spans at = lines_from spans at.depth (plain_open_span at.span.now)
+pending_tree spans at = tree_from spans at.depth (plain_open_span at.span.now)
 
 -- what is still to be written, the last one first
 abbrev pub pending_lines : List PlainOpenSpan → List Pending → List TreeLine
