@@ -30,7 +30,7 @@ MOST = {
     "crates/span_layers/README.md": (130, 130), "crates/span_outlet/README.md": (375, 375),
     "crates/span_parts_tests/README.md": (85, 85), "crates/span_recent/README.md": (110, 110),
     "crates/span_registry/CALLING.md": (500, 500), "crates/span_registry/README.md": (335, 335),
-    "crates/span_registry_tests/README.md": (40, 40), "crates/span_replay/README.md": (140, 140),
+    "crates/span_registry_tests/README.md": (40, 40), "crates/span_replay/README.md": (145, 145),
     "crates/span_run/README.md": (65, 65), "crates/span_run_tests/README.md": (40, 40),
     "crates/span_script/README.md": (95, 95), "crates/span_seats/README.md": (135, 135),
     "crates/span_slots/README.md": (85, 85), "crates/span_stack/README.md": (85, 85),
