@@ -35,7 +35,7 @@ MOST = {
     "crates/span_script/README.md": (95, 95), "crates/span_seats/README.md": (135, 135),
     "crates/span_slots/README.md": (85, 85), "crates/span_stack/README.md": (85, 85),
     "crates/span_store/README.md": (220, 220), "crates/span_store_ffi/README.md": (135, 135),
-    "crates/span_storm/README.md": (235, 235), "crates/span_why/README.md": (65, 65),
+    "crates/span_storm/README.md": (235, 235), "crates/span_why/README.md": (70, 70),
     "crates/tracerun/README.md": (75, 75),
     "crates/tracerun_command_line/README.md": (70, 70), "crates/two_workers/README.md": (115, 115),
     "crates/workloads/README.md": (220, 220), "docs/BENCHMARKS.md": (2229, 2229), "docs/CONTRIBUTING.md": (1800, 1800),
