@@ -43,7 +43,7 @@ MOST = {
     "docs/LAYERS.md": (1000, 1000),
     "docs/PRIVATE_CONTRACTS.md": (415, 415), "docs/PROMISES.md": (1020, 1020), "docs/PROOFS.md": (1800, 1800), "docs/THEOREM.md": (550, 550),
     "examples/README.md": (165, 165), "rust/README.md": (1200, 1200), "rust/tracing-subscriber/README.md": (570, 570),
-    "rust/tracing/README.md": (570, 570), "tests/README.md": (215, 215),
+    "rust/tracing/README.md": (570, 570), "tests/README.md": (220, 220),
 }
 # Pages whose words a script takes from elsewhere. (What docs/THEOREM.md says beside quotations is written for it.)
 MADE = {"docs/MODEL.md": "tests/model_page.py"}
