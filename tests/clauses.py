@@ -50,8 +50,10 @@ class Spec:
 
     def __init__(self, module, path):
         self.imports, self.names, self.inner = {}, OrderedDict(), {}
-        comment, current = [], None
+        comment, current, margin = [], None, ""
         for number, line in enumerate(open(path, encoding="utf-8").read().split("\n"), 1):
+            margin = "  " if line.startswith("module ") else margin  # (what has a module's parameters stands further in)
+            line = line[len(margin):] if line.startswith(margin) else line
             if line.startswith("use "):
                 read_import(line[4:], self.imports)
             elif line.startswith("-- ----"):

@@ -66,9 +66,9 @@ def read(path):
     return File(said, words)
 
 
-def files_of(crate):
+def files_of(crate, top=TOP):
     """The files of a crate's specs/, in the order in which its Lib.antt names them."""
-    specs = TOP / "crates" / crate / "specs"
+    specs = top / "crates" / crate / "specs"
     if not (specs / "Lib.antt").exists():
         return []
     named = re.findall(r"^pub mod (\w+)", (specs / "Lib.antt").read_text(encoding="utf-8"), flags=re.M)

@@ -46,6 +46,8 @@ ALONE = [
     Part("the commands in the pages", "", "python3 tests/page_commands.py"),
     Part("the figures in the pages", "", "python3 tests/figures.py"),
     Part("the pictures of the pages", "", "python3 tests/pictures.py"),
+    Part("the public words", "", "python3 tests/words.py"),
+    Part("the list of public words", "", "python3 tests/test_words.py"),
     Part("the model on the worked cases", "", "python3 tests/test_model.py"),
     Part("the runner of the parts", "", "python3 tests/check_itself.py"),
     Part("the launcher", "", "python3 tests/launcher.py"),

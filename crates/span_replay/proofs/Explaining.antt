@@ -7,7 +7,7 @@ use Rattle.span_layers.specs.declared.form.Form.{Form}
 use Rattle.std.specs.Result.{result_ok}
 use Rattle.serde_json.specs.Data.{Data}
 use Rattle.span_core.specs.Core.{CoreView}
-use Rattle.span_replay.specs.Explained.{Reached, label_of, label_by, label_in, named_by, made_id, lines_after, told_in, text_about, explained, turn_reached, why_run}
+use Rattle.span_replay.specs.Explained.{Reached, label_of, label_by, label_in, named_by, made_id, lines_after, open_spans_in, text_about, explained, turn_reached, why_run}
 use Rattle.span_replay.specs.Labels.{Bound}
 use Rattle.span_replay.specs.Meaning.{Turn, Transcript, finished, faulty, value_turn, line_turn}
 use Rattle.span_replay.specs.State.{State}
@@ -26,7 +26,7 @@ use Rattle.span_script.specs.Script.{is_skipped, lines_of}
 use Rattle.span_script.specs.declared.reason.Reason.{Reason}
 use Rattle.span_script.specs.declared.stop.Stop.{Stop}
 use Rattle.span_script.specs.declared.stop.Stop.TheVariants.{Refused}
-use Rattle.span_why.specs.Why.{Told, plain_told}
+use Rattle.span_why.specs.Why.{PlainOpenSpan, plain_open_span}
 use Rattle.span_why.specs.declared.open_span.OpenSpan.{OpenSpan}
 use Rattle.span_core.specs.Details.{PlainDetails, plain_details}
 use Rattle.span_core.specs.declared.details.SpanDetails.{SpanDetails}
@@ -38,9 +38,9 @@ use Rattle.std.specs.Prelude.{slice_index_or}
 -- ---- the text
 
 -- that of what is told, by the id that the label names
-pub text_is : (reached : Reached) (about : Option (List ℕ)) (spans : List Told) (id : Option ℕ) (text : List ℕ) → spans ≡ told_in reached → id ≡ named_by reached.state.labels about → text ≡ text_of spans about id → text ≡ text_about reached about
+pub text_is : (reached : Reached) (about : Option (List ℕ)) (spans : List PlainOpenSpan) (id : Option ℕ) (text : List ℕ) → spans ≡ open_spans_in reached → id ≡ named_by reached.state.labels about → text ≡ text_of spans about id → text ≡ text_about reached about
 text_is reached None spans id text told named is = is ∙ ap (λ s. text_of s None id) told
-text_is reached (Some label) spans id text told named is = is ∙ ap (λ s. text_of s (Some label) id) told ∙ ap (text_of (told_in reached) (Some label)) named
+text_is reached (Some label) spans id text told named is = is ∙ ap (λ s. text_of s (Some label) id) told ∙ ap (text_of (open_spans_in reached) (Some label)) named
 
 -- where no span is open and no label bound
 pub nothing_text : (core : CoreView) (stage : Stage) (lines : List ℕ) (about : Option (List ℕ)) → core.world.spans ≡ [] → text_of [] about None ≡ text_about (at_lines (record { core = core; labels = []; stage = stage }) lines) about
@@ -208,26 +208,26 @@ some_entry stack place h e = let found = slice_get-get_or stack place 0 h in cc
 
 -- ---- what is told, span by span
 
-pub spans_begin : (F : PlainDetails → Told) (details rest : List SpanDetails) (spans : List OpenSpan) (all : List PlainDetails) → spans ≡ [] → rest ≡ details → map plain_details details ≡ all → map plain_told spans ++ map F (map plain_details rest) ≡ map F all
-spans_begin F details rest spans all none same is = (λ i. map plain_told (none i) ++ map F (map plain_details (same i))) ∙ ap (map F) is
+pub spans_begin : (F : PlainDetails → PlainOpenSpan) (details rest : List SpanDetails) (spans : List OpenSpan) (all : List PlainDetails) → spans ≡ [] → rest ≡ details → map plain_details details ≡ all → map plain_open_span spans ++ map F (map plain_details rest) ≡ map F all
+spans_begin F details rest spans all none same is = (λ i. map plain_open_span (none i) ++ map F (map plain_details (same i))) ∙ ap (map F) is
 
-pub spans_more : (F : PlainDetails → Told) (one : SpanDetails) (rest rest' : List SpanDetails) (spans spans' : List OpenSpan) (span : OpenSpan) (all : List Told) → rest ≡ one ∷ rest' → spans' ≡ spans ++ span ∷ [] → plain_told span ≡ F (plain_details one)
-    → map plain_told spans ++ map F (map plain_details rest) ≡ all → map plain_told spans' ++ map F (map plain_details rest') ≡ all
+pub spans_more : (F : PlainDetails → PlainOpenSpan) (one : SpanDetails) (rest rest' : List SpanDetails) (spans spans' : List OpenSpan) (span : OpenSpan) (all : List PlainOpenSpan) → rest ≡ one ∷ rest' → spans' ≡ spans ++ span ∷ [] → plain_open_span span ≡ F (plain_details one)
+    → map plain_open_span spans ++ map F (map plain_details rest) ≡ all → map plain_open_span spans' ++ map F (map plain_details rest') ≡ all
 spans_more F one rest rest' spans spans' span all cut pushed is so_far =
-    ap (λ s. map plain_told s ++ map F (map plain_details rest')) pushed
-    ∙ ap (λ s. s ++ map F (map plain_details rest')) (map-append plain_told spans (span ∷ []))
-    ∙ append_assoc (map plain_told spans) (plain_told span ∷ []) (map F (map plain_details rest'))
-    ∙ ap (λ t. map plain_told spans ++ t ∷ map F (map plain_details rest')) is
-    ∙ ap (λ r. map plain_told spans ++ map F (map plain_details r)) (sym cut)
+    ap (λ s. map plain_open_span s ++ map F (map plain_details rest')) pushed
+    ∙ ap (λ s. s ++ map F (map plain_details rest')) (map-append plain_open_span spans (span ∷ []))
+    ∙ append_assoc (map plain_open_span spans) (plain_open_span span ∷ []) (map F (map plain_details rest'))
+    ∙ ap (λ t. map plain_open_span spans ++ t ∷ map F (map plain_details rest')) is
+    ∙ ap (λ r. map plain_open_span spans ++ map F (map plain_details r)) (sym cut)
     ∙ so_far
 
-pub spans_end : (F : PlainDetails → Told) (rest : List SpanDetails) (spans : List OpenSpan) (all : List Told) → rest ≡ [] → map plain_told spans ++ map F (map plain_details rest) ≡ all → map plain_told spans ≡ all
-spans_end F rest spans all none so_far = sym (append-nil (map plain_told spans)) ∙ ap (λ r. map plain_told spans ++ map F (map plain_details r)) (sym none) ∙ so_far
+pub spans_end : (F : PlainDetails → PlainOpenSpan) (rest : List SpanDetails) (spans : List OpenSpan) (all : List PlainOpenSpan) → rest ≡ [] → map plain_open_span spans ++ map F (map plain_details rest) ≡ all → map plain_open_span spans ≡ all
+spans_end F rest spans all none so_far = sym (append-nil (map plain_open_span spans)) ∙ ap (λ r. map plain_open_span spans ++ map F (map plain_details r)) (sym none) ∙ so_far
 
 -- the text about all that is told
-pub explained_text : (r : Result Explained RunFault) (about : Option (List ℕ)) (reached : Stage → Reached) (spans shown : List OpenSpan) (id : Option ℕ) → shown ≡ spans → ((stage : Stage) → map plain_told spans ≡ told_in (reached stage)) → ((stage : Stage) → id ≡ named_by (reached stage).state.labels about)
-    → IfOk r (λ e. e.text.items ≡ text_of (map plain_told shown) about id) → IfOk r (λ e. (stage : Stage) → e.text.items ≡ text_about (reached stage) about)
-explained_text (Ok e) about reached spans shown id same told named text = λ stage. text_is (reached stage) about (map plain_told shown) id e.text.items (ap (map plain_told) same ∙ told stage) (named stage) text
+pub explained_text : (r : Result Explained RunFault) (about : Option (List ℕ)) (reached : Stage → Reached) (spans shown : List OpenSpan) (id : Option ℕ) → shown ≡ spans → ((stage : Stage) → map plain_open_span spans ≡ open_spans_in (reached stage)) → ((stage : Stage) → id ≡ named_by (reached stage).state.labels about)
+    → IfOk r (λ e. e.text.items ≡ text_of (map plain_open_span shown) about id) → IfOk r (λ e. (stage : Stage) → e.text.items ≡ text_about (reached stage) about)
+explained_text (Ok e) about reached spans shown id same told named text = λ stage. text_is (reached stage) about (map plain_open_span shown) id e.text.items (ap (map plain_open_span) same ∙ told stage) (named stage) text
 explained_text (Err fault) about reached spans shown id same told named text = tt
 
 -- how many workers there are, after a fault of the script

@@ -25,3 +25,4 @@ pub mod MostLayers
 pub mod Reachings
 pub mod Explaining
 pub mod Telling
+pub mod OneLine

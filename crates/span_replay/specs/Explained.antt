@@ -15,7 +15,7 @@ use Rattle.span_script.specs.Operation.{Operation, make, json_of, operation_of}
 use Rattle.span_script.specs.Script.{lines_of, most_bytes}
 use Rattle.span_script.specs.declared.reason.Reason.{Reason}
 use Rattle.span_script.specs.declared.reason.Reason.TheVariants.{TooLong}
-use Rattle.span_why.specs.Why.{Told, why_text, why_of_text}
+use Rattle.span_why.specs.Why.{PlainOpenSpan, why_text, why_of_text}
 use Rattle.span_why.specs.declared.open_span.Inside.{Inside}
 
 -- how far the lines have run, and by slot the number of the line that last made a span there
@@ -84,25 +84,26 @@ abbrev pub inside_in : CoreView → PlainDetails → List Inside
 inside_in core details =
     map (inside_of core.world details.id) (filter (λ worker. nat_lt worker core.limits.workers) details.workers)
 
-abbrev pub told_of : Reached → PlainDetails → Told
-told_of reached details = record {
+abbrev pub open_span_of : Reached → PlainDetails → PlainOpenSpan
+open_span_of reached details = record {
   details = details;
   inside = inside_in reached.state.core details;
   line = slice_index_or reached.lines (slot_of details.id) 0;
 }
 
 -- all open spans, by ascending slot
-abbrev pub told_in : Reached → List Told
-told_in reached = map (told_of reached) (map (details_of reached.state.core.world) reached.state.core.world.spans)
+abbrev pub open_spans_in : Reached → List PlainOpenSpan
+open_spans_in reached =
+    map (open_span_of reached) (map (details_of reached.state.core.world) reached.state.core.world.spans)
 
 -- ---- the whole script
 
 -- the text about all spans, or about the one that a label names
 abbrev pub text_about : Reached → Option (List ℕ) → List ℕ
-text_about reached None = why_text (told_in reached)
-text_about reached (Some label) = why_of_text (told_in reached) (id_in reached.state.labels label)
+text_about reached None = why_text (open_spans_in reached)
+text_about reached (Some label) = why_of_text (open_spans_in reached) (id_in reached.state.labels label)
 
--- why the spans are open that are open here, where the lines end so
+-- what is written where this is reached, and how the lines ended there
 abbrev pub explained : Option (List ℕ) → Reached → Ending → Transcript
 explained about reached ending = record { text = text_about reached about; ending = ending }
 

@@ -5,6 +5,7 @@
 //! `replay_with_layers` for layers with no closures).
 #![tactic(auto)]
 
+pub mod laws;
 mod run;
 
 pub use run::hooks::replay_with_layers;

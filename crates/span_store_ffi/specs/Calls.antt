@@ -17,8 +17,8 @@ use Rattle.span_store_ffi.specs.declared.status.Status.TheVariants.{Done, Refuse
 use Rattle.span_store_ffi.specs.Ends.{IfDone, flag}
 
 -- the version of the interface
-abbrev pub abi_version : ℕ
-abi_version = 2
+abbrev pub store_abi_version : ℕ
+store_abi_version = 2
 
 -- A call was accepted, and the store is as it is after it; or it was refused with this fault, and nothing changed.
 abbrev pub Makes : Call → StoreView → Status → StoreView → Type 0
@@ -27,8 +27,8 @@ Makes call old (Refused fault) new = (refusal old call ≡ Some fault) × (new �
 Makes call old _ new = ⊥
 
 -- the parent that a number means: 0 none
-abbrev pub said_parent : ℕ → Option ℕ
-said_parent number = cond (number == 0) None (Some number)
+abbrev pub parent_numbered : ℕ → Option ℕ
+parent_numbered number = cond (number == 0) None (Some number)
 
 -- an id as a number, 0 where there is none
 abbrev pub id_number : Option ℕ → ℕ
@@ -38,15 +38,15 @@ id_number (Some id) = id
 -- a new span, whose id is told
 abbrev pub Adds : ℕ → ℕ → ℕ → ℕ → StoreView → Status → StoreView → Type 0
 Adds parent bits word id old status new =
-    Makes (Add (said_parent parent) bits word) old status new × IfDone status (next_id old.table ≡ Some id)
+    Makes (Add (parent_numbered parent) bits word) old status new × IfDone status (next_id old.table ≡ Some id)
 
 -- one more handle
 abbrev pub KeepsSpan : ℕ → StoreView → Status → StoreView → Type 0
 KeepsSpan id = Makes (Keep id)
 
 -- a handle is given back; 1 is told where the span is closing now, else 0
-abbrev pub Releases : ℕ → ℕ → StoreView → Status → StoreView → Type 0
-Releases id closing old status new =
+abbrev pub ReleasesSpan : ℕ → ℕ → StoreView → Status → StoreView → Type 0
+ReleasesSpan id closing old status new =
     Makes (Release id) old status new × IfDone status (closing ≡ flag (is_closing new.table.entries id))
 
 -- a closing span ends; its parent is told where that is closing now, else 0
@@ -55,8 +55,8 @@ EndsSpan id parent old status new =
     Makes (Ended id) old status new × IfDone status (parent ≡ id_number (told old (Ended id)))
 
 -- what is told of a span that is there
-abbrev pub found_as : StoreView → ℕ → Node → SpanStoreFound
-found_as store id node = record {
+abbrev pub found_there : StoreView → ℕ → Node → SpanStoreFound
+found_there store id node = record {
   parent = id_number node.parent;
   bits = node.bits;
   word = node.word;
@@ -64,11 +64,11 @@ found_as store id node = record {
   children = children store.table.entries id;
 }
 
-abbrev pub Finds : ℕ → SpanStoreFound → StoreView → Status → StoreView → Type 0
-Finds id found old Done new =
-    IsSomeAnd (value_at old.table.entries id) (λ node. found ≡ found_as old id node) × (new ≡ old)
-Finds id found old (Refused Unknown) new = (value_at old.table.entries id ≡ None) × (new ≡ old)
-Finds id found old _ new = ⊥
+abbrev pub TellsSpan : ℕ → SpanStoreFound → StoreView → Status → StoreView → Type 0
+TellsSpan id found old Done new =
+    IsSomeAnd (value_at old.table.entries id) (λ node. found ≡ found_there old id node) × (new ≡ old)
+TellsSpan id found old (Refused Unknown) new = (value_at old.table.entries id ≡ None) × (new ≡ old)
+TellsSpan id found old _ new = ⊥
 
 -- the slot at which a walk goes on after an id; after 0 it begins
 abbrev pub slot_past : ℕ → ℕ
@@ -82,14 +82,14 @@ TellsNext previous id old (Refused Unknown) new = (previous ≢ 0) × (IsId prev
 TellsNext previous id old _ new = ⊥
 
 -- how many handles and how many spans there are
-abbrev pub Counts : SpanStoreCounts → StoreView → Status → StoreView → Type 0
-Counts counts old Done new =
+abbrev pub TellsCounts : SpanStoreCounts → StoreView → Status → StoreView → Type 0
+TellsCounts counts old Done new =
     (counts ≡ record { handles = total_handles old.table.entries; spans = length old.table.entries }) × (new ≡ old)
-Counts counts old _ new = ⊥
+TellsCounts counts old _ new = ⊥
 
 -- the limits of a store
-abbrev pub limits_of : ℕ → ℕ → ℕ → Limits
-limits_of slots last_generation max_count = record {
+abbrev pub store_limits : ℕ → ℕ → ℕ → Limits
+store_limits slots last_generation max_count = record {
   slots = slots;
   last_generation = last_generation;
   max_count = max_count;
@@ -117,8 +117,8 @@ WhyNotOpened limits Memory = AreInRange limits
 WhyNotOpened limits _ = ⊥
 
 -- an empty handle is filled with a new store; or why it isn't
-abbrev pub Opens : Limits → Option StoreView → Option Status → Option StoreView → Type 0
-Opens limits (Some old) (Some HandleInUse) new = new ≡ Some old
-Opens limits None (Some Done) new = new ≡ Some (empty_store limits)
-Opens limits None (Some (Refused fault)) new = WhyNotOpened limits fault × (new ≡ None)
-Opens limits _ _ new = ⊥
+abbrev pub OpensStore : Limits → Option StoreView → Option Status → Option StoreView → Type 0
+OpensStore limits (Some old) (Some HandleInUse) new = new ≡ Some old
+OpensStore limits None (Some Done) new = new ≡ Some (empty_store limits)
+OpensStore limits None (Some (Refused fault)) new = WhyNotOpened limits fault × (new ≡ None)
+OpensStore limits _ _ new = ⊥

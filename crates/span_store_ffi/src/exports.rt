@@ -4,7 +4,7 @@ ghost use Rattle.span_slots.specs.Table.{value_at};
 ghost use Rattle.span_store.specs.Spans.{is_closing};
 ghost use Rattle.span_store_ffi.specs.Status.{meaning};
 ghost use Rattle.span_store_ffi.specs.Ends.{Ends, Keeps};
-ghost use Rattle.span_store_ffi.specs.Calls.{Adds, KeepsSpan, Releases, EndsSpan, Finds, TellsNext, Counts, Opens, said_parent, id_number, limits_of, empty_store, WhyNotOpened, abi_version};
+ghost use Rattle.span_store_ffi.specs.Calls.{Adds, KeepsSpan, ReleasesSpan, EndsSpan, TellsSpan, TellsNext, TellsCounts, OpensStore, parent_numbered, id_number, store_limits, empty_store, WhyNotOpened, store_abi_version};
 
 mod details;
 
@@ -38,8 +38,8 @@ pub(crate) fn id_number(id: Option<Id>) -> u64
 
 // A new store in a box.
 fn open(alloc: Global, slots: u32, last_generation: u32, max_count: u32) -> Result<Box<Held>, Fault>
-    ensures new { IfOk result (λ held. held.value ≡ empty_store (limits_of slots last_generation max_count)) }
-    ensures why { IfErr result (λ fault. WhyNotOpened (limits_of slots last_generation max_count) fault) }
+    ensures new { IfOk result (λ held. held.value ≡ empty_store (store_limits slots last_generation max_count)) }
+    ensures why { IfErr result (λ fault. WhyNotOpened (store_limits slots last_generation max_count) fault) }
 {
     let limits = Limits {
         slots,
@@ -56,7 +56,7 @@ fn open(alloc: Global, slots: u32, last_generation: u32, max_count: u32) -> Resu
 /// The version of this interface. It rises where a program that was built for an earlier one would go wrong.
 #[unsafe(no_mangle)]
 pub extern "C" fn span_store_abi_version() -> u32
-    ensures { result ≡ abi_version }
+    ensures { result ≡ store_abi_version }
 {
     2
 }
@@ -70,7 +70,7 @@ pub extern "C" fn span_store_new(
     last_generation: u32,
     max_count: u32,
 ) -> u32
-    ensures { Opens (limits_of slots last_generation max_count) store.old.held (meaning result) store.new.held }
+    ensures { OpensStore (store_limits slots last_generation max_count) store.old.held (meaning result) store.new.held }
 {
     if !store.is_empty(alloc) {
         return Status::HandleInUse.number();
@@ -165,7 +165,7 @@ pub extern "C" fn span_store_keep(alloc: Global, store: &mut SpanStore, id: u64)
 }
 
 fn release(store: &mut Store, id: u64, closing: &mut u32) -> Status
-    ensures released { Releases id closing.new store.old result store.new }
+    ensures released { ReleasesSpan id closing.new store.old result store.new }
     ensures kept { Keeps (Some result) closing.old closing.new }
 {
     let Some(id) = id_of(store, id) else {
@@ -188,7 +188,7 @@ pub extern "C" fn span_store_release(
     id: u64,
     closing: &mut u32,
 ) -> u32
-    ensures released { Ends store.old.held (Releases id closing.new) (meaning result) store.new.held }
+    ensures released { Ends store.old.held (ReleasesSpan id closing.new) (meaning result) store.new.held }
     ensures kept { Keeps (meaning result) closing.old closing.new }
 {
     let Some(mut held) = store.take(alloc) else {
@@ -235,7 +235,7 @@ pub extern "C" fn span_store_ended(
 }
 
 fn find(store: &Store, id: u64, found: &mut SpanStoreFound) -> Status
-    ensures found { Finds id found.new store.now result store.now }
+    ensures found { TellsSpan id found.new store.now result store.now }
     ensures kept { Keeps (Some result) found.old found.new }
 {
     let Some(id) = id_of(store, id) else {
@@ -262,7 +262,7 @@ pub extern "C" fn span_store_find(
     id: u64,
     found: &mut SpanStoreFound,
 ) -> u32
-    ensures found { Ends store.old.held (Finds id found.new) (meaning result) store.new.held }
+    ensures found { Ends store.old.held (TellsSpan id found.new) (meaning result) store.new.held }
     ensures kept { Keeps (meaning result) found.old found.new }
 {
     let Some(held) = store.take(alloc) else {
@@ -310,7 +310,7 @@ pub extern "C" fn span_store_next(
 }
 
 fn counts_of(store: &Store) -> SpanStoreCounts
-    ensures { Counts result store.now Status.Done store.now }
+    ensures { TellsCounts result store.now Status.Done store.now }
 {
     SpanStoreCounts {
         handles: store.handles(),
@@ -325,7 +325,7 @@ pub extern "C" fn span_store_counts(
     store: &mut SpanStore,
     counts: &mut SpanStoreCounts,
 ) -> u32
-    ensures counts { Ends store.old.held (Counts counts.new) (meaning result) store.new.held }
+    ensures counts { Ends store.old.held (TellsCounts counts.new) (meaning result) store.new.held }
     ensures kept { Keeps (meaning result) counts.old counts.new }
 {
     let Some(held) = store.take(alloc) else {

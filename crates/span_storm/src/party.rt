@@ -94,7 +94,9 @@ pub(crate) fn start<
 ) -> Party<H, C, S, G>
     requires wanted { wants_jobs S.rules ≡ true }
     requires spare { 3 ≤ worker.spare }
-    ensures { result ≡ record { worker = worker; gate = gate.now; rounds = rounds } }
+    ensures worker { result.worker ≡ worker }
+    ensures gate { result.gate ≡ gate.now }
+    ensures rounds { result.rounds ≡ rounds }
 {
     let went = Snapshot::of(&worker);
     let promise = Back {

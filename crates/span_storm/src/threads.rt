@@ -67,9 +67,12 @@ fn both_back<H: Ledger, C: Ledger, S: Setup, V: Drop>(
 ) -> Result<(Share<H, C, S>, Drain<V>), Stopped>
     ensures { result ≡ share_and_drain whole drain }
 {
-    match (whole, drain) {
-        (Ok(whole), Ok(drain)) => Ok((whole, drain)),
-        (Err(fault), _) | (_, Err(fault)) => Err(fault),
+    match whole {
+        Ok(whole) => match drain {
+            Ok(drain) => Ok((whole, drain)),
+            Err(fault) => Err(fault),
+        },
+        Err(fault) => Err(fault),
     }
 }
 
@@ -173,8 +176,11 @@ fn both<H: Ledger, C: Ledger, S: Setup>(
     requires { Fit one other }
     ensures { result ≡ both_shares one other }
 {
-    match (one, other) {
-        (Err(fault), _) | (Ok(_), Err(fault)) => Err(fault),
-        (Ok(one), Ok(other)) => Ok(one.join(other)),
+    match one {
+        Ok(one) => match other {
+            Ok(other) => Ok(one.join(other)),
+            Err(fault) => Err(fault),
+        },
+        Err(fault) => Err(fault),
     }
 }

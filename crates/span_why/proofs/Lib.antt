@@ -1,1 +1,2 @@
 pub mod Trees
+mod Examples

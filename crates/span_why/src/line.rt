@@ -3,7 +3,7 @@ ghost use Rattle.std.specs.Prelude.{◌≡◌, ◌++◌, flat_map, OnOk};
 ghost use Rattle.span_layers.specs.Text.{escape, escaped};
 ghost use Rattle.span_core.specs.Details.{plain_details};
 ghost use Rattle.span_why.specs.Why.{about_text, blanks, exits_text, inside_text, origin_text};
-ghost use Rattle.span_why.specs.Why.{plain_told, span_line, worker_text};
+ghost use Rattle.span_why.specs.Why.{plain_open_span, span_line, worker_text};
 
 use crate::open_span::{Inside, OpenSpan};
 use span_core::SpanDetails;
@@ -17,7 +17,7 @@ const DEEPEST: usize = 32;
 /// Appends the line of a span that stands so deep in its tree. The only error is that memory was refused.
 #[tactic(auto, using(std::proofs::Common::append_assoc))]
 pub(crate) fn write_line(text: &mut Vec<u8>, depth: usize, span: &OpenSpan) -> io::Result<()>
-    ensures { OnOk result (text.new.items ≡ text.old.items ++ span_line depth (plain_told span.now)) }
+    ensures { OnOk result (text.new.items ≡ text.old.items ++ span_line depth (plain_open_span span.now)) }
 {
     write_blanks(text, depth.min(DEEPEST))?;
     write_about(text, &span.details)?;
@@ -37,7 +37,7 @@ fn write_about(text: &mut Vec<u8>, details: &SpanDetails) -> io::Result<()>
 // Appends the line that made a span, and the span's target.
 #[tactic(auto, using(std::proofs::Common::append_assoc))]
 fn write_origin(text: &mut Vec<u8>, span: &OpenSpan) -> io::Result<()>
-    ensures { OnOk result (text.new.items ≡ text.old.items ++ origin_text (plain_told span.now)) }
+    ensures { OnOk result (text.new.items ≡ text.old.items ++ origin_text (plain_open_span span.now)) }
 {
     let line = span.line;
     write!(text, " line {line} target ")?;
@@ -105,14 +105,14 @@ fn write_worker(text: &mut Vec<u8>, inside: Inside) -> io::Result<()>
     write_exits(text, exits)
 }
 
-// Appends how many exits a worker needs, if they aren't one.
+// Appends how many exits a worker needs, if they are more than one.
 fn write_exits(text: &mut Vec<u8>, exits: usize) -> io::Result<()>
     ensures { OnOk result (text.new.items ≡ text.old.items ++ exits_text exits) }
 {
-    if exits == 1 {
-        Ok(())
-    } else {
+    if exits > 1 {
         write!(text, " (one entry, {exits} exits)")
+    } else {
+        Ok(())
     }
 }
 

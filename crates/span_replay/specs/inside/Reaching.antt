@@ -14,7 +14,7 @@ use Rattle.span_replay.specs.declared.run.setup.Opened.{Opened}
 use Rattle.span_replay.specs.declared.run.setup.Setup.{Setup}
 use Rattle.span_replay.specs.inside.Running.{state_at}
 use Rattle.span_replay.specs.inside.Setup.{opened_in, setup_state}
-use Rattle.span_why.specs.Why.{Told, why_text, why_of_text}
+use Rattle.span_why.specs.Why.{PlainOpenSpan, why_text, why_of_text}
 use Rattle.span_script.specs.Operation.{Stage}
 use Rattle.span_script.specs.Script.{lines_of}
 use Rattle.span_script.specs.declared.reason.Reason.{Reason}
@@ -74,7 +74,7 @@ EndsAs meant (Err (Refused fault)) = ⊥
 EndsAs meant (Err (Held party)) = ⊥
 
 -- the text about these spans, or about the one with this id where a label is asked about
-abbrev pub text_of : List Told → Option (List ℕ) → Option ℕ → List ℕ
+abbrev pub text_of : List PlainOpenSpan → Option (List ℕ) → Option ℕ → List ℕ
 text_of spans None id = why_text spans
 text_of spans (Some label) id = why_of_text spans id
 

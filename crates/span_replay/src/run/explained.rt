@@ -3,11 +3,11 @@ ghost use Rattle.std.specs.Prelude.{◌≡◌, ◌<◌, ◌++◌, ◌==◌, [], 
 ghost use Rattle.std.specs.Prelude.{IfOk, IfErr, OnOk, option_copied};
 ghost use Rattle.span_core.specs.Details.{plain_details};
 ghost use Rattle.span_id.specs.Id.{slot_of};
-ghost use Rattle.span_replay.specs.Explained.{inside_in, text_about, told_in, told_of};
+ghost use Rattle.span_replay.specs.Explained.{inside_in, text_about, open_spans_in, open_span_of};
 ghost use Rattle.span_replay.specs.inside.Reaching.{reached_at, text_of};
 ghost use Rattle.span_replay.specs.inside.Running.{core_in};
 ghost use Rattle.span_script.specs.Operation.{Stage};
-ghost use Rattle.span_why.specs.Why.{plain_told};
+ghost use Rattle.span_why.specs.Why.{plain_open_span};
 
 use crate::run::reaching::{Reaching, named_by};
 use crate::run::script::Script;
@@ -72,7 +72,7 @@ fn write_out(
     ended: Result<u64, RunFault>,
 ) -> Result<Explained, RunFault>
     ensures text { IfOk result (λ explained. explained.text.items
-        ≡ text_of (map plain_told spans.now) (option_copied about.entry) id) }
+        ≡ text_of (map plain_open_span spans.now) (option_copied about.entry) id) }
     ensures ended { IfOk result (λ explained. explained.ended ≡ ended) }
     ensures memory { IfErr result (λ fault. fault ≡ RunFault.Memory) }
 {
@@ -93,7 +93,7 @@ fn write_about(
     id: Option<Id>,
 ) -> io::Result<()>
     ensures { OnOk result (text.new.items
-        ≡ text.old.items ++ text_of (map plain_told spans.now) (option_copied about.entry) id) }
+        ≡ text.old.items ++ text_of (map plain_open_span spans.now) (option_copied about.entry) id) }
 {
     match about {
         Some(_) => write_why_of(alloc, text, spans, id),
@@ -109,7 +109,7 @@ fn open_spans<V: Say, A: Admit>(
 ) -> Result<Vec<OpenSpan>, AllocError>
     requires { reaching.now.script.workers ≡ (core_in reaching.now.script).limits.workers }
     ensures { IfOk result (λ spans. (stage : Stage) →
-        map plain_told spans.items ≡ told_in (reached_at reaching.now stage)) }
+        map plain_open_span spans.items ≡ open_spans_in (reached_at reaching.now stage)) }
 {
     let Ok(details) = reaching.script.span_details() else {
         return Err(AllocError);
@@ -130,7 +130,7 @@ fn open_span<V: Say, A: Admit>(
 ) -> Result<OpenSpan, AllocError>
     requires { reaching.now.script.workers ≡ (core_in reaching.now.script).limits.workers }
     ensures { IfOk result (λ span. (stage : Stage) →
-        plain_told span ≡ told_of (reached_at reaching.now stage) (plain_details details)) }
+        plain_open_span span ≡ open_span_of (reached_at reaching.now stage) (plain_details details)) }
 {
     let inside = inside(alloc, &reaching.script, &details)?;
     let line = line_at(reaching.lines.as_slice(), details.id);

@@ -15,9 +15,9 @@ loop-worker-preserved g c =
     let step = c.in-Some.ensures.steps in
     let started = c.start.ensures in
     record {
-      same = moved_map (λ (party : PartyView g.row.G.Denot). party.worker) c.loop-worker.parties.items _ c.start.result _ _ _ _ (pushed g c) (ap (λ (party : PartyView g.row.G.Denot). party.worker) started) step.0 inv.same;
+      same = moved_map (λ (party : PartyView g.row.G.Denot). party.worker) c.loop-worker.parties.items _ c.start.result _ _ _ _ (pushed g c) started.worker step.0 inv.same;
       spare = (all_of_cons _ _ c.in-Some.worker step.0 (λ (worker : WorkerView). 3 ≤ worker.spare) inv.spare).1;
-      gates = all_grown _ _ c.start.result (pushed g c) (λ (party : PartyView g.row.G.Denot). party.gate ≡ c.args.gate.now) inv.gates (ap (λ (party : PartyView g.row.G.Denot). party.gate) started);
-      rounds = all_grown _ _ c.start.result (pushed g c) (λ (party : PartyView g.row.G.Denot). party.rounds ≡ c.args.rounds) inv.rounds (ap (λ (party : PartyView g.row.G.Denot). party.rounds) started);
+      gates = all_grown _ _ c.start.result (pushed g c) (λ (party : PartyView g.row.G.Denot). party.gate ≡ c.args.gate.now) inv.gates started.gate;
+      rounds = all_grown _ _ c.start.result (pushed g c) (λ (party : PartyView g.row.G.Denot). party.rounds ≡ c.args.rounds) inv.rounds started.rounds;
       room = omega (arith, inv.room, c.push_reserved.ensures.len, c.push_reserved.ensures.capacity, ap length step.0);
     }

@@ -4,7 +4,7 @@ use Rattle.span_why.proofs.tree.push_last_first.Given as goal
 -- the trees that were left are below those that come next
 abbrev pub invariant-loop-left : goal.invariant-loop-left
 invariant-loop-left l = record {
-  next : reverse l.pending.items ≡ map (λ span. record { levels = l.levels; span = span }) (drop l.left l.spans) ++ reverse l.initial.pending.items;
+  next : reverse l.pending.items ≡ map (λ span. record { depth = l.depth; span = span }) (drop l.left l.spans) ++ reverse l.initial.pending.items;
   in_range : l.left ≤ length l.spans;
 }
 

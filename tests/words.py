@@ -1,0 +1,124 @@
+#!/usr/bin/env python3
+"""Lists the public words of specs/ with more than one definition, and says whether they are those of words_twice.txt.
+
+    words.py [--all] [--same]
+
+A public word is one that docs/MODEL.md has. It is counted where it is defined, so one that a crate gives again, by
+`pub use`, counts once. Each line of words_twice.txt is a word with the crates that define it. Such a word has two
+meanings that want two names, or one meaning that wants one place: the list may only get shorter. A word twice that it
+doesn't have fails, and so does one that it has and that is no longer twice, or twice elsewhere.
+
+With --all it prints how many public words each crate defines. With --same it prints which words have the same
+definition but for their names, those of what they bind, and those of words that are themselves the same; a row is a
+place to look. The last line is 'N passed, M failed', and the status is 0 where nothing failed.
+"""
+import re
+import sys
+from collections import Counter
+from pathlib import Path
+
+from clauses import WORD, Repository
+from model_page import TOP, files_of
+
+LISTED = Path(__file__).resolve().parent / "words_twice.txt"
+
+
+def public_words(top):
+    """The modules that define each public word, as CRATE.MODULE."""
+    where = {}
+    for crate in sorted(path.name for path in top.joinpath("crates").iterdir()):
+        for module, file in files_of(crate, top):
+            for word, _ in file.words:
+                where.setdefault(word, []).append(f"{crate}.{module}")
+    return where
+
+
+def twice(where):
+    """Each word that has more than one definition, with the crates that define it."""
+    return {word: sorted(it.partition(".")[0] for it in modules) for word, modules in where.items() if len(modules) > 1}
+
+
+def read_list(text):
+    """What a list says: a line is `WORD: CRATE CRATE ..`, and one that begins with '#' is a comment."""
+    rows = [line.partition(":") for line in text.splitlines() if line and not line.startswith("#")]
+    return {word: sorted(crates.split()) for word, _, crates in rows}
+
+
+def differences(where, listed):
+    """What a word fails by, for each word that is defined twice or listed: nothing where it is listed as it is."""
+    found = twice(where)
+    for word in sorted({*found, *listed}):
+        if word not in listed:
+            yield f"{word} has {len(where[word])} definitions: {' '.join(where[word])}"
+        elif word not in found:
+            yield f"{word} no longer has two definitions: its line in {LISTED.name} goes"
+        elif found[word] != listed[word]:
+            yield f"{word} is defined in {' '.join(found[word])}, and listed for {' '.join(listed[word])}"
+        else:
+            yield None
+
+
+def clauses_of(definition):
+    """A definition's lines without comments; those of a function or a relation without its type."""
+    lines = [re.sub(r"(^|\s)(--|//).*", "", line) for line in definition.lines]
+    at = next((i for i, line in enumerate(lines[1:], 1) if re.match(re.escape(definition.name) + r"(\s|$)", line)), 0)
+    return "\n".join(lines[at:])
+
+
+def shape(definition, repository, classes):
+    """A definition with a number for each name that it binds, and for each word of specs/ the class of that word."""
+    spec, bound = repository.specs[definition.module], {}
+
+    def named(match):
+        name = match[1]
+        if match.string[match.start() - 1:match.start()] == ".":
+            return name
+        if name == definition.name:
+            return "ITSELF"
+        if name not in spec.names and name not in spec.inner and name not in spec.imports:
+            return f"${bound.setdefault(name, len(bound))}"
+        module, original = spec.imports.get(name, (definition.module, name))
+        found = repository.find(module, original)
+        is_word = found and original == found.name and found.kind != "code"
+        return str(classes.get((module, original), f"{module}.{original}")) if is_word else original
+
+    return " ".join(WORD.sub(named, clauses_of(definition)).split())
+
+
+def same_words(top, where):
+    """The public words whose definitions are the same, in groups. All pass for the same until something differs."""
+    repository = Repository(str(top))
+    keys = [(f"Rattle.{crate}.specs.{module}", word) for word, modules in where.items()
+            for crate, module in (it.split(".") for it in modules)]
+    found = {key: repository.specs[key[0]].names[key[1]] for key in keys if key[1] in repository.specs[key[0]].names}
+    classes, before = dict.fromkeys(found, 0), 0
+    while before != len(set(classes.values())):
+        before, numbers = len(set(classes.values())), {}
+        shapes = {key: (classes[key], shape(it, repository, classes)) for key, it in found.items()}
+        classes = {key: numbers.setdefault(said, len(numbers)) for key, said in shapes.items()}
+    groups = {}
+    for key, number in classes.items():
+        groups.setdefault(number, []).append(".".join((*key[0].split(".")[1::2], key[1])))
+    return [sorted(group) for group in groups.values() if len(group) > 1]
+
+
+def main():
+    if not {*sys.argv[1:]} <= {"--all", "--same"}:
+        sys.exit(__doc__)
+    where, passed, failed = public_words(TOP), 0, 0
+    for said in differences(where, read_list(LISTED.read_text(encoding="utf-8"))):
+        passed, failed = passed + (said is None), failed + (said is not None)
+        if said:
+            print(f"FAILED {said}")
+    if "--all" in sys.argv:
+        for crate, number in Counter(it.partition(".")[0] for modules in where.values() for it in modules).items():
+            print(f"{crate}: {number}")
+        print(f"in all {len(where)} public words, {len(twice(where))} of them with more than one definition")
+    for group in same_words(TOP, where) if "--same" in sys.argv else []:
+        print(f"the same: {' '.join(group)}")
+    print(f"{passed} passed, {failed} failed")
+    return 1 if failed else 0
+
+
+if __name__ == "__main__":
+    sys.exit(main())
