@@ -40,7 +40,7 @@ NOT_MEASURED = {
     "bench/README.md": ["2 GB of memory", "over 1.2 where"],
     "crates/span_benchmark/README.md": ["15 MB each"],
     "docs/BENCHMARKS.md": ["entered 390 times", "53 times the script"],
-    "docs/DECISIONS.md": ["at most 75 minutes", "costs 2 to 3 seconds by itself"],
+    "docs/DECISIONS.md": ["at most 75 minutes"],
     "docs/FORMATS.md": ["60 seconds"],
     "rust/README.md": ["(1.82 or later)"],
 }
@@ -87,6 +87,10 @@ def cell(template, row):
     return "" if any(row.get(name) is None for name in names_in(template)) else template.format(**row)
 
 
+def line(cells):
+    return "|" + "".join(f" {it} |" if it else " |" for it in cells)
+
+
 def said_of(data):
     """When and where it was measured, and who says so."""
     place = f"{data['date']}, {data['machine']}, {data['processors']} processors"
@@ -96,10 +100,10 @@ def said_of(data):
 def block(name, data, page):
     """The table of a file for a page, and the line below it."""
     heads, cells = [head.strip() for head in data["table"]], list(data["table"].values())
-    lines = [heads, ["---"] + ["---:"] * (len(heads) - 1)]
-    lines += [[cell(it, row) for it in cells] for row in data["rows"]]
+    lines = [line(heads), "|---|" + "---:|" * (len(heads) - 1)]
+    lines += [line(cell(it, row) for it in cells) for row in data["rows"]]
     to = os.path.relpath(FOLDER / f"{name}.json", (TOP / page).parent)
-    return "".join(f"| {' | '.join(line)} |\n" for line in lines) + f"\n*[{said_of(data)}]({to}).*\n"
+    return "\n".join(lines) + f"\n\n*[{said_of(data)}]({to}).*\n"
 
 
 def pattern_of(template):
