@@ -126,7 +126,7 @@ def filled(page, text, figures):
 
 
 def sources(figures, pages):
-    """Each file says where its figures come from, has no name that is in no text, and stands in a page."""
+    """Each file says where its figures come from, has what its texts name, and stands in a page."""
     used = {name for text in pages.values() for name in FIGURES.findall(text)}
     for name in sorted(used | {*figures}):
         data = figures.get(name, {})
