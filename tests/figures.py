@@ -4,7 +4,8 @@
 usage: figures.py [--write]
 
 bench/figures/NAME.json says when something was measured, where, on which commit, by what command and who says so, and
-what came out: records in `rows`, or numbers by their names in `values`. What isn't known of it is `not known`.
+what came out: records in `rows`, or numbers by their names in `values`. What isn't known of it is `not known`; a
+figure that is taken from a page has the toolchain that README named with it.
 - `table` has the columns of a table of the rows: of each its head (a blank after it makes it another one), and its
   cells as Python's `format` writes them. A cell whose value a row hasn't is empty. The table stands in a page between
   `<!-- figures NAME -->` and `<!-- end -->`, with a line that says where it comes from.
@@ -93,7 +94,8 @@ def line(cells):
 
 def said_of(data):
     """When and where it was measured, and who says so."""
-    place = f"{data['date']}, {data['machine']}, {data['processors']} processors"
+    machine = "machine not known" if data["machine"] == "not known" else data["machine"]
+    place = f"{data['date']}, {machine}, {data['processors']} processors"
     return f"{place}, commit {data['commit']}; {data['source']}"
 
 
