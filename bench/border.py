@@ -54,7 +54,7 @@ def told_by_rust(library):
 
 
 def record(of_c, of_rust):
-    """The figures of each number of layers and fields, and of what a call costs more by the package, and by its lock."""
+    """The figures of each number of layers and fields, and what a call costs more by the package, and by its lock."""
     rows = {}
     for layers, fields, at_callsite, cost, reading in of_c:
         row = rows.setdefault((layers, fields), {"layers": layers, "fields": fields})

@@ -198,11 +198,11 @@ def call():
 # How many places a ring has, how many batches were sent, and how many of them were taken.
 PLACES, SENT, TAKEN = 8, 9, 5
 BETWEEN = (
-    f"On one side the core, under the lock: before a call changes anything it asks for a place. Where none is free the "
-    f"call is refused as Backlog; else its notes are put, which can't fail. Between them {PLACES} places: {SENT} batches "
-    f"were sent, {TAKEN} of them taken, so {SENT - TAKEN} wait and {PLACES - SENT + TAKEN} places are free. On the other "
-    "side another thread, which takes no lock, takes the batches out in order and writes their lines. What was sent is "
-    "what was taken, and then what waits.")
+    "On one side the core, under the lock: before a call changes anything it asks for a place. Where none is free the "
+    "call is refused as Backlog; else its notes are put, which can't fail. Between them "
+    f"{PLACES} places: {SENT} batches were sent, {TAKEN} of them taken, so {SENT - TAKEN} wait and "
+    f"{PLACES - SENT + TAKEN} places are free. On the other side another thread, which takes no lock, takes the batches "
+    "out in order and writes their lines. What was sent is what was taken, and then what waits.")
 
 
 def ring():
@@ -228,8 +228,8 @@ def ring():
     picture.text(790, 166, f"the lines of 1 to {TAKEN}", "count", "middle")
     picture.line((250, 166), (250, 174), (end, 174), (end, 166), arrow=False)
     picture.text((250 + end) / 2, 158, f"the ring: {PLACES} places", "name", "middle")
-    picture.text((250 + end) / 2, 196, f"1 to {SENT} were sent: 1 to {TAKEN} are taken, {TAKEN + 1} to {SENT} wait", "small",
-                 "middle")
+    sent = f"1 to {SENT} were sent: 1 to {TAKEN} are taken, {TAKEN + 1} to {SENT} wait"
+    picture.text((250 + end) / 2, 196, sent, "small", "middle")
     return picture
 
 
@@ -244,7 +244,8 @@ def peer():
     files = {name: read_figures()[name] for name in ("scripts", "storms")}
     rows = [(row["kind"], row) for row in files["scripts"]["rows"]]
     rows += [(f"storm, workers: {row['workers']}", row) for row in files["storms"]["rows"]]
-    bars = [(name, [(what, row[key], kind) for what, (key, kind) in COMPARED.items() if key in row]) for name, row in rows]
+    bars = [(name, [(what, row[key], kind) for what, (key, kind) in COMPARED.items() if key in row])
+            for name, row in rows]
     told = "; ".join(f"{name}: " + ", ".join(f"{what} {ratio:.2f}" for what, ratio, _ in of) for name, of in bars)
     sources = list(dict.fromkeys(line for data in files.values() for line in said_of(data).split("; ")))
     most = math.ceil(max(ratio for _, of in bars for _, ratio, _ in of))
@@ -252,7 +253,8 @@ def peer():
     bottom = top + down * len(bars)
     picture = Picture(860, bottom + 22 + 17 * len(sources), "What tracerun takes by what the peer takes",
                       f"{told}. {'; '.join(sources)}.")
-    picture.text(16, 26, "What tracerun takes, by what the peer takes, a program that does the same and has no proof", "name")
+    title = "What tracerun takes, by what the peer takes, a program that does the same and has no proof"
+    picture.text(16, 26, title, "name")
     for number, (what, (_, kind)) in enumerate(COMPARED.items()):
         picture.bar(16 + 150 * number, 42, 13, 13, kind, 2)
         picture.text(36 + 150 * number, 53, what)

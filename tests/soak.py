@@ -8,8 +8,8 @@ minutes is found by a short run first. The numbers at the end have to agree, and
 and not given back may be MARGIN more in the whole run than in its first minute (its first half, where it has less than
 two minutes): `count_memory.c`, loaded before the C library, counts them. The resident size of each minute is shown and
 not judged, as the C library keeps what was given back. With --figures what a good run has of numbers goes to
-bench/figures/long-run.json, from where figures.py takes it to the pages. The last line is 'N passed, M failed'; the status is 0 where
-nothing failed.
+bench/figures/long-run.json, from where figures.py takes it to the pages. The last line is 'N passed, M failed'; the
+status is 0 where nothing failed.
 """
 import argparse
 import os
