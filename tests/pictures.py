@@ -201,8 +201,8 @@ BETWEEN = (
     "On one side the core, under the lock: before a call changes anything it asks for a place. Where none is free the "
     "call is refused as Backlog; else its notes are put, which can't fail. Between them "
     f"{PLACES} places: {SENT} batches were sent, {TAKEN} of them taken, so {SENT - TAKEN} wait and "
-    f"{PLACES - SENT + TAKEN} places are free. On the other side another thread, which takes no lock, takes the batches "
-    "out in order and writes their lines. What was sent is what was taken, and then what waits.")
+    f"{PLACES - SENT + TAKEN} places are free. On the other side another thread, which takes no lock, takes the "
+    "batches out in order and writes their lines. What was sent is what was taken, and then what waits.")
 
 
 def ring():

@@ -14,8 +14,9 @@ use Rattle.span_registry.specs.Worker.{WorkerView, IsNew}
 use Rattle.span_registry.specs.Share.{ShareView}
 use Rattle.span_storm.specs.declared.stopped.Stopped.{Stopped}
 use Rattle.span_storm.specs.declared.stopped.Stopped.TheVariants.{Memory, Refused, Held}
-use Rattle.span_storm.specs.Storm.{WasHeld, WasRefused}
-use Rattle.span_storm.specs.inside.Back.{AreBothBack, ComesBack, DrainingView, Gathers, GathersSeen, HasAll, HasOwn, IsDrainsStop, IsSameDrain, IsStop, IsStormStop, IsWorkersStop, PartyView, both_shares, numbers_seen, share_and_drain, Fit}
+use Rattle.span_storm.specs.Storm.{AreOfRounds, IsOneOf, IsParty, WasHeld, WasRefused}
+use Rattle.span_storm.specs.Storm.IsParty.{is_worker, is_drain}
+use Rattle.span_storm.specs.inside.Back.{AreBothBack, ComesBack, DrainingView, Gathers, GathersSeen, HasAll, HasOwn, IsAt, IsCallOf, IsDrainsStop, IsSameDrain, IsStop, IsStormStop, IsWorkersStop, PartyView, both_shares, numbers_seen, share_and_drain, Fit}
 
 -- ---- lists that grow
 
@@ -53,36 +54,47 @@ stop_wider R R' P P' refused held (Refused fault) stop = refused fault stop
 stop_wider R R' P P' refused held (Held party) stop = held party stop
 
 module _ (limits : Limits) (rules : List Filter) (holds : ℕ → ℕ → Type 0) where
-  refused_wider : (P Q : ℕ → Type 0) → ((n : ℕ) → P n → Q n) → (fault : Fault) → WasRefused limits rules P fault → WasRefused limits rules Q fault
+  refused_wider : (P Q : ℕ → ℕ → Type 0) → ((n k : ℕ) → P n k → Q n k) → (fault : Fault) → WasRefused limits rules P fault → WasRefused limits rules Q fault
   refused_wider P Q wider fault was = record {
     may_come = was.may_come;
     worker = was.worker;
-    worker_is = wider was.worker was.worker_is;
-    request = was.request;
-    call = was.call;
     core = was.core;
     limits_are = was.limits_are;
     rules_are = was.rules_are;
     legal = was.legal;
+    own_are = was.own_are;
+    worker_is = wider was.worker (length (own was.worker was.core.sent)) was.worker_is;
+    request = was.request;
+    call = was.call;
     why = was.why;
   }
 
-  held_wider : (P Q : ℕ → Type 0) → ((n : ℕ) → P n → Q n) → (party : ℕ) → WasHeld holds P party → WasHeld holds Q party
-  held_wider P Q wider party was = record { party_is = wider party was.party_is; call = was.call; held = was.held }
+  held_wider : (P Q : ℕ → ℕ → Type 0) → ((n k : ℕ) → P n k → Q n k) → (party : ℕ) → WasHeld holds P party → WasHeld holds Q party
+  held_wider P Q wider party was = record { calls = was.calls; party_is = wider party was.calls was.party_is; held = was.held }
 
-  workers_wider : {T : Type 0} (P Q : ℕ → Type 0) → ((n : ℕ) → P n → Q n) → (r : Result T Stopped) → IfErr r (IsWorkersStop limits rules holds P) → IfErr r (IsWorkersStop limits rules holds Q)
-  workers_wider P Q wider (Ok _) stop = tt
-  workers_wider P Q wider (Err stopped) stop =
+  pub stopped_wider : (P Q : ℕ → ℕ → Type 0) → ((n k : ℕ) → P n k → Q n k) → (stopped : Stopped) → IsWorkersStop limits rules holds P stopped → IsWorkersStop limits rules holds Q stopped
+  stopped_wider P Q wider stopped stop =
       stop_wider (WasRefused limits rules P) (WasRefused limits rules Q) (WasHeld holds P) (WasHeld holds Q) (refused_wider P Q wider) (held_wider P Q wider) stopped stop
 
-  as_one : {T : Type 0} (n k : ℕ) (r : Result T Stopped) → k < n → IfErr r (IsWorkersStop limits rules holds (λ party. party ≡ k)) → IfErr r (IsWorkersStop limits rules holds (λ party. party < n))
-  as_one n k r low stop = workers_wider (λ party. party ≡ k) (λ party. party < n) (λ party is. subst (λ x. x < n) (sym is) low) r stop
+  workers_wider : {T : Type 0} (P Q : ℕ → ℕ → Type 0) → ((n k : ℕ) → P n k → Q n k) → (r : Result T Stopped) → IfErr r (IsWorkersStop limits rules holds P) → IfErr r (IsWorkersStop limits rules holds Q)
+  workers_wider P Q wider (Ok _) stop = tt
+  workers_wider P Q wider (Err stopped) stop = stopped_wider P Q wider stopped stop
+
+  -- a worker that has made some calls of its rounds, and not all
+  pub stopped_at : (worker : WorkerView) (number rounds : ℕ) → worker.number ≡ number → worker.accepted < 9 * rounds → (stopped : Stopped) → IsWorkersStop limits rules holds (IsAt worker) stopped
+      → IsWorkersStop limits rules holds (IsCallOf number rounds) stopped
+  stopped_at worker number rounds is few stopped stop =
+      stopped_wider (IsAt worker) (IsCallOf number rounds) (λ party calls at. (at.0 ∙ is, subst (λ n. n < 9 * rounds) (sym at.1) few)) stopped stop
+
+  as_one : {T : Type 0} (n k rounds made : ℕ) (r : Result T Stopped) → k < n → made ≡ rounds → IfErr r (IsWorkersStop limits rules holds (IsCallOf k made)) → IfErr r (IsWorkersStop limits rules holds (IsOneOf n rounds))
+  as_one n k rounds made r low same stop =
+      workers_wider (IsCallOf k made) (IsOneOf n rounds) (λ party calls is. (subst (λ x. x < n) (sym is.0) low, subst (λ x. calls < 9 * x) same is.1)) r stop
 
 -- one of the workers, at the gate that all ask
-pub stopped_as_one : {T Gate : Type 0} (limits : Limits) (rules : List Filter) (holds : Gate → ℕ → ℕ → Type 0) (at gate : Gate) (n k : ℕ) (r : Result T Stopped)
-    → at ≡ gate → k < n → IfErr r (IsWorkersStop limits rules (holds at) (λ party. party ≡ k)) → IfErr r (IsWorkersStop limits rules (holds gate) (λ party. party < n))
-stopped_as_one limits rules holds at gate n k r same low stop =
-    as_one limits rules (holds gate) n k r low (subst (λ x. IfErr r (IsWorkersStop limits rules (holds x) (λ party. party ≡ k))) same stop)
+pub stopped_as_one : {T Gate : Type 0} (limits : Limits) (rules : List Filter) (holds : Gate → ℕ → ℕ → Type 0) (at gate : Gate) (n k rounds made : ℕ) (r : Result T Stopped)
+    → at ≡ gate → k < n → made ≡ rounds → IfErr r (IsWorkersStop limits rules (holds at) (IsCallOf k made)) → IfErr r (IsWorkersStop limits rules (holds gate) (IsOneOf n rounds))
+stopped_as_one limits rules holds at gate n k rounds made r same low are stop =
+    as_one limits rules (holds gate) n k rounds made r low are (subst (λ x. IfErr r (IsWorkersStop limits rules (holds x) (IsCallOf k made))) same stop)
 
 -- of two
 pub stopped_also : (P : Stopped → Type 0) (whole r next : Result ShareView Stopped) → next ≡ both_shares whole r → IfErr whole P → IfErr r P → IfErr next P
@@ -217,9 +229,9 @@ module _ {Gate : Type 0} (count : ℕ) (workers : List WorkerView) (parties : Li
       subst (λ k. All (λ (party : PartyView Gate). party.worker.number < k) parties) (sym as_many)
       (all_of_map (λ (party : PartyView Gate). party.worker) parties workers same (λ worker. worker.number < count) all)
 
-  pub stopped_of : (limits : Limits) (rules : List Filter) (holds : ℕ → ℕ → Type 0) (r : Result ShareView Stopped) → IfErr r (IsWorkersStop limits rules holds (λ party. party < length parties))
-      → IfErr r (IsWorkersStop limits rules holds (λ party. party < count))
-  stopped_of limits rules holds r stop = subst (λ k. IfErr r (IsWorkersStop limits rules holds (λ party. party < k))) as_many stop
+  pub stopped_of : (limits : Limits) (rules : List Filter) (holds : ℕ → ℕ → Type 0) (rounds : ℕ) (r : Result ShareView Stopped) → IfErr r (IsWorkersStop limits rules holds (IsOneOf (length parties) rounds))
+      → IfErr r (IsWorkersStop limits rules holds (IsOneOf count rounds))
+  stopped_of limits rules holds rounds r stop = subst (λ k. IfErr r (IsWorkersStop limits rules holds (IsOneOf k rounds))) as_many stop
 
 -- the workers and the drain, whose number is that of all workers
 module _ (whole : Result ShareView Stopped) (drain : Result DrainView Stopped) (r : Result (ShareView × DrainView) Stopped) (is : r ≡ share_and_drain whole drain) where
@@ -230,17 +242,17 @@ module _ (whole : Result ShareView Stopped) (drain : Result DrainView Stopped) (
     each (Ok whole) (Err fault) a b = tt
     each (Ok whole) (Ok drain) a b = record { whole = a; drain = b }
 
-  pub stopped_of_both : (limits : Limits) (rules : List Filter) (holds : ℕ → ℕ → Type 0) (count party : ℕ) → IfErr whole (IsWorkersStop limits rules holds (λ other. other < count)) → IfErr drain (IsDrainsStop holds party) → party ≡ count
-      → IfErr r (IsStormStop limits rules holds count)
-  stopped_of_both limits rules holds count party a b last = subst (λ x. IfErr x (IsStormStop limits rules holds count)) (sym is) (each whole drain a b) where
-    each : (whole : Result ShareView Stopped) (drain : Result DrainView Stopped) → IfErr whole (IsWorkersStop limits rules holds (λ other. other < count)) → IfErr drain (IsDrainsStop holds party)
-        → IfErr (share_and_drain whole drain) (IsStormStop limits rules holds count)
+  pub stopped_of_both : (limits : Limits) (rules : List Filter) (holds : ℕ → ℕ → Type 0) (count party rounds : ℕ) → IfErr whole (IsWorkersStop limits rules holds (IsOneOf count rounds)) → IfErr drain (IsDrainsStop holds party) → party ≡ count
+      → IfErr r (IsStormStop limits rules holds count rounds)
+  stopped_of_both limits rules holds count party rounds a b last = subst (λ x. IfErr x (IsStormStop limits rules holds count rounds)) (sym is) (each whole drain a b) where
+    each : (whole : Result ShareView Stopped) (drain : Result DrainView Stopped) → IfErr whole (IsWorkersStop limits rules holds (IsOneOf count rounds)) → IfErr drain (IsDrainsStop holds party)
+        → IfErr (share_and_drain whole drain) (IsStormStop limits rules holds count rounds)
     each (Err stopped) drain a b =
-        stop_wider (WasRefused limits rules (λ other. other < count)) (WasRefused limits rules (λ other. other < count)) (WasHeld holds (λ other. other < count)) (WasHeld holds (λ other. other ≤ count))
-        (λ fault was. was) (held_wider limits rules holds (λ other. other < count) (λ other. other ≤ count) (λ other low. omega (arith, low))) stopped a
+        stop_wider (WasRefused limits rules (IsOneOf count rounds)) (WasRefused limits rules (IsOneOf count rounds)) (WasHeld holds (IsOneOf count rounds)) (WasHeld holds (IsParty count rounds))
+        (λ fault was. was) (held_wider limits rules holds (IsOneOf count rounds) (IsParty count rounds) (λ other calls one. is_worker one)) stopped a
     each (Ok whole) (Err stopped) a b =
-        stop_wider (λ _. ⊥) (WasRefused limits rules (λ other. other < count)) (WasHeld holds (λ other. other ≡ party)) (WasHeld holds (λ other. other ≤ count))
-        (λ fault none. absurd none) (held_wider limits rules holds (λ other. other ≡ party) (λ other. other ≤ count) (λ other same. omega (arith, same, last))) stopped b
+        stop_wider (λ _. ⊥) (WasRefused limits rules (IsOneOf count rounds)) (WasHeld holds (λ other calls. (other ≡ party) × (calls ≡ 0))) (WasHeld holds (IsParty count rounds))
+        (λ fault none. absurd none) (held_wider limits rules holds (λ other calls. (other ≡ party) × (calls ≡ 0)) (IsParty count rounds) (λ other calls same. is_drain (same.0 ∙ last) same.1)) stopped b
     each (Ok whole) (Ok drain) a b = tt
 
 -- what comes back of the drain, whose thread was started so
@@ -254,10 +266,10 @@ module _ {Gate : Type 0} (holds : Gate → ℕ → ℕ → Type 0) (draining : D
 
 -- ---- the end
 
--- each of so many workers, whose calls are all in the history, has as many of its own there as it saw
+-- each of so many workers, whose calls are all in the history, has those of its own there that it saw
 pub each_made : (seen : List FrontView) (workers : List WorkerView) (sent : List PlainBatch) (count calls : ℕ) → length seen ≡ count → numbers_seen seen ≡ map (λ worker. worker.number) workers
     → ((i : ℕ) (d : WorkerView) → i < count → IsNew i (get_or workers i d)) → All (HasOwn calls) seen → All (λ front. IsFront front sent) seen
-    → (worker : ℕ) → worker < count → length (own worker sent) ≡ calls
+    → (worker : ℕ) → worker < count → (length (own worker sent) ≡ calls) × AreOfRounds worker (own worker sent)
 each_made seen workers sent count calls long numbers new own_are fronts worker low =
     let some : FrontView = record { number = 0; seen = [] } in
     let none : WorkerView = record { number = 0; accepted = 0; spare = 0; seen = [] } in
@@ -269,4 +281,5 @@ each_made seen workers sent count calls long numbers new own_are fronts worker l
     ∙ ap (λ l. get_or l worker 0) numbers
     ∙ get_or-map (λ (worker : WorkerView). worker.number) workers worker none 0 there
     ∙ (new worker none low).number_is in
-    ap (λ n. length (own n sent)) (sym number) ∙ sym (ap length (fronts worker some here).own_are) ∙ own_are worker some here
+    subst (λ n. (length (own n sent) ≡ calls) × AreOfRounds n (own n sent)) number
+    (subst (λ l. (length l ≡ calls) × AreOfRounds front.number l) (fronts worker some here).own_are (own_are worker some here))

@@ -1,7 +1,7 @@
 //! The workers' threads.
 ghost use Rattle.std.specs.Prelude.{◌≡◌, ◌≤◌, true, IfOk, IfErr, IfSome};
 ghost use Rattle.span_storm.specs.Storm.{wants_jobs};
-ghost use Rattle.span_storm.specs.inside.Back.{ComesBack, IsWorkersStop, PartyView};
+ghost use Rattle.span_storm.specs.inside.Back.{ComesBack, IsCallOf, IsWorkersStop, PartyView};
 
 use crate::gate::Gate;
 use crate::metas::Metas;
@@ -25,11 +25,11 @@ pub(crate) struct Back<H: Ledger, C: Ledger, S: Setup, G> {
 impl<H: Ledger, C: Ledger, S: Setup, G: Gate> Promise<Result<Share<H, C, S>, Stopped>>
     for Back<H, C, S, G> {
     ghost use Rattle.std.specs.Prelude.{◌≡◌, IfOk, IfErr};
-    ghost use Rattle.span_storm.specs.inside.Back.{ComesBack, IsWorkersStop};
+    ghost use Rattle.span_storm.specs.inside.Back.{ComesBack, IsCallOf, IsWorkersStop};
 
     ghost kept_by = { λ back result. IfOk result (λ share. ComesBack back.worker.value back.rounds share)
         × IfErr result (IsWorkersStop S.limits S.rules (G.holds back.gate.value)
-        (λ party. party ≡ back.worker.value.number)) };
+        (IsCallOf back.worker.value.number back.rounds)) };
 }
 
 /// A worker in its thread, if one could be made.
@@ -59,7 +59,7 @@ impl<H: Ledger, C: Ledger, S: Setup, G: Gate> Party<H, C, S, G> {
     pub(crate) fn join<R: Threads>(self, rt: &R) -> Result<Share<H, C, S>, Stopped>
         ensures back { IfOk result (λ share. ComesBack self.worker self.rounds share) }
         ensures stopped { IfErr result
-            (IsWorkersStop S.limits S.rules (G.holds self.gate) (λ party. party ≡ self.worker.number)) }
+            (IsWorkersStop S.limits S.rules (G.holds self.gate) (IsCallOf self.worker.number self.rounds)) }
     {
         let Party {
             worker: _,
@@ -93,6 +93,7 @@ pub(crate) fn start<
     rounds: u32,
 ) -> Party<H, C, S, G>
     requires wanted { wants_jobs S.rules ≡ true }
+    requires new { worker.accepted ≡ 0 }
     requires spare { 3 ≤ worker.spare }
     ensures worker { result.worker ≡ worker }
     ensures gate { result.gate ≡ gate.now }
@@ -108,10 +109,11 @@ pub(crate) fn start<
         promise,
         move || -> Result<Share<H, C, S>, Stopped>
             requires wanted { wants_jobs S.rules ≡ true }
+            requires new { worker.accepted ≡ 0 }
             requires spare { 3 ≤ worker.spare }
             ensures back { IfOk result (λ share. ComesBack worker rounds share) }
             ensures stopped { IfErr result
-                (IsWorkersStop S.limits S.rules (G.holds gate.entry.now) (λ party. party ≡ worker.number)) }
+                (IsWorkersStop S.limits S.rules (G.holds gate.entry.now) (IsCallOf worker.number rounds)) }
         { work(rt, registry, gate, metas, worker, rounds) },
     );
     Party {

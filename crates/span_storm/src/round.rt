@@ -1,12 +1,13 @@
 //! What one worker does.
-ghost use Rattle.std.specs.Prelude.{◌≡◌, ◌+◌, ◌*◌, ◌-◌, ◌<◌, ◌≤◌, true, codes, IfOk, IfErr, OnOk};
+ghost use Rattle.std.specs.Prelude.{◌≡◌, ◌+◌, ◌*◌, ◌-◌, ◌%◌, ◌^◌, ◌<◌, ◌≤◌, true, codes, length, IfOk, IfErr, OnOk, OnErr};
 ghost use Rattle.span_id.specs.Meta.{plain_meta};
 ghost use Rattle.span_registry.specs.Worker.{after_call};
 ghost use Rattle.span_core.specs.Step.{is_wanted};
 ghost use Rattle.span_core.specs.World.{World};
 ghost use Rattle.span_core.specs.Parent.{parent_found};
-ghost use Rattle.span_storm.specs.Storm.{IsSpanOfRound, app_meta, wants_jobs};
-ghost use Rattle.span_storm.specs.inside.Back.{ComesBack, IsWorkersStop};
+ghost use Rattle.span_storm.specs.Storm.{IsPlaceOfClose, IsSpanOfRound, app_meta, wants_jobs};
+ghost use Rattle.span_history.specs.Own.{own};
+ghost use Rattle.span_storm.specs.inside.Back.{ComesBack, HasRounds, IsAt, IsCallOf, IsWorkersStop};
 
 use crate::gate::Gate;
 use crate::held::Held;
@@ -27,12 +28,14 @@ pub(crate) fn work<H: Ledger, C: Ledger, S: Setup, G: Gate, R: Wait>(
     rounds: u32,
 ) -> Result<Share<H, C, S>, Stopped>
     requires wanted { wants_jobs S.rules ≡ true }
+    requires new { worker.accepted ≡ 0 }
     requires spare { 3 ≤ worker.spare }
     ensures back { IfOk result (λ share. ComesBack worker rounds share) }
     ensures stopped { IfErr result
-        (IsWorkersStop S.limits S.rules (G.holds gate.now) (λ party. party ≡ worker.number)) }
+        (IsWorkersStop S.limits S.rules (G.holds gate.now) (IsCallOf worker.number rounds)) }
 {
     let mut worker = worker;
+    let _none = worker.accepted();
     match make_rounds(rt, registry, gate, metas, &mut worker, rounds) {
         Ok(()) => {
             let _own = worker.accepted();
@@ -53,11 +56,15 @@ fn make_rounds<H: Ledger, C: Ledger, S: Setup, G: Gate, R: Wait>(
 ) -> Result<(), Stopped>
     requires wanted { wants_jobs S.rules ≡ true }
     requires spare { 3 ≤ worker.old.spare }
-    ensures number { OnOk result (worker.new.number ≡ worker.old.number) }
+    requires place { worker.old.accepted % 9 ≡ 0 }
+    requires rounds { HasRounds worker.old }
+    requires low { worker.old.accepted + 9 * rounds < 2 ^ 64 }
+    ensures number { worker.new.number ≡ worker.old.number }
     ensures accepted { OnOk result (worker.new.accepted ≡ worker.old.accepted + 9 * rounds) }
     ensures spare { OnOk result (worker.new.spare ≡ worker.old.spare) }
-    ensures stopped { IfErr result
-        (IsWorkersStop S.limits S.rules (G.holds gate.now) (λ party. party ≡ worker.old.number)) }
+    ensures rounds { OnOk result (HasRounds worker.new) }
+    ensures fewer { OnErr result (worker.new.accepted < worker.old.accepted + 9 * rounds) }
+    ensures stopped { IfErr result (IsWorkersStop S.limits S.rules (G.holds gate.now) (IsAt worker.new)) }
 {
     for _ in 0..rounds {
         round(rt, registry, gate, metas, worker)?;
@@ -75,11 +82,15 @@ fn round<H: Ledger, C: Ledger, S: Setup, G: Gate, R: Wait>(
 ) -> Result<(), Stopped>
     requires wanted { wants_jobs S.rules ≡ true }
     requires spare { 3 ≤ worker.old.spare }
-    ensures number { OnOk result (worker.new.number ≡ worker.old.number) }
+    requires place { worker.old.accepted % 9 ≡ 0 }
+    requires rounds { HasRounds worker.old }
+    requires low { worker.old.accepted + 9 < 2 ^ 64 }
+    ensures number { worker.new.number ≡ worker.old.number }
     ensures accepted { OnOk result (worker.new.accepted ≡ worker.old.accepted + 9) }
     ensures spare { OnOk result (worker.new.spare ≡ worker.old.spare) }
-    ensures stopped { IfErr result
-        (IsWorkersStop S.limits S.rules (G.holds gate.now) (λ party. party ≡ worker.old.number)) }
+    ensures rounds { OnOk result (HasRounds worker.new) }
+    ensures fewer { OnErr result (worker.new.accepted < worker.old.accepted + 9) }
+    ensures stopped { IfErr result (IsWorkersStop S.limits S.rules (G.holds gate.now) (IsAt worker.new)) }
 {
     match open(rt, registry, gate, worker, &metas.job, ParentOf::Root) {
         Ok(job) => with_job(rt, registry, gate, metas, worker, job),
@@ -98,11 +109,15 @@ fn with_job<H: Ledger, C: Ledger, S: Setup, G: Gate, R: Wait>(
 ) -> Result<(), Stopped>
     requires wanted { wants_jobs S.rules ≡ true }
     requires spare { 2 ≤ worker.old.spare }
-    ensures number { OnOk result (worker.new.number ≡ worker.old.number) }
+    requires place { worker.old.accepted % 9 ≡ 1 }
+    requires rounds { HasRounds worker.old }
+    requires low { worker.old.accepted + 8 < 2 ^ 64 }
+    ensures number { worker.new.number ≡ worker.old.number }
     ensures accepted { OnOk result (worker.new.accepted ≡ worker.old.accepted + 8) }
     ensures spare { OnOk result (worker.new.spare ≡ worker.old.spare + 1) }
-    ensures stopped { IfErr result
-        (IsWorkersStop S.limits S.rules (G.holds gate.now) (λ party. party ≡ worker.old.number)) }
+    ensures rounds { OnOk result (HasRounds worker.new) }
+    ensures fewer { OnErr result (worker.new.accepted < worker.old.accepted + 8) }
+    ensures stopped { IfErr result (IsWorkersStop S.limits S.rules (G.holds gate.now) (IsAt worker.new)) }
 {
     let mut job = job;
     match with_clone(rt, registry, gate, metas, worker, &mut job.handle) {
@@ -122,11 +137,15 @@ fn with_clone<H: Ledger, C: Ledger, S: Setup, G: Gate, R: Wait>(
 ) -> Result<(), Stopped>
     requires wanted { wants_jobs S.rules ≡ true }
     requires spare { 2 ≤ worker.old.spare }
-    ensures number { OnOk result (worker.new.number ≡ worker.old.number) }
+    requires place { worker.old.accepted % 9 ≡ 1 }
+    requires rounds { HasRounds worker.old }
+    requires low { worker.old.accepted + 7 < 2 ^ 64 }
+    ensures number { worker.new.number ≡ worker.old.number }
     ensures accepted { OnOk result (worker.new.accepted ≡ worker.old.accepted + 7) }
     ensures spare { OnOk result (worker.new.spare ≡ worker.old.spare) }
-    ensures stopped { IfErr result
-        (IsWorkersStop S.limits S.rules (G.holds gate.now) (λ party. party ≡ worker.old.number)) }
+    ensures rounds { OnOk result (HasRounds worker.new) }
+    ensures fewer { OnErr result (worker.new.accepted < worker.old.accepted + 7) }
+    ensures stopped { IfErr result (IsWorkersStop S.limits S.rules (G.holds gate.now) (IsAt worker.new)) }
 {
     let other = clone_handle(rt, registry, gate, worker, job)?;
     match inside(rt, registry, gate, metas, worker, job) {
@@ -146,11 +165,15 @@ fn inside<H: Ledger, C: Ledger, S: Setup, G: Gate, R: Wait>(
 ) -> Result<(), Stopped>
     requires wanted { wants_jobs S.rules ≡ true }
     requires spare { 1 ≤ worker.old.spare }
-    ensures number { OnOk result (worker.new.number ≡ worker.old.number) }
+    requires place { worker.old.accepted % 9 ≡ 2 }
+    requires rounds { HasRounds worker.old }
+    requires low { worker.old.accepted + 5 < 2 ^ 64 }
+    ensures number { worker.new.number ≡ worker.old.number }
     ensures accepted { OnOk result (worker.new.accepted ≡ worker.old.accepted + 5) }
     ensures spare { OnOk result (worker.new.spare ≡ worker.old.spare) }
-    ensures stopped { IfErr result
-        (IsWorkersStop S.limits S.rules (G.holds gate.now) (λ party. party ≡ worker.old.number)) }
+    ensures rounds { OnOk result (HasRounds worker.new) }
+    ensures fewer { OnErr result (worker.new.accepted < worker.old.accepted + 5) }
+    ensures stopped { IfErr result (IsWorkersStop S.limits S.rules (G.holds gate.now) (IsAt worker.new)) }
 {
     enter(rt, registry, gate, worker, job)?;
     tell(rt, registry, gate, worker, &metas.event)?;
@@ -164,11 +187,12 @@ fn ask<H: Ledger, C: Ledger, S: Setup, G: Gate>(
     gate: &G,
     worker: &Worker<H, C, S>,
 ) -> Result<(), Stopped>
-    ensures { IfErr result
-        (IsWorkersStop S.limits S.rules (G.holds gate.now) (λ party. party ≡ worker.now.number)) }
+    requires { worker.now.accepted + 1 < 2 ^ 64 }
+    ensures own { length (own worker.now.number worker.now.seen) ≡ worker.now.accepted }
+    ensures stopped { IfErr result (IsWorkersStop S.limits S.rules (G.holds gate.now) (IsAt worker.now)) }
 {
     let party = worker.number();
-    if gate.before(party, worker.accepted().saturating_add(1)) {
+    if gate.before(party, worker.accepted() + 1) {
         Ok(())
     } else {
         Err(Stopped::Held(party))
@@ -186,11 +210,14 @@ fn open<H: Ledger, C: Ledger, S: Setup, G: Gate, R: Wait>(
 ) -> Result<Held<H, C, S>, Stopped>
     requires wanted { is_wanted S.rules (plain_meta meta.now) ≡ true }
     requires span { (world : World)
-        → IsSpanOfRound (plain_meta meta.now) (parent_found world worker.old.number parent) }
+        → IsSpanOfRound (worker.old.accepted % 9) (plain_meta meta.now) (parent_found world worker.old.number parent) }
     requires spare { 0 < worker.old.spare }
+    requires rounds { HasRounds worker.old }
+    requires low { worker.old.accepted + 1 < 2 ^ 64 }
     ensures worker { OnOk result (worker.new ≡ after_call worker.old (worker.old.spare - 1) worker.new.seen) }
-    ensures stopped { IfErr result
-        (IsWorkersStop S.limits S.rules (G.holds gate.now) (λ party. party ≡ worker.old.number)) }
+    ensures rounds { OnOk result (HasRounds worker.new) }
+    ensures unchanged { OnErr result (worker.new ≡ record worker.old { seen = worker.new.seen }) }
+    ensures stopped { IfErr result (IsWorkersStop S.limits S.rules (G.holds gate.now) (IsAt worker.new)) }
 {
     ask(gate, worker)?;
     match registry.new_span(rt, worker, meta, &[], parent) {
@@ -208,10 +235,14 @@ fn clone_handle<H: Ledger, C: Ledger, S: Setup, G: Gate, R: Wait>(
     worker: &mut Worker<H, C, S>,
     handle: &mut Handle<H, C, S>,
 ) -> Result<Held<H, C, S>, Stopped>
-    requires { 0 < worker.old.spare }
+    requires spare { 0 < worker.old.spare }
+    requires place { worker.old.accepted % 9 ≡ 1 }
+    requires rounds { HasRounds worker.old }
+    requires low { worker.old.accepted + 1 < 2 ^ 64 }
     ensures worker { OnOk result (worker.new ≡ after_call worker.old (worker.old.spare - 1) worker.new.seen) }
-    ensures stopped { IfErr result
-        (IsWorkersStop S.limits S.rules (G.holds gate.now) (λ party. party ≡ worker.old.number)) }
+    ensures rounds { OnOk result (HasRounds worker.new) }
+    ensures unchanged { OnErr result (worker.new ≡ record worker.old { seen = worker.new.seen }) }
+    ensures stopped { IfErr result (IsWorkersStop S.limits S.rules (G.holds gate.now) (IsAt worker.new)) }
 {
     ask(gate, worker)?;
     match registry.clone_span(rt, worker, handle) {
@@ -228,9 +259,13 @@ fn enter<H: Ledger, C: Ledger, S: Setup, G: Gate, R: Wait>(
     worker: &mut Worker<H, C, S>,
     handle: &mut Handle<H, C, S>,
 ) -> Result<(), Stopped>
+    requires place { worker.old.accepted % 9 ≡ 2 }
+    requires rounds { HasRounds worker.old }
+    requires low { worker.old.accepted + 1 < 2 ^ 64 }
     ensures worker { OnOk result (worker.new ≡ after_call worker.old worker.old.spare worker.new.seen) }
-    ensures stopped { IfErr result
-        (IsWorkersStop S.limits S.rules (G.holds gate.now) (λ party. party ≡ worker.old.number)) }
+    ensures rounds { OnOk result (HasRounds worker.new) }
+    ensures unchanged { OnErr result (worker.new ≡ record worker.old { seen = worker.new.seen }) }
+    ensures stopped { IfErr result (IsWorkersStop S.limits S.rules (G.holds gate.now) (IsAt worker.new)) }
 {
     ask(gate, worker)?;
     match registry.enter(rt, worker, handle) {
@@ -247,10 +282,14 @@ fn tell<H: Ledger, C: Ledger, S: Setup, G: Gate, R: Wait>(
     worker: &mut Worker<H, C, S>,
     meta: &Meta,
 ) -> Result<(), Stopped>
-    requires { plain_meta meta.now ≡ app_meta (codes "event") }
+    requires meta { plain_meta meta.now ≡ app_meta (codes "event") }
+    requires place { worker.old.accepted % 9 ≡ 3 }
+    requires rounds { HasRounds worker.old }
+    requires low { worker.old.accepted + 1 < 2 ^ 64 }
     ensures worker { OnOk result (worker.new ≡ after_call worker.old worker.old.spare worker.new.seen) }
-    ensures stopped { IfErr result
-        (IsWorkersStop S.limits S.rules (G.holds gate.now) (λ party. party ≡ worker.old.number)) }
+    ensures rounds { OnOk result (HasRounds worker.new) }
+    ensures unchanged { OnErr result (worker.new ≡ record worker.old { seen = worker.new.seen }) }
+    ensures stopped { IfErr result (IsWorkersStop S.limits S.rules (G.holds gate.now) (IsAt worker.new)) }
 {
     ask(gate, worker)?;
     match registry.event(rt, worker, meta, "tick", &[]) {
@@ -267,9 +306,13 @@ fn exit<H: Ledger, C: Ledger, S: Setup, G: Gate, R: Wait>(
     worker: &mut Worker<H, C, S>,
     handle: &Handle<H, C, S>,
 ) -> Result<(), Stopped>
+    requires place { worker.old.accepted % 9 ≡ 6 }
+    requires rounds { HasRounds worker.old }
+    requires low { worker.old.accepted + 1 < 2 ^ 64 }
     ensures worker { OnOk result (worker.new ≡ after_call worker.old worker.old.spare worker.new.seen) }
-    ensures stopped { IfErr result
-        (IsWorkersStop S.limits S.rules (G.holds gate.now) (λ party. party ≡ worker.old.number)) }
+    ensures rounds { OnOk result (HasRounds worker.new) }
+    ensures unchanged { OnErr result (worker.new ≡ record worker.old { seen = worker.new.seen }) }
+    ensures stopped { IfErr result (IsWorkersStop S.limits S.rules (G.holds gate.now) (IsAt worker.new)) }
 {
     ask(gate, worker)?;
     match registry.exit(rt, worker, handle.id()) {
@@ -286,9 +329,13 @@ fn close<H: Ledger, C: Ledger, S: Setup, G: Gate, R: Wait>(
     worker: &mut Worker<H, C, S>,
     held: Held<H, C, S>,
 ) -> Result<(), Stopped>
+    requires place { IsPlaceOfClose (worker.old.accepted % 9) }
+    requires rounds { HasRounds worker.old }
+    requires low { worker.old.accepted + 1 < 2 ^ 64 }
     ensures worker { OnOk result (worker.new ≡ after_call worker.old (worker.old.spare + 1) worker.new.seen) }
-    ensures stopped { IfErr result
-        (IsWorkersStop S.limits S.rules (G.holds gate.now) (λ party. party ≡ worker.old.number)) }
+    ensures rounds { OnOk result (HasRounds worker.new) }
+    ensures unchanged { OnErr result (worker.new ≡ record worker.old { seen = worker.new.seen }) }
+    ensures stopped { IfErr result (IsWorkersStop S.limits S.rules (G.holds gate.now) (IsAt worker.new)) }
 {
     ask(gate, worker)?;
     match registry.try_close(rt, worker, held.into_handle()) {

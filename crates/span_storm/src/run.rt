@@ -47,7 +47,7 @@ pub fn storm<G: Gate + Sync, R: Threads + Wait + Sync>(
     ensures balance { IfOk result (λ report. report.made ≡ report.closed + report.left) }
     ensures ended { IfOk result (λ report.
         IsStormEnd (storm_limits workers) rounds (filters_in layers) (forms_in layers) report) }
-    ensures faults { IfErr result (IsStormFault (storm_limits workers) (filters_in layers) (G.holds gate.now)) }
+    ensures faults { IfErr result (IsStormFault (storm_limits workers) rounds (filters_in layers) (G.holds gate.now)) }
 {
     let limits = Limits {
         workers,
@@ -79,7 +79,7 @@ fn with_metas<G: Gate + Sync, R: Threads + Wait + Sync>(
     ensures numbers { IfOk result (λ report. HasNumbers checked.now.workers rounds report) }
     ensures ended { IfOk result (λ report.
         IsStormEnd checked.now rounds (filters_in layers) (forms_in layers) report) }
-    ensures faults { IfErr result (IsStormFault checked.now (filters_in layers) (G.holds gate.now)) }
+    ensures faults { IfErr result (IsStormFault checked.now rounds (filters_in layers) (G.holds gate.now)) }
 {
     let Ok(blanks) = Blanks::new(alloc, checked) else {
         return Err(RunFault::Memory);
@@ -138,7 +138,7 @@ fn run<
     } }
     ensures numbers { IfOk result (λ report. HasNumbers S.limits.workers rounds report) }
     ensures ended { IfOk result (λ report. IsStormEnd S.limits rounds S.rules drain.forms report) }
-    ensures faults { IfErr result (IsStormFault S.limits S.rules (G.holds gate.now)) }
+    ensures faults { IfErr result (IsStormFault S.limits rounds S.rules (G.holds gate.now)) }
 {
     let made = Registry::<H, C, S, Ring>::new(alloc, filters, ring, blanks);
     let Ok((registry, workers)) = made else {

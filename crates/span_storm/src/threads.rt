@@ -1,6 +1,6 @@
 //! All threads of a storm, and what comes back of them.
 ghost use Rattle.std.specs.Prelude.{◌≡◌, ◌+◌, ◌*◌, ◌^◌, ◌<◌, ◌≤◌, [], true, IfOk, IfErr, All, map, length, vec_len, sum_by};
-ghost use Rattle.span_storm.specs.Storm.{wants_jobs};
+ghost use Rattle.span_storm.specs.Storm.{IsOneOf, wants_jobs};
 ghost use Rattle.span_storm.specs.inside.Back.{AreBothBack, AreReady, both_shares, Fit, Gathers, GathersSeen, HasAll};
 ghost use Rattle.span_storm.specs.inside.Back.{IsStormStop, IsWorkersStop, share_and_drain};
 
@@ -39,7 +39,7 @@ pub(crate) fn in_threads<
 ) -> Result<(Share<H, C, S>, Drain<V>), Stopped>
     requires { AreReady S.rules (vec_len workers) workers.items rounds }
     ensures back { IfOk result (λ back. AreBothBack workers.items rounds drain back.0 back.1) }
-    ensures stopped { IfErr result (IsStormStop S.limits S.rules (G.holds gate.now) (vec_len workers)) }
+    ensures stopped { IfErr result (IsStormStop S.limits S.rules (G.holds gate.now) (vec_len workers) rounds) }
 {
     let all_back = AtomicBool::new(false);
     let flag = &all_back;
@@ -49,7 +49,7 @@ pub(crate) fn in_threads<
         move |scope| -> Result<(Share<H, C, S>, Drain<V>), Stopped>
             requires { AreReady S.rules (vec_len workers) workers.items rounds }
             ensures back { IfOk result (λ back. AreBothBack workers.items rounds drain back.0 back.1) }
-            ensures stopped { IfErr result (IsStormStop S.limits S.rules (G.holds gate.entry.now) (vec_len workers)) }
+            ensures stopped { IfErr result (IsStormStop S.limits S.rules (G.holds gate.entry.now) (vec_len workers) rounds) }
         {
             let draining = start_drain(rt, scope, gate, workers.len() as u32, drain, flag);
             let whole = run_workers(rt, scope, alloc, registry, gate, metas, workers, rounds);
@@ -98,7 +98,7 @@ fn run_workers<
     requires { AreReady S.rules (vec_len workers) workers.items rounds }
     ensures back { IfOk result (λ whole. HasAll workers.items rounds whole) }
     ensures stopped { IfErr result
-        (IsWorkersStop S.limits S.rules (G.holds gate.now) (λ party. party < vec_len workers)) }
+        (IsWorkersStop S.limits S.rules (G.holds gate.now) (IsOneOf (vec_len workers) rounds)) }
 {
     let parties = start_all(rt, scope, alloc, registry, gate, metas, workers, rounds)?;
     join_all(rt, gate, parties, rounds)
@@ -124,6 +124,7 @@ fn start_all<
     rounds: u32,
 ) -> Result<Vec<Party<H, C, S, G>>, Stopped>
     requires wanted { wants_jobs S.rules ≡ true }
+    requires new { All (λ worker. worker.accepted ≡ 0) workers.items }
     requires spare { All (λ worker. 3 ≤ worker.spare) workers.items }
     ensures memory { IfErr result (λ stopped. stopped ≡ Stopped.Memory) }
     ensures same { IfOk result (λ parties. map (λ party. party.worker) parties.items ≡ workers.items) }
@@ -155,7 +156,7 @@ fn join_all<H: Ledger, C: Ledger, S: Setup, G: Gate, R: Threads>(
         (sum_by (λ party. party.worker.spare) parties.items) 0 }
     ensures seen { GathersSeen result (9 * rounds) [] (map (λ party. party.worker.number) parties.items) }
     ensures stopped { IfErr result
-        (IsWorkersStop S.limits S.rules (G.holds gate.now) (λ party. party < length parties.items)) }
+        (IsWorkersStop S.limits S.rules (G.holds gate.now) (IsOneOf (length parties.items) rounds)) }
 {
     let mut parties = parties.into_iter();
     let Some(first) = parties.next() else {

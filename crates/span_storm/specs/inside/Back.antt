@@ -10,7 +10,7 @@ use Rattle.span_registry.specs.Share.{ShareView, joined}
 use Rattle.span_registry.specs.declared.report.Report.{Report}
 use Rattle.span_run.specs.declared.fault.RunFault.{RunFault}
 use Rattle.span_run.specs.declared.fault.RunFault.TheVariants as run
-use Rattle.span_storm.specs.Storm.{WasHeld, WasRefused, wants_jobs}
+use Rattle.span_storm.specs.Storm.{AreOfRounds, IsOneOf, IsParty, WasHeld, WasRefused, wants_jobs}
 use Rattle.span_storm.specs.declared.stopped.Stopped.{Stopped}
 use Rattle.span_storm.specs.declared.stopped.Stopped.TheVariants.{Memory, Refused, Held}
 
@@ -20,9 +20,22 @@ pub record PartyView (Gate : Type 0) : Type 0 where
   pub gate : Gate
   pub rounds : ℕ
 
--- so many calls of its own are in what the worker has seen
+-- so many calls of its own are in what the worker has seen, the first of its rounds
 abbrev pub HasOwn : ℕ → FrontView → Type 0
-HasOwn calls front = length (own front.number front.seen) ≡ calls
+HasOwn calls front =
+    (length (own front.number front.seen) ≡ calls) × AreOfRounds front.number (own front.number front.seen)
+
+-- the calls of its own that the worker has seen are the first of its rounds
+abbrev pub HasRounds : WorkerView → Type 0
+HasRounds worker = AreOfRounds worker.number (own worker.number worker.seen)
+
+-- the party is this worker, after as many calls as it made
+abbrev pub IsAt : WorkerView → ℕ → ℕ → Type 0
+IsAt worker party calls = (party ≡ worker.number) × (calls ≡ worker.accepted)
+
+-- the party is the worker of this number, which has a call of its rounds to make
+abbrev pub IsCallOf : ℕ → ℕ → ℕ → ℕ → Type 0
+IsCallOf number rounds party calls = (party ≡ number) × (calls < 9 * rounds)
 
 -- the numbers of those who have seen something
 abbrev pub numbers_seen : List FrontView → List ℕ
@@ -55,17 +68,17 @@ IsStop refused held (Refused fault) = refused fault
 IsStop refused held (Held party) = held party
 
 -- one of these workers stopped
-abbrev pub IsWorkersStop : Limits → List Filter → (ℕ → ℕ → Type 0) → (ℕ → Type 0) → Stopped → Type 0
+abbrev pub IsWorkersStop : Limits → List Filter → (ℕ → ℕ → Type 0) → (ℕ → ℕ → Type 0) → Stopped → Type 0
 IsWorkersStop limits rules holds is_one = IsStop (WasRefused limits rules is_one) (WasHeld holds is_one)
 
 -- the drain, which is the party of this number, stopped: it makes no call
 abbrev pub IsDrainsStop : (ℕ → ℕ → Type 0) → ℕ → Stopped → Type 0
-IsDrainsStop holds number = IsStop (λ _. ⊥) (WasHeld holds (λ party. party ≡ number))
+IsDrainsStop holds number = IsStop (λ _. ⊥) (WasHeld holds (λ party calls. (party ≡ number) × (calls ≡ 0)))
 
--- one of so many workers stopped, or the drain, whose number is that of all workers
-abbrev pub IsStormStop : Limits → List Filter → (ℕ → ℕ → Type 0) → ℕ → Stopped → Type 0
-IsStormStop limits rules holds workers =
-    IsStop (WasRefused limits rules (λ worker. worker < workers)) (WasHeld holds (λ party. party ≤ workers))
+-- one of so many workers stopped in so many rounds, or the drain, whose number is that of all workers
+abbrev pub IsStormStop : Limits → List Filter → (ℕ → ℕ → Type 0) → ℕ → ℕ → Stopped → Type 0
+IsStormStop limits rules holds workers rounds =
+    IsStop (WasRefused limits rules (IsOneOf workers rounds)) (WasHeld holds (IsParty workers rounds))
 
 -- the fault with which a storm ends where a party stopped
 abbrev pub fault_of : Stopped → RunFault

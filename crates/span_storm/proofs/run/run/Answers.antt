@@ -27,6 +27,7 @@ storm_end : (limits : Limits) (rounds : ℕ) (rules : List Filter) (forms : List
     → IsDrainedEnd limits rules drain share report → IsStormEnd limits rounds rules forms report
 storm_end limits rounds rules forms drain ring share workers report same name places all new end =
     let ended = end.end.ended in
+    let made = each_made share.seen workers _ _ _ ended.fronts all.numbers new all.own_are ended.seen_are in
     record {
       core = end.end.core;
       limits_are = ended.limits_are;
@@ -34,7 +35,8 @@ storm_end limits rounds rules forms drain ring share workers report same name pl
       places = has_places _ ring _ (end.ring_is ∙ ap (λ (r : RingName). Some r) name) places;
       legal = ended.legal;
       within = ended.within;
-      each = each_made share.seen workers _ _ _ ended.fronts all.numbers new all.own_are ended.seen_are;
+      each = λ worker low. (made worker low).0;
+      rounds_are = λ worker low. (made worker low).1;
       told = subst (λ f. Tells end.end.core f report) same end.end.told;
     }
 
@@ -44,15 +46,16 @@ returns-in-Ok-back-clause-ended g c =
     storm_end _ _ _ _ _ _ _ _ _ back.drain.forms back.drain.name c.requires.places back.whole c.in-Ok.ensures.each c.finish.ensures.ended
 
 -- the fault of a party that stopped
-storm_fault : (limits : Limits) (rules : List Filter) (holds : ℕ → ℕ → Type 0) (stopped : Stopped) → IsStormStop limits rules holds limits.workers stopped → IsStormFault limits rules holds (fault_of stopped)
-storm_fault limits rules holds Memory stop = tt
-storm_fault limits rules holds (Refused fault) stop = stop
-storm_fault limits rules holds (Held party) stop = stop
+storm_fault : (limits : Limits) (rounds : ℕ) (rules : List Filter) (holds : ℕ → ℕ → Type 0) (stopped : Stopped) → IsStormStop limits rules holds limits.workers rounds stopped → IsStormFault limits rounds rules holds (fault_of stopped)
+storm_fault limits rounds rules holds Memory stop = tt
+storm_fault limits rounds rules holds (Refused fault) stop = stop
+storm_fault limits rounds rules holds (Held party) stop = stop
 
 pub returns-in-Err-clause-faults : goal.returns-in-Err-clause-faults
 returns-in-Err-clause-faults g c =
     let limits = g.S.Setup.limits in
     let rules = g.S.Setup.rules in
+    let rounds = c.args.rounds in
     let holds = g.G.Gate.holds c.args.gate.now in
-    subst (λ fault. IsStormFault limits rules holds fault) (sym c.fault.ensures)
-    (storm_fault limits rules holds c.in-Err.stopped (subst (λ count. IsStormStop limits rules holds count c.in-Err.stopped) c.in-Ok.ensures.count.0 c.in-Err.ensures.stopped))
+    subst (λ fault. IsStormFault limits rounds rules holds fault) (sym c.fault.ensures)
+    (storm_fault limits rounds rules holds c.in-Err.stopped (subst (λ count. IsStormStop limits rules holds count rounds c.in-Err.stopped) c.in-Ok.ensures.count.0 c.in-Err.ensures.stopped))

@@ -17,7 +17,7 @@ loop-party-init g c =
       seen = seen_first c.args.rounds c.in-Some.first _ _ is new.0.0 new.0.1 c.join-whole.result c.join-whole.ensures.back;
       numbers = numbers.1;
       gates = gates.1;
-      stopped = stopped_as_one _ _ g.G.Gate.holds _ _ n _ c.join-whole.result gates.0 numbers.0 c.join-whole.ensures.stopped;
+      stopped = stopped_as_one _ _ g.G.Gate.holds _ _ n _ c.args.rounds _ c.join-whole.result gates.0 numbers.0 new.0.0 c.join-whole.ensures.stopped;
     }
 
 pub both-whole-requires : goal.both-whole-requires
@@ -43,5 +43,5 @@ loop-party-preserved g c =
       numbers = numbers.1;
       gates = gates.1;
       stopped = stopped_also _ c.loop-party.whole c.join.result c.both-whole.result c.both-whole.ensures before.stopped
-          (stopped_as_one _ _ g.G.Gate.holds _ _ n _ c.join.result gates.0 numbers.0 c.join.ensures.stopped);
+          (stopped_as_one _ _ g.G.Gate.holds _ _ n _ c.args.rounds _ c.join.result gates.0 numbers.0 new.0.0 c.join.ensures.stopped);
     }

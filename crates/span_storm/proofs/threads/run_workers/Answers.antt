@@ -21,4 +21,4 @@ returns-clause-back g c = has_all c.args.workers.items c.in_ok-parties.parties.i
 pub returns-clause-stopped : goal.returns-clause-stopped
 returns-clause-stopped g c =
     let count : vec_len c.args.workers ≡ length c.args.workers.items = search rules in
-    stopped_of _ _ c.in_ok-parties.parties.items c.in_ok-parties.ensures.same count _ _ _ c.join_all.result c.join_all.ensures.stopped
+    stopped_of _ _ c.in_ok-parties.parties.items c.in_ok-parties.ensures.same count _ _ _ c.args.rounds c.join_all.result c.join_all.ensures.stopped

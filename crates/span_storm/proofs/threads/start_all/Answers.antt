@@ -16,6 +16,7 @@ loop-worker-preserved g c =
     let started = c.start.ensures in
     record {
       same = moved_map (λ (party : PartyView g.row.G.Denot). party.worker) c.loop-worker.parties.items _ c.start.result _ _ _ _ (pushed g c) started.worker step.0 inv.same;
+      new = (all_of_cons _ _ c.in-Some.worker step.0 (λ (worker : WorkerView). worker.accepted ≡ 0) inv.new).1;
       spare = (all_of_cons _ _ c.in-Some.worker step.0 (λ (worker : WorkerView). 3 ≤ worker.spare) inv.spare).1;
       gates = all_grown _ _ c.start.result (pushed g c) (λ (party : PartyView g.row.G.Denot). party.gate ≡ c.args.gate.now) inv.gates started.gate;
       rounds = all_grown _ _ c.start.result (pushed g c) (λ (party : PartyView g.row.G.Denot). party.rounds ≡ c.args.rounds) inv.rounds started.rounds;

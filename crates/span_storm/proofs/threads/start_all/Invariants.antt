@@ -8,6 +8,7 @@ invariant-loop-worker g l = record {
   same : map (λ party. party.worker) l.parties.items ++ into_iter_items l.worker-iterator ≡ l.fn.workers.items;
   rounds : All (λ party. party.rounds ≡ l.rounds) l.parties.items;
   gates : All (λ party. party.gate ≡ l.gate) l.parties.items;
+  new : All (λ worker. worker.accepted ≡ 0) (into_iter_items l.worker-iterator);
   spare : All (λ worker. 3 ≤ worker.spare) (into_iter_items l.worker-iterator);
   room : vec_len l.parties + length (into_iter_items l.worker-iterator) ≤ vec_capacity l.parties;
 }
