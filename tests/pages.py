@@ -7,8 +7,8 @@ A page may have as many words as MOST says, blocks of code and measured tables (
 script makes from what stands elsewhere (MADE) as many as come out. A link names a file, and where it goes on with '#' a
 heading of it. No sentence of more than eight words stands in two pages, and none of README.md has more than thirty.
 Code and quoted lines are not looked at.
-CHANGELOG.md and the packages in Rust have the version of the command line. With --words it prints what each page has,
-may have and is to come to. The last line is 'N passed, M failed'.
+CHANGELOG.md and the packages in Rust have the version of the command line. With --words it prints what each page has
+and may have. The last line is 'N passed, M failed'.
 """
 import re
 import sys
@@ -20,33 +20,33 @@ FIGURES = re.compile(r"<!-- figures ([\w-]+) -->\n.*?<!-- end -->", flags=re.S)
 WORDS_OF_A_SENTENCE = 8
 WORDS_OF_A_SENTENCE_IN_README = 30
 
-# Of each page the most words that it may have, and how many it is to come to. (Of docs/BENCHMARKS.md 1,500, and 729 in
-# the tables that scripts write.)
+# The most words that all pages may have together, and that each of them may.
+ALL = 23_000
 MOST = {
-    "README.md": (900, 900), "CHANGELOG.md": (190, 190), "bench/README.md": (275, 275),
-    "crates/hostile_use/README.md": (205, 205), "crates/span_benchmark/README.md": (115, 115),
-    "crates/span_core/README.md": (395, 395), "crates/span_core_tests/README.md": (50, 50),
-    "crates/span_ffi/README.md": (255, 255), "crates/span_forest/README.md": (155, 155),
-    "crates/span_history/README.md": (145, 145), "crates/span_id/README.md": (115, 115),
-    "crates/span_json/README.md": (70, 70), "crates/span_known/README.md": (80, 80),
-    "crates/span_layers/README.md": (130, 130), "crates/span_outlet/README.md": (380, 380),
-    "crates/span_parts_tests/README.md": (85, 85), "crates/span_recent/README.md": (110, 110),
-    "crates/span_registry/CALLING.md": (500, 500), "crates/span_registry/README.md": (335, 335),
-    "crates/span_registry_tests/README.md": (40, 40), "crates/span_replay/README.md": (145, 145),
-    "crates/span_run/README.md": (65, 65), "crates/span_run_tests/README.md": (40, 40),
-    "crates/span_script/README.md": (95, 95), "crates/span_seats/README.md": (135, 135),
-    "crates/span_slots/README.md": (85, 85), "crates/span_stack/README.md": (85, 85),
-    "crates/span_store/README.md": (220, 220), "crates/span_store_ffi/README.md": (135, 135),
-    "crates/span_storm/README.md": (255, 255), "crates/span_why/README.md": (70, 70),
-    "crates/tracerun/README.md": (75, 75),
-    "crates/tracerun_command_line/README.md": (70, 70), "crates/two_workers/README.md": (115, 115),
-    "crates/workloads/README.md": (220, 220), "docs/BENCHMARKS.md": (1500, 1500), "docs/CONTRIBUTING.md": (1800, 1800),
-    "docs/DECISIONS.md": (3000, 3000), "docs/FORMATS.md": (2000, 2000), "docs/FROM_TRACING.md": (1300, 1300),
-    "docs/LAYERS.md": (1000, 1000),
-    "docs/PRIVATE_CONTRACTS.md": (415, 415), "docs/PROMISES.md": (1025, 1025), "docs/PROOFS.md": (1800, 1800),
-    "docs/THEOREM.md": (550, 550),
-    "examples/README.md": (165, 165), "rust/README.md": (1200, 1200), "rust/tracing-subscriber/README.md": (500, 500),
-    "rust/tracing/README.md": (570, 570), "tests/README.md": (220, 220),
+    "README.md": 900, "CHANGELOG.md": 190, "bench/README.md": 275,
+    "crates/hostile_use/README.md": 205, "crates/span_benchmark/README.md": 115,
+    "crates/span_core/README.md": 395, "crates/span_core_tests/README.md": 50,
+    "crates/span_ffi/README.md": 255, "crates/span_forest/README.md": 155,
+    "crates/span_history/README.md": 145, "crates/span_id/README.md": 115,
+    "crates/span_json/README.md": 70, "crates/span_known/README.md": 80,
+    "crates/span_layers/README.md": 130, "crates/span_outlet/README.md": 380,
+    "crates/span_parts_tests/README.md": 85, "crates/span_recent/README.md": 110,
+    "crates/span_registry/CALLING.md": 500, "crates/span_registry/README.md": 335,
+    "crates/span_registry_tests/README.md": 40, "crates/span_replay/README.md": 145,
+    "crates/span_run/README.md": 65, "crates/span_run_tests/README.md": 40,
+    "crates/span_script/README.md": 95, "crates/span_seats/README.md": 135,
+    "crates/span_slots/README.md": 85, "crates/span_stack/README.md": 85,
+    "crates/span_store/README.md": 220, "crates/span_store_ffi/README.md": 135,
+    "crates/span_storm/README.md": 255, "crates/span_why/README.md": 70,
+    "crates/tracerun/README.md": 75,
+    "crates/tracerun_command_line/README.md": 70, "crates/two_workers/README.md": 115,
+    "crates/workloads/README.md": 220, "docs/BENCHMARKS.md": 1500, "docs/CONTRIBUTING.md": 1800,
+    "docs/DECISIONS.md": 3000, "docs/FORMATS.md": 2000, "docs/FROM_TRACING.md": 1300,
+    "docs/LAYERS.md": 1000,
+    "docs/PRIVATE_CONTRACTS.md": 415, "docs/PROMISES.md": 1025, "docs/PROOFS.md": 1800,
+    "docs/THEOREM.md": 550,
+    "examples/README.md": 165, "rust/README.md": 1200, "rust/tracing-subscriber/README.md": 500,
+    "rust/tracing/README.md": 570, "tests/README.md": 220,
 }
 # Pages whose words a script takes from elsewhere. (What docs/THEOREM.md says beside quotations is written for it.)
 MADE = {"docs/MODEL.md": "tests/model_page.py"}
@@ -71,8 +71,10 @@ def words_of(text):
 def lengths(pages):
     """A page that isn't listed may have no word, and a listed one is there."""
     for name in sorted({*pages, *MOST} - {*MADE}):
-        most, found = MOST.get(name, (0, 0))[0], words_of(pages.get(name, ""))
+        most, found = MOST.get(name, 0), words_of(pages.get(name, ""))
         yield 0 < found <= most, f"{name} has {found} words, and may have {most}"
+    found = sum(words_of(pages.get(name, "")) for name in MOST)
+    yield found <= ALL, f"the pages have {found} words together, and may have {ALL}"
 
 
 def anchors(text):
@@ -132,11 +134,11 @@ def versions(pages):
 
 
 def show_words(pages):
-    rows = {name: (words_of(pages.get(name, "")), *most) for name, most in MOST.items()}
-    rows["in all"] = tuple(map(sum, zip(*rows.values())))
-    print(f"{'page':44}{'has':>8}{'may have':>10}{'to come to':>12}")
-    for name, (found, most, aim) in rows.items():
-        print(f"{name:44}{found:8,}{most:10,}{aim:12,}")
+    rows = {name: (words_of(pages.get(name, "")), most) for name, most in MOST.items()}
+    rows["in all"] = sum(found for found, _ in rows.values()), ALL
+    print(f"{'page':44}{'has':>8}{'may have':>10}")
+    for name, (found, most) in rows.items():
+        print(f"{name:44}{found:8,}{most:10,}")
     for name, script in MADE.items():
         print(f"{name:44}{words_of(pages.get(name, '')):8,}  made by {script}")
 
