@@ -76,7 +76,7 @@ impl Site {
     // Its callsite, or why it can have none.
     #[cold]
     fn looked_up(&'static self, registry: &Registry) -> Option<Result<u32, Error>> {
-        let interest = registry.shared().interest();
+        let interest = registry.parts().common().interest();
         let is_wanted = interest.admits(self.meta.level, self.meta.target) || self.is_of_spans && interest.is_silent();
         if !is_wanted {
             self.keep(registry, UNWANTED);
@@ -91,7 +91,7 @@ impl Site {
     }
 
     fn callsite_in(&'static self, registry: &Registry) -> Result<u32, Error> {
-        let callsite = |meta: &Meta<'_>| registry.shared().with(|state| state.callsite_of(self, meta));
+        let callsite = |meta: &Meta<'_>| registry.parts().callsite_of(self, meta);
         let name = self.meta.name;
         let found = if is_marked(name) {
             Err(Refusal::BAD_NAME)
