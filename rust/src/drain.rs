@@ -225,10 +225,16 @@ impl Drain {
     }
 
     // Reads the next line of each part where it isn't read. Whether there is any.
+    #[inline]
     fn look(&mut self) -> bool {
-        if !self.parts.are_several() {
-            return self.look_at(0);
+        if self.parts.are_several() {
+            self.look_at_all()
+        } else {
+            self.look_at(0)
         }
+    }
+
+    fn look_at_all(&mut self) -> bool {
         for at in 0..self.heads.len() {
             if self.heads[at].ready.is_none() {
                 self.look_at(at);
@@ -257,18 +263,15 @@ impl Drain {
         self.parts.at(at as u32)
     }
 
+    #[inline]
     fn look_at(&mut self, at: usize) -> bool {
         let part = self.parts.at(at as u32);
         let head = &mut self.heads[at];
         if !head.look(part) {
             return false;
         }
-        if part.ring().notes().is_some() {
-            head.note = noted(part, &self.forms, head);
-        }
-        if at > 0 && head.note.is_none() {
-            let form = head.ready.map(|(layer, _)| self.forms[layer]);
-            head.put_part(form == Some(Form::Compact), part);
+        if at > 0 || part.ring().notes().is_some() {
+            told(part, &self.forms, head);
         }
         true
     }
@@ -399,6 +402,16 @@ impl Drain {
 fn least(heads: &[Head]) -> Option<(u64, usize)> {
     let ready = heads.iter().enumerate().filter(|(_, head)| head.ready.is_some());
     ready.map(|(at, head)| (head.stamp, at)).min()
+}
+
+// Puts the line in the buffer as it is told of the part.
+#[cold]
+fn told(part: &Part, forms: &[Form], head: &mut Head) {
+    head.note = noted(part, forms, head);
+    if part.place() > 0 && head.note.is_none() {
+        let form = head.ready.map(|(layer, _)| forms[layer]);
+        head.put_part(form == Some(Form::Compact), part);
+    }
 }
 
 // What the line in the buffer tells, where its layer asks for notes.

@@ -41,6 +41,7 @@ impl Head {
     }
 
     /// Reads the next line of the part. Whether there is one.
+    #[inline]
     pub(crate) fn look(&mut self, part: &Part) -> bool {
         let stamps = part.ring().stamps();
         if let Some(stamps) = stamps {

@@ -74,14 +74,15 @@ impl Id {
     }
 
     /// Its number there and the part, where it is an id of this registry: there is no other way from an `Id` to a call.
-    #[inline]
+    #[inline(always)]
     pub(crate) fn in_registry(self, registry: u64) -> Result<(u32, RawId), Error> {
         if self.registry != registry {
             return Err(Error::OtherRegistry);
         }
         let number = self.number.get();
-        let raw = RawId::from_u64(number % (1 << PART_BIT)).ok_or(Error::Unknown)?;
-        Ok((part_of(number), raw))
+        // It isn't 0.
+        let raw = NonZeroU64::new(number % (1 << PART_BIT)).ok_or(Error::Unknown)?;
+        Ok((part_of(number), RawId(raw)))
     }
 
     /// Its number, which lines show.

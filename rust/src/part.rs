@@ -86,6 +86,7 @@ pub(crate) struct Part {
     state: Mutex<State>,
     ring: Arc<Ring>,
     common: Arc<Common>,
+    number: u64,
     // Among the parts of its registry.
     place: u32,
     // The number by which lines tell its first worker.
@@ -100,6 +101,7 @@ impl Part {
             first_worker: state.as_told(0),
             state: Mutex::new(state),
             ring,
+            number: common.number + u64::from(place),
             common,
             place,
             owes: AtomicBool::new(false),
@@ -152,20 +154,19 @@ impl Part {
         waits
     }
 
-    /// A thread's call: what is owed comes first, in other parts by `before`, then the thread's number, then the call,
-    /// and then, where there is room, what was lost.
+    /// A thread's call: what is owed comes first, then the thread's number, then the call, and then, where there is
+    /// room, what was lost. What other parts owe comes before that.
     #[inline(always)]
     pub(crate) fn call<T>(
         self: &Arc<Part>,
-        before: impl Fn() -> Result<(), Refusal>,
         as_worker: impl Fn(&mut State, Caller) -> Result<u32, Refusal>,
         mut call: impl FnMut(&mut State, u32) -> Result<T, Refusal>,
     ) -> Result<T, Refusal> {
-        self.until_placed(|| {
-            before()?;
+        let mut turn: u32 = 0;
+        loop {
             // While it waited, the thread may have taken a number or lost it.
             let caller = workers::caller(self);
-            self.with(|state| {
+            let result = self.with(|state| {
                 state.settle()?;
                 let worker = as_worker(state, caller)?;
                 // A refused call may have taken a number too.
@@ -173,14 +174,18 @@ impl Part {
                 let answer = call(state, worker)?;
                 self.tell(state);
                 Ok(answer)
-            })
-        })
+            });
+            if !matches!(result, Err(Refusal::BACKLOG)) || !self.has_waited(turn) {
+                return result;
+            }
+            turn = turn.saturating_add(1);
+        }
     }
 
     /// By which it is told from all others of the process, also those that are gone.
     #[inline]
     pub(crate) fn number(&self) -> u64 {
-        self.common.number + u64::from(self.place)
+        self.number
     }
 
     /// Among the parts of its registry.

@@ -58,40 +58,50 @@ impl Parts {
     }
 
     /// That of the thread's roots.
-    #[inline]
+    #[inline(always)]
     pub(crate) fn home(&self) -> &Arc<Part> {
         if self.are_several() {
-            self.at(((workers::thread() - 1) % u64::from(self.count())) as u32)
+            self.at(self.home_of_several())
         } else {
             &self.first
         }
     }
 
     /// That of the innermost span that the thread is inside of, else that of its roots.
-    #[inline]
+    #[inline(always)]
     pub(crate) fn inside(&self) -> &Arc<Part> {
-        if !self.are_several() {
-            return &self.first;
-        }
-        match workers::innermost(&self.common) {
-            Some(place) => self.at(place),
-            None => self.home(),
+        if self.are_several() {
+            let innermost = workers::innermost(&self.common);
+            self.at(innermost.unwrap_or_else(|| self.home_of_several()))
+        } else {
+            &self.first
         }
     }
 
-    /// Does what is owed in all parts but this one, whose calls do it themselves.
-    #[inline]
-    pub(crate) fn settle_others(&self, part: &Arc<Part>) -> Result<(), Refusal> {
-        if self.are_several() && self.common.owes() {
-            return self.settle_but(part);
-        }
-        Ok(())
+    fn home_of_several(&self) -> u32 {
+        // Below 128.
+        ((workers::thread() - 1) % u64::from(self.count())) as u32
     }
 
-    #[cold]
-    fn settle_but(&self, part: &Arc<Part>) -> Result<(), Refusal> {
-        let mut others = self.all().filter(|other| other.owes() && !Arc::ptr_eq(other, part));
-        others.try_for_each(|other| other.with(State::settle))
+    /// What is done before a call of a part: what others owe, which that call doesn't do itself.
+    #[inline(always)]
+    pub(crate) fn before(&self, part: &Part) -> Result<(), Refusal> {
+        if self.are_several() {
+            self.settle_others(part)
+        } else {
+            Ok(())
+        }
+    }
+
+    #[inline(never)]
+    fn settle_others(&self, part: &Part) -> Result<(), Refusal> {
+        if !self.common.owes() {
+            return Ok(());
+        }
+        part.until_placed(|| {
+            let mut others = self.all().filter(|other| other.owes() && other.place() != part.place());
+            others.try_for_each(|other| other.with(State::settle))
+        })
     }
 
     /// Does what is owed, or waits until it is done.

@@ -107,18 +107,19 @@ impl Registry {
         call: impl FnMut(&mut State, u32) -> Result<T, Refusal>,
     ) -> Result<T, Refusal> {
         let as_worker = |state: &mut State, caller: Caller| Ok(state.worker(caller));
-        part.call(|| self.parts().settle_others(part), as_worker, call)
+        self.parts().before(part)?;
+        part.call(as_worker, call)
     }
 
     /// The part of one of its ids, which other registries' are not, and its number there.
-    #[inline]
+    #[inline(always)]
     pub(crate) fn own(&self, id: Id) -> Result<(&Arc<Part>, RawId), Error> {
         let (place, raw) = id.in_registry(self.number())?;
         Ok((self.parts().at(place), raw))
     }
 
     /// The part of a new span with this parent.
-    #[inline]
+    #[inline(always)]
     pub(crate) fn own_parent(&self, parent: Parent) -> Result<(&Arc<Part>, RawParent), Error> {
         Ok(match parent {
             Parent::Root => (self.parts().home(), RawParent::Root),
@@ -259,13 +260,13 @@ impl Registry {
     /// As which worker too.
     #[inline(always)]
     pub(crate) fn enter_as(&self, part: &Arc<Part>, id: RawId) -> Result<(bool, u32), Error> {
-        let are_several = self.parts().are_several();
-        if are_several {
+        if self.parts().are_several() {
             workers::reserve_entry()?;
         }
+        self.parts().before(part)?;
         let enter = |state: &mut State, worker| Ok((state.enter(worker, id)?, worker));
-        let entered = part.call(|| self.parts().settle_others(part), State::worker_to_enter, enter)?;
-        if are_several {
+        let entered = part.call(State::worker_to_enter, enter)?;
+        if self.parts().are_several() {
             workers::entered(part, id, entered.0);
         }
         Ok(entered)
@@ -366,8 +367,8 @@ impl Registry {
     /// now.
     pub fn current_span(&self) -> Result<Option<Id>, Error> {
         let part = self.parts().inside();
+        self.parts().before(part)?;
         let current = part.until_placed(|| {
-            self.parts().settle_others(part)?;
             let caller = workers::caller(part);
             part.with(|state| {
                 state.settle()?;

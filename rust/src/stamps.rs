@@ -77,21 +77,25 @@ impl Stamps {
         &self.places[batch as usize & (self.places.len() - 1)]
     }
 
-    /// Makes a call that may put a batch into the ring. For who has the part's lock.
-    #[inline]
-    pub(crate) fn stamped<T: Answer>(&self, call: impl FnOnce() -> Result<T, Refusal>) -> Result<T, Refusal> {
+    /// A call is made that may put a batch into the ring. For who has the part's lock, until the call has ended.
+    #[cold]
+    pub(crate) fn begin(&self) {
         // It is seen by whoever sees the clock go on below.
         self.begun
             .store(self.clock.0.load(Ordering::Relaxed), Ordering::Relaxed);
         let stamp = self.clock.next();
         let batch = self.sent.load(Ordering::Relaxed) + 1;
         self.place(batch).store(stamp, Ordering::Release);
-        let answer = call();
-        if answer.as_ref().is_ok_and(Answer::has_sent) {
-            self.sent.store(batch, Ordering::Relaxed);
+    }
+
+    /// The call has ended, and did so or not.
+    #[cold]
+    pub(crate) fn end(&self, has_sent: bool) {
+        if has_sent {
+            self.sent
+                .store(self.sent.load(Ordering::Relaxed) + 1, Ordering::Relaxed);
         }
         self.begun.store(NONE, Ordering::Release);
-        answer
     }
 
     /// How many batches went into the ring. For who has the part's lock.
@@ -125,23 +129,29 @@ impl Stamps {
 
 #[cfg(test)]
 mod tests {
-    use super::{Clock, Stamps};
+    use super::{Answer, Clock, Stamps};
     use crate::meta::RawId;
     use crate::refusal::Refusal;
     use std::sync::Arc;
+
+    fn call(stamps: &Stamps, has_sent: bool) {
+        stamps.begin();
+        stamps.end(has_sent);
+    }
 
     #[test]
     fn batches_have_rising_stamps_and_what_sends_none_has_none() -> Result<(), Refusal> {
         let clock = Arc::new(Clock::default());
         let (one, other) = (Stamps::new(Arc::clone(&clock), 3)?, Stamps::new(clock, 3)?);
-        one.stamped(|| Ok(()))?;
-        other.stamped(|| Ok(()))?;
-        assert_eq!(one.stamped(|| Err::<(), _>(Refusal::BACKLOG)), Err(Refusal::BACKLOG));
-        assert_eq!(one.stamped(|| Ok(None::<RawId>)), Ok(None));
-        one.stamped(|| Ok(true))?;
-        assert_eq!((one.sent(), one.of(1), one.of(2)), (2, 0, 4));
+        call(&one, true);
+        call(&other, true);
+        call(&one, false);
+        call(&one, true);
+        assert_eq!((one.sent(), one.of(1), one.of(2)), (2, 0, 3));
         assert_eq!((other.sent(), other.of(1)), (1, 1));
-        assert_eq!((one.bound(), other.bound()), (5, 5));
+        assert_eq!((one.bound(), other.bound()), (4, 4));
+        assert!(true.has_sent() && false.has_sent() && ().has_sent());
+        assert!(RawId::from_u64(7).has_sent() && !None::<RawId>.has_sent());
         Ok(())
     }
 
@@ -149,12 +159,11 @@ mod tests {
     fn a_call_that_is_being_made_bounds_what_may_come() -> Result<(), Refusal> {
         let clock = Arc::new(Clock::default());
         let (one, other) = (Stamps::new(Arc::clone(&clock), 1)?, Stamps::new(clock, 1)?);
-        one.stamped(|| {
-            other.stamped(|| Ok(()))?;
-            assert_eq!((one.bound(), other.bound()), (0, 2));
-            assert!(!one.passes(0) && other.passes(1));
-            Ok(())
-        })?;
+        one.begin();
+        call(&other, true);
+        assert_eq!((one.bound(), other.bound()), (0, 2));
+        assert!(!one.passes(0) && other.passes(1));
+        one.end(true);
         assert!(one.passes(1));
         Ok(())
     }

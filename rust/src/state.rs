@@ -29,6 +29,8 @@ pub(crate) struct State {
     origins: Origins,
     // Whether a layer asks for notes.
     has_notes: bool,
+    // Whether batches have stamps.
+    has_stamps: bool,
     // What the call does that is being made, where one does.
     noted: Option<What>,
 }
@@ -41,6 +43,7 @@ impl State {
             core,
             first_worker,
             has_notes: ring.notes().is_some(),
+            has_stamps: ring.stamps().is_some(),
             ring,
             packed: Packed::default(),
             owing: Owing::new(workers as usize)?,
@@ -89,7 +92,7 @@ impl State {
     }
 
     /// Does this after all that is owed, or owes it too.
-    #[inline]
+    #[inline(always)]
     pub(crate) fn close_or_owe(&mut self, worker: u32, id: RawId) -> Result<(), Refusal> {
         match self.settle().and_then(|()| self.try_close(worker, id)) {
             Err(refusal) if refusal.may_pass() => self.owe_close(worker, id),
@@ -153,7 +156,7 @@ impl State {
     }
 
     // A call that takes a place of the ring: where lines may be thrown away for one, they are.
-    #[inline]
+    #[inline(always)]
     fn placed<T: Answer>(
         &mut self,
         mut call: impl FnMut(&mut Core, &Packed) -> Result<T, Refusal>,
@@ -167,13 +170,17 @@ impl State {
     }
 
     // A call that may put a batch into the ring, which has a stamp then.
-    #[inline]
+    #[inline(always)]
     fn sent<T: Answer>(&mut self, call: impl FnOnce(&mut Core, &Packed) -> Result<T, Refusal>) -> Result<T, Refusal> {
-        let State { core, packed, ring, .. } = self;
-        match ring.stamps() {
-            None => call(core, packed),
-            Some(stamps) => stamps.stamped(|| call(core, packed)),
+        let stamps = if self.has_stamps { self.ring.stamps() } else { None };
+        if let Some(stamps) = stamps {
+            stamps.begin();
         }
+        let answer = call(&mut self.core, &self.packed);
+        if let Some(stamps) = stamps {
+            stamps.end(answer.as_ref().is_ok_and(Answer::has_sent));
+        }
+        answer
     }
 
     #[inline]
@@ -318,7 +325,7 @@ impl State {
         Ok(closed)
     }
 
-    #[inline]
+    #[inline(always)]
     pub(crate) fn try_close(&mut self, worker: u32, id: RawId) -> Result<bool, Refusal> {
         self.noting(|_| Ok(What::Other))?;
         let closed = self.placed(|core, _| core.try_close(worker, id))?;
