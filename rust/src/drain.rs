@@ -367,10 +367,7 @@ impl Drain {
     // nothing comes in another.
     fn has_more(&self) -> bool {
         let mut all = self.parts.all().zip(&self.last).zip(&self.heads);
-        all.any(|((part, &last), head)| {
-            let is_dry = self.parts.are_several() && head.is_dry;
-            !is_dry && part.ring().lines().counts().0 <= last
-        })
+        all.any(|((part, &last), head)| !head.is_dry && part.ring().lines().counts().0 <= last)
     }
 
     fn run_out(&mut self, outs: &mut impl Outs, stop: &AtomicBool) -> io::Result<u64> {

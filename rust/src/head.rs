@@ -23,7 +23,7 @@ pub(crate) struct Head {
     pub(crate) stamp: u64,
     /// No line that isn't read has a lesser one.
     pub(crate) bound: u64,
-    /// Whether the ring was empty when it was looked at last, and nothing was owed.
+    /// Whether the ring was empty at a look, and nothing was owed, since this was set to false. Where lines are merged.
     pub(crate) is_dry: bool,
 }
 
@@ -44,8 +44,10 @@ impl Head {
     #[inline]
     pub(crate) fn look(&mut self, part: &Part) -> bool {
         let stamps = part.ring().stamps();
+        let mut owes = true;
         if let Some(stamps) = stamps {
-            // Before the ring is looked at.
+            // Both before the ring is looked at.
+            owes = part.owes();
             self.bound = stamps.bound();
         }
         let is_numbered = stamps.is_some() || part.ring().notes().is_some();
@@ -66,15 +68,14 @@ impl Head {
                     self.ready = Some((layer as usize, length));
                     // Those that are in the ring come after this one.
                     self.bound = self.stamp;
+                    return true;
                 }
-                Next::Long { length } => {
-                    self.buffer.resize(length + 1, 0);
-                    continue;
+                Next::Long { length } => self.buffer.resize(length + 1, 0),
+                Next::None => {
+                    self.is_dry |= !owes;
+                    return false;
                 }
-                Next::None => {}
             }
-            self.is_dry = self.ready.is_none() && !part.owes();
-            return self.ready.is_some();
         }
     }
 

@@ -116,6 +116,22 @@ fn guards_of_two_parts_that_are_owed_leave_both() -> Result<(), Error> {
 }
 
 #[test]
+fn what_is_owed_in_each_part_is_written_at_the_end() -> Result<(), Error> {
+    let (registry, mut drain) = compact(3).ring(1).build()?;
+    drop(roots(&registry, 3));
+    assert_eq!(registry.counts().owed, 3);
+    let mut out = Vec::new();
+    let lines = drain
+        .run_until(&mut out, &true.into())
+        .expect("a list of bytes takes all");
+    let told = String::from_utf8(out).expect("UTF-8");
+    let kinds: Vec<&str> = told.lines().filter_map(|text| text.split(' ').next()).collect();
+    assert_eq!(kinds, ["new", "new", "new", "close", "close", "close"]);
+    assert_eq!((lines, registry.counts().owed, registry.counts().open), (6, 0, 0));
+    Ok(())
+}
+
+#[test]
 fn with_no_layer_nothing_is_told_and_all_is_read() -> Result<(), Error> {
     let (registry, mut drain) = of_parts(4).ring(8).build()?;
     for _ in 0..100 {
