@@ -1,7 +1,6 @@
-//! What calls do where the ring of a part is full, and how much memory there is.
+//! What calls do where the ring of a part is full.
 use crate::{at_home, compact, of_parts, root, roots};
-use span_registry::{event, Error, Layer, Level, OnFull, Registry};
-use std::sync::atomic::{AtomicU64, Ordering};
+use span_registry::{event, Error, Level, OnFull, Registry};
 use std::thread;
 
 fn tell(registry: &Registry, part: u32, message: &str) -> Result<(), Error> {
@@ -141,43 +140,5 @@ fn with_no_layer_nothing_is_told_and_all_is_read() -> Result<(), Error> {
         assert_eq!(drain.line(), None);
     }
     assert_eq!((registry.counts().closed, drain.counts().batches), (400, 800));
-    Ok(())
-}
-
-/// Bytes of memory that the process has now.
-#[cfg(target_os = "linux")]
-fn resident() -> u64 {
-    let text = std::fs::read_to_string("/proc/self/statm").expect("Linux has it");
-    let pages = text.split(' ').nth(1).and_then(|pages| pages.parse::<u64>().ok());
-    4096 * pages.expect("the second number")
-}
-
-/// Other tests of this program run beside it, so it is asked for by name: `tests/memory.rs` has the same of one part.
-#[test]
-#[cfg(target_os = "linux")]
-#[ignore = "it has to run alone"]
-fn memory_stays_level() -> Result<(), Error> {
-    const CALLS: u64 = 400_000;
-    let (registry, guard) = compact(4).layer(Layer::json()).ring(64).spawn_writer(std::io::sink())?;
-    let (calls, before) = (AtomicU64::new(0), AtomicU64::new(0));
-    thread::scope(|scope| {
-        for _ in 0..4 {
-            scope.spawn(|| {
-                while calls.fetch_add(1, Ordering::Relaxed) < CALLS {
-                    let a = root(&registry, "a");
-                    a.in_scope(|| event!(registry, Level::Info, "m"));
-                    if calls.load(Ordering::Relaxed) == CALLS / 10 {
-                        before.store(resident(), Ordering::Relaxed);
-                    }
-                }
-            });
-        }
-    });
-    let (before, after) = (before.load(Ordering::Relaxed), resident());
-    assert!(
-        after < before + (1 << 20),
-        "{before} bytes after a tenth, {after} at the end"
-    );
-    guard.finish().expect("a sink takes all");
     Ok(())
 }

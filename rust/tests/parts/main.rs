@@ -379,27 +379,3 @@ fn notes_name_spans_by_their_whole_ids() -> Result<(), Error> {
     assert!(notes[2].to_string().contains(&format!("\"parent\":{}", id(&roots[1]))));
     Ok(())
 }
-
-/// Set by hand to look at it: `cargo test --release --offline --test parts -- --ignored --nocapture`
-#[test]
-#[ignore = "it says how much memory registries take"]
-fn memory_of_many_parts() {
-    let resident = || -> u64 {
-        let text = std::fs::read_to_string("/proc/self/statm").expect("Linux has it");
-        4 * text
-            .split(' ')
-            .nth(1)
-            .and_then(|pages| pages.parse::<u64>().ok())
-            .expect("pages")
-    };
-    for parts in [1, 4, 16, 128] {
-        let before = resident();
-        let built = Registry::builder()
-            .parts(parts)
-            .layer(Layer::compact())
-            .build()
-            .expect("it fits");
-        println!("{parts} parts: {} KiB", resident() - before);
-        drop(built);
-    }
-}
