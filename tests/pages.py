@@ -23,7 +23,7 @@ WORDS_OF_A_SENTENCE_IN_README = 30
 # The most words that all pages may have together, and that each of them may.
 ALL = 23_000
 MOST = {
-    "README.md": 900, "CHANGELOG.md": 190, "bench/README.md": 275,
+    "README.md": 900, "CHANGELOG.md": 190, "bench/README.md": 280,
     "crates/hostile_use/README.md": 205, "crates/span_benchmark/README.md": 115,
     "crates/span_core/README.md": 395, "crates/span_core_tests/README.md": 50,
     "crates/span_ffi/README.md": 255, "crates/span_forest/README.md": 155,
@@ -41,7 +41,7 @@ MOST = {
     "crates/tracerun/README.md": 75,
     "crates/tracerun_command_line/README.md": 70, "crates/two_workers/README.md": 115,
     "crates/workloads/README.md": 220, "docs/BENCHMARKS.md": 1500, "docs/CONTRIBUTING.md": 1800,
-    "docs/DECISIONS.md": 3000, "docs/FORMATS.md": 2000, "docs/FROM_TRACING.md": 1300,
+    "docs/DECISIONS.md": 3000, "docs/FORMATS.md": 2000, "docs/FROM_TRACING.md": 1340,
     "docs/LAYERS.md": 1000,
     "docs/PRIVATE_CONTRACTS.md": 415, "docs/PROMISES.md": 1025, "docs/PROOFS.md": 1800,
     "docs/THEOREM.md": 550,

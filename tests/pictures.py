@@ -29,6 +29,15 @@ text { font-family: system-ui, 'Segoe UI', Helvetica, Arial, sans-serif; font-si
   .grid { fill: #3d444d }
 }
 """
+CURVES = """
+.grid { stroke: #d8dee4; fill: none } .curve { stroke-width: 2; fill: none } .dashed { stroke-dasharray: 5 4 }
+.one { stroke: #2563a8 } .four { stroke: #1a7f4b } .two { stroke: #b7791f } .three { stroke: #8250df }
+.five { stroke: #b42318 }
+@media (prefers-color-scheme: dark) {
+  .grid { stroke: #30363d } .one { stroke: #58a6ff } .four { stroke: #56b870 } .two { stroke: #d29922 }
+  .three { stroke: #bc8cff } .five { stroke: #ff7b72 }
+}
+"""
 ARROW = ('<defs><marker id="arrow" viewBox="0 0 8 8" refX="7" refY="4" markerWidth="8" markerHeight="8" orient="auto">'
          '<path class="line" d="M1 1L7 4L1 7"/></marker></defs>\n')
 
@@ -36,8 +45,9 @@ ARROW = ('<defs><marker id="arrow" viewBox="0 0 8 8" refX="7" refY="4" markerWid
 class Picture:
     """A picture of so many points, with its title, and what is told to who can't see it."""
 
-    def __init__(self, width, height, title, told):
-        self.width, self.height, self.title, self.told, self.parts = width, height, title, told, []
+    def __init__(self, width, height, title, told, style=STYLE):
+        self.width, self.height, self.title, self.told, self.style = width, height, title, told, style
+        self.parts = []
 
     def box(self, x, y, width, height, lines, kind="box"):
         """A box with lines in its middle, of which the first is its name."""
@@ -54,6 +64,10 @@ class Picture:
         end = ' marker-end="url(#arrow)"' if arrow else ""
         self.parts.append(f'<path class="line" d="M{path}"{end}/>')
 
+    def curve(self, points, kind):
+        path = "L".join(f"{x:.1f} {y:.1f}" for x, y in points)
+        self.parts.append(f'<path class="{kind}" d="M{path}"/>')
+
     def bar(self, x, y, width, height, kind, round_by=0):
         size = f'x="{x:g}" y="{y:g}" width="{width:g}" height="{height:g}"'
         self.parts.append(f'<rect class="{kind}" {size} rx="{round_by}"/>')
@@ -61,7 +75,7 @@ class Picture:
     def svg(self):
         size = f"{self.width:g} {self.height:g}"
         head = f'<svg xmlns="http://www.w3.org/2000/svg" viewBox="0 0 {size}" role="img">\n'
-        told = f"<title>{escape(self.title)}</title>\n<desc>{escape(self.told)}</desc>\n<style>{STYLE}</style>\n"
+        told = f"<title>{escape(self.title)}</title>\n<desc>{escape(self.told)}</desc>\n<style>{self.style}</style>\n"
         page = f'<rect class="page" width="{self.width:g}" height="{self.height:g}"/>\n'
         return head + told + ARROW + page + "\n".join(self.parts) + "\n</svg>\n"
 
@@ -273,7 +287,68 @@ def peer():
     return picture
 
 
-PICTURES = {"architecture": architecture, "life": life, "call": call, "ring": ring, "peer": peer}
+# ---- calls a second, by threads
+
+# What bench/parts.py wrote, and how each of the registries there is told and drawn.
+FIGURES = TOP / "docs/benchmarks/parts.txt"
+WHOSE = {
+    "package": ("one lock", "curve one"), "parts": ("four parts", "curve four"),
+    "plain": ("plain Rust, one Mutex", "curve two dashed"), "plains": ("plain Rust, a lock a thread", "curve three dashed"),
+    "real": ("tracing-subscriber's Registry", "curve five dashed"),
+}
+
+
+def read_parts():
+    """By layers, of each registry its threads and million calls a second."""
+    figures, names = {}, []
+    for line in FIGURES.read_text(encoding="utf-8").splitlines():
+        words = line.split()
+        if words[:3] == ["#", "layers", "threads"]:
+            names = words[3:]
+        elif words[0] != "#":
+            for name, figure in zip(names, words[2:]):
+                if figure != "-":
+                    of = figures.setdefault(int(words[0]), {}).setdefault(name, [])
+                    of.append((int(words[1]), float(figure)))
+    return figures
+
+
+def told_figures(layers, of):
+    rows = "; ".join(f"{WHOSE[name][0]} " + ", ".join(f"{calls:g}" for _, calls in points) for name, points in of.items())
+    return f"With {layers or 'no'} layer{'s' if layers > 1 else ''}, by threads from 1 on: {rows}."
+
+
+def parts():
+    figures = read_parts()
+    told = "Million calls a second. " + " ".join(told_figures(layers, of) for layers, of in figures.items())
+    picture = Picture(900, 372, "Calls a second of several threads", told, STYLE + CURVES)
+    for number, (name, kind) in enumerate(WHOSE.values()):
+        x, y = 30 + 290 * (number % 3), 20 + 22 * (number // 3)
+        picture.curve([(x, y), (x + 34, y)], kind)
+        picture.text(x + 42, y + 5, name)
+    bottom, top, wide = 320, 90, 380
+    for panel, (layers, of) in enumerate(figures.items()):
+        left = 46 + 446 * panel
+        most = max(calls for points in of.values() for _, calls in points)
+        mark = next(step for step in (0.2, 0.5, 1, 2, 5, 10, 20, 50) if 6 * step >= most)
+        high = (bottom - top) / most
+        last = max(threads for points in of.values() for threads, _ in points)
+        across = wide / (last - 1)
+        for step in range(int(most / mark) + 1):
+            y = bottom - high * step * mark
+            picture.curve([(left, y), (left + wide, y)], "grid")
+            picture.text(left - 8, y + 4, f"{step * mark:g}", "small", "end")
+        for threads in range(1, last + 1):
+            picture.text(left + across * (threads - 1), bottom + 18, str(threads), "small", "middle")
+        picture.text(left, top - 14, f"{layers or 'no'} layer: million calls a second")
+        picture.text(left + wide, bottom + 38, "threads", "small", "end")
+        for name, points in of.items():
+            places = [(left + across * (threads - 1), bottom - high * calls) for threads, calls in points]
+            picture.curve(places, WHOSE[name][1])
+    return picture
+
+
+PICTURES = {"architecture": architecture, "life": life, "call": call, "ring": ring, "peer": peer, "parts": parts}
 
 
 def main():
