@@ -5,14 +5,18 @@ use crate::drain::Drain;
 use crate::error::{Error, Limit};
 use crate::interest::Interest;
 use crate::level::{FmtSpan, Form, Level};
+use crate::lost::Losses;
 use crate::notes::Notes;
 use crate::packed::{length, reserve};
+use crate::part::{Common, Part};
+use crate::parts::Parts;
 use crate::raw::{Core, SpanLayer, SpanLimits, SpanRule, Start};
 use crate::registry::Registry;
 use crate::ring::{OnFull, Ring};
-use crate::shared::Shared;
+use crate::stamps::{Clock, Stamps};
 use crate::state::State;
 use std::sync::Arc;
+use std::time::Instant;
 
 /// Who is told of spans and events: in which form, of which parts of a span's life, and of which targets and levels.
 ///
@@ -78,6 +82,7 @@ impl Layer {
 #[must_use = "it has to be built"]
 pub struct RegistryBuilder {
     limits: SpanLimits,
+    parts: u32,
     layers: Vec<Layer>,
     // None: as it is built.
     on_full: Option<OnFull>,
@@ -94,6 +99,7 @@ impl Default for RegistryBuilder {
         };
         RegistryBuilder {
             limits,
+            parts: 1,
             layers: Vec::new(),
             on_full: None,
         }
@@ -132,6 +138,42 @@ impl RegistryBuilder {
         self
     }
 
+    /// In so many parts, each with a lock of its own: 1 to 128, by default 1. More threads make more calls so.
+    ///
+    /// Each part is a whole proved registry, with as many [slots](RegistryBuilder::slots), places of its
+    /// [ring](RegistryBuilder::ring) and [workers](RegistryBuilder::workers) as is said.
+    /// A tree of spans lies in one of them: a thread's roots in the part that is the thread's, in turn, and all else
+    /// where its parent is, or the innermost span that the thread is inside of. The [id](crate::Id::part) names it.
+    ///
+    /// **What holds of each part** is all that holds of a registry with one: its calls have one order, in which its
+    /// lines are told. Ids and workers are numbered so that no two parts have one in common: a thread that calls several
+    /// parts has a worker's number in each, and lines of other parts than the first are the proved ones but for these
+    /// numbers.
+    ///
+    /// **What holds of all together.** The drain gives the lines in the order of stamps, which calls take under their
+    /// part's lock: those of a part are in its order, and those of a call come after those of each that ended before it
+    /// began, in whatever thread and part; with what is owed, that is when it was done. What is counted or listed of all
+    /// is of one moment in each part, and not of one in all. An event is told in the spans of one part: a layer that
+    /// admits none of those that the thread is inside of there is told it in none, though it may admit one of another
+    /// part.
+    ///
+    /// ```
+    /// # fn main() -> Result<(), span_registry::Error> {
+    /// use span_registry::{span, Layer, Level, Registry};
+    /// let (registry, mut drain) = Registry::builder().parts(4).layer(Layer::compact()).build()?;
+    /// let request = span!(registry, Level::Info, "request");
+    /// let query = span!(registry, parent: &request, Level::Info, "query");
+    /// assert_eq!(request.id().unwrap().part(), query.id().unwrap().part());
+    /// drop((request, query));
+    /// assert_eq!(drain.lines().count(), 4);
+    /// # Ok(())
+    /// # }
+    /// ```
+    pub fn parts(mut self, parts: u32) -> RegistryBuilder {
+        self.parts = parts;
+        self
+    }
+
     /// One more layer, told after those that were added before; at most 64. They are numbered from 0.
     ///
     /// With no layer, all spans are made and no line is written.
@@ -164,33 +206,76 @@ impl RegistryBuilder {
     pub fn build(self) -> Result<(Registry, Drain), Error> {
         let limits = self.checked_limits()?;
         let packed = PackedLayers::of(&self.layers)?;
-        let (core, lines) = Core::new(&Start {
-            limits,
-            layers: &packed.layers,
-            rules: &packed.rules,
-            texts: &packed.texts,
-        })?;
         let forms: Vec<Form> = self.layers.iter().map(|layer| layer.form).collect();
-        let notes = forms.contains(&Form::Tree).then(Notes::new);
-        let ring = Arc::new(Ring::new(lines, notes, self.on_full.unwrap_or_default()));
-        let state = State::new(core, Arc::clone(&ring))?;
         let interest = Interest::of(self.layers.iter().map(|layer| layer.targets.clone()));
-        let shared = Arc::new(Shared::new(state, ring, interest));
-        let drain = Drain::of(Arc::clone(&shared), forms);
-        Ok((Registry::of(shared), drain))
+        let losses = Arc::new(Losses::default());
+        let making = Making {
+            limits,
+            packed: &packed,
+            on_full: self.on_full.unwrap_or_default(),
+            begin: forms.contains(&Form::Tree).then(Instant::now),
+            // Where there is no layer, there are no lines.
+            clock: (self.parts > 1 && !forms.is_empty()).then(Arc::default),
+            common: Arc::new(Common::new(interest, Arc::clone(&losses), self.parts)),
+            losses,
+        };
+        let first = making.part(0)?;
+        let mut others = Vec::new();
+        reserve(&mut others, self.parts as usize - 1)?;
+        for place in 1..self.parts {
+            others.push(making.part(place)?);
+        }
+        let parts = Parts::of(first, others);
+        let drain = Drain::of(parts.clone(), forms);
+        Ok((Registry::of(parts), drain))
     }
 
-    // Those of the proved registry, which has a worker more.
+    // Those of each proved registry, which has a worker more.
     fn checked_limits(&self) -> Result<SpanLimits, Error> {
         let limits = self.limits;
         Limit::Slots.check(limits.slots)?;
         Limit::MaxCount.check(limits.max_count)?;
         Limit::Workers.check(limits.workers)?;
         Limit::Ring.check(limits.ring)?;
+        Limit::Parts.check(self.parts)?;
         Ok(SpanLimits {
             workers: (limits.workers + 1).min(Limit::Workers.most()),
             ..limits
         })
+    }
+}
+
+/// What the parts of a registry are made of.
+struct Making<'a> {
+    // Of each part.
+    limits: SpanLimits,
+    packed: &'a PackedLayers,
+    on_full: OnFull,
+    // Where a layer asks for notes.
+    begin: Option<Instant>,
+    // Where the lines of several parts are merged.
+    clock: Option<Arc<Clock>>,
+    common: Arc<Common>,
+    losses: Arc<Losses>,
+}
+
+impl Making<'_> {
+    fn part(&self, place: u32) -> Result<Arc<Part>, Error> {
+        let packed = self.packed;
+        let (core, lines) = Core::new(&Start {
+            limits: self.limits,
+            layers: &packed.layers,
+            rules: &packed.rules,
+            texts: &packed.texts,
+        })?;
+        let notes = self.begin.map(Notes::new);
+        let stamps = |clock: &Arc<Clock>| Stamps::new(Arc::clone(clock), self.limits.ring);
+        let stamps = self.clock.as_ref().map(stamps).transpose()?;
+        let ring = Ring::new(lines, notes, stamps, self.on_full, Arc::clone(&self.losses));
+        let ring = Arc::new(ring);
+        // So no two parts have a worker's number in common.
+        let state = State::new(core, Arc::clone(&ring), place * self.limits.workers)?;
+        Ok(Arc::new(Part::new(state, ring, Arc::clone(&self.common), place)))
     }
 }
 

@@ -3,6 +3,7 @@
 use crate::error::Error;
 use crate::meta::{Fields, Given, Id, Meta, Parent, RawId};
 use crate::names::{are_marked, is_marked, with_written, NO_NAME};
+use crate::part::Part;
 use crate::refusal::Refusal;
 use crate::registry::Registry;
 use crate::span::Span;
@@ -22,7 +23,7 @@ pub struct Callsite {
 impl Callsite {
     // Its number, where it is one of this registry.
     fn number_in(self, registry: &Registry) -> Result<u32, Error> {
-        if self.registry == registry.shared().number() {
+        if self.registry == registry.number() {
             Ok(self.number)
         } else {
             Err(Error::OtherRegistry)
@@ -58,7 +59,7 @@ impl Registry {
     /// # }
     /// ```
     pub fn callsite(&self, meta: &Meta<'_>) -> Result<Callsite, Error> {
-        let add = |meta: &Meta<'_>| self.shared().with(|state| state.add_callsite(meta, None));
+        let add = |meta: &Meta<'_>| self.parts().add_callsite(meta);
         let number = if is_marked(meta.name) {
             Err(Refusal::BAD_NAME)
         } else {
@@ -67,7 +68,7 @@ impl Registry {
         let number = number
             .or_else(|refusal| with_written(refusal, meta.name, Given::NONE, |name, _| add(&Meta { name, ..*meta })))?;
         Ok(Callsite {
-            registry: self.shared().number(),
+            registry: self.number(),
             number,
         })
     }
@@ -79,7 +80,7 @@ impl Registry {
     /// [`OtherRegistry`](Error::OtherRegistry).
     pub fn enabled_at(&self, callsite: &Callsite) -> Result<bool, Error> {
         let number = callsite.number_in(self)?;
-        Ok(self.shared().with(|state| state.callsite_wants(number))?)
+        Ok(self.parts().home().with(|state| state.callsite_wants(number))?)
     }
 
     /// [`span`](Registry::span) with the meta of a callsite.
@@ -92,7 +93,7 @@ impl Registry {
     }
 
     pub(crate) fn span_at_number(&self, number: u32, parent: Parent, fields: Given<'_>) -> Result<Span, Error> {
-        let span = self.made_at(number, parent, fields, |id| Span::of(self, id))?;
+        let span = self.made_at(number, parent, fields, |part, id| Span::of(self, part, id))?;
         Ok(span.unwrap_or_default())
     }
 
@@ -101,7 +102,8 @@ impl Registry {
     /// # Errors
     /// Those of [`span_at`](Registry::span_at).
     pub fn new_span_at(&self, callsite: &Callsite, parent: Parent, fields: Fields<'_>) -> Result<Option<Id>, Error> {
-        self.made_at(callsite.number_in(self)?, parent, fields.into(), |id| self.id_of(id))
+        let number = callsite.number_in(self)?;
+        self.made_at(number, parent, fields.into(), |part, id| self.id_of(part, id))
     }
 
     // What is told of the span that is made. Each way has a copy of its own.
@@ -111,20 +113,20 @@ impl Registry {
         number: u32,
         parent: Parent,
         fields: Given<'_>,
-        told: impl FnOnce(RawId) -> T,
+        told: impl FnOnce(&Part, RawId) -> T,
     ) -> Result<Option<T>, Error> {
-        let parent = self.own_parent(parent)?;
+        let (part, parent) = self.own_parent(parent)?;
         let made = if are_marked(NO_NAME, fields.fields) {
             Err(Refusal::BAD_NAME)
         } else {
-            self.call(|state, worker| state.new_span_at(worker, number, parent, fields))
+            self.call(part, |state, worker| state.new_span_at(worker, number, parent, fields))
         };
         let made = made.or_else(|refusal| {
             with_written(refusal, NO_NAME, fields, |_, given| {
-                self.call(|state, worker| state.new_span_at(worker, number, parent, given))
+                self.call(part, |state, worker| state.new_span_at(worker, number, parent, given))
             })
         })?;
-        Ok(made.map(told))
+        Ok(made.map(|id| told(part, id)))
     }
 
     /// [`event`](Registry::event) with the meta of a callsite.
@@ -137,14 +139,15 @@ impl Registry {
     }
 
     pub(crate) fn event_at_number(&self, number: u32, message: &str, fields: Given<'_>) -> Result<(), Error> {
+        let part = self.parts().inside();
         let told = if are_marked(NO_NAME, fields.fields) {
             Err(Refusal::BAD_NAME)
         } else {
-            self.call(|state, worker| state.event_at(worker, number, message, fields))
+            self.call(part, |state, worker| state.event_at(worker, number, message, fields))
         };
         told.or_else(|refusal| {
             with_written(refusal, NO_NAME, fields, |_, given| {
-                self.call(|state, worker| state.event_at(worker, number, message, given))
+                self.call(part, |state, worker| state.event_at(worker, number, message, given))
             })
         })
     }

@@ -1,9 +1,10 @@
 //! The end from which lines are read.
 #![forbid(unsafe_code)]
+use crate::head::Head;
 use crate::level::Form;
 use crate::note::{Note, Sources};
-use crate::raw::Next;
-use crate::shared::{wait, Shared};
+use crate::part::{wait, Part};
+use crate::parts::Parts;
 use crate::workers;
 use std::io::{self, Write};
 use std::sync::atomic::{AtomicBool, Ordering};
@@ -28,11 +29,13 @@ pub struct DrainCounts {
     pub missed: u64,
 }
 
-/// The end from which lines are read, in the order of the calls. It may be used in a thread of its own.
+/// The end from which lines are read, in the order of the calls; where the registry has several
+/// [parts](crate::RegistryBuilder::parts), in that of their stamps. It may be used in a thread of its own.
 ///
 /// It has to be read: [`OnFull`](crate::OnFull) says what calls do once the ring is full. Where it is dropped, lines
 /// are thrown away from then on, and counted. Reading takes the registry's lock only where something is owed (see
-/// [`Span`](crate::Span)) or a loss is to be told.
+/// [`Span`](crate::Span)) or a loss is to be told, or to wait for the end of a call of another part that may have a line
+/// before the next one.
 ///
 /// ```
 /// # fn main() -> Result<(), Box<dyn std::error::Error>> {
@@ -54,30 +57,30 @@ pub struct DrainCounts {
 /// ```
 #[must_use = "lines are thrown away once it is dropped"]
 pub struct Drain {
-    shared: Arc<Shared>,
+    parts: Parts,
     // Of each layer.
     forms: Vec<Form>,
-    // A line's bytes stand at its beginning, and it has room for a newline.
-    buffer: Vec<u8>,
-    // The layer and length of a line that is in the buffer and wasn't handed out.
-    ready: Option<(usize, usize)>,
-    // What that line tells, where its layer has the form of trees; the buffer hasn't its text then.
-    note: Option<Note>,
+    // Of each part.
+    heads: Vec<Head>,
+    // The part of the line that is handed out next.
+    at: usize,
+    // Of each part the last call whose lines are to be written at an end.
+    last: Vec<u64>,
 }
 
 impl Drain {
-    pub(crate) fn of(shared: Arc<Shared>, forms: Vec<Form>) -> Drain {
+    pub(crate) fn of(parts: Parts, forms: Vec<Form>) -> Drain {
         Drain {
-            shared,
+            heads: parts.all().map(|_| Head::new()).collect(),
+            last: parts.all().map(|_| 0).collect(),
+            parts,
             forms,
-            buffer: vec![0; 256],
-            ready: None,
-            note: None,
+            at: 0,
         }
     }
 
-    pub(crate) fn shared(&self) -> &Arc<Shared> {
-        &self.shared
+    pub(crate) fn parts(&self) -> &Parts {
+        &self.parts
     }
 
     /// How many layers the registry has.
@@ -89,8 +92,9 @@ impl Drain {
     /// The next line; none where none is at hand now. It doesn't wait for one.
     pub fn line(&mut self) -> Option<Line> {
         let (layer, length) = self.next_text(|_| true)?;
-        self.ready = None;
-        let text = text_of(&self.buffer[..length]);
+        let head = &mut self.heads[self.at];
+        head.ready = None;
+        let text = text_of(head.bytes(length));
         Some(Line { layer, text })
     }
 
@@ -99,8 +103,9 @@ impl Drain {
     pub fn note(&mut self) -> Option<Note> {
         loop {
             self.next_ready(|_| true)?;
-            self.ready = None;
-            if let Some(note) = self.note.take() {
+            let head = &mut self.heads[self.at];
+            head.ready = None;
+            if let Some(note) = head.note.take() {
                 return Some(note);
             }
         }
@@ -178,107 +183,133 @@ impl Drain {
     /// Whether the registry, its clones and its spans are gone. Lines may be left.
     #[must_use]
     pub fn is_over(&self) -> bool {
-        self.shared.is_over()
+        self.parts.common().is_over()
     }
 
     /// What it has done so far.
     #[must_use]
     pub fn counts(&mut self) -> DrainCounts {
-        let (batches, missed) = self.shared.ring().lines().counts();
+        let (mut batches, mut missed) = (0, 0);
+        for part in self.parts.all() {
+            let counts = part.ring().lines().counts();
+            (batches, missed) = (batches + counts.0, missed + counts.1);
+        }
         DrainCounts { batches, missed }
     }
 
-    // Where the ring is empty, what is owed can be done, and what was lost told, and both may give lines. It is asked
+    // Where the rings are empty, what is owed can be done, and what was lost told, and both may give lines. It is asked
     // before each look for a line whether to go on: batches without one may come for ever.
-    fn next_ready(&mut self, goes_on: impl Fn(&Shared) -> bool) -> Option<(usize, usize)> {
-        let has_notes = self.shared.ring().notes().is_some();
-        while self.ready.is_none() && goes_on(&self.shared) {
-            let room = self.buffer.len() - 1;
-            let (next, batch) = {
-                let mut lines = self.shared.ring().lines();
-                let next = lines.next(&mut self.buffer[..room]);
-                (next, if has_notes { lines.counts().0 } else { 0 })
-            };
-            match next {
-                Next::Line { layer, length } => {
-                    self.ready = Some((layer as usize, length));
-                    if has_notes {
-                        self.note = self.noted(layer as usize, length, batch);
-                    }
-                }
-                Next::Long { length } => self.buffer.resize(length + 1, 0),
-                Next::None if !self.settles() => return None,
-                Next::None => {}
+    fn next_ready(&mut self, goes_on: impl Fn(&Drain) -> bool) -> Option<(usize, usize)> {
+        loop {
+            if let Some(at) = self.first_ready() {
+                self.at = at;
+                return self.heads[at].ready;
+            }
+            if !goes_on(self) || !self.look() && !self.settles() {
+                return None;
             }
         }
-        self.ready
     }
 
-    // What the line in the buffer tells, which is of this batch: the call of this number.
-    fn noted(&self, layer: usize, length: usize, batch: u64) -> Option<Note> {
-        let notes = self.shared.ring().notes()?;
-        if !notes.book().goes_to(batch) {
-            // The call still has the lock.
-            self.shared.with(|_| ());
-            notes.book().goes_to(batch);
+    // The part whose line is the next one, where no part can bring one with a lesser stamp.
+    #[inline]
+    fn first_ready(&self) -> Option<usize> {
+        match &*self.heads {
+            [head] => head.ready.map(|_| 0),
+            heads => {
+                let (stamp, at) = least(heads)?;
+                let is_beyond = |head: &Head| head.ready.is_some() || head.bound > stamp;
+                heads.iter().all(is_beyond).then_some(at)
+            }
         }
-        let mut book = notes.book();
-        book.keep_first();
-        let sources = Sources {
-            registry: self.shared.number(),
-            layer,
-            interest: self.shared.interest(),
-            book: &book,
+    }
+
+    // Reads the next line of each part where it isn't read. Whether there is any.
+    #[inline]
+    fn look(&mut self) -> bool {
+        if self.parts.are_several() {
+            self.look_at_all()
+        } else {
+            self.look_at(0)
+        }
+    }
+
+    fn look_at_all(&mut self) -> bool {
+        for at in 0..self.heads.len() {
+            if self.heads[at].ready.is_none() {
+                self.look_at(at);
+            }
+        }
+        let Some((stamp, _)) = least(&self.heads) else {
+            return false;
         };
-        let line = std::str::from_utf8(&self.buffer[..length]).ok()?;
-        (self.forms[layer] == Form::Tree).then(|| sources.note(line))?
+        // Of the others, those which were looked at before that line came may bring one that comes before it.
+        for at in 0..self.heads.len() {
+            if self.heads[at].ready.is_none() && self.heads[at].bound <= stamp {
+                let part = self.part(at);
+                let passes = part.ring().stamps().is_none_or(|stamps| stamps.passes(stamp));
+                if !passes {
+                    // The call that may do so has the lock.
+                    part.with(|_| ());
+                }
+                self.look_at(at);
+            }
+        }
+        true
+    }
+
+    fn part(&self, at: usize) -> &Part {
+        // At most 128.
+        self.parts.at(at as u32)
+    }
+
+    #[inline]
+    fn look_at(&mut self, at: usize) -> bool {
+        let part = self.parts.at(at as u32);
+        let head = &mut self.heads[at];
+        if !head.look(part) {
+            return false;
+        }
+        if at > 0 || part.ring().notes().is_some() {
+            told(part, &self.forms, head);
+        }
+        true
     }
 
     // As `next_ready`, with its text in the buffer.
-    fn next_text(&mut self, goes_on: impl Fn(&Shared) -> bool) -> Option<(usize, usize)> {
+    fn next_text(&mut self, goes_on: impl Fn(&Drain) -> bool) -> Option<(usize, usize)> {
         let (layer, _) = self.next_ready(goes_on)?;
-        if self.note.is_some() {
+        if self.heads[self.at].note.is_some() {
             self.put_note(layer);
         }
-        self.ready
+        self.heads[self.at].ready
     }
 
     #[cold]
     fn put_note(&mut self, layer: usize) {
-        if let Some(note) = self.note.take() {
-            let text = note.to_string();
-            self.buffer.resize(self.buffer.len().max(text.len() + 1), 0);
-            self.buffer[..text.len()].copy_from_slice(text.as_bytes());
-            self.ready = Some((layer, text.len()));
+        let head = &mut self.heads[self.at];
+        if let Some(note) = head.note.take() {
+            head.put(layer, &note.to_string());
         }
     }
 
     // Whether something was owed or lost, and some of it was done or told now.
     fn settles(&self) -> bool {
-        if !self.shared.owes() && !self.shared.is_untold() {
-            return false;
-        }
-        self.shared.with(|state| {
-            let before = state.calls();
-            if state.settle().is_ok() {
-                self.shared.tell(state);
-            }
-            state.calls() > before
-        })
+        // Each of them does.
+        self.parts.all().filter(|part| settles(part)).count() > 0
     }
 
     fn write_out(&mut self, outs: &mut impl Outs) -> io::Result<u64> {
         self.write_while(outs, |_| true)
     }
 
-    fn write_while(&mut self, outs: &mut impl Outs, goes_on: impl Fn(&Shared) -> bool) -> io::Result<u64> {
+    fn write_while(&mut self, outs: &mut impl Outs, goes_on: impl Fn(&Drain) -> bool) -> io::Result<u64> {
         outs.check(self.forms.len())?;
         let mut lines = 0;
         while let Some((layer, length)) = self.next_text(&goes_on) {
-            self.buffer[length] = b'\n';
-            let line = &self.buffer[..=length];
-            workers::writing(&self.shared, || outs.write(layer, line))?;
-            self.ready = None;
+            let line = self.heads[self.at].with_newline(length);
+            workers::writing(self.parts.common(), || outs.write(layer, line))?;
+            self.heads[self.at].ready = None;
             lines += 1;
         }
         Ok(lines)
@@ -287,7 +318,7 @@ impl Drain {
     // The lines of the calls that were accepted or are owed by now, and of what was lost.
     fn write_rest(&mut self, outs: &mut impl Outs) -> io::Result<u64> {
         let mut lines = self.write_sent(outs)?;
-        if self.shared.is_untold() {
+        if self.parts.all().any(|part| part.is_untold()) {
             lines += self.write_sent(outs)?;
         }
         lines += self.write_open(outs)?;
@@ -298,30 +329,45 @@ impl Drain {
     // Tells which spans are open, and writes that. Where there is no memory for it, or others keep the ring full,
     // nothing more is told.
     fn write_open(&mut self, outs: &mut impl Outs) -> io::Result<u64> {
-        let open = self.shared.with(|state| state.open_spans()).unwrap_or_default();
-        let (mut left, mut lines) = (&open[..open.len().min(OPEN_AT_END)], 0);
-        for _turn in 0..OPEN_AT_END {
-            let told = self.shared.with(|state| state.tell_open(left)).unwrap_or(left.len());
-            left = &left[told..];
-            lines += self.write_sent(outs)?;
-            if left.is_empty() {
-                break;
+        let (mut lines, mut room) = (0, OPEN_AT_END);
+        for place in 0..self.parts.count() {
+            let part = Arc::clone(self.parts.at(place));
+            let open = part.with(|state| state.open_spans()).unwrap_or_default();
+            let mut left = &open[..open.len().min(room)];
+            room -= left.len();
+            for _turn in 0..OPEN_AT_END {
+                let told = part.with(|state| state.tell_open(place, left)).unwrap_or(left.len());
+                left = &left[told..];
+                lines += self.write_sent(outs)?;
+                if left.is_empty() {
+                    break;
+                }
             }
         }
         Ok(lines)
     }
 
     fn flush(&self, outs: &mut impl Outs) -> io::Result<()> {
-        workers::writing(&self.shared, || outs.flush())
+        workers::writing(self.parts.common(), || outs.flush())
     }
 
-    // Each call puts one batch into the ring.
+    // Each call puts one batch into its part's ring.
     fn write_sent(&mut self, outs: &mut impl Outs) -> io::Result<u64> {
-        let last = self.shared.with(|state| {
-            self.shared.tell(state);
-            state.calls_by_now()
-        });
-        self.write_while(outs, |shared| shared.ring().lines().counts().0 <= last)
+        for ((part, last), head) in self.parts.all().zip(&mut self.last).zip(&mut self.heads) {
+            *last = part.with(|state| {
+                part.tell(state);
+                state.calls_by_now()
+            });
+            head.is_dry = false;
+        }
+        self.write_while(outs, Drain::has_more)
+    }
+
+    // Whether a part may have lines of the calls up to the last ones. Others may go on for ever in one part, while
+    // nothing comes in another.
+    fn has_more(&self) -> bool {
+        let mut all = self.parts.all().zip(&self.last).zip(&self.heads);
+        all.any(|((part, &last), head)| !head.is_dry && part.ring().lines().counts().0 <= last)
     }
 
     fn run_out(&mut self, outs: &mut impl Outs, stop: &AtomicBool) -> io::Result<u64> {
@@ -340,13 +386,65 @@ impl Drain {
             if idle == 0 {
                 self.flush(outs)?;
             }
-            if was_over && !self.shared.owes() {
+            if was_over && !self.parts.common().owes() {
                 return Ok(lines);
             }
             wait(idle);
             idle = idle.saturating_add(1);
         }
     }
+}
+
+/// The least stamp of the lines that are read, and its part.
+fn least(heads: &[Head]) -> Option<(u64, usize)> {
+    let ready = heads.iter().enumerate().filter(|(_, head)| head.ready.is_some());
+    ready.map(|(at, head)| (head.stamp, at)).min()
+}
+
+// Puts the line in the buffer as it is told of the part.
+#[cold]
+fn told(part: &Part, forms: &[Form], head: &mut Head) {
+    head.note = noted(part, forms, head);
+    if part.place() > 0 && head.note.is_none() {
+        let form = head.ready.map(|(layer, _)| forms[layer]);
+        head.put_part(form == Some(Form::Compact), part);
+    }
+}
+
+// What the line in the buffer tells, where its layer asks for notes.
+fn noted(part: &Part, forms: &[Form], head: &Head) -> Option<Note> {
+    let ((layer, length), notes) = (head.ready?, part.ring().notes()?);
+    if !notes.book().goes_to(head.batch) {
+        // The call still has the lock.
+        part.with(|_| ());
+        notes.book().goes_to(head.batch);
+    }
+    let mut book = notes.book();
+    book.keep_first();
+    let sources = Sources {
+        registry: part.common().number(),
+        part: part.place(),
+        first_worker: part.first_worker(),
+        layer,
+        interest: part.common().interest(),
+        book: &book,
+    };
+    let line = std::str::from_utf8(head.bytes(length)).ok()?;
+    (forms[layer] == Form::Tree).then(|| sources.note(line))?
+}
+
+// Whether something was owed or lost, and some of it was done or told now.
+fn settles(part: &Part) -> bool {
+    if !part.owes() && !part.is_untold() {
+        return false;
+    }
+    part.with(|state| {
+        let before = state.calls();
+        if state.settle().is_ok() {
+            part.tell(state);
+        }
+        state.calls() > before
+    })
 }
 
 // Lines are UTF-8, and to look whether they are is quicker than to make them so.
@@ -360,9 +458,15 @@ fn text_of(line: &[u8]) -> String {
 /// From now on nobody reads.
 impl Drop for Drain {
     fn drop(&mut self) {
-        self.shared.ring().is_left();
-        if let Some(notes) = self.shared.ring().notes() {
-            notes.clear();
+        for (part, head) in self.parts.all().zip(&self.heads) {
+            part.ring().is_left();
+            if let Some(notes) = part.ring().notes() {
+                notes.clear();
+            }
+            if self.parts.are_several() && head.ready.is_some() {
+                // It was read to be merged, and no one asked for it.
+                self.parts.common().losses().lose_line();
+            }
         }
     }
 }

@@ -1,5 +1,6 @@
 //! Why a call was refused.
 #![forbid(unsafe_code)]
+use crate::meta::MOST_PARTS;
 use crate::raw;
 use std::fmt;
 
@@ -95,6 +96,7 @@ pub enum Limit {
     MaxCount,
     Workers,
     Ring,
+    Parts,
 }
 
 impl Limit {
@@ -106,6 +108,7 @@ impl Limit {
             Limit::MaxCount => "max_count",
             Limit::Workers => "workers",
             Limit::Ring => "ring",
+            Limit::Parts => "parts",
         }
     }
 
@@ -116,6 +119,7 @@ impl Limit {
             Limit::Slots => 1 << 24,
             Limit::MaxCount => u32::MAX,
             Limit::Workers | Limit::Ring => 65_536,
+            Limit::Parts => MOST_PARTS,
         }
     }
 

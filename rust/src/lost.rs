@@ -106,6 +106,7 @@ impl fmt::Display for Lost {
 #[derive(Default)]
 pub(crate) struct Losses {
     counts: [AtomicU64; REASONS.len()],
+    lines: AtomicU64,
     // Whether something was lost since that was last told.
     is_untold: AtomicBool,
 }
@@ -117,10 +118,16 @@ impl Losses {
         self.is_untold.store(true, Ordering::Release);
     }
 
-    /// What was lost so far, with so many lines.
-    pub(crate) fn so_far(&self, lines: u64) -> Lost {
+    /// A line was thrown away.
+    pub(crate) fn lose_line(&self) {
+        self.lines.fetch_add(1, Ordering::Relaxed);
+        self.is_untold.store(true, Ordering::Release);
+    }
+
+    /// What was lost so far.
+    pub(crate) fn so_far(&self) -> Lost {
         let mut lost = Lost {
-            lines,
+            lines: self.lines.load(Ordering::Relaxed),
             ..Lost::default()
         };
         for (number, count) in lost.calls.iter_mut().zip(&self.counts) {
@@ -144,12 +151,14 @@ impl Registry {
     /// What was lost so far. It takes no lock.
     #[must_use]
     pub fn lost(&self) -> Lost {
-        self.shared().lost()
+        self.parts().common().losses().so_far()
     }
 
     /// The answer of a call; none where it was refused, which is counted.
     pub(crate) fn or_lost<T>(&self, result: Result<T, Error>) -> Option<T> {
-        result.map_err(|reason| self.shared().losses().lose(reason)).ok()
+        result
+            .map_err(|reason| self.parts().common().losses().lose(reason))
+            .ok()
     }
 }
 
@@ -197,12 +206,14 @@ mod tests {
         let losses = Losses::default();
         assert!(!losses.is_untold());
         losses.lose(Error::Full);
-        let before = losses.so_far(3);
+        (0..3).for_each(|_| losses.lose_line());
+        let before = losses.so_far();
         losses.set_untold(false);
         losses.lose(Error::Full);
         losses.lose(Error::Backlog);
+        (0..2).for_each(|_| losses.lose_line());
         assert!(losses.is_untold());
-        assert_eq!(losses.so_far(5).since(&before).to_string(), "full=1 backlog=1 lines=2");
+        assert_eq!(losses.so_far().since(&before).to_string(), "full=1 backlog=1 lines=2");
     }
 
     #[test]
@@ -213,6 +224,6 @@ mod tests {
                 scope.spawn(|| (0..1000).for_each(|_| losses.lose(Error::Full)));
             }
         });
-        assert_eq!(losses.so_far(0).by(Error::Full), 4000);
+        assert_eq!(losses.so_far().by(Error::Full), 4000);
     }
 }

@@ -12,8 +12,12 @@ use std::num::NonZeroU64;
 /// A slot below 2^24 and a generation below 2^32 make an id.
 const SLOTS: u64 = 1 << 24;
 const MAX_ID: u64 = 1 << 56;
+/// The bits from this one on are free in all of them: they name the part of the registry.
+const PART_BIT: u32 = MAX_ID.ilog2() + 1;
+/// So many parts have numbers in them.
+pub(crate) const MOST_PARTS: u32 = 1 << (u64::BITS - PART_BIT);
 
-/// The number of an id, as the C interface takes and tells it. Whose id it is, nothing says.
+/// The number of an id, as the C interface of its part takes and tells it. Whose id it is, nothing says.
 #[derive(Clone, Copy, Debug, PartialEq, Eq, PartialOrd, Ord, Hash)]
 pub(crate) struct RawId(NonZeroU64);
 
@@ -27,6 +31,12 @@ impl RawId {
 
     pub(crate) fn get(self) -> u64 {
         self.0.get()
+    }
+
+    /// The number of the id, where its part is this one.
+    #[inline]
+    pub(crate) fn in_part(self, part: u32) -> NonZeroU64 {
+        self.0 | (u64::from(part) << PART_BIT)
     }
 
     /// The slot of its span, below 2^24.
@@ -44,33 +54,59 @@ impl RawId {
 pub struct Id {
     // No two registries of a process have the same one.
     registry: u64,
-    raw: RawId,
+    // The part's in its highest bits, and the rest is that of its `RawId`.
+    number: NonZeroU64,
 }
 
 impl Id {
-    pub(crate) fn of(registry: u64, raw: RawId) -> Id {
-        Id { registry, raw }
+    #[inline]
+    pub(crate) fn of(registry: u64, part: u32, raw: RawId) -> Id {
+        Id {
+            registry,
+            number: raw.in_part(part),
+        }
     }
 
-    /// Its number, where it is an id of this registry: there is no other way from an `Id` to a call.
-    pub(crate) fn in_registry(self, registry: u64) -> Result<RawId, Error> {
-        if self.registry == registry {
-            Ok(self.raw)
-        } else {
-            Err(Error::OtherRegistry)
+    /// That of a number, if it has one.
+    pub(crate) fn of_number(registry: u64, number: u64) -> Option<Id> {
+        let raw = RawId::from_u64(number % (1 << PART_BIT))?;
+        Some(Id::of(registry, part_of(number), raw))
+    }
+
+    /// Its number there and the part, where it is an id of this registry: there is no other way from an `Id` to a call.
+    #[inline(always)]
+    pub(crate) fn in_registry(self, registry: u64) -> Result<(u32, RawId), Error> {
+        if self.registry != registry {
+            return Err(Error::OtherRegistry);
         }
+        let number = self.number.get();
+        // It isn't 0.
+        let raw = NonZeroU64::new(number % (1 << PART_BIT)).ok_or(Error::Unknown)?;
+        Ok((part_of(number), RawId(raw)))
     }
 
     /// Its number, which lines show.
     #[must_use]
     pub fn into_u64(self) -> u64 {
-        self.raw.get()
+        self.number.get()
     }
+
+    /// Which of the registry's [parts](crate::RegistryBuilder::parts) the span lies in: the highest 7 bits of its
+    /// number.
+    #[must_use]
+    pub fn part(self) -> u32 {
+        part_of(self.number.get())
+    }
+}
+
+fn part_of(number: u64) -> u32 {
+    // It has 7 bits.
+    (number >> PART_BIT) as u32
 }
 
 impl fmt::Display for Id {
     fn fmt(&self, f: &mut fmt::Formatter<'_>) -> fmt::Result {
-        self.raw.0.fmt(f)
+        self.number.fmt(f)
     }
 }
 
@@ -152,17 +188,6 @@ pub(crate) enum RawParent {
     Of(RawId),
 }
 
-impl Parent {
-    /// For a span of this registry.
-    pub(crate) fn in_registry(self, registry: u64) -> Result<RawParent, Error> {
-        Ok(match self {
-            Parent::Root => RawParent::Root,
-            Parent::Current => RawParent::Current,
-            Parent::Of(id) => RawParent::Of(id.in_registry(registry)?),
-        })
-    }
-}
-
 impl From<Id> for Parent {
     fn from(id: Id) -> Parent {
         Parent::Of(id)
@@ -199,7 +224,8 @@ pub struct Found {
     pub level: Level,
 }
 
-/// What happened so far, and what is held now.
+/// What happened so far, and what is held now; of several [parts](crate::RegistryBuilder::parts) the sums, each part at
+/// a moment of its own.
 #[derive(Clone, Copy, Debug, PartialEq, Eq)]
 #[non_exhaustive]
 pub struct Counts {
@@ -215,8 +241,46 @@ pub struct Counts {
     pub held: u64,
     /// Exits and closes of dropped guards and spans, and ends of threads, that are still to be done.
     pub owed: usize,
-    /// How many threads may call.
+    /// How many threads may be inside spans of a part at once.
     pub workers: u32,
-    /// How many threads have called and not ended.
+    /// How many threads have called and not ended; in each part that they called, where there are several.
     pub threads: u32,
+}
+
+impl Counts {
+    /// With those of another part.
+    pub(crate) fn and(self, other: Counts) -> Counts {
+        Counts {
+            open: self.open + other.open,
+            made: self.made + other.made,
+            closed: self.closed + other.closed,
+            calls: self.calls + other.calls,
+            held: self.held + other.held,
+            owed: self.owed + other.owed,
+            workers: self.workers,
+            threads: self.threads + other.threads,
+        }
+    }
+}
+
+#[cfg(test)]
+mod tests {
+    use super::{Id, RawId, MAX_ID, MOST_PARTS};
+    use crate::error::Error;
+
+    #[test]
+    fn an_id_has_its_part_in_the_seven_bits_that_no_core_uses() {
+        assert_eq!(MOST_PARTS, 128);
+        for raw in [1, 1 << 24, 1 << 55, MAX_ID].map(|number| RawId::from_u64(number).expect("a core's")) {
+            for part in 0..MOST_PARTS {
+                let id = Id::of(7, part, raw);
+                assert_eq!(id.into_u64(), raw.get() | u64::from(part) << 57);
+                assert_eq!((id.part(), id.in_registry(7)), (part, Ok((part, raw))));
+                assert_eq!(id.in_registry(8), Err(Error::OtherRegistry));
+                assert_eq!(Id::of_number(7, id.into_u64()), Some(id));
+            }
+        }
+        let no_ids = [0, MAX_ID + 1, 1 << 57, (5 << 57) + MAX_ID + 1, u64::MAX];
+        assert_eq!(no_ids.map(|number| Id::of_number(7, number)), [None; 5]);
+    }
 }

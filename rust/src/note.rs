@@ -71,7 +71,7 @@ pub struct Note {
     /// What happened.
     pub kind: NoteKind,
     /// When the call was made, by the program's clock, since the registry was built. It never goes back from one note
-    /// to the next.
+    /// to the next of the same [part](crate::RegistryBuilder::parts).
     pub at: Duration,
     /// Which thread did it.
     pub worker: u32,
@@ -97,6 +97,9 @@ pub struct Note {
 /// What a note is made of.
 pub(crate) struct Sources<'a> {
     pub(crate) registry: u64,
+    /// The one that the line is of.
+    pub(crate) part: u32,
+    pub(crate) first_worker: u32,
     pub(crate) layer: usize,
     pub(crate) interest: &'a Interest,
     pub(crate) book: &'a Book,
@@ -126,9 +129,9 @@ impl Sources<'_> {
             layer: self.layer,
             kind,
             at: Duration::from_nanos(at),
-            worker: parts.worker,
-            id: id.filter(|_| !is_event).map(|id| Id::of(self.registry, id)),
-            parent: self.admitted(above).map(|id| Id::of(self.registry, id)),
+            worker: self.first_worker + parts.worker,
+            id: id.filter(|_| !is_event).map(|id| Id::of(self.registry, self.part, id)),
+            parent: self.admitted(above).map(|id| Id::of(self.registry, self.part, id)),
             level: known.map_or(Level::Trace, |known| known.level),
             target: known.map_or_else(String::new, |known| known.target.clone()),
             name: known.map_or_else(String::new, |known| known.name.clone()),

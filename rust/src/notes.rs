@@ -95,9 +95,10 @@ pub(crate) struct Book {
 }
 
 impl Notes {
-    pub(crate) fn new() -> Notes {
+    /// Of a part of a registry that was built then.
+    pub(crate) fn new(begin: Instant) -> Notes {
         Notes {
-            begin: Instant::now(),
+            begin,
             book: Mutex::default(),
         }
     }

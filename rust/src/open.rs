@@ -5,10 +5,11 @@ use crate::error::Error;
 use crate::level::Level;
 use crate::meta::{Id, RawId};
 use crate::origins::Details;
+use crate::part::Part;
+use crate::parts::Parts;
 use crate::raw::SpanFound;
 use crate::refusal::Refusal;
 use crate::registry::Registry;
-use crate::shared::Shared;
 use crate::state::State;
 use crate::writer::Guard;
 use std::collections::{HashMap, HashSet};
@@ -31,10 +32,10 @@ impl Open {
         self.found.count - self.found.handles - self.found.entries
     }
 
-    /// The fields of an event that tells of it.
-    pub(crate) fn fields(&self) -> Vec<(&'static str, String)> {
+    /// The fields of an event that tells of it, where it lies in this part.
+    pub(crate) fn fields(&self, part: u32) -> Vec<(&'static str, String)> {
         let Open { id, found, details, .. } = self;
-        let mut fields = vec![("span", id.get().to_string()), ("name", details.name.clone())];
+        let mut fields = vec![("span", id.in_part(part).to_string()), ("name", details.name.clone())];
         if let Some((file, line)) = details.place {
             fields.push(("place", format!("{file}:{line}")));
         }
@@ -79,11 +80,12 @@ pub struct OpenSpan {
 }
 
 impl OpenSpan {
-    fn of(registry: u64, open: Open) -> Option<OpenSpan> {
+    fn of(part: &Part, open: Open) -> Option<OpenSpan> {
+        let (registry, place) = (part.common().number(), part.place());
         let (children, found, details) = (open.children(), open.found, open.details);
         Some(OpenSpan {
-            id: Id::of(registry, open.id),
-            parent: RawId::from_u64(found.parent).map(|parent| Id::of(registry, parent)),
+            id: Id::of(registry, place, open.id),
+            parent: RawId::from_u64(found.parent).map(|parent| Id::of(registry, place, parent)),
             name: details.name,
             target: details.target,
             level: Level::of_verbosity(found.level)?,
@@ -133,7 +135,8 @@ impl fmt::Display for OpenSpan {
     }
 }
 
-/// Open spans of one moment, by ascending slot. Its text is their trees, a line a span.
+/// Open spans of one moment, by ascending slot; of several [parts](crate::RegistryBuilder::parts) one after another,
+/// each of its own moment. Its text is their trees, a line a span.
 #[derive(Clone, Debug, Default, PartialEq, Eq)]
 pub struct OpenSpans(Vec<OpenSpan>);
 
@@ -155,14 +158,22 @@ impl OpenSpans {
         self.0.iter()
     }
 
-    // Of a list that is found under the lock, after what is owed, as far as that can be done now.
-    fn found(shared: &Shared, find: impl FnOnce(&mut State) -> Found) -> Result<OpenSpans, Error> {
-        let open = shared.with(|state| {
+    // Of a list that is found under the lock of a part, after what is owed, as far as that can be done now.
+    fn found(part: &Part, find: impl FnOnce(&mut State) -> Found) -> Result<OpenSpans, Error> {
+        let open = part.with(|state| {
             let _owing = state.settle();
             find(state)
         })?;
-        let told = open.into_iter().filter_map(|span| OpenSpan::of(shared.number(), span));
+        let told = open.into_iter().filter_map(|span| OpenSpan::of(part, span));
         Ok(OpenSpans(told.collect()))
+    }
+
+    fn of_all(parts: &Parts) -> Result<OpenSpans, Error> {
+        let mut all = OpenSpans::default();
+        for part in parts.all() {
+            all.0.append(&mut OpenSpans::found(part, State::open_spans)?.0);
+        }
+        Ok(all)
     }
 
     // In the order of their trees, each with its depth.
@@ -231,7 +242,7 @@ impl Registry {
     /// # }
     /// ```
     pub fn open_spans(&self) -> Result<OpenSpans, Error> {
-        OpenSpans::found(self.shared(), State::open_spans)
+        OpenSpans::of_all(self.parts())
     }
 
     /// Why a span is open: itself, the open spans at it or below it that [are held](OpenSpan::is_held), and those
@@ -243,8 +254,8 @@ impl Registry {
     /// [`OtherRegistry`](Error::OtherRegistry), [`Unknown`](Error::Unknown) where it isn't open,
     /// [`OutOfMemory`](Error::OutOfMemory).
     pub fn why_open(&self, id: Id) -> Result<OpenSpans, Error> {
-        let id = self.own(id)?;
-        OpenSpans::found(self.shared(), |state| state.why_open(id))
+        let (part, id) = self.own(id)?;
+        OpenSpans::found(part, |state| state.why_open(id))
     }
 }
 
@@ -254,7 +265,7 @@ impl Drain {
     /// # Errors
     /// [`OutOfMemory`](Error::OutOfMemory).
     pub fn open_spans(&self) -> Result<OpenSpans, Error> {
-        OpenSpans::found(self.shared(), State::open_spans)
+        OpenSpans::of_all(self.parts())
     }
 }
 
@@ -264,6 +275,6 @@ impl Guard {
     /// # Errors
     /// [`OutOfMemory`](Error::OutOfMemory).
     pub fn open_spans(&self) -> Result<OpenSpans, Error> {
-        OpenSpans::found(self.shared(), State::open_spans)
+        OpenSpans::of_all(self.parts())
     }
 }

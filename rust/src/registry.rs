@@ -5,9 +5,10 @@ use crate::error::Error;
 use crate::level::Level;
 use crate::meta::{Counts, Fields, Found, Id, Meta, Parent, RawId, RawParent};
 use crate::names::{are_marked, with_written, NO_NAME};
+use crate::part::{wait, Part};
+use crate::parts::Parts;
 use crate::refusal::Refusal;
 use crate::seats::Caller;
-use crate::shared::{wait, Shared};
 use crate::site::NO_KEY;
 use crate::span::Span;
 use crate::state::State;
@@ -55,14 +56,15 @@ pub struct Registry {
 
 /// All registries that are clones of one another. When it goes, only the drain is left.
 struct User {
-    shared: Arc<Shared>,
+    parts: Parts,
+    number: u64,
     // Its number in the process, where that has 32 bits; else none's.
     key: u32,
 }
 
 impl Drop for User {
     fn drop(&mut self) {
-        self.shared.end();
+        self.parts.common().end();
     }
 }
 
@@ -72,15 +74,23 @@ impl Registry {
         RegistryBuilder::default()
     }
 
-    pub(crate) fn of(shared: Arc<Shared>) -> Registry {
-        let key = u32::try_from(shared.number()).unwrap_or(NO_KEY);
+    pub(crate) fn of(parts: Parts) -> Registry {
+        let number = parts.common().number();
+        let key = u32::try_from(number).unwrap_or(NO_KEY);
         Registry {
-            user: Arc::new(User { shared, key }),
+            user: Arc::new(User { parts, number, key }),
         }
     }
 
-    pub(crate) fn shared(&self) -> &Arc<Shared> {
-        &self.user.shared
+    #[inline]
+    pub(crate) fn parts(&self) -> &Parts {
+        &self.user.parts
+    }
+
+    /// By which it is told from all others of the process, also those that are gone.
+    #[inline]
+    pub(crate) fn number(&self) -> u64 {
+        self.user.number
     }
 
     /// Of no two registries of the process the same, but for none's.
@@ -89,53 +99,71 @@ impl Registry {
         self.user.key
     }
 
+    /// A call of a part, as the worker whose number the thread has there.
     #[inline(always)]
-    pub(crate) fn call<T>(&self, call: impl FnMut(&mut State, u32) -> Result<T, Refusal>) -> Result<T, Refusal> {
+    pub(crate) fn call<T>(
+        &self,
+        part: &Arc<Part>,
+        call: impl FnMut(&mut State, u32) -> Result<T, Refusal>,
+    ) -> Result<T, Refusal> {
         let as_worker = |state: &mut State, caller: Caller| Ok(state.worker(caller));
-        self.shared().call(as_worker, call)
+        self.parts().before(part)?;
+        part.call(as_worker, call)
     }
 
-    /// The number of one of its ids, which other registries' are not.
-    pub(crate) fn own(&self, id: Id) -> Result<RawId, Error> {
-        id.in_registry(self.shared().number())
+    /// The part of one of its ids, which other registries' are not, and its number there.
+    #[inline(always)]
+    pub(crate) fn own(&self, id: Id) -> Result<(&Arc<Part>, RawId), Error> {
+        let (place, raw) = id.in_registry(self.number())?;
+        Ok((self.parts().at(place), raw))
     }
 
-    pub(crate) fn own_parent(&self, parent: Parent) -> Result<RawParent, Error> {
-        parent.in_registry(self.shared().number())
+    /// The part of a new span with this parent.
+    #[inline(always)]
+    pub(crate) fn own_parent(&self, parent: Parent) -> Result<(&Arc<Part>, RawParent), Error> {
+        Ok(match parent {
+            Parent::Root => (self.parts().home(), RawParent::Root),
+            Parent::Current => (self.parts().inside(), RawParent::Current),
+            Parent::Of(id) => {
+                let (part, raw) = self.own(id)?;
+                (part, RawParent::Of(raw))
+            }
+        })
     }
 
-    /// An id that it told.
-    pub(crate) fn id_of(&self, raw: RawId) -> Id {
-        Id::of(self.shared().number(), raw)
+    /// An id that a part of it told.
+    pub(crate) fn id_of(&self, part: &Part, raw: RawId) -> Id {
+        Id::of(self.number(), part.place(), raw)
     }
 
-    /// Its id of this number; none for 0 and above 2^56, since no span ever has such an id. One that is no open span's
-    /// is refused as [`Unknown`](Error::Unknown) where it is used.
+    /// Its id of this number; none for 0 and above 2^56, since no span ever has such an id, or, where it has several
+    /// [parts](RegistryBuilder::parts), for those whose lower 57 bits are such a number, or whose higher ones are no
+    /// part's. One that is no open span's is refused as [`Unknown`](Error::Unknown) where it is used.
     #[must_use]
     pub fn id(&self, number: u64) -> Option<Id> {
-        RawId::from_u64(number).map(|raw| self.id_of(raw))
+        Id::of_number(self.number(), number).filter(|id| id.part() < self.parts().count())
     }
 
-    /// The number of the calling thread among the workers, which lines show. It takes one where it has none and one is
-    /// free.
+    /// The number of the calling thread among the workers, which lines show; where there are several
+    /// [parts](RegistryBuilder::parts), in that of its roots. It takes one where it has none and one is free.
     ///
     /// # Errors
     /// [`Backlog`](Error::Backlog) or [`OutOfMemory`](Error::OutOfMemory) where something is owed and can't be done
     /// now.
     pub fn worker(&self) -> Result<u32, Error> {
-        Ok(self.call(|_, worker| Ok(worker))?)
+        Ok(self.call(self.parts().home(), |state, worker| Ok(state.as_told(worker)))?)
     }
 
     /// Whether some layer admits spans and events of this level and target. It takes no lock and no place in the ring.
     #[must_use]
     pub fn enabled(&self, level: Level, target: &str) -> bool {
-        self.shared().interest().admits(level, target)
+        self.parts().common().interest().admits(level, target)
     }
 
     /// The most verbose level that some layer admits of some target; none where nothing is admitted. It takes no lock.
     #[must_use]
     pub fn max_level(&self) -> Option<Level> {
-        self.shared().interest().max_level()
+        self.parts().common().interest().max_level()
     }
 
     /// A new span with its one handle; a disabled one where there are layers and none wants it.
@@ -146,8 +174,8 @@ impl Registry {
     /// [`Full`](Error::Full), [`Backlog`](Error::Backlog), [`OutOfMemory`](Error::OutOfMemory),
     /// [`BadData`](Error::BadData).
     pub fn span(&self, meta: &Meta<'_>, parent: Parent, fields: Fields<'_>) -> Result<Span, Error> {
-        let id = self.made(meta, parent, fields)?;
-        Ok(id.map_or_else(Span::none, |id| Span::of(self, id)))
+        let made = self.made(meta, parent, fields)?;
+        Ok(made.map_or_else(Span::none, |(part, id)| Span::of(self, part, id)))
     }
 
     /// A new span, whose one handle the caller has to give back by [`try_close`](Registry::try_close); none where
@@ -156,22 +184,26 @@ impl Registry {
     /// # Errors
     /// Those of [`span`](Registry::span).
     pub fn new_span(&self, meta: &Meta<'_>, parent: Parent, fields: Fields<'_>) -> Result<Option<Id>, Error> {
-        Ok(self.made(meta, parent, fields)?.map(|raw| self.id_of(raw)))
+        let made = self.made(meta, parent, fields)?;
+        Ok(made.map(|(part, id)| self.id_of(part, id)))
     }
 
-    fn made(&self, meta: &Meta<'_>, parent: Parent, fields: Fields<'_>) -> Result<Option<RawId>, Error> {
-        let parent = self.own_parent(parent)?;
+    fn made(&self, meta: &Meta<'_>, parent: Parent, fields: Fields<'_>) -> Result<Option<(&Arc<Part>, RawId)>, Error> {
+        let (part, parent) = self.own_parent(parent)?;
         let made = if are_marked(meta.name, fields) {
             Err(Refusal::BAD_NAME)
         } else {
-            self.call(|state, worker| state.new_span(worker, meta, parent, fields.into()))
+            self.call(part, |state, worker| {
+                state.new_span(worker, meta, parent, fields.into())
+            })
         };
-        made.or_else(|refusal| {
+        let made = made.or_else(|refusal| {
             with_written(refusal, meta.name, fields.into(), |name, given| {
                 let meta = Meta { name, ..*meta };
-                self.call(|state, worker| state.new_span(worker, &meta, parent, given))
+                self.call(part, |state, worker| state.new_span(worker, &meta, parent, given))
             })
-        })
+        })?;
+        Ok(made.map(|id| (part, id)))
     }
 
     /// Puts fields at the end of a span's list. A repeated key stands twice.
@@ -180,15 +212,15 @@ impl Registry {
     /// [`OtherRegistry`](Error::OtherRegistry), [`BadName`](Error::BadName) for a key, [`Unknown`](Error::Unknown),
     /// [`Backlog`](Error::Backlog), [`OutOfMemory`](Error::OutOfMemory), [`BadData`](Error::BadData).
     pub fn record(&self, id: Id, fields: Fields<'_>) -> Result<(), Error> {
-        let id = self.own(id)?;
+        let (part, id) = self.own(id)?;
         let recorded = if are_marked(NO_NAME, fields) {
             Err(Refusal::BAD_NAME)
         } else {
-            self.call(|state, worker| state.record(worker, id, fields.into()))
+            self.call(part, |state, worker| state.record(worker, id, fields.into()))
         };
         recorded.or_else(|refusal| {
             with_written(refusal, NO_NAME, fields.into(), |_, given| {
-                self.call(|state, worker| state.record(worker, id, given))
+                self.call(part, |state, worker| state.record(worker, id, given))
             })
         })
     }
@@ -200,15 +232,16 @@ impl Registry {
     /// [`BadName`](Error::BadName) for the name or a key, [`Backlog`](Error::Backlog),
     /// [`OutOfMemory`](Error::OutOfMemory), [`BadData`](Error::BadData).
     pub fn event(&self, meta: &Meta<'_>, message: &str, fields: Fields<'_>) -> Result<(), Error> {
+        let part = self.parts().inside();
         let told = if are_marked(meta.name, fields) {
             Err(Refusal::BAD_NAME)
         } else {
-            self.call(|state, worker| state.event(worker, meta, message, fields.into()))
+            self.call(part, |state, worker| state.event(worker, meta, message, fields.into()))
         };
         told.or_else(|refusal| {
             with_written(refusal, meta.name, fields.into(), |name, given| {
                 let meta = Meta { name, ..*meta };
-                self.call(|state, worker| state.event(worker, &meta, message, given))
+                self.call(part, |state, worker| state.event(worker, &meta, message, given))
             })
         })
     }
@@ -220,14 +253,31 @@ impl Registry {
     /// [`Unknown`](Error::Unknown), [`CountFull`](Error::CountFull), [`Backlog`](Error::Backlog),
     /// [`OutOfMemory`](Error::OutOfMemory).
     pub fn enter(&self, id: Id) -> Result<bool, Error> {
-        self.enter_as(self.own(id)?).map(|(is_first, _)| is_first)
+        let (part, id) = self.own(id)?;
+        self.enter_as(part, id).map(|(is_first, _)| is_first)
     }
 
     /// As which worker too.
     #[inline(always)]
-    pub(crate) fn enter_as(&self, id: RawId) -> Result<(bool, u32), Error> {
+    pub(crate) fn enter_as(&self, part: &Arc<Part>, id: RawId) -> Result<(bool, u32), Error> {
+        if self.parts().are_several() {
+            workers::reserve_entry()?;
+        }
+        self.parts().before(part)?;
         let enter = |state: &mut State, worker| Ok((state.enter(worker, id)?, worker));
-        Ok(self.shared().call(State::worker_to_enter, enter)?)
+        let entered = part.call(State::worker_to_enter, enter)?;
+        if self.parts().are_several() {
+            workers::entered(part, id, entered.0);
+        }
+        Ok(entered)
+    }
+
+    // The thread did leave it, or owes that.
+    #[inline]
+    fn left(&self, part: &Part, id: RawId) {
+        if self.parts().are_several() {
+            workers::left(part, id);
+        }
     }
 
     /// The calling thread leaves its topmost entry of a span. True where the span closed.
@@ -236,8 +286,10 @@ impl Registry {
     /// [`OtherRegistry`](Error::OtherRegistry), [`Unknown`](Error::Unknown), [`NotEntered`](Error::NotEntered),
     /// [`Backlog`](Error::Backlog), [`OutOfMemory`](Error::OutOfMemory).
     pub fn exit(&self, id: Id) -> Result<bool, Error> {
-        let id = self.own(id)?;
-        Ok(self.call(|state, worker| state.exit(worker, id))?)
+        let (part, id) = self.own(id)?;
+        let closed = self.call(part, |state, worker| state.exit(worker, id))?;
+        self.left(part, id);
+        Ok(closed)
     }
 
     /// One more handle of a span, which the caller has to give back by [`try_close`](Registry::try_close).
@@ -246,8 +298,8 @@ impl Registry {
     /// [`OtherRegistry`](Error::OtherRegistry), [`Unknown`](Error::Unknown), [`CountFull`](Error::CountFull),
     /// [`Backlog`](Error::Backlog), [`OutOfMemory`](Error::OutOfMemory).
     pub fn clone_span(&self, id: Id) -> Result<(), Error> {
-        let id = self.own(id)?;
-        Ok(self.call(|state, worker| state.clone_span(worker, id))?)
+        let (part, id) = self.own(id)?;
+        Ok(self.call(part, |state, worker| state.clone_span(worker, id))?)
     }
 
     /// Gives a handle of a span back. True where the span closed: nothing else holds it.
@@ -256,8 +308,8 @@ impl Registry {
     /// [`OtherRegistry`](Error::OtherRegistry), [`Unknown`](Error::Unknown) also where no handle of it is out,
     /// [`Backlog`](Error::Backlog), [`OutOfMemory`](Error::OutOfMemory).
     pub fn try_close(&self, id: Id) -> Result<bool, Error> {
-        let id = self.own(id)?;
-        Ok(self.call(|state, worker| state.try_close(worker, id))?)
+        let (part, id) = self.own(id)?;
+        Ok(self.call(part, |state, worker| state.try_close(worker, id))?)
     }
 
     /// [`exit`](Registry::exit) for callers that can't make it again: what can't be done now is owed, as where a guard
@@ -267,21 +319,25 @@ impl Registry {
     /// [`OtherRegistry`](Error::OtherRegistry), [`Unknown`](Error::Unknown), [`NotEntered`](Error::NotEntered) where
     /// the thread has no entry of the span whose exit isn't owed already: so no more is owed than is held.
     pub fn exit_or_owe(&self, id: Id) -> Result<(), Error> {
-        let id = self.own(id)?;
-        let caller = workers::caller(self.shared());
-        Ok(self.shared().with(|state| {
+        let (part, id) = self.own(id)?;
+        let caller = workers::caller(part);
+        part.with(|state| {
             let worker = state.worker_of(caller).ok_or(Refusal::NOT_ENTERED)?;
             state.exit_or_owe(worker, id)
-        })?)
+        })?;
+        self.left(part, id);
+        Ok(())
     }
 
     /// As this worker, if the thread still has that number: else it has left all spans.
-    pub(crate) fn exit_as(&self, id: RawId, worker: u32) -> Result<(), Error> {
-        let caller = workers::caller(self.shared());
-        Ok(self.shared().with(|state| match state.worker_of(caller) {
+    pub(crate) fn exit_as(&self, part: &Arc<Part>, id: RawId, worker: u32) -> Result<(), Error> {
+        let caller = workers::caller(part);
+        part.with(|state| match state.worker_of(caller) {
             Some(number) if number == worker => state.exit_or_owe(worker, id),
             _ => Ok(()),
-        })?)
+        })?;
+        self.left(part, id);
+        Ok(())
     }
 
     /// [`try_close`](Registry::try_close) for callers that can't make it again: what can't be done now is owed, as
@@ -291,12 +347,13 @@ impl Registry {
     /// [`OtherRegistry`](Error::OtherRegistry), [`Unknown`](Error::Unknown) where the span has no handle whose close
     /// isn't owed already: so no more is owed than is held.
     pub fn close_or_owe(&self, id: Id) -> Result<(), Error> {
-        self.close_raw(self.own(id)?)
+        let (part, id) = self.own(id)?;
+        self.close_raw(part, id)
     }
 
-    pub(crate) fn close_raw(&self, id: RawId) -> Result<(), Error> {
-        let caller = workers::caller(self.shared());
-        Ok(self.shared().with(|state| {
+    pub(crate) fn close_raw(&self, part: &Arc<Part>, id: RawId) -> Result<(), Error> {
+        let caller = workers::caller(part);
+        Ok(part.with(|state| {
             let worker = state.worker_or_outsider(caller);
             state.close_or_owe(worker, id)
         })?)
@@ -309,26 +366,30 @@ impl Registry {
     /// [`Backlog`](Error::Backlog) or [`OutOfMemory`](Error::OutOfMemory) where something is owed and can't be done
     /// now.
     pub fn current_span(&self) -> Result<Option<Id>, Error> {
-        let caller = workers::caller(self.shared());
-        let current = self.shared().with_place(|state| {
-            state.settle()?;
-            let worker = state.worker_of(caller);
-            worker.map_or(Ok(None), |worker| state.current_span(worker))
+        let part = self.parts().inside();
+        self.parts().before(part)?;
+        let current = part.until_placed(|| {
+            let caller = workers::caller(part);
+            part.with(|state| {
+                state.settle()?;
+                let worker = state.worker_of(caller);
+                worker.map_or(Ok(None), |worker| state.current_span(worker))
+            })
         })?;
-        Ok(current.map(|raw| self.id_of(raw)))
+        Ok(current.map(|raw| self.id_of(part, raw)))
     }
 
     /// An open span; none where no span of this registry is open with the id. What is owed and can't be done now
     /// counts as not done.
     #[must_use]
     pub fn find(&self, id: Id) -> Option<Found> {
-        let id = self.own(id).ok()?;
-        let found = self.shared().with(|state| {
+        let (part, id) = self.own(id).ok()?;
+        let found = part.with(|state| {
             let _owing = state.settle();
             state.find(id)
         })?;
         Some(Found {
-            parent: self.id(found.parent),
+            parent: RawId::from_u64(found.parent).map(|raw| self.id_of(part, raw)),
             handles: found.handles,
             entries: found.entries,
             count: found.count,
@@ -339,10 +400,7 @@ impl Registry {
     /// What happened so far, and what is held and owed now.
     #[must_use]
     pub fn counts(&self) -> Counts {
-        self.shared().with(|state| {
-            let _owing = state.settle();
-            state.counts()
-        })
+        self.parts().counts()
     }
 
     /// Does what dropped guards, dropped spans and ended threads left to be done, in order. Each other call does this
@@ -352,7 +410,7 @@ impl Registry {
     /// [`Backlog`](Error::Backlog) or [`OutOfMemory`](Error::OutOfMemory) where some of it can't be done now; that
     /// stays owed.
     pub fn settle(&self) -> Result<(), Error> {
-        Ok(self.shared().with_place(State::settle)?)
+        Ok(self.parts().settle()?)
     }
 }
 

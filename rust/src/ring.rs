@@ -1,9 +1,11 @@
 //! The other end of the ring: who reads it, and what a call does that finds it full.
 #![forbid(unsafe_code)]
+use crate::lost::Losses;
 use crate::notes::Notes;
 use crate::raw::{Lines, Next};
-use std::sync::atomic::{AtomicBool, AtomicU64, Ordering};
-use std::sync::{Mutex, MutexGuard, PoisonError};
+use crate::stamps::Stamps;
+use std::sync::atomic::{AtomicBool, Ordering};
+use std::sync::{Arc, Mutex, MutexGuard, PoisonError};
 
 /// What a call does that finds the ring full.
 ///
@@ -28,23 +30,29 @@ pub(crate) struct Ring {
     lines: Mutex<Lines>,
     // Of layers in the form of trees.
     notes: Option<Notes>,
+    // Where there are several parts whose lines are merged.
+    stamps: Option<Stamps>,
     on_full: OnFull,
     // Whether the drain was dropped.
     is_unread: AtomicBool,
-    thrown: AtomicU64,
-    // Whether lines were thrown away since that was last told.
-    is_untold: AtomicBool,
+    losses: Arc<Losses>,
 }
 
 impl Ring {
-    pub(crate) fn new(lines: Lines, notes: Option<Notes>, on_full: OnFull) -> Ring {
+    pub(crate) fn new(
+        lines: Lines,
+        notes: Option<Notes>,
+        stamps: Option<Stamps>,
+        on_full: OnFull,
+        losses: Arc<Losses>,
+    ) -> Ring {
         Ring {
             lines: Mutex::new(lines),
             notes,
+            stamps,
             on_full,
             is_unread: AtomicBool::new(false),
-            thrown: AtomicU64::new(0),
-            is_untold: AtomicBool::new(false),
+            losses,
         }
     }
 
@@ -59,6 +67,12 @@ impl Ring {
         self.notes.as_ref()
     }
 
+    /// Those of its batches; none where nothing is merged by them.
+    #[inline]
+    pub(crate) fn stamps(&self) -> Option<&Stamps> {
+        self.stamps.as_ref()
+    }
+
     /// From now on nobody reads.
     pub(crate) fn is_left(&self) {
         self.is_unread.store(true, Ordering::Release);
@@ -71,20 +85,6 @@ impl Ring {
     /// Whether a call that finds the ring full waits for a place.
     pub(crate) fn waits(&self) -> bool {
         self.on_full == OnFull::Wait && !self.is_unread()
-    }
-
-    /// How many lines were thrown away.
-    pub(crate) fn thrown(&self) -> u64 {
-        self.thrown.load(Ordering::Relaxed)
-    }
-
-    /// Whether lines were thrown away since that was last told.
-    pub(crate) fn is_untold(&self) -> bool {
-        self.is_untold.load(Ordering::Relaxed)
-    }
-
-    pub(crate) fn set_untold(&self, is_untold: bool) {
-        self.is_untold.store(is_untold, Ordering::Relaxed);
     }
 
     /// Throws lines away where they may be lost: all where nobody reads, else the oldest batch's. Whether there is a
@@ -109,7 +109,7 @@ impl Ring {
         while all || lines.counts().0 == before {
             let into: &mut [u8] = if long.is_empty() { &mut short } else { &mut long };
             match lines.next(into) {
-                Next::Line { .. } => self.has_thrown(),
+                Next::Line { .. } => self.losses.lose_line(),
                 Next::Long { length } if long.try_reserve(length).is_ok() => long.resize(length, 0),
                 // Its batch may have been taken out before.
                 Next::Long { .. } => return lines.counts().0 > before,
@@ -118,10 +118,5 @@ impl Ring {
             }
         }
         true
-    }
-
-    fn has_thrown(&self) {
-        self.thrown.fetch_add(1, Ordering::Relaxed);
-        self.is_untold.store(true, Ordering::Relaxed);
     }
 }

@@ -78,6 +78,11 @@ impl Seats {
         self.seats.len() as u32
     }
 
+    /// How many numbers there are.
+    pub(crate) fn all(&self) -> u32 {
+        self.outsider()
+    }
+
     /// How many numbers threads have.
     pub(crate) fn taken(&self) -> u32 {
         (self.seats.len() - self.free.len()) as u32

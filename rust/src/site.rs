@@ -92,14 +92,15 @@ impl Site {
     // spans where there is no layer.
     fn is_wanted(&self, registry: &Registry) -> bool {
         let Meta { level, target, .. } = self.meta;
-        let interest = registry.shared().interest();
-        let asked = registry.shared().with(|state| state.wants(level, target));
+        let interest = registry.parts().common().interest();
+        // (all parts have the same rules)
+        let asked = registry.parts().home().with(|state| state.wants(level, target));
         // (where memory is refused, the rules as they were given say it)
         asked.unwrap_or_else(|_| interest.admits(level, target)) || self.is_of_spans && interest.is_silent()
     }
 
     fn callsite_in(&'static self, registry: &Registry) -> Result<u32, Error> {
-        let callsite = |meta: &Meta<'_>| registry.shared().with(|state| state.callsite_of(self, meta));
+        let callsite = |meta: &Meta<'_>| registry.parts().callsite_of(self, meta);
         let name = self.meta.name;
         let found = if is_marked(name) {
             Err(Refusal::BAD_NAME)

@@ -2,6 +2,7 @@
 #![forbid(unsafe_code)]
 use crate::error::Error;
 use crate::meta::{Fields, Id, RawId};
+use crate::part::Part;
 use crate::registry::Registry;
 use std::fmt;
 use std::marker::PhantomData;
@@ -34,8 +35,9 @@ pub struct Span(Option<Arc<Handle>>);
 /// The one handle that clones share.
 struct Handle {
     registry: Registry,
-    // Of that registry.
+    // Of the part of that registry.
     id: RawId,
+    part: u32,
     is_given_back: bool,
 }
 
@@ -46,10 +48,11 @@ impl Span {
         Span(None)
     }
 
-    pub(crate) fn of(registry: &Registry, id: RawId) -> Span {
+    pub(crate) fn of(registry: &Registry, part: &Part, id: RawId) -> Span {
         Span(Some(Arc::new(Handle {
             registry: registry.clone(),
             id,
+            part: part.place(),
             is_given_back: false,
         })))
     }
@@ -125,7 +128,7 @@ impl Span {
             return Ok(Span::none());
         };
         handle.registry.clone_span(handle.id())?;
-        Ok(Span::of(&handle.registry, handle.id))
+        Ok(Span::of(&handle.registry, handle.part(), handle.id))
     }
 
     /// Gives the handle back, as a drop does, and tells whether the span closed. False where other clones share it.
@@ -148,12 +151,17 @@ impl Span {
 }
 
 impl Handle {
+    #[inline]
+    fn part(&self) -> &Arc<Part> {
+        self.registry.parts().at(self.part)
+    }
+
     fn id(&self) -> Id {
-        self.registry.id_of(self.id)
+        self.registry.id_of(self.part(), self.id)
     }
 
     fn enter(&self) -> Result<Entry<'_>, Error> {
-        let (is_first, worker) = self.registry.enter_as(self.id)?;
+        let (is_first, worker) = self.registry.enter_as(self.part(), self.id)?;
         Ok(Entry {
             handle: self,
             worker,
@@ -170,7 +178,7 @@ impl Drop for Handle {
     fn drop(&mut self) {
         if !self.is_given_back {
             // Refused is only what somebody gave back by its id.
-            let _closed_or_owed = self.registry.close_raw(self.id);
+            let _closed_or_owed = self.registry.close_raw(self.part(), self.id);
         }
     }
 }
@@ -218,13 +226,13 @@ impl Drop for Entered<'_> {
             return;
         };
         // Refused is only what somebody left by its id.
-        let _left_or_owed = handle.registry.exit_as(handle.id, worker);
+        let _left_or_owed = handle.registry.exit_as(handle.part(), handle.id, worker);
     }
 }
 
 impl fmt::Debug for Entered<'_> {
     fn fmt(&self, f: &mut fmt::Formatter<'_>) -> fmt::Result {
-        let id = self.entry.as_ref().map(|entry| entry.handle.id.get());
+        let id = self.entry.as_ref().map(|entry| entry.handle.id().into_u64());
         f.debug_tuple("Entered").field(&id).finish()
     }
 }

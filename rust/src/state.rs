@@ -13,11 +13,14 @@ use crate::refusal::Refusal;
 use crate::ring::Ring;
 use crate::seats::{Caller, Seats};
 use crate::site::Site;
+use crate::stamps::Answer;
 use std::collections::HashSet;
 use std::sync::Arc;
 
 pub(crate) struct State {
     core: Core,
+    // Workers are numbered from 0 on here and in the core, and from this one on where they are told.
+    first_worker: u32,
     ring: Arc<Ring>,
     packed: Packed,
     owing: Owing,
@@ -26,25 +29,27 @@ pub(crate) struct State {
     origins: Origins,
     // Whether a layer asks for notes.
     has_notes: bool,
+    // Whether batches have stamps.
+    has_stamps: bool,
     // What the call does that is being made, where one does.
     noted: Option<What>,
-    // What was lost when that was last told.
-    told: Lost,
 }
 
 impl State {
-    pub(crate) fn new(mut core: Core, ring: Arc<Ring>) -> Result<State, Refusal> {
+    /// Of a part whose first worker lines tell by this number.
+    pub(crate) fn new(mut core: Core, ring: Arc<Ring>, first_worker: u32) -> Result<State, Refusal> {
         let workers = core.counts().workers - 1;
         Ok(State {
             core,
+            first_worker,
             has_notes: ring.notes().is_some(),
+            has_stamps: ring.stamps().is_some(),
             ring,
             packed: Packed::default(),
             owing: Owing::new(workers as usize)?,
             seats: Seats::new(workers)?,
             origins: Origins::default(),
             noted: None,
-            told: Lost::default(),
         })
     }
 
@@ -87,7 +92,7 @@ impl State {
     }
 
     /// Does this after all that is owed, or owes it too.
-    #[inline]
+    #[inline(always)]
     pub(crate) fn close_or_owe(&mut self, worker: u32, id: RawId) -> Result<(), Refusal> {
         match self.settle().and_then(|()| self.try_close(worker, id)) {
             Err(refusal) if refusal.may_pass() => self.owe_close(worker, id),
@@ -133,6 +138,11 @@ impl State {
         self.worker_of(caller).unwrap_or_else(|| self.seats.outsider())
     }
 
+    /// How lines show a worker.
+    pub(crate) fn as_told(&self, worker: u32) -> u32 {
+        self.first_worker + worker
+    }
+
     /// The number that the thread has.
     #[inline]
     pub(crate) fn worker_of(&self, caller: Caller) -> Option<u32> {
@@ -146,14 +156,31 @@ impl State {
     }
 
     // A call that takes a place of the ring: where lines may be thrown away for one, they are.
-    #[inline]
-    fn placed<T>(&mut self, mut call: impl FnMut(&mut Core, &Packed) -> Result<T, Refusal>) -> Result<T, Refusal> {
+    #[inline(always)]
+    fn placed<T: Answer>(
+        &mut self,
+        mut call: impl FnMut(&mut Core, &Packed) -> Result<T, Refusal>,
+    ) -> Result<T, Refusal> {
         loop {
-            match call(&mut self.core, &self.packed) {
+            match self.sent(&mut call) {
                 Err(Refusal::BACKLOG) if self.ring.makes_place() => {}
                 result => return result,
             }
         }
+    }
+
+    // A call that may put a batch into the ring, which has a stamp then.
+    #[inline(always)]
+    fn sent<T: Answer>(&mut self, call: impl FnOnce(&mut Core, &Packed) -> Result<T, Refusal>) -> Result<T, Refusal> {
+        let stamps = if self.has_stamps { self.ring.stamps() } else { None };
+        if let Some(stamps) = stamps {
+            stamps.begin();
+        }
+        let answer = call(&mut self.core, &self.packed);
+        if let Some(stamps) = stamps {
+            stamps.end(answer.as_ref().is_ok_and(Answer::has_sent));
+        }
+        answer
     }
 
     #[inline]
@@ -185,12 +212,9 @@ impl State {
         origins.add(meta, site, || core.add_callsite(meta, packed))
     }
 
-    /// The number of the callsite of a place in the program, which is added with this meta at its first call.
-    pub(crate) fn callsite_of(&mut self, site: &'static Site, meta: &Meta<'_>) -> Result<u32, Refusal> {
-        if let Some(number) = self.origins.number(site) {
-            return Ok(number);
-        }
-        self.add_callsite(meta, Some(site))
+    /// The number of the callsite of a place in the program, if it was added.
+    pub(crate) fn callsite_number(&self, site: &'static Site) -> Option<u32> {
+        self.origins.number(site)
     }
 
     #[inline(always)]
@@ -301,7 +325,7 @@ impl State {
         Ok(closed)
     }
 
-    #[inline]
+    #[inline(always)]
     pub(crate) fn try_close(&mut self, worker: u32, id: RawId) -> Result<bool, Refusal> {
         self.noting(|_| Ok(What::Other))?;
         let closed = self.placed(|core, _| core.try_close(worker, id))?;
@@ -353,15 +377,14 @@ impl State {
         let meta = Meta::event(Level::Warn, TARGET);
         self.packed.pack(&[meta.name, meta.target, message], fields)?;
         self.noting(|_| Ok(What::Made(known_as_written(&meta, fields.into())?)))?;
-        self.core.event(self.seats.outsider(), &meta, message, &self.packed)?;
+        let outsider = self.seats.outsider();
+        self.sent(|core, packed| core.event(outsider, &meta, message, packed))?;
         self.note();
         Ok(())
     }
 
-    /// Tells what was lost since the last telling, as the outsider, if the ring has room. It takes memory, unlike the
-    /// losses themselves.
-    pub(crate) fn tell(&mut self, lost: Lost) -> Result<(), Refusal> {
-        let news = lost.since(&self.told);
+    /// Tells what was lost, as the outsider, if the ring has room. It takes memory, unlike the losses themselves.
+    pub(crate) fn tell(&mut self, news: Lost) -> Result<(), Refusal> {
         if news.is_nothing() {
             // It was told before its thread said so.
             return Ok(());
@@ -371,9 +394,7 @@ impl State {
             .map(|(reason, count)| (reason, count.to_string()))
             .collect();
         let fields: Vec<(&str, &str)> = counts.iter().map(|(reason, count)| (*reason, &**count)).collect();
-        self.tell_of_itself("lost", &fields)?;
-        self.told = lost;
-        Ok(())
+        self.tell_of_itself("lost", &fields)
     }
 
     pub(crate) fn current_span(&mut self, worker: u32) -> Result<Option<RawId>, Refusal> {
@@ -416,11 +437,12 @@ impl State {
         let id = RawId::from_u64(id).ok_or(Refusal::UNKNOWN)?;
         let found = self.core.find(id).ok_or(Refusal::UNKNOWN)?;
         // All workers' stacks are looked through, so not for a span that none is inside of.
-        let inside = if found.entries > 0 {
+        let mut inside = if found.entries > 0 {
             self.core.workers_inside(id)?
         } else {
             Vec::new()
         };
+        inside.iter_mut().for_each(|worker| *worker += self.first_worker);
         let details = self.origins.details(id)?.ok_or(Refusal::UNKNOWN)?;
         Ok(Open {
             id,
@@ -431,9 +453,9 @@ impl State {
     }
 
     /// Tells of these that they are open, as the outsider, up to the first for which the ring has no room. How many.
-    pub(crate) fn tell_open(&mut self, spans: &[Open]) -> Result<usize, Refusal> {
+    pub(crate) fn tell_open(&mut self, part: u32, spans: &[Open]) -> Result<usize, Refusal> {
         for (told, span) in spans.iter().enumerate() {
-            let fields = span.fields();
+            let fields = span.fields(part);
             let fields: Vec<(&str, &str)> = fields.iter().map(|(key, value)| (*key, &**value)).collect();
             match self.tell_of_itself("open", &fields) {
                 Err(Refusal::BACKLOG) => return Ok(told),
@@ -462,14 +484,16 @@ impl State {
             calls: counts.calls,
             held: counts.held,
             owed: self.owing.len(),
-            workers: counts.workers - 1,
+            workers: self.seats.all(),
             threads: self.seats.taken(),
         }
     }
 
-    /// How many calls were accepted.
+    /// How many calls were accepted: each put a batch into the ring.
     pub(crate) fn calls(&mut self) -> u64 {
-        self.core.counts().calls
+        let calls = self.core.counts().calls;
+        debug_assert!(self.ring.stamps().is_none_or(|stamps| stamps.sent() == calls));
+        calls
     }
 
     /// The same, with those at most that are owed.

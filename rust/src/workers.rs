@@ -1,7 +1,10 @@
-//! Which thread calls, and which number it had last in which registry.
+//! Which thread calls, which number it had last in which part of a registry, and which spans of several parts it is
+//! inside of.
 #![forbid(unsafe_code)]
+use crate::meta::RawId;
+use crate::part::{Common, Part};
+use crate::refusal::Refusal;
 use crate::seats::{Caller, NOBODY, NONE};
-use crate::shared::Shared;
 use std::cell::{Cell, RefCell};
 use std::sync::atomic::{AtomicU64, Ordering};
 use std::sync::{Arc, Weak};
@@ -9,25 +12,44 @@ use std::sync::{Arc, Weak};
 /// How many threads of this process have called.
 static THREADS: AtomicU64 = AtomicU64::new(0);
 
-/// A registry in which this thread may have a number, to be given back when it ends.
+/// A part in which this thread may have a number, to be given back when it ends.
 struct Place {
-    registry: Weak<Shared>,
+    part: Weak<Part>,
     // The number that it had last, or none.
     worker: u32,
 }
 
-/// A place for each registry that this thread called.
-struct Places(Vec<Place>);
+/// A span that the thread is inside of, in a registry of several parts: each part knows only those of its own.
+struct Inside {
+    registry: u64,
+    place: u32,
+    id: RawId,
+    // It has entered the span so many times, and not left it.
+    times: u64,
+}
+
+/// What the thread knows of the registries that it called.
+struct Places {
+    // One for each part.
+    parts: Vec<Place>,
+    // The outermost first.
+    inside: Vec<Inside>,
+}
 
 const NO_CALL: (u64, u32) = (0, 0);
 
 thread_local! {
     // None of these two needs a drop, so a look at them costs little, and they are there while the places are dropped.
     static THREAD: Cell<u64> = const { Cell::new(0) };
-    // The number of the registry that was last called, and the worker's number there: mostly the next call is the
-    // same. Registries are numbered from 1 on.
+    // The number of the part that was last called, and the worker's number there: mostly the next call is the same.
+    // Parts are numbered from 1 on.
     static LAST: Cell<(u64, u32)> = const { Cell::new(NO_CALL) };
-    static PLACES: RefCell<Places> = const { RefCell::new(Places(Vec::new())) };
+    static PLACES: RefCell<Places> = const {
+        RefCell::new(Places {
+            parts: Vec::new(),
+            inside: Vec::new(),
+        })
+    };
     // The number of the registry whose lines this thread is writing.
     static WRITING: Cell<Option<u64>> = const { Cell::new(None) };
 }
@@ -35,31 +57,32 @@ thread_local! {
 impl Drop for Places {
     fn drop(&mut self) {
         LAST.set(NO_CALL);
-        for place in self.0.drain(..) {
-            if let Some(shared) = place.registry.upgrade() {
+        for place in self.parts.drain(..) {
+            if let Some(part) = place.part.upgrade() {
                 let caller = Caller {
                     thread: thread(),
                     last: place.worker,
                 };
-                let _left_or_owed = shared.with(|state| state.thread_ends(caller));
+                let _left_or_owed = part.with(|state| state.thread_ends(caller));
             }
         }
     }
 }
 
-fn thread() -> u64 {
+/// The thread's number, from 1 on.
+pub(crate) fn thread() -> u64 {
     if THREAD.get() == 0 {
         THREAD.set(THREADS.fetch_add(1, Ordering::Relaxed) + 1);
     }
     THREAD.get()
 }
 
-/// The calling thread, for a call of this registry.
+/// The calling thread, for a call of this part.
 #[inline]
-pub(crate) fn caller(shared: &Arc<Shared>) -> Caller {
-    let (registry, worker) = LAST.get();
-    if registry != shared.number() {
-        return looked_up(shared);
+pub(crate) fn caller(part: &Arc<Part>) -> Caller {
+    let (last, worker) = LAST.get();
+    if last != part.number() {
+        return looked_up(part);
     }
     Caller {
         thread: THREAD.get(),
@@ -68,24 +91,24 @@ pub(crate) fn caller(shared: &Arc<Shared>) -> Caller {
 }
 
 #[cold]
-fn looked_up(shared: &Arc<Shared>) -> Caller {
+fn looked_up(part: &Arc<Part>) -> Caller {
     let place = |places: &RefCell<Places>| {
-        let places = &mut places.borrow_mut().0;
-        let is_this = |place: &Place| place.registry.as_ptr() == Arc::as_ptr(shared);
-        if let Some(place) = places.iter().find(|place| is_this(place)) {
+        let places = &mut *places.borrow_mut();
+        let is_this = |place: &Place| place.part.as_ptr() == Arc::as_ptr(part);
+        if let Some(place) = places.parts.iter().find(|place| is_this(place)) {
             return Some(place.worker);
         }
-        places.retain(|place| place.registry.strong_count() > 0);
-        places.try_reserve(1).ok()?;
-        places.push(Place {
-            registry: Arc::downgrade(shared),
+        places.forget_the_gone();
+        places.parts.try_reserve(1).ok()?;
+        places.parts.push(Place {
+            part: Arc::downgrade(part),
             worker: NONE,
         });
         Some(NONE)
     };
     let place = PLACES.try_with(place).ok().flatten();
     if let Some(worker) = place.filter(|&worker| worker != NONE) {
-        LAST.set((shared.number(), worker));
+        LAST.set((part.number(), worker));
     }
     Caller {
         thread: if place.is_some() { thread() } else { NOBODY },
@@ -95,40 +118,112 @@ fn looked_up(shared: &Arc<Shared>) -> Caller {
 
 /// The call was made as this worker.
 #[inline]
-pub(crate) fn called_as(shared: &Arc<Shared>, caller: Caller, worker: u32) {
+pub(crate) fn called_as(part: &Arc<Part>, caller: Caller, worker: u32) {
     if caller.last != worker && caller.may_own() {
-        keep(shared, worker);
+        keep(part, worker);
     }
 }
 
 #[cold]
-fn keep(shared: &Arc<Shared>, worker: u32) {
+fn keep(part: &Arc<Part>, worker: u32) {
     let put = |places: &RefCell<Places>| {
-        let places = &mut places.borrow_mut().0;
-        let is_this = |place: &&mut Place| place.registry.as_ptr() == Arc::as_ptr(shared);
+        let places = &mut places.borrow_mut().parts;
+        let is_this = |place: &&mut Place| place.part.as_ptr() == Arc::as_ptr(part);
         let place = places.iter_mut().find(is_this)?;
         place.worker = worker;
         Some(())
     };
     if PLACES.try_with(put).ok().flatten().is_some() {
-        LAST.set((shared.number(), worker));
+        LAST.set((part.number(), worker));
     }
+}
+
+impl Places {
+    // Of registries that are gone.
+    fn forget_the_gone(&mut self) {
+        self.parts.retain(|place| place.part.strong_count() > 0);
+        let parts = &self.parts;
+        self.inside.retain(|inside| {
+            let is_there = |place: &Place| {
+                let part = place.part.upgrade();
+                part.is_some_and(|part| part.common().number() == inside.registry)
+            };
+            parts.iter().any(is_there)
+        });
+    }
+
+    fn place_of(&self, part: &Part, id: RawId) -> Option<usize> {
+        let (registry, place) = (part.common().number(), part.place());
+        let is_this = |inside: &Inside| (inside.registry, inside.place, inside.id) == (registry, place, id);
+        self.inside.iter().rposition(is_this)
+    }
+}
+
+/// Room for one more span that the thread is inside of. While its thread locals are dropped it enters none.
+pub(crate) fn reserve_entry() -> Result<(), Refusal> {
+    let has_room = PLACES.try_with(|places| places.borrow_mut().inside.try_reserve(1).is_ok());
+    match has_room {
+        Ok(false) => Err(Refusal::OUT_OF_MEMORY),
+        _ => Ok(()),
+    }
+}
+
+/// The thread entered a span, for which there is room, and wasn't inside of it already where this is the first time.
+pub(crate) fn entered(part: &Part, id: RawId, is_first: bool) {
+    let _while_dropped = PLACES.try_with(|places| {
+        let places = &mut *places.borrow_mut();
+        let known = if is_first { None } else { places.place_of(part, id) };
+        match known {
+            Some(at) => places.inside[at].times += 1,
+            None => places.inside.push(Inside {
+                registry: part.common().number(),
+                place: part.place(),
+                id,
+                times: 1,
+            }),
+        }
+    });
+}
+
+/// The thread left an entry of a span.
+pub(crate) fn left(part: &Part, id: RawId) {
+    let _while_dropped = PLACES.try_with(|places| {
+        let places = &mut *places.borrow_mut();
+        if let Some(at) = places.place_of(part, id) {
+            places.inside[at].times -= 1;
+            if places.inside[at].times == 0 {
+                places.inside.remove(at);
+            }
+        }
+    });
+}
+
+/// The part of the innermost span of this registry that the thread is inside of. Entries that repeat a span count for
+/// nothing.
+pub(crate) fn innermost(common: &Common) -> Option<u32> {
+    let innermost = |places: &RefCell<Places>| {
+        let places = places.borrow();
+        let mut inside = places.inside.iter().rev();
+        let found = inside.find(|inside| inside.registry == common.number());
+        found.map(|inside| inside.place)
+    };
+    PLACES.try_with(innermost).ok().flatten()
 }
 
 /// Runs `write` as the thread that writes this registry's lines, so that a call that it makes there doesn't wait for
 /// itself.
-pub(crate) fn writing<T>(shared: &Shared, write: impl FnOnce() -> T) -> T {
+pub(crate) fn writing<T>(common: &Common, write: impl FnOnce() -> T) -> T {
     struct Restore(Option<u64>);
     impl Drop for Restore {
         fn drop(&mut self) {
             WRITING.set(self.0);
         }
     }
-    let _restore = Restore(WRITING.replace(Some(shared.number())));
+    let _restore = Restore(WRITING.replace(Some(common.number())));
     write()
 }
 
 /// Whether this thread is writing the registry's lines.
-pub(crate) fn is_writing(shared: &Shared) -> bool {
-    WRITING.get() == Some(shared.number())
+pub(crate) fn is_writing(common: &Common) -> bool {
+    WRITING.get() == Some(common.number())
 }

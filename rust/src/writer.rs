@@ -3,9 +3,9 @@
 use crate::builder::RegistryBuilder;
 use crate::drain::Drain;
 use crate::error::Error;
+use crate::parts::Parts;
 use crate::registry::Registry;
 use crate::ring::OnFull;
-use crate::shared::Shared;
 use std::fmt;
 use std::io::{self, Write};
 use std::panic::{catch_unwind, resume_unwind, AssertUnwindSafe};
@@ -24,7 +24,7 @@ use std::thread::{self, Builder, JoinHandle};
 /// are gone. Once it ended, nobody reads: lines are thrown away, and counted as [`Lost::lines`](crate::Lost::lines).
 #[must_use = "the writer ends where its guard is dropped"]
 pub struct Guard {
-    shared: Arc<Shared>,
+    parts: Parts,
     is_stopped: Arc<AtomicBool>,
     writing: Option<JoinHandle<io::Result<u64>>>,
 }
@@ -36,8 +36,8 @@ impl fmt::Debug for Guard {
 }
 
 impl Guard {
-    pub(crate) fn shared(&self) -> &Arc<Shared> {
-        &self.shared
+    pub(crate) fn parts(&self) -> &Parts {
+        &self.parts
     }
 
     /// As a drop, and answers how many lines were written, or what a write or a flush failed with. Lines that are
@@ -75,11 +75,11 @@ impl Drain {
     /// Where no thread can be made; the drain is gone then.
     pub fn spawn<W: Write + Send + 'static>(self, out: W) -> io::Result<Guard> {
         let is_stopped = Arc::new(AtomicBool::new(false));
-        let (stop, shared) = (Arc::clone(&is_stopped), Arc::clone(self.shared()));
+        let (stop, parts) = (Arc::clone(&is_stopped), self.parts().clone());
         let run = move || written(self, out, &stop);
         let writing = Builder::new().name("span-registry-writer".to_owned()).spawn(run)?;
         Ok(Guard {
-            shared,
+            parts,
             is_stopped,
             writing: Some(writing),
         })

@@ -7,7 +7,9 @@ mod common;
 use common::{assert_empty, compact, info, Ids};
 use span_registry::{Drain, Error, Layer, Parent, Registry};
 use std::fs;
-use std::sync::{Mutex, MutexGuard, PoisonError};
+use std::sync::atomic::{AtomicU64, Ordering};
+use std::sync::{Barrier, Mutex, MutexGuard, PoisonError};
+use std::thread;
 
 /// Only one test at a time, since memory is the whole process's.
 fn alone() -> MutexGuard<'static, ()> {
@@ -79,6 +81,41 @@ fn memory_stays_level_over_200_000_calls() {
 #[ignore = "it takes more than 10 seconds"]
 fn memory_stays_level_over_ten_million_calls() {
     memory_stays_level(10_000_000);
+}
+
+#[test]
+fn memory_stays_level_while_four_threads_call_four_parts() {
+    const ROUNDS: u64 = 20_000;
+    let _alone = alone();
+    let builder = compact().parts(4).layer(Layer::json()).ring(64);
+    let (registry, guard) = builder.spawn_writer(std::io::sink()).expect("it fits");
+    let (gate, before) = (Barrier::new(4), AtomicU64::new(0));
+    let call = || {
+        for number in 0..ROUNDS {
+            if number == ROUNDS / 10 && gate.wait().is_leader() {
+                before.store(resident(), Ordering::Relaxed);
+            }
+            let a = registry
+                .span(&info("a"), Parent::Root, &[("k", "v")])
+                .expect("it waits");
+            a.in_scope(|| Ids(registry.clone()).event("message")).expect("it waits");
+        }
+        // While the threads' own memory is there.
+        gate.wait();
+        resident()
+    };
+    let after = thread::scope(|scope| {
+        let threads: Vec<_> = (0..4).map(|_| scope.spawn(call)).collect();
+        let ended = threads.into_iter().map(|thread| thread.join().expect("no panic"));
+        ended.max().expect("four")
+    });
+    let before = before.load(Ordering::Relaxed);
+    assert!(
+        after < before + MAY_GROW,
+        "{before} bytes after a tenth, {after} at the end"
+    );
+    guard.finish().expect("a sink takes all");
+    assert_empty(&registry);
 }
 
 #[test]

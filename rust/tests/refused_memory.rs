@@ -7,10 +7,12 @@ mod common;
 
 use common::{assert_empty, compact, id, info, texts, Ids};
 use span_registry::{Drain, Error, Parent, Registry};
+use std::collections::HashSet;
 use std::ffi::c_void;
 use std::io;
 use std::sync::atomic::{AtomicU64, Ordering};
 use std::sync::{Mutex, PoisonError};
+use std::thread;
 
 /// How many allocations come before the one that is refused.
 static BEFORE: AtomicU64 = AtomicU64::new(u64::MAX);
@@ -196,6 +198,42 @@ fn each_refused_allocation_is_answered_and_changes_nothing() {
     }
     println!("refused: {of_build} starts, {of_calls} calls, {of_drops} drops, {of_lines} lines");
     assert!(of_build > 0 && of_calls > 0 && of_drops > 0 && of_lines > 0);
+}
+
+#[test]
+fn a_callsite_that_one_part_was_refused_leaves_the_numbers_of_others_the_same() -> Result<(), Error> {
+    const PARTS: u32 = 3;
+    let _alone = ALONE.lock().unwrap_or_else(PoisonError::into_inner);
+    let (mut of_build, mut of_callsites) = (0, 0);
+    for before in 0.. {
+        BEFORE.store(before, Ordering::SeqCst);
+        let Ok((registry, mut drain)) = compact().parts(PARTS).build() else {
+            of_build += 1;
+            continue;
+        };
+        BEFORE.store(before - of_build, Ordering::SeqCst);
+        of_callsites += u64::from(registry.callsite(&info("a")).is_err());
+        let was_spent = is_spent();
+        BEFORE.store(u64::MAX, Ordering::SeqCst);
+        let site = registry.callsite(&info("b"))?;
+        // Threads' roots go round the parts.
+        let mut parts = HashSet::new();
+        while parts.len() < PARTS as usize {
+            let made = || registry.span_at(&site, Parent::Root, &[]).map(|span| span.id());
+            let id = thread::scope(|scope| scope.spawn(made).join()).expect("no panic")?;
+            parts.extend(id.map(|id| id.part()));
+            let names: Vec<bool> = texts(&mut drain).iter().map(|text| text.ends_with(" b")).collect();
+            assert_eq!(names, [true, true]);
+        }
+        if !was_spent {
+            break;
+        }
+    }
+    assert!(
+        of_build > 0 && of_callsites > 0,
+        "{of_build} starts, {of_callsites} callsites"
+    );
+    Ok(())
 }
 
 #[test]

@@ -34,6 +34,16 @@ fn each_limit_may_be_the_least_and_the_greatest() -> Result<(), Error> {
     lives(greatest.max_count(u32::MAX).last_generation(u32::MAX))?;
     lives((0..63).fold(new(), |builder, _| builder.layer(Layer::json())))?;
     lives(Registry::builder().slots(many(1 << 24)))?;
+    lives(
+        new()
+            .parts(128)
+            .slots(1)
+            .ring(1)
+            .workers(1)
+            .max_count(1)
+            .last_generation(2),
+    )?;
+    lives(new().parts(2).ring(65_536).workers(65_536))?;
     // The only slot is used up.
     let (registry, _drain) = Registry::builder().slots(1).last_generation(0).build()?;
     drop(registry.span(&info("a"), Parent::Root, &[])?);
@@ -52,6 +62,8 @@ fn each_limit_beyond_its_range_is_refused() {
         new().workers(65_537),
         new().ring(0),
         new().ring(65_537),
+        new().parts(0),
+        new().parts(129),
     ];
     for builder in beyond {
         assert_eq!(builder.build().map(drop).map_err(|error| error.number()), Err(8));

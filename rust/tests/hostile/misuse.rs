@@ -23,21 +23,29 @@ fn of_all_calls(registry: &Registry, id: Id) -> [Result<(), Error>; 9] {
 
 #[test]
 fn forged_ids_find_nothing_and_change_nothing() -> Result<(), Error> {
-    let (registry, mut drain) = compact().build()?;
+    forged_ids_in(1)?;
+    forged_ids_in(100)
+}
+
+fn forged_ids_in(parts: u32) -> Result<(), Error> {
+    let (registry, mut drain) = compact().parts(parts).build()?;
     let held: Vec<Span> = (0..5).map(|_| span(&registry, "a")).collect();
+    let ids: Vec<Option<Id>> = held.iter().map(Span::id).collect();
     let _inside = held[0].try_enter()?;
-    let before = registry.counts();
+    // In each part the thread takes a number where it has none.
+    let still = |counts: span_registry::Counts| (counts.made, counts.closed, counts.calls, counts.held, counts.owed);
+    let before = still(registry.counts());
     let mut random = Random(7);
     for _ in 0..many(20_000) {
         let number = random.next() >> random.below(64);
-        let forged = registry.id(number).filter(|id| !(1..=5).contains(&id.into_u64()));
+        let forged = registry.id(number).filter(|id| !ids.contains(&Some(*id)));
         let Some(id) = forged else {
             continue;
         };
         assert_eq!(registry.find(id), None);
         assert_eq!(of_all_calls(&registry, id), [Err(Error::Unknown); 9], "{id}");
     }
-    assert_eq!(registry.counts(), before);
+    assert_eq!(still(registry.counts()), before);
     assert_eq!(texts(&mut drain).len(), 6);
     Ok(())
 }

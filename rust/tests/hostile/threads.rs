@@ -54,7 +54,10 @@ fn step(registry: &Registry, shelf: &Shelf, random: &mut Random, steps: &[u64]) 
         }
         6 => {
             // Somebody who gives back by ids what others hold.
-            let id = registry.id(random.below(40) + 1).expect("not 0");
+            let part = a.id().map_or(0, |id| id.part());
+            let id = registry
+                .id(u64::from(part) << 57 | (random.below(40) + 1))
+                .expect("not 0");
             let _may_be_refused = (registry.exit(id), registry.exit_or_owe(id));
         }
         7 => drop((registry.worker(), registry.current_span(), registry.counts())),
@@ -108,13 +111,17 @@ fn reading(mut drain: Drain) -> thread::JoinHandle<io::Result<u64>> {
 #[test]
 fn eight_hostile_threads_leave_nothing_open() {
     hush();
-    for (workers, ring, on_full) in [
-        (2, 16, OnFull::Refuse),
-        (8, 4096, OnFull::DropOldest),
-        (1, 1, OnFull::Wait),
-        (3, 2, OnFull::DropOldest),
+    for (parts, workers, ring, on_full) in [
+        (1, 2, 16, OnFull::Refuse),
+        (1, 8, 4096, OnFull::DropOldest),
+        (1, 1, 1, OnFull::Wait),
+        (1, 3, 2, OnFull::DropOldest),
+        (3, 2, 16, OnFull::Refuse),
+        (5, 1, 1, OnFull::Wait),
+        (2, 3, 2, OnFull::DropOldest),
     ] {
-        let (registry, drain) = of_threads(workers, ring, on_full).build().expect("it fits");
+        let builder = of_threads(workers, ring, on_full).parts(parts);
+        let (registry, drain) = builder.build().expect("it fits");
         let reading = reading(drain);
         run(&registry, many(2000), &ALL);
         wait_until(&registry, |now| now.threads <= 1 && (now.open, now.owed) == (0, 0));
@@ -127,8 +134,15 @@ fn eight_hostile_threads_leave_nothing_open() {
 #[test]
 fn a_drain_that_is_dropped_in_the_middle_holds_nobody_up() {
     hush();
-    for on_full in [OnFull::Refuse, OnFull::Wait, OnFull::DropOldest] {
-        let (registry, mut drain) = of_threads(4, 8, on_full).build().expect("it fits");
+    for (on_full, parts) in [
+        (OnFull::Refuse, 1),
+        (OnFull::Wait, 1),
+        (OnFull::DropOldest, 1),
+        (OnFull::Refuse, 4),
+        (OnFull::DropOldest, 3),
+    ] {
+        let builder = of_threads(4, 8, on_full).parts(parts);
+        let (registry, mut drain) = builder.build().expect("it fits");
         thread::scope(|scope| {
             scope.spawn(|| run(&registry, many(1000), &HONEST));
             scope.spawn(|| {

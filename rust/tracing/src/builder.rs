@@ -17,13 +17,14 @@ const RING: u32 = 4096;
 pub struct SubscriberBuilder {
     registry: RegistryBuilder,
     slots: u32,
+    parts: u32,
     is_silent: bool,
 }
 
 impl Default for SubscriberBuilder {
     fn default() -> SubscriberBuilder {
         let registry = Registry::builder().slots(SLOTS).ring(RING);
-        SubscriberBuilder { registry, slots: SLOTS, is_silent: true }
+        SubscriberBuilder { registry, slots: SLOTS, parts: 1, is_silent: true }
     }
 }
 
@@ -38,6 +39,12 @@ impl SubscriberBuilder {
     /// How many spans may be open at once: 1 to 16777216, by default 65,536. Their memory is taken at once.
     pub fn slots(self, slots: u32) -> SubscriberBuilder {
         SubscriberBuilder { registry: self.registry.slots(slots), slots, ..self }
+    }
+
+    /// In so many parts, each with a lock of its own: 1 to 128, by default 1. Each has as many slots, and a ring, as is
+    /// said: see [`RegistryBuilder::parts`].
+    pub fn parts(self, parts: u32) -> SubscriberBuilder {
+        SubscriberBuilder { registry: self.registry.parts(parts), parts, ..self }
     }
 
     /// How many threads may be inside spans at once: 1 to 65536, by default 256. Any number may call.
@@ -67,9 +74,9 @@ impl SubscriberBuilder {
     /// # Errors
     /// Those of [`RegistryBuilder::build`].
     pub fn build(self) -> Result<(ProvedSubscriber, Drain), Error> {
-        let (slots, is_silent) = (self.slots, self.is_silent);
+        let (parts, slots, is_silent) = (self.parts, self.slots, self.is_silent);
         let (registry, drain) = self.registry.build()?;
-        Ok((ProvedSubscriber::new(registry, is_silent, room(slots)?), drain))
+        Ok((ProvedSubscriber::new(registry, is_silent, room(parts, slots)?), drain))
     }
 
     /// The subscriber, and the guard of a thread that writes all its lines until that is dropped.
@@ -77,9 +84,9 @@ impl SubscriberBuilder {
     /// # Errors
     /// Those of [`RegistryBuilder::spawn_writer`].
     pub fn spawn_writer<W: Write + Send + 'static>(self, out: W) -> Result<(ProvedSubscriber, Guard), Error> {
-        let (slots, is_silent) = (self.slots, self.is_silent);
+        let (parts, slots, is_silent) = (self.parts, self.slots, self.is_silent);
         let (registry, guard) = self.registry.spawn_writer(out)?;
-        Ok((ProvedSubscriber::new(registry, is_silent, room(slots)?), guard))
+        Ok((ProvedSubscriber::new(registry, is_silent, room(parts, slots)?), guard))
     }
 
     /// [`spawn_writer`](SubscriberBuilder::spawn_writer), and it is the default subscriber of all threads from now on.
@@ -94,7 +101,12 @@ impl SubscriberBuilder {
     }
 }
 
-fn room(slots: u32) -> Result<Vec<AtomicU64>, Error> {
+// For each slot of each part.
+fn room(parts: u32, slots: u32) -> Result<Vec<Vec<AtomicU64>>, Error> {
+    (0..parts).map(|_| room_of_part(slots)).collect()
+}
+
+fn room_of_part(slots: u32) -> Result<Vec<AtomicU64>, Error> {
     let mut room = Vec::new();
     room.try_reserve_exact(slots as usize).map_err(|_| Error::OutOfMemory)?;
     room.extend((0..slots).map(|_| AtomicU64::new(0)));

@@ -14,8 +14,9 @@ use tracing_core::{Event, Interest, LevelFilter, Metadata, Subscriber};
 
 /// What `tracing` is told as the id of a span that wasn't made. The registry never gives it.
 const NONE: u64 = u64::MAX;
-/// A span's id is generation * 2^24 + slot + 1, with a generation below 2^32.
+/// A span's id is generation * 2^24 + slot + 1, with a generation below 2^32, and its part stands above that.
 const SLOT_BITS: u32 = 24;
+const GENERATION_BITS: u32 = 32;
 
 /// A subscriber of `tracing` that writes lines, all the way over the proved registry. Clones are the same one.
 ///
@@ -45,8 +46,8 @@ struct Inner {
     is_silent: bool,
     // No two subscribers of the process have the same one.
     number: u64,
-    // By slot: the generation of the last span there in the upper half, its place's number in the lower.
-    places: Vec<AtomicU64>,
+    // By part and slot: the generation of the last span there in the upper half, its place's number in the lower.
+    places: Vec<Vec<AtomicU64>>,
     losses: Losses,
 }
 
@@ -61,7 +62,7 @@ impl ProvedSubscriber {
         SubscriberBuilder::default()
     }
 
-    pub(crate) fn new(registry: Registry, is_silent: bool, places: Vec<AtomicU64>) -> ProvedSubscriber {
+    pub(crate) fn new(registry: Registry, is_silent: bool, places: Vec<Vec<AtomicU64>>) -> ProvedSubscriber {
         static MADE: AtomicU64 = AtomicU64::new(0);
         let number = MADE.fetch_add(1, Ordering::Relaxed);
         ProvedSubscriber { inner: Arc::new(Inner { registry, is_silent, number, places, losses: Losses::default() }) }
@@ -89,17 +90,17 @@ impl ProvedSubscriber {
         self.registry().id(id.into_u64())
     }
 
-    // Its slot, and the generation in the upper half.
-    fn split(id: span_registry::Id) -> (usize, u64) {
+    // What is known of its slot, and its generation in the upper half.
+    fn slot(&self, id: span_registry::Id) -> Option<(&AtomicU64, u64)> {
         let number = id.into_u64() - 1;
-        ((number % (1 << SLOT_BITS)) as usize, (number >> SLOT_BITS) << 32)
+        let known = self.inner.places.get(id.part() as usize)?.get((number % (1 << SLOT_BITS)) as usize)?;
+        Some((known, (number >> SLOT_BITS) % (1 << GENERATION_BITS) << 32))
     }
 
     // Where the span was made.
     fn place_of(&self, id: span_registry::Id) -> Option<&'static Place> {
-        let (slot, generation) = Self::split(id);
-        let known = self.inner.places.get(slot)?.load(Ordering::Acquire);
-        let number = known ^ generation;
+        let (known, generation) = self.slot(id)?;
+        let number = known.load(Ordering::Acquire) ^ generation;
         u32::try_from(number).ok().and_then(numbered)
     }
 
@@ -132,8 +133,7 @@ impl ProvedSubscriber {
         attributes.record(&mut fields);
         let (_, given) = fields.taken();
         let id = self.with_handle(&place.span(self.registry(), self.parent(attributes), given))?;
-        let (slot, generation) = Self::split(id);
-        if let Some(known) = self.inner.places.get(slot) {
+        if let Some((known, generation)) = self.slot(id) {
             known.store(generation | u64::from(place.number), Ordering::Release);
         }
         Some(id)

@@ -164,7 +164,8 @@ fn programs_at_random_are_told_as_by_the_real_registry() {
         let hears = Hears::default();
         let real = Dispatch::new(tracing_subscriber::registry().with(hears.clone()));
         let theirs = told(&real, seed, || mem::take(&mut hears.0.lock().expect("no panic").1));
-        let (subscriber, dispatch, mut drain) = over(ProvedSubscriber::builder().layer(Lines::tree()).slots(4096));
+        let builder = ProvedSubscriber::builder().layer(Lines::tree()).slots(4096).parts(1 + (seed % 3) as u32);
+        let (subscriber, dispatch, mut drain) = over(builder);
         let mut numbers = Numbers::default();
         let ours = told(&dispatch, seed, || notes(&mut drain, &mut numbers));
         for (at, (theirs, ours)) in theirs.iter().zip(&ours).enumerate() {
@@ -214,7 +215,12 @@ fn assert_each_closes_after_its_children(told: Vec<Told>) {
 #[test]
 fn of_threads_at_random_each_span_closes_once_and_after_its_children() {
     let _alone = alone();
-    let builder = ProvedSubscriber::builder().layer(Lines::tree()).on_full(OnFull::Wait).slots(1 << 16);
+    run_threads(1);
+    run_threads(3);
+}
+
+fn run_threads(parts: u32) {
+    let builder = ProvedSubscriber::builder().layer(Lines::tree()).on_full(OnFull::Wait).slots(1 << 16).parts(parts);
     let (subscriber, dispatch, mut drain) = over(builder);
     let (pool, mut numbers, mut told) = (Mutex::new(Vec::new()), Numbers::default(), Vec::new());
     thread::scope(|scope| {

@@ -1,4 +1,4 @@
-//! The lock, and what may be asked without it.
+//! A part of a registry: its lock, and what may be asked without it.
 #![forbid(unsafe_code)]
 use crate::interest::Interest;
 use crate::lost::{Losses, Lost};
@@ -7,38 +7,104 @@ use crate::ring::Ring;
 use crate::seats::Caller;
 use crate::state::State;
 use crate::workers;
-use std::sync::atomic::{AtomicBool, AtomicU64, Ordering};
+use std::sync::atomic::{AtomicBool, AtomicU32, AtomicU64, Ordering};
 use std::sync::{Arc, Mutex, MutexGuard, PoisonError};
 use std::thread;
 use std::time::Duration;
 
-/// How many registries this process has made.
+/// How many parts of registries this process has made.
 static MADE: AtomicU64 = AtomicU64::new(0);
 
-/// What registries, spans and the drain share.
-pub(crate) struct Shared {
-    state: Mutex<State>,
-    ring: Arc<Ring>,
+/// What the parts of a registry have in common.
+pub(crate) struct Common {
     interest: Interest,
-    // How many registries were made before, and this one.
+    // How many parts were made before, and the first of this registry.
     number: u64,
-    // Whether something is owed, as of the last time that the lock was given back.
-    owes: AtomicBool,
     // Whether each registry and each span is gone. The drain may be there still.
     is_over: AtomicBool,
-    losses: Losses,
+    losses: Arc<Losses>,
+    // What was lost when that was last told. Who has the lock of a part may take this one.
+    told: Mutex<Lost>,
+    // How many parts owe something.
+    owing: AtomicU32,
+    // Who adds a callsite has this one, and then the lock of a part.
+    adding: Mutex<()>,
 }
 
-impl Shared {
-    pub(crate) fn new(state: State, ring: Arc<Ring>, interest: Interest) -> Shared {
-        Shared {
+impl Common {
+    /// Of a registry of so many parts.
+    pub(crate) fn new(interest: Interest, losses: Arc<Losses>, parts: u32) -> Common {
+        Common {
+            interest,
+            number: MADE.fetch_add(u64::from(parts), Ordering::Relaxed) + 1,
+            is_over: AtomicBool::new(false),
+            losses,
+            told: Mutex::default(),
+            owing: AtomicU32::new(0),
+            adding: Mutex::default(),
+        }
+    }
+
+    /// By which the registry is told from all others of the process, also those that are gone.
+    #[inline]
+    pub(crate) fn number(&self) -> u64 {
+        self.number
+    }
+
+    pub(crate) fn losses(&self) -> &Losses {
+        &self.losses
+    }
+
+    #[inline]
+    pub(crate) fn interest(&self) -> &Interest {
+        &self.interest
+    }
+
+    /// One callsite is added after another.
+    pub(crate) fn adding(&self) -> &Mutex<()> {
+        &self.adding
+    }
+
+    /// Whether a part owes something, told without a lock.
+    #[inline]
+    pub(crate) fn owes(&self) -> bool {
+        self.owing.load(Ordering::Acquire) > 0
+    }
+
+    pub(crate) fn end(&self) {
+        self.is_over.store(true, Ordering::Release);
+    }
+
+    pub(crate) fn is_over(&self) -> bool {
+        self.is_over.load(Ordering::Acquire)
+    }
+}
+
+/// A proved registry with its lock and its ring. No two parts have a line of the processors' caches in common.
+#[repr(align(128))]
+pub(crate) struct Part {
+    state: Mutex<State>,
+    ring: Arc<Ring>,
+    common: Arc<Common>,
+    number: u64,
+    // Among the parts of its registry.
+    place: u32,
+    // The number by which lines tell its first worker.
+    first_worker: u32,
+    // Whether something is owed, as of the last time that the lock was given back.
+    owes: AtomicBool,
+}
+
+impl Part {
+    pub(crate) fn new(state: State, ring: Arc<Ring>, common: Arc<Common>, place: u32) -> Part {
+        Part {
+            first_worker: state.as_told(0),
             state: Mutex::new(state),
             ring,
-            interest,
-            number: MADE.fetch_add(1, Ordering::Relaxed) + 1,
+            number: common.number + u64::from(place),
+            common,
+            place,
             owes: AtomicBool::new(false),
-            is_over: AtomicBool::new(false),
-            losses: Losses::default(),
         }
     }
 
@@ -49,16 +115,28 @@ impl Shared {
     pub(crate) fn with<T>(&self, call: impl FnOnce(&mut State) -> T) -> T {
         let mut state: MutexGuard<'_, State> = self.state.lock().unwrap_or_else(PoisonError::into_inner);
         let result = call(&mut state);
-        self.owes.store(state.owes(), Ordering::Release);
+        if state.owes() != self.owes.load(Ordering::Relaxed) {
+            self.owes_now(state.owes());
+        }
         result
     }
 
-    /// The same. Where the registry waits for the drain, it is made until it isn't refused for that.
+    #[cold]
+    fn owes_now(&self, owes: bool) {
+        self.owes.store(owes, Ordering::Release);
+        if owes {
+            self.common.owing.fetch_add(1, Ordering::AcqRel);
+        } else {
+            self.common.owing.fetch_sub(1, Ordering::AcqRel);
+        }
+    }
+
+    /// Makes a call until it isn't refused for want of a place, where the registry waits for the drain.
     #[inline(always)]
-    pub(crate) fn with_place<T>(&self, mut call: impl FnMut(&mut State) -> Result<T, Refusal>) -> Result<T, Refusal> {
+    pub(crate) fn until_placed<T>(&self, mut call: impl FnMut() -> Result<T, Refusal>) -> Result<T, Refusal> {
         let mut turn: u32 = 0;
         loop {
-            let result = self.with(|state| call(state));
+            let result = call();
             if !matches!(result, Err(Refusal::BACKLOG)) || !self.has_waited(turn) {
                 return result;
             }
@@ -69,7 +147,7 @@ impl Shared {
     // Where a call waits for a place, it does that.
     #[cold]
     fn has_waited(&self, turn: u32) -> bool {
-        let waits = self.ring.waits() && !workers::is_writing(self);
+        let waits = self.ring.waits() && !workers::is_writing(&self.common);
         if waits {
             wait(turn);
         }
@@ -77,10 +155,10 @@ impl Shared {
     }
 
     /// A thread's call: what is owed comes first, then the thread's number, then the call, and then, where there is
-    /// room, what was lost.
+    /// room, what was lost. What other parts owe comes before that.
     #[inline(always)]
     pub(crate) fn call<T>(
-        self: &Arc<Shared>,
+        self: &Arc<Part>,
         as_worker: impl Fn(&mut State, Caller) -> Result<u32, Refusal>,
         mut call: impl FnMut(&mut State, u32) -> Result<T, Refusal>,
     ) -> Result<T, Refusal> {
@@ -105,29 +183,33 @@ impl Shared {
     }
 
     /// By which it is told from all others of the process, also those that are gone.
+    #[inline]
     pub(crate) fn number(&self) -> u64 {
         self.number
     }
 
-    pub(crate) fn losses(&self) -> &Losses {
-        &self.losses
+    /// Among the parts of its registry.
+    #[inline]
+    pub(crate) fn place(&self) -> u32 {
+        self.place
     }
 
-    pub(crate) fn interest(&self) -> &Interest {
-        &self.interest
+    /// The number by which lines tell its first worker.
+    pub(crate) fn first_worker(&self) -> u32 {
+        self.first_worker
+    }
+
+    pub(crate) fn common(&self) -> &Arc<Common> {
+        &self.common
     }
 
     pub(crate) fn ring(&self) -> &Ring {
         &self.ring
     }
 
-    pub(crate) fn lost(&self) -> Lost {
-        self.losses.so_far(self.ring.thrown())
-    }
-
     /// Whether something was lost since the last telling, and somebody may read of it.
     pub(crate) fn is_untold(&self) -> bool {
-        (self.losses.is_untold() || self.ring.is_untold()) && !self.ring.is_unread()
+        self.common.losses.is_untold() && !self.ring.is_unread()
     }
 
     /// Tells what was lost since the last telling, if there is anything and the ring has room.
@@ -140,25 +222,21 @@ impl Shared {
 
     #[cold]
     fn tell_now(&self, state: &mut State) {
+        let losses = &self.common.losses;
+        let mut told = self.common.told.lock().unwrap_or_else(PoisonError::into_inner);
         // What is lost from here on is told the next time.
-        self.losses.set_untold(false);
-        self.ring.set_untold(false);
-        if state.tell(self.lost()).is_err() {
-            self.losses.set_untold(true);
+        losses.set_untold(false);
+        let lost = losses.so_far();
+        match state.tell(lost.since(&told)) {
+            Ok(()) => *told = lost,
+            Err(_) => losses.set_untold(true),
         }
     }
 
     /// Whether something is owed, told without the lock.
+    #[inline]
     pub(crate) fn owes(&self) -> bool {
         self.owes.load(Ordering::Acquire)
-    }
-
-    pub(crate) fn end(&self) {
-        self.is_over.store(true, Ordering::Release);
-    }
-
-    pub(crate) fn is_over(&self) -> bool {
-        self.is_over.load(Ordering::Acquire)
     }
 }
 
@@ -189,7 +267,7 @@ mod tests {
                 spans.push(registry.span(&meta, Parent::Root, &[])?);
                 drain.lines().for_each(drop);
             }
-            let threads = registry.shared().with(|_| {
+            let threads = registry.parts().at(0).with(|_| {
                 let threads: Vec<_> = (0..4)
                     .map(|_| spans.split_off(spans.len() - SPANS as usize / 4))
                     .map(|some: Vec<Span>| thread::spawn(move || drop(some)))

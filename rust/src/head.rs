@@ -1,0 +1,226 @@
+//! The next line of a part, where its drain has read it.
+#![forbid(unsafe_code)]
+use crate::meta::RawId;
+use crate::note::Note;
+use crate::part::Part;
+use crate::raw::Next;
+use std::io::Write;
+use std::ops::Range;
+
+/// The digits of the greatest id.
+const LONGEST: usize = 20;
+
+pub(crate) struct Head {
+    // A line's bytes stand at its beginning, and it has room for a newline.
+    buffer: Vec<u8>,
+    /// The layer and length of a line that is in the buffer and wasn't handed out.
+    pub(crate) ready: Option<(usize, usize)>,
+    /// What that line tells, where its layer has the form of trees; the buffer hasn't its text then.
+    pub(crate) note: Option<Note>,
+    /// The number of its batch in the part.
+    pub(crate) batch: u64,
+    /// The stamp of its batch, where lines are merged.
+    pub(crate) stamp: u64,
+    /// No line that isn't read has a lesser one.
+    pub(crate) bound: u64,
+    /// Whether the ring was empty at a look, and nothing was owed, since this was set to false. Where lines are merged.
+    pub(crate) is_dry: bool,
+}
+
+impl Head {
+    pub(crate) fn new() -> Head {
+        Head {
+            buffer: vec![0; 256],
+            ready: None,
+            note: None,
+            batch: 0,
+            stamp: 0,
+            bound: 0,
+            is_dry: false,
+        }
+    }
+
+    /// Reads the next line of the part. Whether there is one.
+    #[inline]
+    pub(crate) fn look(&mut self, part: &Part) -> bool {
+        let stamps = part.ring().stamps();
+        let mut owes = true;
+        if let Some(stamps) = stamps {
+            // Both before the ring is looked at.
+            owes = part.owes();
+            self.bound = stamps.bound();
+        }
+        let is_numbered = stamps.is_some() || part.ring().notes().is_some();
+        loop {
+            let room = self.buffer.len() - 1;
+            let next = {
+                let mut lines = part.ring().lines();
+                let next = lines.next(&mut self.buffer[..room]);
+                if is_numbered {
+                    self.batch = lines.counts().0;
+                    // While no other thread takes a batch out.
+                    self.stamp = stamps.map_or(0, |stamps| stamps.of(self.batch));
+                }
+                next
+            };
+            match next {
+                Next::Line { layer, length } => {
+                    self.ready = Some((layer as usize, length));
+                    // Those that are in the ring come after this one.
+                    self.bound = self.stamp;
+                    return true;
+                }
+                Next::Long { length } => self.buffer.resize(length + 1, 0),
+                Next::None => {
+                    self.is_dry |= !owes;
+                    return false;
+                }
+            }
+        }
+    }
+
+    /// So many bytes of the buffer.
+    pub(crate) fn bytes(&self, length: usize) -> &[u8] {
+        &self.buffer[..length]
+    }
+
+    /// The same, with a newline behind them.
+    pub(crate) fn with_newline(&mut self, length: usize) -> &[u8] {
+        self.buffer[length] = b'\n';
+        &self.buffer[..=length]
+    }
+
+    /// Puts a text in place of the line.
+    pub(crate) fn put(&mut self, layer: usize, text: &str) {
+        self.make_room(text.len());
+        self.buffer[..text.len()].copy_from_slice(text.as_bytes());
+        self.ready = Some((layer, text.len()));
+    }
+
+    fn make_room(&mut self, length: usize) {
+        self.buffer.resize(self.buffer.len().max(length + 1), 0);
+    }
+
+    /// Puts the numbers in the line that its part has of its own, an id and a worker, as the registry knows them.
+    pub(crate) fn put_part(&mut self, is_compact: bool, part: &Part) {
+        self.number(is_compact, part.place(), part.first_worker());
+    }
+
+    fn number(&mut self, is_compact: bool, part: u32, first_worker: u32) {
+        let Some((layer, length)) = self.ready else { return };
+        let line = &self.buffer[..length];
+        let places = if is_compact { of_compact(line) } else { of_json(line) };
+        if let Some((id, worker)) = places {
+            // It comes behind the id.
+            let length = self.put_number(worker, length, |number| number + u64::from(first_worker));
+            let in_part = |number| RawId::from_u64(number).map_or(number, |id| id.in_part(part).get());
+            let length = self.put_number(id, length, in_part);
+            self.ready = Some((layer, length));
+        }
+    }
+
+    // Another number in place of the one that stands there; the length of the line then.
+    fn put_number(&mut self, place: Range<usize>, length: usize, number: impl FnOnce(u64) -> u64) -> usize {
+        let digits = std::str::from_utf8(&self.buffer[place.clone()]).unwrap_or_default();
+        let Ok(old) = digits.parse() else { return length };
+        let mut digits = [0; LONGEST];
+        let mut rest = &mut digits[..];
+        // It has room.
+        let _written = write!(rest, "{}", number(old));
+        let count = LONGEST - rest.len();
+        let (end, behind) = (length - place.len() + count, place.start + count);
+        self.make_room(end);
+        self.buffer.copy_within(place.end..length, behind);
+        self.buffer[place.start..behind].copy_from_slice(&digits[..count]);
+        end
+    }
+}
+
+/// Where an id and a worker's number stand.
+type Places = Option<(Range<usize>, Range<usize>)>;
+
+// A compact line is a kind, an id, `w` and a worker's number, and more, with blanks between them.
+fn of_compact(line: &[u8]) -> Places {
+    let id = digits_from(line, 1 + line.iter().position(|&byte| byte == b' ')?)?;
+    let worker = digits_from(line, id.end + " w".len())?;
+    Some((id, worker))
+}
+
+// Of a JSON line the key `id`: no string has this, since each quote in one has a backslash before it. The worker's
+// number is the last one.
+fn of_json(line: &[u8]) -> Places {
+    const KEY: &[u8] = b",\"id\":";
+    let id = digits_from(
+        line,
+        KEY.len() + line.windows(KEY.len()).position(|bytes| bytes == KEY)?,
+    )?;
+    let worker = digits_from(line, 1 + line.iter().rposition(|&byte| byte == b':')?)?;
+    (worker.start > id.end).then_some((id, worker))
+}
+
+fn digits_from(line: &[u8], start: usize) -> Option<Range<usize>> {
+    let digits = line
+        .get(start..)?
+        .iter()
+        .take_while(|byte| byte.is_ascii_digit())
+        .count();
+    (digits > 0).then_some(start..start + digits)
+}
+
+#[cfg(test)]
+mod tests {
+    use super::Head;
+
+    fn with_part(is_compact: bool, line: &str, part: u32, first_worker: u32) -> String {
+        let mut head = Head::new();
+        head.put(0, line);
+        head.number(is_compact, part, first_worker);
+        let (_, length) = head.ready.expect("put");
+        assert_eq!(head.with_newline(length).last(), Some(&b'\n'));
+        String::from_utf8(head.bytes(length).to_vec()).expect("texts")
+    }
+
+    #[test]
+    fn the_numbers_of_a_line_are_the_registrys() {
+        assert_eq!(
+            with_part(true, "new 1 w0 a k=1 2", 1, 257),
+            "new 144115188075855873 w257 a k=1 2"
+        );
+        assert_eq!(
+            with_part(true, "close 72057594037927936 w9 a", 127, 1),
+            "close 18374686479671623680 w10 a"
+        );
+        assert_eq!(
+            with_part(true, "event 0 w3 - INFO id 5 w7", 2, 8),
+            "event 0 w11 - INFO id 5 w7"
+        );
+        let rest = "x".repeat(300);
+        assert_eq!(
+            with_part(true, &format!("exit 7 w0 {rest}"), 2, 0),
+            format!("exit 288230376151711751 w0 {rest}")
+        );
+        let line = |id: &str, worker: &str| {
+            let fields = r#"[["id","id"],[",\"id\":1",",\"id\":2,\"worker\":7}"]]"#;
+            format!(r#"{{"fields":{fields},"id":{id},"kind":"new","path":"a","worker":{worker}}}"#)
+        };
+        assert_eq!(
+            with_part(false, &line("5", "7"), 1, 100),
+            line("144115188075855877", "107")
+        );
+        assert_eq!(with_part(false, &line("0", "99"), 1, 1), line("0", "100"));
+    }
+
+    #[test]
+    fn what_is_no_line_stays_as_it_is() {
+        for (is_compact, text) in [
+            (true, ""),
+            (true, "event"),
+            (true, "event 1"),
+            (true, "event 1 w"),
+            (false, "{}"),
+            (false, r#"{"fields":[],"id":1"#),
+        ] {
+            assert_eq!(with_part(is_compact, text, 3, 5), text);
+        }
+    }
+}
