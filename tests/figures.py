@@ -12,9 +12,9 @@ figure that is taken from a page has the toolchain that README named with it.
 - `says` has for each page the texts in which values stand there, written likewise.
 
 What measures writes such a file by `record`, which keeps `table` and `says`. With --write the pages get what the files
-say; without it they are compared. No other figure may stand in a page: no table with a column of numbers, no number
-with a point, and none with a unit that is measured, but for those in NOT_MEASURED. The last line is
-'N passed, M failed'.
+say; without it they are compared. No other figure may stand in a page, but for those in NOT_MEASURED: no table with a
+column of numbers, no cell that is a number, no number with a point, and none with a unit that is measured, be it in
+words. The last line is 'N passed, M failed'.
 """
 import datetime
 import json
@@ -34,7 +34,9 @@ SOURCE = ("date", "machine", "processors", "commit", "toolchain", "command", "so
 NUMBERS = re.compile(r"^\|[-:| ]*-:[-:| ]*$", flags=re.M)
 FIGURE = re.compile(
     r"(?<![\w.,/^-])\d[\d,]*(?:\.\d+)? ?(?:ns|ms|s|%|MB|GB|min|minutes?|hours?|seconds?|times|instructions)(?!\w)"
-    r"|(?<![\w.,/])\d[\d,]*\.\d+(?![\w.]\d|\w)")
+    r"|(?<![\w.,/])\d[\d,]*\.\d+(?![\w.]\d|\w)|\| \d[\d,]* (?=\|)"
+    r"|\b(?:an?|some|two|three|four|five|six|seven|eight|nine|ten|\w+teen|\w+ty) "
+    r"(?:minutes?|hours?|(?:milli|micro|nano)second|\w*seconds|[MG]B|times as)\b")
 VERSION = re.compile(r"\b(?:Python|Rust|rustc|glibc|Linux|tracing-subscriber)`? [\d.]+\d")
 # What looks like a figure, by page: an input, a wish, a bound that is set or part of a format.
 NOT_MEASURED = {
@@ -43,7 +45,8 @@ NOT_MEASURED = {
     "docs/BENCHMARKS.md": ["entered 390 times", "53 times the script"],
     "docs/DECISIONS.md": ["at most 75 minutes"],
     "docs/FORMATS.md": ["60 seconds"],
-    "rust/README.md": ["(1.82 or later)"],
+    "rust/README.md": ["(1.82 or later)"], "rust/tracing/README.md": ["| 4,096"],
+    "rust/tracing-subscriber/README.md": ["| 8,191", "| 51,380,224", "| 4,294,967,295"],
 }
 
 
@@ -65,10 +68,13 @@ def record(name, rows=(), values=None, at=TOP):
     """Writes a file of what the running script measured of a checkout."""
     path = FOLDER / f"{name}.json"
     before = json.loads(path.read_text(encoding="utf-8")) if path.exists() else {}
+    others = [":!bench/figures", ":!*.md", ":!*.svg"]  # a run's second file finds its first one changed
+    differs = said_by("git", "diff", "HEAD", "--", *others, at=at) != "not known"
+    commit = said_by("git", "describe", "--always", at=at) + "-dirty" * differs
     script = Path(sys.argv[0]).resolve().relative_to(TOP).as_posix()
     data = {
         "date": datetime.date.today().isoformat(), "machine": machine(), "processors": os.cpu_count(),
-        "commit": said_by("git", "describe", "--always", "--dirty", at=at), "toolchain": said_by("rt", "version"),
+        "commit": commit, "toolchain": said_by("rt", "version"),
         "command": shlex.join([script, *sys.argv[1:]]), "source": "measured by this command",
         "values": values or {}, "rows": list(rows), "table": before.get("table", {}), "says": before.get("says", {}),
     }
