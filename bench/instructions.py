@@ -4,8 +4,8 @@
 
 usage: instructions.py [--store FILE] [--library FILE] [--figures]
 
-FILE are the libraries that `rt lib` leaves in crates/span_store_ffi and crates/span_ffi. With --figures the counts go to
-bench/figures/store-calls.json and package-round.json, from where tests/figures.py takes them to the pages.
+FILE are the libraries that `rt lib` leaves in crates/span_store_ffi and crates/span_ffi. With --figures the counts go
+to bench/figures/store-calls.json and package-round.json, from where tests/figures.py takes them to the pages.
 """
 import argparse
 import os

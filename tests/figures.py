@@ -9,7 +9,7 @@ figure that is taken from a page has the toolchain that README named with it.
 - `table` has the columns of a table of the rows: of each its head (a blank after it makes it another one), and its
   cells as Python's `format` writes them. A cell whose value a row hasn't is empty. The table stands in a page between
   `<!-- figures NAME -->` and `<!-- end -->`, with a line that says where it comes from.
-- `says` has for each page the texts in which values stand there, written likewise.
+- `says` has for each page the texts in which values stand there, written likewise; none for one that has a picture.
 
 What measures writes such a file by `record`, which keeps `table` and `says`. With --write the pages get what the files
 say; without it they are compared. No other figure may stand in a page, but for those in NOT_MEASURED: no table with a
