@@ -301,14 +301,13 @@ def by_layers(rows):
     """By layers, of each registry its threads and million calls a second."""
     figures = {}
     for row in rows:
-        for name in WHOSE.keys() & row.keys():
+        for name in (it for it in WHOSE if it in row):
             figures.setdefault(row["layers"], {}).setdefault(name, []).append((row["threads"], row[name]))
     return figures
 
 
 def told_figures(layers, of):
-    rows = "; ".join(f"{whose} " + ", ".join(f"{calls:.2f}" for _, calls in of[name])
-                     for name, (whose, _) in WHOSE.items() if name in of)
+    rows = "; ".join(f"{WHOSE[name][0]} " + ", ".join(f"{calls:.2f}" for _, calls in of[name]) for name in of)
     return f"With {layers or 'no'} layer{'s' if layers > 1 else ''}, by threads from 1 on: {rows}."
 
 
@@ -338,9 +337,9 @@ def parts():
             picture.text(left + across * (threads - 1), bottom + 18, str(threads), "small", "middle")
         picture.text(left, top - 14, f"{layers or 'no'} layer: million calls a second")
         picture.text(left + wide, bottom + 38, "threads", "small", "end")
-        for name, (_, kind) in WHOSE.items():
-            points = of.get(name, [])
-            picture.curve([(left + across * (threads - 1), bottom - high * calls) for threads, calls in points], kind)
+        for name, points in of.items():
+            places = [(left + across * (threads - 1), bottom - high * calls) for threads, calls in points]
+            picture.curve(places, WHOSE[name][1])
     return picture
 
 
