@@ -64,13 +64,14 @@ def machine():
     return names[0] if names else platform.machine()
 
 
-def record(name, rows=(), values=None, at=TOP):
-    """Writes a file of what the running script measured of a checkout."""
+def record(name, rows=(), values=None, at=TOP, beside=None):
+    """Writes a file of what the running script measured of a checkout, or of it beside another one."""
     path = FOLDER / f"{name}.json"
     before = json.loads(path.read_text(encoding="utf-8")) if path.exists() else {}
     others = [":!bench/figures", ":!*.md", ":!*.svg"]  # a run's second file finds its first one changed
     differs = said_by("git", "diff", "HEAD", "--", *others, at=at) != "not known"
     commit = said_by("git", "describe", "--always", at=at) + "-dirty" * differs
+    commit += f", beside {said_by('git', 'describe', '--always', at=beside)}" if beside else ""
     script = Path(sys.argv[0]).resolve().relative_to(TOP).as_posix()
     data = {
         "date": datetime.date.today().isoformat(), "machine": machine(), "processors": os.cpu_count(),
