@@ -166,6 +166,7 @@ counts_of core = record {
   workers = core.limits.workers;
 }
 
+-- the counts of `counts_of` are told, and nothing changes
 abbrev pub Counts : SpanCounts → CoreView → Status → CoreView → Type 0
 Counts counts old Done new = (counts ≡ counts_of old) × (new ≡ old)
 Counts counts old _ new = ⊥
