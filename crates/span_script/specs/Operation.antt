@@ -310,7 +310,7 @@ find_by_span line (Some old) = do
   _ ← required key.Span span_key_in line
   Err (BadKey key.Old)
 
--- or by its id of the older layout
+-- a span is looked up by its id of the older layout
 abbrev pub find_old_of : Data → Result Operation Reason
 find_old_of value = do
   span ← or_fault (old_id_in value) (BadKey key.Old)
