@@ -82,7 +82,7 @@ happenings rules old (event worker meta message fields) answer new =
     event_told rules old worker meta message fields ∷ []
 happenings rules old _ _ new = []
 
--- the layer is told of the happening: it admits it, and wants notes of its kind
+-- the layer is told of the happening: it is one of those that admit it, and wants notes of that kind
 abbrev pub is_told : List Filter → Happening → ℕ → Bool
 is_told rules what layer = has_bit what.admitted layer && layer_wants rules layer what.kind
 

@@ -100,7 +100,7 @@ IsMade request id old new =
     (id ≡ 0 → IsNotWanted old request new)
     × (id ≢ 0 → IsAccepted old request (made id) new × (id_after old ≡ Some id))
 
--- the span was made as `IsMade` says, or the registry refused it
+-- the call ended as `IsMade` says, or the registry refused it with this fault
 abbrev pub IsMadeOrRefused : Request → ℕ → CoreView → Status → CoreView → Type 0
 IsMadeOrRefused request id old Done new = IsMade request id old new
 IsMadeOrRefused request id old (Refused fault) new = IsRefused old request fault new
@@ -166,7 +166,7 @@ counts_of core = record {
   workers = core.limits.workers;
 }
 
--- these counts are told, and nothing changes
+-- the registry's counts are told, and nothing changes
 abbrev pub Counts : SpanCounts → CoreView → Status → CoreView → Type 0
 Counts counts old Done new = (counts ≡ counts_of old) × (new ≡ old)
 Counts counts old _ new = ⊥

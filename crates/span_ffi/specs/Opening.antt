@@ -34,7 +34,7 @@ AreRules [] bytes = Unit {0}
 AreRules (rule ∷ rules) bytes =
     (rule.level ≤ 4) × BeginsWithText rule.prefix_len bytes × AreRules rules (drop rule.prefix_len bytes)
 
--- the pairs of a rule: the prefixes one after another, each with the level of its number
+-- the pair that each rule says: its prefix, which stands in the bytes behind those before it, and its number's level
 abbrev pub said_pairs : List SpanRule → List ℕ → List Pair
 said_pairs [] bytes = []
 said_pairs (rule ∷ rules) bytes =
@@ -69,7 +69,7 @@ said_filters (layer ∷ layers) rules bytes =
 abbrev pub said_form : ℕ → Form
 said_form number = if number == 0 then Compact else Json
 
--- the form of each layer, in their order
+-- the form of each layer, in order
 abbrev pub said_forms : List SpanLayer → List Form
 said_forms layers = map (λ layer. said_form layer.form) layers
 

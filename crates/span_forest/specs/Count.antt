@@ -16,7 +16,7 @@ abbrev pub holders_in : Option Node → ℕ
 holders_in None = 0
 holders_in (Some node) = holders node
 
--- there is a parent, and it is this id
+-- there is an id, and it is this one
 abbrev pub is_some_id : Option ℕ → ℕ → Bool
 is_some_id None id = false
 is_some_id (Some parent) id = parent == id

@@ -16,7 +16,7 @@ pub record Node : Type 0 where
   pub handles : ℕ
   pub entries : ℕ
 
--- a span as plain values. Its count is none of them: what holds the span tells it.
+-- a span as plain values. Its count is not among them: what holds the span tells it.
 abbrev pub node_of : Span → Node
 node_of span = record {
   name = span.meta.name;

@@ -25,7 +25,7 @@ KeyValue = List ℕ × List ℕ
 abbrev pub key_value : Field → KeyValue
 key_value field = (string_bytes field.key, string_bytes field.value)
 
--- the key and the value of each field, in their order
+-- the key and the value of each field, in order
 abbrev pub plain_fields : List Field → List KeyValue
 plain_fields fields = map key_value fields
 

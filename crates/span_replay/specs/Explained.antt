@@ -85,7 +85,7 @@ abbrev pub inside_in : CoreView → PlainDetails → List Inside
 inside_in core details =
     map (inside_of core.world details.id) (filter (λ worker. nat_lt worker core.limits.workers) details.workers)
 
--- an open span, with the workers inside it, and the line that last made a span in its slot
+-- an open span, with the workers inside it, and the number of the line that last made a span in its slot
 abbrev pub open_span_of : Reached → PlainDetails → PlainOpenSpan
 open_span_of reached details = record {
   details = details;

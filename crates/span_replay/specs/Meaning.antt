@@ -164,7 +164,7 @@ after text transcript = record { text = text ++ transcript.text; ending = transc
 abbrev pub left_by_workers : State → Written
 left_by_workers state = each_written exits state.core (range_with_len 0 state.core.limits.workers)
 
--- the tidying then goes on: what the labels name is closed, in the order of the labels' bytes
+-- the rest of the tidying: what the labels name is closed, in the order of the labels' bytes
 abbrev pub closed_by_labels : State → Written
 closed_by_labels state = each_written closes (left_by_workers state).core (map (λ entry. entry.1) state.labels)
 

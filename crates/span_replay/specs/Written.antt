@@ -67,7 +67,7 @@ call_written core request = record {
   core = core_left core (outcome core request);
 }
 
--- the same, behind a text that was written before
+-- what is written for calls, behind a text that was written before
 abbrev pub written_after : List ℕ → Written → Written
 written_after text written = record { text = text ++ written.text; core = written.core }
 
@@ -85,7 +85,7 @@ node_text core id None = answer_text (Refused Unknown)
 node_text core id (Some node) =
     span_text node.name (id_at node.parent) node.handles node.entries (reference_count core.world.spans id)
 
--- the line of the span with this id; where none is open, that it is unknown
+-- the line of the open span with this id; where there is none, the line of a call that is refused as unknown
 abbrev pub find_text : CoreView → ℕ → List ℕ
 find_text core id = node_text core id (find core.world.spans id)
 

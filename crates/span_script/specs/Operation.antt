@@ -71,7 +71,7 @@ pub data Operation : Type 0 where
 
 -- ---- a line as JSON: it has to be UTF-8
 
--- the line's JSON value; the line is at fault where it isn't UTF-8 or no such value
+-- the line's JSON value; the line is at fault where it isn't UTF-8 or isn't JSON
 unfoldable pub json_of : List ℕ → Result Data Reason
 json_of line = if is_utf8 line then or_fault (read line) NotJson else Err NotJson
 
@@ -96,7 +96,7 @@ optional k reading default line = given_or k reading default (get (key_text k) l
 abbrev pub whole_number : Data → Option ℕ
 whole_number value = option_and_then as_u64 (as_number value)
 
--- the number, if it is at most this
+-- the number, if it is at most this bound
 abbrev pub at_most : ℕ → ℕ → Option ℕ
 at_most most n = if nat_le n most then Some n else None
 
@@ -121,7 +121,7 @@ level_named text =
     (if bytes_eq text (codes "DEBUG") then Some Debug else
     (if bytes_eq text (codes "TRACE") then Some Trace else None))))
 
--- a level is a text, its name
+-- a level is written as a text, its name
 abbrev pub level_in : Data → Option Level
 level_in value = option_and_then level_named (as_str value)
 
@@ -203,7 +203,7 @@ form_named text =
     if bytes_eq text (codes "compact") then Some Compact else
     (if bytes_eq text (codes "json") then Some Json else None)
 
--- a form is a text, its name
+-- a form is written as a text, its name
 abbrev pub form_in : Data → Option Form
 form_in value = option_and_then form_named (as_str value)
 
@@ -215,7 +215,7 @@ kinds_in value = option_and_then (at_most 15) (whole_number value)
 abbrev pub prefix_in : Data → Option Pair
 prefix_in value = pair_of as_str level_in value
 
--- a rule is a list of such pairs
+-- a rule is a list of pairs of a prefix and a level
 abbrev pub rule_in : Data → Option (List Pair)
 rule_in value = list_of prefix_in value
 
@@ -225,7 +225,7 @@ all_targets = ([], Trace) ∷ []
 
 -- ---- an operation's keys, in the order in which they are looked at
 
--- limits: each that is missing is the default one, and a ring has 1024 places
+-- limits: one that is missing has its default, and a ring always has 1024 places
 unfoldable pub limits_of : Data → Result Operation Reason
 limits_of line = do
   slots ← optional key.Slots limit_in 1024 line
@@ -276,7 +276,7 @@ on_span_of workers call line = do
   worker ← optional key.Worker (worker_in workers) 0 line
   Ok (on_span call span worker)
 
--- further fields of a span: by default none, and by worker 0
+-- further fields of a span: by default there are none, and worker 0 records them
 unfoldable pub record_of : ℕ → Data → Result Operation Reason
 record_of workers line = do
   span ← required key.Span span_key_in line
@@ -322,7 +322,7 @@ find_by line None (Some old) = find_old_of old
 find_by line None None = find_by_span line None
 find_by line (Some span) old = find_by_span line old
 
--- a span is looked up by its `span` or its `old`, as `find_by` says
+-- a span is looked up by the key `span` or `old` of the line, as `find_by` says
 unfoldable pub find_of : Data → Result Operation Reason
 find_of line = find_by line (get (key_text key.Span) line) (get (key_text key.Old) line)
 
@@ -352,7 +352,7 @@ op_named text =
     (if bytes_eq text (codes "event") then Some event_op else
     (if bytes_eq text (codes "find") then Some find_op else None)))))))))
 
--- an op is a text, its name
+-- an op is written as a text, its name
 abbrev pub op_in : Data → Option Op
 op_in value = option_and_then op_named (as_str value)
 

@@ -24,6 +24,6 @@ abbrev pub StopsFor : {B : Type 0} → Result B Reason → Stop → Type 0
 StopsFor meant Memory = Unit {0}
 StopsFor meant (Refused reason) = meant ≡ Err reason
 
--- the result is the one that is meant, or it is that there was no memory
+-- the result is the one that is meant, or there was no memory
 abbrev pub AnswersOrStops : {A B : Type 0} → (A → B) → Result A Stop → Result B Reason → Type 0
 AnswersOrStops seen result meant = MatchResult result (λ a. meant ≡ Ok (seen a)) (StopsFor meant)

@@ -23,7 +23,7 @@ abbrev pub key_seen : SpanKey → meant.SpanKey
 key_seen (Label text) = meant.by_label text.now
 key_seen (Id id) = meant.by_id id
 
--- what a new span is to stand under, with the key of a named one seen so
+-- what a new span is to stand under, with a label as bytes
 abbrev pub parent_seen : Parent → meant.Parent
 parent_seen Current = meant.current
 parent_seen Root = meant.root
@@ -41,7 +41,7 @@ new_seen new = record {
   worker = new.worker;
 }
 
--- a layer: its form, the kinds that it wants as a number, and its rule's pairs
+-- a layer: its form, the kinds that it wants, as a number, and its rule's pairs
 abbrev pub layer_seen : NewLayer → meant.NewLayer
 layer_seen layer = record { form = layer.style.form; spans = bits_of layer.style.spans; rule = pairs_of layer.rule }
 
@@ -56,7 +56,7 @@ event_seen event = record {
   worker = event.worker;
 }
 
--- an operation, with its parts seen so
+-- an operation, with its parts as the definitions see them
 abbrev pub operation_seen : Operation → meant.Operation
 operation_seen (Limits limits) = meant.set_limits limits
 operation_seen (Layer layer) = meant.add_layer (layer_seen layer)
@@ -66,7 +66,7 @@ operation_seen (Record span fields worker) = meant.record_fields (key_seen span)
 operation_seen (Event event) = meant.tell (event_seen event)
 operation_seen (Find span) = meant.find (key_seen span)
 
--- an op is the one of the same name
+-- an op, as the definitions name it
 abbrev pub op_seen : op.Op → meant.Op
 op_seen ops.Limits = meant.limits_op
 op_seen ops.Layer = meant.layer_op
@@ -76,7 +76,7 @@ op_seen ops.Record = meant.record_op
 op_seen ops.Event = meant.event_op
 op_seen ops.Find = meant.find_op
 
--- a stage is the one of the same name
+-- a stage, as the definitions name it
 abbrev pub stage_seen : Stage → meant.Stage
 stage_seen AtStart = meant.at_start
 stage_seen InSetup = meant.in_setup

@@ -23,7 +23,7 @@ no_more store id =
     (cond (nat_lt (count store.table.entries id) store.max_count) None (Some CountFull))
     (Some Unknown)
 
--- why a new span is refused for its parent, as `no_more` says of that; a root never is
+-- why a new span is refused for its parent, as `no_more` says of the parent; a root never is
 abbrev pub no_child : StoreView → Option ℕ → Option Fault
 no_child store None = None
 no_child store (Some parent) = no_more store parent
@@ -95,7 +95,7 @@ abbrev pub is_add : Call → Bool
 is_add (Add parent bits word) = true
 is_add _ = false
 
--- the call makes one more handle
+-- the call makes one more handle of a span
 abbrev pub is_keep : Call → Bool
 is_keep (Keep id) = true
 is_keep _ = false
