@@ -42,7 +42,7 @@ VERSION = re.compile(r"\b(?:Python|Rust|rustc|glibc|Linux|tracing-subscriber)`? 
 NOT_MEASURED = {
     "bench/README.md": ["2 GB of memory", "over 1.2 where"],
     "crates/span_benchmark/README.md": ["15 MB each"],
-    "docs/BENCHMARKS.md": ["entered 390 times", "53 times the script"],
+    "docs/BENCHMARKS.md": ["53 times the script"],
     "docs/DECISIONS.md": ["at most 75 minutes"],
     "docs/FORMATS.md": ["60 seconds"],
     "rust/README.md": ["(1.82 or later)"], "rust/tracing/README.md": ["| 4,096"],
