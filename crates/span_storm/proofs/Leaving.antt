@@ -106,7 +106,7 @@ record IsNext (worker : ℕ) (before : List PlainBatch) (batch : PlainBatch) : T
   call : IsCallOfRound worker (length before % 9) batch.request
 
 last_of_rounds : (worker : ℕ) (calls before : List PlainBatch) (batch : PlainBatch) → calls ≡ before ++ batch ∷ [] → AreOfRounds worker calls → IsNext worker before batch
-last_of_rounds worker calls before batch is none = absurd (omega (arith, ap length is, length-append before (batch ∷ [])))
+last_of_rounds worker [] before batch is none = absurd (omega (arith, ap length is, length-append before (batch ∷ [])))
 last_of_rounds worker calls before batch is (more {before = earlier} last rounds call same) =
     let both = same_from_push earlier before last batch (sym same ∙ is) in record {
       first = subst (AreOfRounds worker) both.0 rounds;
@@ -140,7 +140,7 @@ stands_in_history rules workers worker history new low (one_call {before} {old} 
 all_empty : (stacks : List (List ℕ)) → ((worker : ℕ) → worker < length stacks → get_or stacks worker [] ≡ []) → stacks ≡ replicate (length stacks) []
 all_empty [] each = refl
 all_empty (stack ∷ stacks) each =
-    ap (λ (s : List ℕ). s ∷ stacks) (each 0 (omega arith)) ∙ ap (λ (s : List (List ℕ)). [] ∷ s) (all_empty stacks (λ worker low. each (worker + 1) (omega (arith, low))))
+    ap (λ (s : List ℕ). s ∷ stacks) (each 0 (omega arith)) ∙ ap (λ (s : List (List ℕ)). [] ∷ s) (all_empty stacks (λ worker low. each (suc worker) (omega (arith, low))))
 
 -- where each worker has made whole rounds, none is inside a span
 pub nobody_inside : (rules : List Filter) (workers rounds : ℕ) (history : List PlainBatch) (world : World) → IsLegal rules workers history world
@@ -151,7 +151,7 @@ nobody_inside rules workers rounds history world legal each are =
     let empty : (worker : ℕ) → worker < length world.stacks → get_or world.stacks worker [] ≡ [] = λ worker below.
     (let low = subst (λ n. worker < n) count below in
     nil_from_length (stack_of world worker) ((stands_in_history rules workers worker history world low legal (are worker low)).before (omega (arith, each worker low)))) in
-    all_empty world.stacks empty ∙ ap (λ (n : ℕ). replicate n []) count
+    all_empty world.stacks empty ∙ ap (λ (n : ℕ). (empty_world n).stacks) count
 
 sum_of_none : (f : List ℕ → ℕ) (n : ℕ) → f [] ≡ 0 → sum_by f (replicate n []) ≡ 0
 sum_of_none f zero empty = refl
