@@ -6,4 +6,5 @@ pub mod Workers
 pub mod NoCalls
 pub mod Own
 pub mod Exited
+pub mod Within
 pub mod Happens

@@ -4,12 +4,14 @@ ghost use mathlib.Core.List.{IsPrefix};
 ghost use Rattle.span_core.specs.History.{IsLegal};
 ghost use Rattle.span_history.specs.Own.{IsFront};
 ghost use Rattle.span_registry.specs.Worker.{WorkerView, after_call, front_of, HasOneMore, HasNoMore};
+ghost use Rattle.span_registry.specs.Report.{IsWithin};
 ghost use Rattle.span_registry.specs.inside.Called.{IsAsLong, IsOneLonger};
 
 use crate::handle::Handle;
 use crate::setup::Setup;
 use crate::worker::Worker;
 use span_core::Core;
+use span_core::laws::{counts_and_calls_have_bounds, each_slot_has_one_open_span};
 use span_history::Keeper;
 use span_id::Id;
 use span_outlet::Outlet;
@@ -30,10 +32,21 @@ pub(crate) fn see<H: Ledger, C: Ledger, S: Setup, O: Outlet, A>(
     ensures own { HasNoMore worker.old worker.new }
     ensures worker { worker.new ≡ record worker.old { seen = core.now.sent } }
     ensures legal { IsLegal S.rules S.limits.workers core.now.sent core.now.world }
+    ensures within { IsWithin S.limits core.now }
 {
     // (it says that what was sent is legal)
     core.calls();
+    show_limits::<S, O, A>(core);
     keeper.next(core.outlet(), &mut worker.front);
+}
+
+// Shows that a core with the limits of a registry keeps them.
+fn show_limits<S: Setup, O: Outlet, A>(core: &Core<O, A>)
+    requires { core.now.limits ≡ S.limits }
+    ensures { IsWithin S.limits core.now }
+{
+    counts_and_calls_have_bounds(core);
+    each_slot_has_one_open_span(core);
 }
 
 // One more accepted call of the worker, which it sees with the history so far.
@@ -52,8 +65,10 @@ pub(crate) fn count_call<H: Ledger, C: Ledger, S: Setup, O: Outlet, A>(
     ensures own { HasOneMore worker.old worker.new }
     ensures worker { worker.new ≡ after_call worker.old worker.old.spare core.now.sent }
     ensures legal { IsLegal S.rules S.limits.workers core.now.sent core.now.world }
+    ensures within { IsWithin S.limits core.now }
 {
     core.calls();
+    show_limits::<S, O, A>(core);
     keeper.next(core.outlet(), &mut worker.front);
     calls.audit(&mut worker.calls);
     calls.add(&mut worker.calls, 1);

@@ -62,6 +62,7 @@ module _ (limits : Limits) (rules : List Filter) (holds : ℕ → ℕ → Type 0
     limits_are = was.limits_are;
     rules_are = was.rules_are;
     legal = was.legal;
+    within = was.within;
     own_are = was.own_are;
     worker_is = wider was.worker (length (own was.worker was.core.sent)) was.worker_is;
     request = was.request;

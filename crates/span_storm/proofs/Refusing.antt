@@ -14,6 +14,7 @@ use Rattle.span_core.specs.Core.{CoreView, IsAccepted, IsRefused, WhyRefused, ar
 use Rattle.span_history.specs.Own.{own}
 use Rattle.span_history.proofs.Owning.{one_more_own}
 use Rattle.span_registry.specs.Worker.{WorkerView}
+use Rattle.span_registry.specs.Report.{IsWithin}
 use Rattle.span_registry.specs.Happened.{Happened}
 use Rattle.span_storm.specs.Storm.{AreOfRounds, IsCallOfRound, IsSpanOfRound, MayCome, WasRefused}
 use Rattle.span_storm.specs.Storm.AreOfRounds.{none, more}
@@ -86,6 +87,10 @@ module _ (limits : Limits) (rules : List Filter) (before after : WorkerView) (st
       let own_after = ap (own before.number) (happened.seen_after ∙ sent.sent) ∙ one_more_own before.number happened.old.sent sent.batch (caller before.number (before.accepted % 9) sent.batch.request sent.call) in
       subst (λ n. AreOfRounds n (own n after.seen)) (sym number) (more sent.batch rounds_then call own_after)
 
+-- a core that differs by how often the outlet lacked a place kept the same limits
+within_before : (limits : Limits) (old new : CoreView) (times : ℕ) → new ≡ record old { times_full = times } → IsWithin limits new → IsWithin limits old
+within_before limits old new times same within = let kept = subst (IsWithin limits) same within in record { counts = kept.counts; slots = kept.slots; calls = kept.calls }
+
 -- the worker's call was refused, whatever the request is where it happened
 pub refused_call : (limits : Limits) (rules : List Filter) (before after : WorkerView) (request : CoreView → Request) (fault : Fault)
     → length (own before.number before.seen) ≡ before.accepted → HasRounds before → after ≡ record before { seen = after.seen }
@@ -100,6 +105,7 @@ refused_call limits rules before after request fault long rounds same call happe
       limits_are = happened.limits_are;
       rules_are = happened.rules_are;
       legal = happened.legal;
+      within = within_before limits happened.old happened.new _ happened.step_is.unchanged happened.within_after;
       own_are = subst (AreOfRounds before.number) happened.seen_before.own_are rounds;
       worker_is = (sym (ap (λ (w : WorkerView). w.number) same), long_then ∙ sym (ap (λ (w : WorkerView). w.accepted) same));
       request = request happened.old;

@@ -10,6 +10,7 @@ use Rattle.span_layers.specs.declared.form.Form.{Form}
 use Rattle.span_outlet.specs.Request.{Request, new_span, clone_span, enter, exit, try_close, record_fields, event}
 use Rattle.span_outlet.specs.Batch.{PlainBatch}
 use Rattle.span_outlet.specs.Ring.{places_of}
+use Rattle.span_core.specs.World.{empty_world}
 use Rattle.span_core.specs.Step.{is_wanted}
 use Rattle.span_core.specs.History.{IsLegal}
 use Rattle.span_core.specs.Core.{CoreView, WhyRefused}
@@ -72,8 +73,8 @@ pub data AreOfRounds (worker : ℕ) : List PlainBatch → Type 0 where
 
 -- The report of a storm of so many rounds with these limits and layers: it tells of a core which had them, kept the
 -- limits, and put its batches into a ring of as many places as they say. The batches are a legal history, in
--- which each worker's own are its rounds, and the lines are those of that history in the layers' forms, but for the
--- notes that were missed.
+-- which each worker's own are its rounds, and which leaves the world as it was before any call: no span is open, and no
+-- worker is inside one. The lines are those of that history in the layers' forms, but for the notes that were missed.
 pub record IsStormEnd
     (limits : Limits) (rounds : ℕ) (rules : List Filter) (forms : List Form) (report : Report)
     : Type 0 where
@@ -85,6 +86,7 @@ pub record IsStormEnd
   pub within : IsWithin limits core
   pub each : (worker : ℕ) → worker < limits.workers → length (own worker core.sent) ≡ 9 * rounds
   pub rounds_are : (worker : ℕ) → worker < limits.workers → AreOfRounds worker (own worker core.sent)
+  pub emptied : core.world ≡ empty_world limits.workers
   pub told : Tells core forms report
 
 -- ---- where it ends early
@@ -100,9 +102,9 @@ MayCome _ = Unit {0}
 abbrev pub IsOneOf : ℕ → ℕ → ℕ → ℕ → Type 0
 IsOneOf workers rounds worker calls = (worker < workers) × (calls < 9 * rounds)
 
--- A call of one of these workers was refused so: there was a core of these limits and rules, in whose legal history the
--- worker's own calls, so many, were the first of its rounds. The call is the next one, and this is why the core refuses
--- it.
+-- A call of one of these workers was refused so: there was a core of these limits and rules, which kept the limits, and
+-- in whose legal history the worker's own calls, so many, were the first of its rounds. The call is the next one, and
+-- this is why the core refuses it.
 pub record WasRefused (limits : Limits) (rules : List Filter) (is_one : ℕ → ℕ → Type 0) (fault : Fault) : Type 0 where
   pub may_come : MayCome fault
   pub worker : ℕ
@@ -110,6 +112,7 @@ pub record WasRefused (limits : Limits) (rules : List Filter) (is_one : ℕ → 
   pub limits_are : core.limits ≡ limits
   pub rules_are : core.rules ≡ rules
   pub legal : IsLegal rules limits.workers core.sent core.world
+  pub within : IsWithin limits core
   pub own_are : AreOfRounds worker (own worker core.sent)
   pub worker_is : is_one worker (length (own worker core.sent))
   pub request : Request

@@ -1,5 +1,5 @@
 //! A whole storm, from the making of its registry to its report.
-ghost use Rattle.std.specs.Prelude.{◌≡◌, ◌+◌, ◌*◌, ◌<◌, ◌≤◌, ◌↔◌, [], Some, true, IfOk, IfErr};
+ghost use Rattle.std.specs.Prelude.{◌≡◌, ◌*◌, ◌<◌, ◌≤◌, [], Some, true, IfOk, IfErr};
 ghost use Rattle.span_layers.specs.Layers.{filters_in, forms_in};
 ghost use Rattle.span_outlet.specs.Ring.{places_of};
 ghost use Rattle.span_storm.specs.Storm.{IsStormEnd, IsStormFault, storm_limits, wants_jobs};
@@ -22,7 +22,7 @@ use std::thread::Threads;
 /// in a thread of its own, while a drain in another writes the lines. Answers how the registry ended.
 ///
 /// In a round a worker makes a root span `job`, clones it, enters it, tells the event `tick`, makes a span `step`
-/// inside, closes that, leaves `job`, and closes both its handles. All are of target `app` and level INFO, without
+/// inside, closes that, leaves `job`, and closes both its handles, so that in the end nothing is open. All are of target `app` and level INFO, without
 /// fields; one of the layers has to admit that, if there are any. The limits are the default ones, with these workers
 /// and a ring of 65536. Before each of its calls worker `i` asks `gate.before(i, k)`, where `k` counts its calls from
 /// 1, and the drain asks `gate.before(workers, 1)` before its first step.
@@ -43,8 +43,9 @@ pub fn storm<G: Gate + Sync, R: Threads + Wait + Sync>(
     requires wanted { wants_jobs (filters_in layers) ≡ true }
     ensures calls { IfOk result (λ report. report.calls ≡ 9 * (workers * rounds)) }
     ensures handles { IfOk result (λ report. report.handles ≡ 0) }
-    ensures empty { IfOk result (λ report. (report.left ≡ 0) ↔ (report.entries ≡ 0)) }
-    ensures balance { IfOk result (λ report. report.made ≡ report.closed + report.left) }
+    ensures entries { IfOk result (λ report. report.entries ≡ 0) }
+    ensures left { IfOk result (λ report. report.left ≡ 0) }
+    ensures balance { IfOk result (λ report. report.made ≡ report.closed) }
     ensures ended { IfOk result (λ report.
         IsStormEnd (storm_limits workers) rounds (filters_in layers) (forms_in layers) report) }
     ensures faults { IfErr result (IsStormFault (storm_limits workers) rounds (filters_in layers) (G.holds gate.now)) }

@@ -1,5 +1,5 @@
 -- What comes back of the threads of a storm: no public clause cites it.
-use Rattle.std.specs.Prelude.{◌≡◌, ℕ, ◌+◌, ◌*◌, ◌^◌, ◌<◌, ◌≤◌, ◌↔◌, true, List, [], ◌∷◌, ◌++◌, length, map, sum_by, All, Result, Ok, Err, IfOk}
+use Rattle.std.specs.Prelude.{◌≡◌, ℕ, ◌+◌, ◌*◌, ◌^◌, ◌<◌, ◌≤◌, true, List, [], ◌∷◌, ◌++◌, length, map, sum_by, All, Result, Ok, Err, IfOk}
 use Rattle.span_id.specs.declared.fault.Fault.{Fault}
 use Rattle.span_id.specs.declared.limits.Limits.{Limits}
 use Rattle.span_layers.specs.Filter.{Filter}
@@ -125,12 +125,13 @@ abbrev pub Fit : Result ShareView Stopped → Result ShareView Stopped → Type 
 Fit one other = IfOk one (λ a. IfOk other (λ b. (a.units + b.units < 2 ^ 64) × (a.accepted + b.accepted < 2 ^ 64)))
 
 -- The numbers of a report of so many workers and rounds: nine calls for each round of each worker, each handle given
--- back, and each span closed or left.
+-- back, each span left by who entered it, and each span closed.
 pub record HasNumbers (workers rounds : ℕ) (report : Report) : Type 0 where
   pub calls : report.calls ≡ 9 * (workers * rounds)
   pub handles : report.handles ≡ 0
-  pub empty : (report.left ≡ 0) ↔ (report.entries ≡ 0)
-  pub balance : report.made ≡ report.closed + report.left
+  pub entries : report.entries ≡ 0
+  pub left : report.left ≡ 0
+  pub balance : report.made ≡ report.closed
 
 -- a drain in its thread, the gate that it asks, and its number as a party
 pub record DrainingView (Gate : Type 0) : Type 0 where

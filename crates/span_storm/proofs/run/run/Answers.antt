@@ -1,4 +1,4 @@
-use Rattle.std.proofs.Common.{◌≡◌, ℕ, ◌<◌, ◌∙◌, List, ap, sym, subst}
+use Rattle.std.proofs.Common.{rules, ◌≡◌, ℕ, ◌<◌, ◌∙◌, List, ap, sym, subst, arith}
 use Rattle.std.specs.Prelude.{Option, Some, IsSomeAnd, slice_index_or}
 use Rattle.span_id.specs.declared.limits.Limits.{Limits}
 use Rattle.span_layers.specs.declared.form.Form.{Form}
@@ -15,6 +15,7 @@ use Rattle.span_storm.specs.declared.stopped.Stopped.{Stopped}
 use Rattle.span_storm.specs.declared.stopped.Stopped.TheVariants.{Memory, Refused, Held}
 use Rattle.span_storm.specs.inside.Back.{HasAll, IsStormStop, fault_of}
 use Rattle.span_storm.proofs.Gathering.{each_made}
+use Rattle.span_storm.proofs.Leaving.{world_is_empty, nothing_left}
 use Rattle.span_storm.proofs.run.run.Goals as goal
 
 -- the ring has so many places
@@ -37,6 +38,7 @@ storm_end limits rounds rules forms drain ring share workers report same name pl
       within = ended.within;
       each = λ worker low. (made worker low).0;
       rounds_are = λ worker low. (made worker low).1;
+      emptied = world_is_empty rules limits.workers rounds _ _ ended.legal (λ worker low. (made worker low).0) (λ worker low. (made worker low).1) (ended.emptied all.units);
       told = subst (λ f. Tells end.end.core f report) same end.end.told;
     }
 
@@ -44,6 +46,17 @@ pub returns-in-Ok-back-clause-ended : goal.returns-in-Ok-back-clause-ended
 returns-in-Ok-back-clause-ended g c =
     let back = c.in-Ok-back.ensures.back in
     storm_end _ _ _ _ _ _ _ _ _ back.drain.forms back.drain.name c.requires.places back.whole c.in-Ok.ensures.each c.finish.ensures.ended
+
+pub returns-in-Ok-back-clause-numbers : goal.returns-in-Ok-back-clause-numbers
+returns-in-Ok-back-clause-numbers g c =
+    let none = nothing_left _ _ _ _ _ (returns-in-Ok-back-clause-ended g c) in
+    record {
+      calls = search rules;
+      handles = search rules;
+      entries = none.0;
+      left = none.1;
+      balance = omega (arith, c.finish.ensures.balance, none.1);
+    }
 
 -- the fault of a party that stopped
 storm_fault : (limits : Limits) (rounds : ℕ) (rules : List Filter) (holds : ℕ → ℕ → Type 0) (stopped : Stopped) → IsStormStop limits rules holds limits.workers rounds stopped → IsStormFault limits rounds rules holds (fault_of stopped)

@@ -34,7 +34,7 @@ pub returns-clause-was_released : goal.returns-clause-was_released
 returns-clause-was_released g c =
     let accepted = c.in-Ok.ensures.accepted.accepted in
     exit_happened c.args.worker.now c.count_call.new.worker _ c.worker.inside.number c.args.id c.in-Ok.closed
-    c.locked.invariant c.count_call.ensures.seen (ap (λ (w : WorkerView). w.seen) c.count_call.ensures.worker) c.count_call.ensures.legal (ap (λ (w : WorkerView). w.number) c.worker.view_is)
+    c.locked.invariant c.count_call.ensures.seen (ap (λ (w : WorkerView). w.seen) c.count_call.ensures.worker) c.count_call.ensures.legal c.count_call.ensures.within (ap (λ (w : WorkerView). w.number) c.worker.view_is)
     (c.accepted_releases_close_what_nothing_holds.ensures _ _ _ accepted refl)
     (rw c.in-Ok.ensures.closed (c.the_named_span_closes_first.ensures.exit _ _ _ _ accepted))
     (stack_left _ _ _ _ _ _ _ _ accepted.step)

@@ -36,6 +36,6 @@ returns-clause-was_released g c =
     let accepted = c.in-Ok.ensures.done.0.accepted in
     let told = ap (λ (w : WorkerView). w.seen) c.take_back.ensures.worker ∙ ap (λ (w : WorkerView). w.seen) c.count_call.ensures.worker in
     close_happened c.args.worker.now c.take_back.new.worker _ c.worker.inside.number _ _ c.in-Ok.closed
-    c.locked.invariant c.count_call.ensures.seen told c.count_call.ensures.legal (ap (λ (w : WorkerView). w.number) c.worker.view_is) (ap (λ (h : HandleView). h.id) c.handle.view_is)
+    c.locked.invariant c.count_call.ensures.seen told c.count_call.ensures.legal c.count_call.ensures.within (ap (λ (w : WorkerView). w.number) c.worker.view_is) (ap (λ (h : HandleView). h.id) c.handle.view_is)
     (c.accepted_releases_close_what_nothing_holds.ensures _ _ _ accepted refl)
     (rw c.in-Ok.ensures.done.1 (c.the_named_span_closes_first.ensures.try_close _ _ _ _ accepted))

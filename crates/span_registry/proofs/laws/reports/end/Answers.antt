@@ -1,10 +1,8 @@
-use Rattle.std.proofs.Common.{rules, ◌≤◌, ◌<◌, List, All, sym, ap, subst, ◌∙◌}
-use Rattle.span_id.specs.Id.{slot_of}
-use Rattle.span_id.specs.declared.limits.Limits.{Limits}
-use Rattle.span_forest.specs.Count.{reference_count}
+use Rattle.std.proofs.Common.{rules, List, All, sym, ap, subst, ◌∙◌}
 use Rattle.span_history.specs.Own.{IsFront}
 use Rattle.span_outlet.specs.Batch.{PlainBatch}
 use Rattle.span_registry.proofs.Free.{free_legal}
+use Rattle.span_registry.proofs.Within.{within_limits}
 use Rattle.span_registry.proofs.laws.reports.end.Goals as goal
 
 pub returns-clause-legal : goal.returns-clause-legal
@@ -41,9 +39,4 @@ returns-clause-setup g c = rw (← c.locked.view_is) (c.locked.invariant.limits_
 pub returns-clause-within : goal.returns-clause-within
 returns-clause-within g c =
     let bounds = c.counts_and_calls_have_bounds.ensures in
-    let limits_are = c.locked.invariant.limits_are in
-    rw (← c.locked.view_is) (record {
-      counts = λ id. subst (λ (l : Limits). reference_count c.locked.inside.core.world.spans id ≤ l.max_count) limits_are (bounds.counts id);
-      slots = λ id is. subst (λ (l : Limits). slot_of id < l.slots) limits_are (c.each_slot_has_one_open_span.ensures.in_range id is);
-      calls = bounds.calls;
-    })
+    rw (← c.locked.view_is) (within_limits _ _ c.locked.invariant.limits_are bounds.counts c.each_slot_has_one_open_span.ensures.in_range bounds.calls)
