@@ -1,11 +1,11 @@
 -- What the outlet that keeps lines has of a history.
 use Rattle.std.specs.Prelude.{◌≡◌, ℕ, ◌+◌, ◌-◌, ◌^◌, ◌≤◌, Bool, List, [], ◌∷◌, ◌++◌, map, flat_map, length, min, slice_get, All, Some, None}
 use Rattle.std.specs.List.{enumerate_from}
+use Rattle.std.specs.declared.alloc.AllocError.{AllocError}
 use Rattle.span_layers.specs.declared.form.Form.{Form}
 use Rattle.span_layers.specs.Note.{PlainNote}
 use Rattle.span_outlet.specs.Batch.{PlainBatch}
 use Rattle.span_outlet.specs.Lines.{PlainLine, line_of}
-pub use Rattle.span_outlet.proofs.memory.{LacksMemory}
 
 -- the forms in which it writes, the batches that were sent to it, the lines that it has of their notes, how
 -- many notes were missed, and whether it has a place for one more batch
@@ -31,8 +31,13 @@ numbered_in batch =
 abbrev pub numbered : List PlainBatch → List NumberedNote
 numbered history = flat_map numbered_in (enumerate_from 0 history)
 
--- Why a note is missed: its layer has no form, more than 2^32 - 1 notes stand before it in its batch, or memory was
--- refused for its text or for its line. (What asks for that memory alone can show that it was refused.)
+-- Memory was refused for the text or for the line of the note at this place of the batch of this number. No clause of an
+-- allocator tells of that. So this is shut: the proofs of the functions that ask for that memory alone open it, where an
+-- error is answered.
+unfoldable pub LacksMemory : ℕ → ℕ → Type 0
+LacksMemory batch place = AllocError
+
+-- Why a note is missed: its layer has no form, more than 2^32 - 1 notes stand before it in its batch, or it lacks memory.
 pub data WhyMissed (forms : List Form) (note : NumberedNote) : Type 0 where
   no_form : slice_get forms note.note.layer ≡ None → WhyMissed forms note
   no_place : 2 ^ 32 ≤ note.place → WhyMissed forms note

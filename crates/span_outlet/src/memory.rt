@@ -3,7 +3,7 @@
 ghost use Rattle.std.specs.Prelude.{◌≡◌, ◌≤◌, ◌++◌, ◌∷◌, [], IfOk, OnOk, OnErr, length, vec_capacity};
 ghost use Rattle.span_layers.specs.Note.{plain_note};
 ghost use Rattle.span_layers.specs.Text.{text_of};
-ghost use Rattle.span_outlet.proofs.memory.{LacksMemory};
+ghost use Rattle.span_outlet.specs.Kept.{LacksMemory};
 
 use crate::line::Line;
 use span_layers::{Form, Note, Say};

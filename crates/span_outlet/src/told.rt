@@ -3,8 +3,7 @@ ghost use Rattle.std.specs.Prelude.{◌≡◌, ◌+◌, ◌-◌, ◌^◌, ◌<�
 ghost use Rattle.span_layers.specs.Note.{plain_note};
 ghost use Rattle.span_layers.specs.Text.{text_of};
 ghost use Rattle.span_outlet.specs.Lines.{line_of, plain_line};
-ghost use Rattle.span_outlet.specs.Kept.{GainsLines, WhyMissed};
-ghost use Rattle.span_outlet.proofs.memory.{LacksMemory};
+ghost use Rattle.span_outlet.specs.Kept.{LacksMemory, WhyMissed, GainsLines};
 ghost use Rattle.span_outlet.specs.inside.Ends.{name_of_consumer};
 ghost use Rattle.span_outlet.specs.inside.Telling.{TellsNext, numbered_notes};
 ghost use Rattle.rtrb.specs.Ring.{received, known_items};

@@ -1,4 +1,4 @@
-use Rattle.span_outlet.proofs.memory.{lacks}
+use Rattle.span_outlet.proofs.memory.Refused.{lacks}
 use Rattle.span_outlet.proofs.memory.Place.say.Goals as goal
 
 pub returns-clause-refused : goal.returns-clause-refused
