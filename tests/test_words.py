@@ -65,7 +65,13 @@ doubled these = size these + count these
 abbrev marks : ℕ
 marks = 3
 """,
-    "no_specs/src/lib.rt": "",
+    "low/proofs/Counted.antt": """use Rattle.low.specs.Spans.{count}
+
+one : count (1 ∷ []) ≡ 1
+unfolding count
+one = refl
+""",
+    "no_specs/src/lib.rt": "#[tactic(auto, unfolding(low::specs::Rows::rows_in))]\n",
 }
 TWICE = {"Spans": ["high", "low"], "count": ["high", "low"]}
 BOTH = "Spans: low high\ncount: high low\n"
@@ -77,6 +83,14 @@ ROWS = [
     (f"{BOTH}gone: high\n", ["gone no longer has two definitions: its line in words_twice.txt goes"]),
     ("Spans: low high\ncount: high low low\n", ["count is defined in high low, and listed for high low low"]),
     ("Spans: low\ncount: high low\n", ["Spans is defined in high low, and listed for low"]),
+]
+# A word, the file that alone may open it, and what has to be said.
+COUNTED, UNSPECIFIED = "crates/low/proofs/Counted.antt", "crates/no_specs/src/lib.rt"
+OPENED = [
+    ("count", COUNTED, f"count is opened in crates/high/specs/Table.antt {COUNTED}, and {COUNTED} alone may"),
+    ("rows_in", UNSPECIFIED, None),
+    ("rows_in", COUNTED, f"rows_in is opened in {UNSPECIFIED}, and {COUNTED} alone may"),
+    ("size", COUNTED, f"size is opened in no file, and {COUNTED} alone may"),
 ]
 SAME = [["high.Table.count", "high.Table.size", "low.Rows.rows_in", "low.Spans.count"],
         ["high.Table.doubled", "high.Table.twice_as_many"]]
@@ -92,6 +106,8 @@ def looks(top):
         said = list(words.differences(where, words.read_list(listed)))
         yield [it for it in said if it], wanted
         yield said.count(None), len({*TWICE, *words.read_list(listed)}) - len(wanted)
+    for word, home, wanted in OPENED:
+        yield list(words.opened(top, {word: home})), [wanted]
     yield sorted(words.same_words(top, where)), SAME
 
 

@@ -8,6 +8,8 @@ A public word is one that docs/MODEL.md has. It is counted where it is defined, 
 meanings that want two names, or one meaning that wants one place: the list may only get shorter. A word twice that it
 doesn't have fails, and so does one that it has and that is no longer twice, or twice elsewhere.
 
+A word of SHUT is opened in one file alone: it fails where another file opens it, or gives it another name.
+
 With --all it prints how many public words each crate defines. With --same it prints which words have the same
 definition but for their names, those of what they bind, and those of words that are themselves the same; a row is a
 place to look. The last line is 'N passed, M failed', and the status is 0 where nothing failed.
@@ -21,6 +23,9 @@ from clauses import WORD, Repository
 from model_page import TOP, files_of
 
 LISTED = Path(__file__).resolve().parent / "words_twice.txt"
+
+# What the proofs in one file alone may show.
+SHUT = {"LacksMemory": "crates/span_outlet/proofs/memory/Refused.antt"}
 
 
 def public_words(top):
@@ -56,6 +61,16 @@ def differences(where, listed):
             yield f"{word} is defined in {' '.join(found[word])}, and listed for {' '.join(listed[word])}"
         else:
             yield None
+
+
+def opened(top, shut):
+    """What fails of the words that one file alone opens: nothing for each that no other file opens."""
+    texts = {path.relative_to(top).as_posix(): path.read_text(encoding="utf-8")
+             for pattern in ("crates/*/src/**/*.rt", "crates/*/*/**/*.antt") for path in sorted(top.glob(pattern))}
+    for word, home in shut.items():
+        opens = re.compile(rf"\bunfold(?:ing)?\b.*\b{word}\b|\b{word} as\b")
+        found = [path for path, text in texts.items() if opens.search(text)]
+        yield None if found == [home] else f"{word} is opened in {' '.join(found) or 'no file'}, and {home} alone may"
 
 
 def clauses_of(definition):
@@ -106,7 +121,7 @@ def main():
     if not {*sys.argv[1:]} <= {"--all", "--same"}:
         sys.exit(__doc__)
     where, passed, failed = public_words(TOP), 0, 0
-    for said in differences(where, read_list(LISTED.read_text(encoding="utf-8"))):
+    for said in [*differences(where, read_list(LISTED.read_text(encoding="utf-8"))), *opened(TOP, SHUT)]:
         passed, failed = passed + (said is None), failed + (said is not None)
         if said:
             print(f"FAILED {said}")

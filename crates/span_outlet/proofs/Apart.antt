@@ -1,5 +1,5 @@
 -- No line has the place of a note that was missed.
-use Rattle.std.proofs.Common.{◌≡◌, ℕ, ◌+◌, ◌≤◌, Option, Some, None, List, [], ◌∷◌, ◌++◌, map, get_or, refl, sym, ap, ◌∙◌, arith}
+use Rattle.std.proofs.Common.{◌≡◌, ℕ, ◌+◌, ◌≤◌, Option, Some, None, List, [], ◌∷◌, ◌++◌, map, get_or, refl, sym, ap, subst, ◌∙◌, arith}
 use Rattle.std.specs.Prelude.{All, flat_map, slice_get}
 use Rattle.std.specs.List.{enumerate_from}
 use Rattle.std.specs.Option.{option_map}
@@ -9,8 +9,10 @@ use Rattle.span_layers.specs.declared.form.Form.{Form}
 use Rattle.span_layers.specs.Note.{PlainNote}
 use Rattle.span_layers.specs.Text.{text_of}
 use Rattle.span_outlet.specs.Batch.{PlainBatch}
-use Rattle.span_outlet.specs.Lines.{PlainLine}
-use Rattle.span_outlet.specs.Kept.{NumberedNote, numbered_in, numbered, AreTold, HasNoLine}
+use Rattle.span_outlet.specs.declared.line.Line.{Line}
+use Rattle.span_outlet.specs.Lines.{PlainLine, plain_line, line_of}
+use Rattle.span_outlet.specs.Kept.{NumberedNote, numbered_in, numbered, LacksMemory, WhyMissed, AreTold, HasNoLine}
+use Rattle.span_outlet.specs.Kept.WhyMissed.{no_memory}
 use Rattle.span_outlet.specs.Kept.AreTold.{none, told, missed}
 
 -- another batch or another place
@@ -31,6 +33,13 @@ stands_there batch note (Some form) line says =
     let same = same_Some (record { batch = batch; place = note.0; layer = note.1.layer; text = text_of form note.1 }) line says in
     (sym (ap (λ (l : PlainLine). l.batch) same), sym (ap (λ (l : PlainLine). l.place) same))
 
+-- where memory for the line was refused, it was refused for the note
+pub lacks_line : (forms : List Form) (note : NumberedNote) (line : Line) → line_of forms note.batch (note.place, note.note) ≡ Some (plain_line line)
+    → LacksMemory line.batch line.place → WhyMissed forms note
+lacks_line forms note line says refused =
+    let at = stands_there note.batch (note.place, note.note) (slice_get forms note.note.layer) (plain_line line) says in
+    no_memory (subst (λ batch. LacksMemory batch note.place) at.0 (subst (λ place. LacksMemory line.batch place) at.1 refused))
+
 -- what is true of the place of each note is true of the place of each line, and of each note that was missed
 at_each : (forms : List Form) (P : ℕ → ℕ → Type 0) {notes : List NumberedNote} {lines : List PlainLine} {xs : List NumberedNote} → AreTold forms notes lines xs
     → All (λ note. P note.batch note.place) notes → All (λ line. P line.batch line.place) lines × All (λ note. P note.batch note.place) xs
@@ -39,7 +48,7 @@ at_each forms P (told note line {notes = notes} {lines = lines} says rest) each 
     let at = stands_there note.batch (note.place, note.note) (slice_get forms note.note.layer) line says in
     let later = at_each forms P rest (All-tail (λ n. P n.batch n.place) note notes each) in
     (All-cons (λ l. P l.batch l.place) line lines (rw (at.0, at.1) (All-head (λ n. P n.batch n.place) note notes each)) later.0, later.1)
-at_each forms P (missed note {notes = notes} {missed = xs} rest) each =
+at_each forms P (missed note {notes = notes} {missed = xs} why rest) each =
     let later = at_each forms P rest (All-tail (λ n. P n.batch n.place) note notes each) in
     (later.0, All-cons (λ n. P n.batch n.place) note xs (All-head (λ n. P n.batch n.place) note notes each) later.1)
 
@@ -50,7 +59,7 @@ no_line forms (told note line {lines = lines} {missed = xs} says rest) apart =
     let others = (at_each forms (IsOther note) rest apart.0).1 in
     let later = no_line forms rest apart.1 in
     λ k d below. All-cons (λ l. (l.batch ≡ (get_or xs k d).batch) × (l.place ≡ (get_or xs k d).place) → ⊥) line lines (λ same. others k d below (sym same.0 ∙ at.0, sym same.1 ∙ at.1)) (later k d below)
-no_line forms (missed note {lines = lines} {missed = xs} rest) apart =
+no_line forms (missed note {lines = lines} {missed = xs} why rest) apart =
     All-cons (HasNoLine lines) note xs (at_each forms (IsOther note) rest apart.0).0 (no_line forms rest apart.1)
 
 -- ---- the notes of a history have each a batch and a place of its own

@@ -23,7 +23,7 @@ use Rattle.span_outlet.specs.inside.Telling.{numbered_notes}
 each_once : (forms : List Form) {notes : List NumberedNote} {lines : List PlainLine} {xs : List NumberedNote} → AreTold forms notes lines xs → length lines + length xs ≡ length notes
 each_once forms none = refl
 each_once forms (told note line says rest) = let later = each_once forms rest in omega (arith, later)
-each_once forms (missed note rest) = let later = each_once forms rest in omega (arith, later)
+each_once forms (missed note why rest) = let later = each_once forms rest in omega (arith, later)
 
 as_many : (number : ℕ) (notes : List Note) → length (numbered_notes number (map plain_note notes)) ≡ length notes
 as_many number notes =

@@ -11,7 +11,7 @@ use Rattle.span_layers.specs.Note.{PlainNote, plain_note}
 use Rattle.span_outlet.specs.Batch.{PlainBatch}
 use Rattle.span_outlet.specs.declared.line.Line.{Line}
 use Rattle.span_outlet.specs.Lines.{PlainLine, plain_line, line_of, lines_of_batch, lines_of}
-use Rattle.span_outlet.specs.Kept.{NumberedNote, numbered_in, numbered, AreTold, AreKept, GainsLines}
+use Rattle.span_outlet.specs.Kept.{NumberedNote, numbered_in, numbered, WhyMissed, AreTold, AreKept, GainsLines}
 use Rattle.span_outlet.specs.Kept.AreTold.{none, told, missed}
 use Rattle.span_outlet.specs.inside.Telling.{numbered_notes}
 
@@ -21,7 +21,7 @@ told_append : (forms : List Form) {first notes : List NumberedNote} {ls ks : Lis
     → AreTold forms first ls xs → AreTold forms notes ks ys → AreTold forms (first ++ notes) (ls ++ ks) (xs ++ ys)
 told_append forms none more = more
 told_append forms (told note line says rest) more = told note line says (told_append forms rest more)
-told_append forms (missed note rest) more = missed note (told_append forms rest more)
+told_append forms (missed note why rest) more = missed note why (told_append forms rest more)
 
 -- no note more
 pub gains_none : (forms : List Form) (lines : List PlainLine) (refused : ℕ) → refused ≤ 2 ^ 64 - 1 → GainsLines forms [] lines refused lines refused
@@ -41,12 +41,12 @@ gains_told forms lines after refused note line says is low = record {
 
 -- a note more was missed
 pub gains_missed : (forms : List Form) (lines after : List Line) (refused more : ℕ) (note : NumberedNote)
-    → after ≡ lines → more ≡ min (2 ^ 64 - 1) (refused + 1)
+    → WhyMissed forms note → after ≡ lines → more ≡ min (2 ^ 64 - 1) (refused + 1)
     → GainsLines forms (note ∷ []) (map plain_line lines) refused (map plain_line after) more
-gains_missed forms lines after refused more note same is = record {
+gains_missed forms lines after refused more note why same is = record {
   added = [];
   missed = note ∷ [];
-  each = missed note none;
+  each = missed note why none;
   lines_are = ap (map plain_line) same ∙ sym (append-nil (map plain_line lines));
   counted = is;
 }
@@ -146,7 +146,7 @@ all_told : (forms : List Form) {notes : List NumberedNote} {lines : List PlainLi
 unfolding line_in
 all_told forms none none_missed = refl
 all_told forms (told note line says rest) none_missed = rw says (ap (λ ls. line ∷ ls) (all_told forms rest none_missed))
-all_told forms (missed note rest) none_missed = absurd (omega (arith, none_missed))
+all_told forms (missed note why rest) none_missed = absurd (omega (arith, none_missed))
 
 lines_in_batch : (forms : List Form) (batch : ℕ) (notes : List (ℕ × PlainNote)) → filter_map (line_in forms) (map (λ note. record { batch = batch; place = note.0; note = note.1 }) notes) ≡ filter_map (line_of forms batch) notes
 unfolding line_in

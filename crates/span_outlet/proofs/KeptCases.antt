@@ -11,7 +11,8 @@ use Rattle.span_outlet.specs.Request.{enter, entered, clone_span, cloned}
 use Rattle.span_outlet.specs.Batch.{PlainBatch}
 use Rattle.span_outlet.specs.Outlet.{RingName}
 use Rattle.span_outlet.specs.Lines.{PlainLine, lines_of_layer}
-use Rattle.span_outlet.specs.Kept.{NumberedNote, numbered, numbered_in, AreKept, GainsLines}
+use Rattle.span_outlet.specs.Kept.{NumberedNote, numbered, numbered_in, LacksMemory, AreKept, GainsLines}
+use Rattle.span_outlet.specs.Kept.WhyMissed.{no_form, no_memory}
 use Rattle.span_outlet.specs.Kept.AreTold.{none, told, missed}
 use Rattle.span_outlet.specs.Drain.{DrainView, TakesBatch}
 
@@ -50,11 +51,11 @@ none_missed = record {
 }
 
 -- the second is refused memory: the third keeps its place, and no line has that of the second
-second_missed : AreKept forms (numbered history) (line 1 0 0 ∷ line 1 2 2 ∷ []) 1
+second_missed : LacksMemory 1 1 → AreKept forms (numbered history) (line 1 0 0 ∷ line 1 2 2 ∷ []) 1
 unfolding text_of digits
-second_missed = record {
+second_missed refused = record {
   missed = at 1 1 1 ∷ [];
-  each = told (at 1 0 0) (line 1 0 0) refl (missed (at 1 1 1) (told (at 1 2 2) (line 1 2 2) refl none));
+  each = told (at 1 0 0) (line 1 0 0) refl (missed (at 1 1 1) (no_memory refused) (told (at 1 2 2) (line 1 2 2) refl none));
   counted = refl;
 }
 
@@ -63,17 +64,17 @@ formless : AreKept (Compact ∷ []) (numbered history) (line 1 0 0 ∷ []) 2
 unfolding text_of digits
 formless = record {
   missed = at 1 1 1 ∷ at 1 2 2 ∷ [];
-  each = told (at 1 0 0) (line 1 0 0) refl (missed (at 1 1 1) (missed (at 1 2 2) none));
+  each = told (at 1 0 0) (line 1 0 0) refl (missed (at 1 1 1) (no_form refl) (missed (at 1 2 2) (no_form refl) none));
   counted = refl;
 }
 
 -- a batch with the number 2: its second note is missed and counted, and its lines come after the line so far
-gained : GainsLines forms (numbered_in (2, record { request = enter 0 1; answer = entered true; notes = note 0 ∷ note 1 ∷ note 2 ∷ [] })) (line 1 0 0 ∷ []) 5 (line 1 0 0 ∷ line 2 0 0 ∷ line 2 2 2 ∷ []) 6
+gained : LacksMemory 2 1 → GainsLines forms (numbered_in (2, record { request = enter 0 1; answer = entered true; notes = note 0 ∷ note 1 ∷ note 2 ∷ [] })) (line 1 0 0 ∷ []) 5 (line 1 0 0 ∷ line 2 0 0 ∷ line 2 2 2 ∷ []) 6
 unfolding text_of digits
-gained = record {
+gained refused = record {
   added = line 2 0 0 ∷ line 2 2 2 ∷ [];
   missed = at 2 1 1 ∷ [];
-  each = told (at 2 0 0) (line 2 0 0) refl (missed (at 2 1 1) (told (at 2 2 2) (line 2 2 2) refl none));
+  each = told (at 2 0 0) (line 2 0 0) refl (missed (at 2 1 1) (no_memory refused) (told (at 2 2 2) (line 2 2 2) refl none));
   lines_are = refl;
   counted = refl;
 }
@@ -84,15 +85,15 @@ clone_taken name =
     record { name = name; forms = forms; taken = record { request = clone_span 0 1; answer = cloned; notes = [] } ∷ []; lines = []; refused = 5 }
 
 -- it takes the entry, whose second note is missed: two were told, and one was missed
-entry_taken : (name : RingName) → TakesBatch (clone_taken name) (record { name = name; forms = forms; taken = history; lines = line 1 0 0 ∷ line 1 2 2 ∷ []; refused = 6 }) (record { told = 2; refused = 1 })
+entry_taken : LacksMemory 1 1 → (name : RingName) → TakesBatch (clone_taken name) (record { name = name; forms = forms; taken = history; lines = line 1 0 0 ∷ line 1 2 2 ∷ []; refused = 6 }) (record { told = 2; refused = 1 })
 unfolding text_of digits
-entry_taken name = record {
+entry_taken refused name = record {
   batch = record { request = enter 0 1; answer = entered true; notes = note 0 ∷ note 1 ∷ note 2 ∷ [] };
   taken = refl;
   gains = record {
     added = line 1 0 0 ∷ line 1 2 2 ∷ [];
     missed = at 1 1 1 ∷ [];
-    each = told (at 1 0 0) (line 1 0 0) refl (missed (at 1 1 1) (told (at 1 2 2) (line 1 2 2) refl none));
+    each = told (at 1 0 0) (line 1 0 0) refl (missed (at 1 1 1) (no_memory refused) (told (at 1 2 2) (line 1 2 2) refl none));
     lines_are = refl;
     counted = refl;
   };

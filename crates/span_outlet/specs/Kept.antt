@@ -1,6 +1,7 @@
 -- What the outlet that keeps lines has of a history.
-use Rattle.std.specs.Prelude.{◌≡◌, ℕ, ◌+◌, ◌-◌, ◌^◌, Bool, List, [], ◌∷◌, ◌++◌, map, flat_map, length, min, All, Some}
+use Rattle.std.specs.Prelude.{◌≡◌, ℕ, ◌+◌, ◌-◌, ◌^◌, ◌≤◌, Bool, List, [], ◌∷◌, ◌++◌, map, flat_map, length, min, slice_get, All, Some, None}
 use Rattle.std.specs.List.{enumerate_from}
+use Rattle.std.specs.declared.alloc.AllocError.{AllocError}
 use Rattle.span_layers.specs.declared.form.Form.{Form}
 use Rattle.span_layers.specs.Note.{PlainNote}
 use Rattle.span_outlet.specs.Batch.{PlainBatch}
@@ -30,8 +31,20 @@ numbered_in batch =
 abbrev pub numbered : List PlainBatch → List NumberedNote
 numbered history = flat_map numbered_in (enumerate_from 0 history)
 
+-- Memory was refused for the text or for the line of the note at this place of the batch of this number. No clause of an
+-- allocator tells of that. So this is shut: the proofs of the functions that ask for that memory alone open it, where an
+-- error is answered.
+unfoldable pub LacksMemory : ℕ → ℕ → Type 0
+LacksMemory batch place = AllocError
+
+-- Why a note is missed: its layer has no form, more than 2^32 - 1 notes stand before it in its batch, or it lacks memory.
+pub data WhyMissed (forms : List Form) (note : NumberedNote) : Type 0 where
+  no_form : slice_get forms note.note.layer ≡ None → WhyMissed forms note
+  no_place : 2 ^ 32 ≤ note.place → WhyMissed forms note
+  no_memory : LacksMemory note.batch note.place → WhyMissed forms note
+
 -- Each of these notes was told or missed, in order: of one that was told there is its line, of one that was
--- missed there is none. A note whose layer has no form has no line, so it is missed.
+-- missed there is none, and a reason.
 pub data AreTold (forms : List Form) : List NumberedNote → List PlainLine → List NumberedNote → Type 0 where
   none : AreTold forms [] [] []
   told : (note : NumberedNote) (line : PlainLine)
@@ -39,7 +52,8 @@ pub data AreTold (forms : List Form) : List NumberedNote → List PlainLine → 
       → line_of forms note.batch (note.place, note.note) ≡ Some line → AreTold forms notes lines missed
       → AreTold forms (note ∷ notes) (line ∷ lines) missed
   missed : (note : NumberedNote) {notes : List NumberedNote} {lines : List PlainLine} {missed : List NumberedNote}
-      → AreTold forms notes lines missed → AreTold forms (note ∷ notes) lines (note ∷ missed)
+      → WhyMissed forms note → AreTold forms notes lines missed
+      → AreTold forms (note ∷ notes) lines (note ∷ missed)
 
 -- the lines of these notes, but for those that were missed, which are counted; the count stays at the greatest `u64`
 pub record AreKept (forms : List Form) (notes : List NumberedNote) (lines : List PlainLine) (refused : ℕ) : Type 0 where

@@ -10,6 +10,7 @@ mod latest;
 mod layer_lines;
 mod line;
 mod line_reader;
+mod memory;
 mod outlet;
 mod past;
 mod posted;

@@ -1,14 +1,15 @@
 //! The telling of notes, one after another.
-ghost use Rattle.std.specs.Prelude.{◌≡◌, ◌+◌, ◌-◌, ◌^◌, ◌<◌, ◌≤◌, ◌∷◌, [], Some, IfOk, IfSome, map, length, min, vec_capacity};
+ghost use Rattle.std.specs.Prelude.{◌≡◌, ◌+◌, ◌-◌, ◌^◌, ◌<◌, ◌≤◌, ◌∷◌, [], Some, IfOk, IfSome, IfNone, OnErr, map, length, min, vec_capacity};
 ghost use Rattle.span_layers.specs.Note.{plain_note};
 ghost use Rattle.span_layers.specs.Text.{text_of};
 ghost use Rattle.span_outlet.specs.Lines.{line_of, plain_line};
-ghost use Rattle.span_outlet.specs.Kept.{GainsLines};
+ghost use Rattle.span_outlet.specs.Kept.{LacksMemory, WhyMissed, GainsLines};
 ghost use Rattle.span_outlet.specs.inside.Ends.{name_of_consumer};
 ghost use Rattle.span_outlet.specs.inside.Telling.{TellsNext, numbered_notes};
 ghost use Rattle.rtrb.specs.Ring.{received, known_items};
 
 use crate::line::Line;
+use crate::memory::{Place, keep};
 use crate::ring::Consuming;
 use span_layers::{Form, Forms, Note, Say};
 use std::alloc::AllocError;
@@ -70,14 +71,16 @@ fn text_of_note<V: Say>(
     spare: &mut Vec<Vec<u8>>,
     formatters: &V,
     form: Form,
+    at: Place,
     note: &Note,
 ) -> Result<Vec<u8>, AllocError>
-    ensures { IfOk result (λ text. text.items ≡ text_of form (plain_note note.now)) }
+    ensures text { IfOk result (λ text. text.items ≡ text_of form (plain_note note.now)) }
+    ensures refused { OnErr result (LacksMemory at.batch at.place) }
 {
     match spare.pop() {
         Some(mut text) => {
             text.clear();
-            formatters.say_onto(form, note, &mut text)?;
+            at.say_onto(formatters, form, note, &mut text)?;
             if text.capacity() > MOST_ROOM {
                 // It won't be kept for another text.
                 give_room_back(&mut text);
@@ -85,7 +88,7 @@ fn text_of_note<V: Say>(
             Ok(text)
         }
         None => {
-            let mut text = formatters.say(form, note)?;
+            let mut text = at.say(formatters, form, note)?;
             give_room_back(&mut text);
             Ok(text)
         }
@@ -101,7 +104,8 @@ fn give_room_back(text: &mut Vec<u8>)
     }
 }
 
-// The line of a note, if its layer has a form, its place fits and there is memory for its text.
+// The line of a note. There is none only where its layer has no form, its place is out of range, or memory for its text
+// was refused.
 fn line_of_note<V: Say>(
     forms: &Forms,
     spare: &mut Vec<Vec<u8>>,
@@ -110,11 +114,13 @@ fn line_of_note<V: Say>(
     place: usize,
     note: &Note,
 ) -> Option<Line>
-    ensures { IfSome result (λ line. line_of forms.now batch (place, plain_note note.now) ≡ Some (plain_line line)) }
+    ensures line { IfSome result (λ line. line_of forms.now batch (place, plain_note note.now) ≡ Some (plain_line line)) }
+    ensures none { IfNone result (WhyMissed forms.now
+        (record { batch = batch; place = place; note = plain_note note.now })) }
 {
     let form = forms.get(note.layer)?;
     let place = u32::try_from(place).ok()?;
-    let text = text_of_note(spare, formatters, form, note).ok()?;
+    let text = text_of_note(spare, formatters, form, Place { batch, place }, note).ok()?;
     Some(Line {
         batch,
         place,
@@ -146,7 +152,7 @@ impl Told {
             self.miss();
             return;
         };
-        if self.lines.push(line).is_err() {
+        if keep(&mut self.lines, line).is_err() {
             self.miss();
         }
     }

@@ -13,7 +13,7 @@ use Rattle.span_layers.specs.declared.form.Form.{Form}
 no_more_lines : (forms : List Form) {notes : List NumberedNote} {lines : List PlainLine} {xs : List NumberedNote} → AreTold forms notes lines xs → length lines ≤ length notes
 no_more_lines forms none = omega arith
 no_more_lines forms (told note line says rest) = (let fewer = no_more_lines forms rest in omega (arith, fewer))
-no_more_lines forms (missed note rest) = (let fewer = no_more_lines forms rest in omega (arith, fewer))
+no_more_lines forms (missed note why rest) = (let fewer = no_more_lines forms rest in omega (arith, fewer))
 
 a_batch : (forms : List Form) (first : ℕ) (batches : List PlainBatch) (lines : List PlainLine) (xs : List NumberedNote)
     → AreTold forms (numbered_from first batches) lines xs → 0 < length lines → 0 < length batches

@@ -1,0 +1,2 @@
+-- Only the proofs of the functions of src/memory.rt can name this module.
+mod Refused

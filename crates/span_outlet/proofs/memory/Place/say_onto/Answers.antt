@@ -1,0 +1,5 @@
+use Rattle.span_outlet.proofs.memory.Refused.{lacks}
+use Rattle.span_outlet.proofs.memory.Place.say_onto.Goals as goal
+
+pub returns-clause-refused : goal.returns-clause-refused
+returns-clause-refused g c = lacks c.say_onto.result c.args.self.batch c.args.self.place
