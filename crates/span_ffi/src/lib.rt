@@ -5,21 +5,16 @@
 
 mod callsites;
 mod data;
-mod drain_handle;
 mod exports;
 mod opening;
-mod parts;
 mod reader;
 mod reading;
 mod registry;
-mod registry_handle;
-mod status;
 mod valid;
 
 pub use data::{
     SpanCounts, SpanField, SpanFound, SpanHeld, SpanLayer, SpanLimits, SpanMeta, SpanRule,
     SpanSizes,
 };
-pub use drain_handle::SpanDrain;
-pub use registry_handle::SpanRegistry;
-pub use status::Status;
+pub use reader::SpanDrain;
+pub use registry::SpanRegistry;

@@ -3,11 +3,11 @@
 
 mod data;
 mod exports;
-mod handle;
-mod held;
-mod parts;
-mod status;
 
 pub use data::{SpanStoreCounts, SpanStoreDetails, SpanStoreFound};
-pub use handle::SpanStore;
-pub use status::Status;
+
+use span_border::Handle;
+use span_store::Store;
+
+/// A store that C holds, or none.
+pub type SpanStore = Handle<Store>;
