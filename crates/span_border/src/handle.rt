@@ -8,14 +8,14 @@ ghost use Rattle.span_border.specs.inside.HandleOwned.{handle_owns};
 use crate::parts::Parts;
 use crate::status::Status;
 use std::alloc::Global;
-use std::marker::Model;
+use std::marker::{Model, PhantomData};
 use std::{mem, ptr};
 
 /// A value that C holds, or none: then it is null. Contracts see what it holds.
 #[repr(C)]
 #[derive(Drop)]
 pub struct Handle<T> {
-    at: *mut T,
+    at: *mut PhantomData<T>,
     alloc: Global,
     pub ghost held: { Option T } by { coded_option T.code },
 }
@@ -25,7 +25,7 @@ impl<T> Model for Handle<T> {
 }
 
 impl<T> Handle<T> {
-    fn of_null(at: *mut T, alloc: Global) -> Handle<T>
+    fn of_null(at: *mut PhantomData<T>, alloc: Global) -> Handle<T>
         requires { at ≡ null_ptr }
         ensures { result.held ≡ None }
     {
@@ -36,7 +36,10 @@ impl<T> Handle<T> {
         ensures { result.held ≡ Some parts.value }
     {
         let Parts { at, alloc } = parts;
-        Handle { at, alloc }
+        Handle {
+            at: at as *mut PhantomData<T>,
+            alloc,
+        }
     }
 
     fn into_parts(self) -> Option<Parts<T, Global>>
@@ -46,7 +49,10 @@ impl<T> Handle<T> {
         if at.is_null() {
             None
         } else {
-            Some(Parts { at, alloc })
+            Some(Parts {
+                at: at as *mut T,
+                alloc,
+            })
         }
     }
 
@@ -102,7 +108,7 @@ impl<T: Drop + Send> Handle<T> {
     }
 }
 
-fn null<T>() -> *mut T
+fn null<T>() -> *mut PhantomData<T>
     ensures { result ≡ null_ptr }
 {
     ptr::null_mut()

@@ -26,7 +26,12 @@ fn id_of(store: &Store, number: u64) -> Option<Id>
 }
 
 // A new store in a box.
-fn open(alloc: Global, slots: u32, last_generation: u32, max_count: u32) -> Result<Box<Store>, Fault>
+fn open(
+    alloc: Global,
+    slots: u32,
+    last_generation: u32,
+    max_count: u32,
+) -> Result<Box<Store>, Fault>
     ensures new { IfOk result (λ store. store.value ≡ empty_store (store_limits slots last_generation max_count)) }
     ensures why { IfErr result (λ fault. WhyNotOpened (store_limits slots last_generation max_count) fault) }
 {

@@ -5,7 +5,6 @@ mod data;
 mod exports;
 
 pub use data::{SpanStoreCounts, SpanStoreDetails, SpanStoreFound};
-
 use span_border::Handle;
 use span_store::Store;
 
