@@ -7,17 +7,20 @@ use seplogic.Ra.Ura.{Ura}
 use base.Logic.{ent, guard, guard_i, via, never, fst∗, snd∗}
 use contract.Monad.{fact_use}
 use types.Logic.{Logic, sem}
-use types.Kit.{Item, Goal, Seq, ‵, ◌$◌, move, drop, fsplit, fpick, feq_l}
+use types.Kit.{Item, Goal, Seq, ‵, ◌$◌, move, drop, fsplit, fjoin, fpick, fpack, feq_l, feq_i}
 use denote.RawPtr.{Ptr, RawPtr, null_ptr, block_ptr, ptr_val, in_a_block, Testable}
-use denote.RattleType.{RattleType}
+use denote.RattleType.{RattleType, Valss}
 use denote.Signature.{Slot, plain}
+use denote.Steps.{nothing}
+use denote.Struct.Struct.{within}
+use denote.Struct.Owning.{shape}
 use denote.Param.{param}
 use denote.Param.Laws.{Laws}
 use Rattle.std.specs.Prelude.{Option, Some, None}
 use Rattle.core.specs.Ptr.{points_to}
 use Rattle.core.proofs.alloc.Calls.{token, Fits, handle_tells}
 use Rattle.std_alloc.specs.Box.Ownership.{box_owns}
-use Rattle.std_alloc.proofs.BoxSteps.Form.{Bx, P, R, τ, handle}
+use Rattle.std_alloc.proofs.BoxSteps.Form.{Bx, P, R, τ, handle, owning}
 use Rattle.std.proofs.GlobalToken.{dealloc_token-Testable}
 use Rattle.std_heap.specs.contracts.Global as Heap
 use Rattle.std_heap.specs.contracts.GlobalAllocator.TheImpl.{ghosts, dict}
@@ -88,3 +91,16 @@ module _ (T : RattleType) (L : Laws T) where
         next hv
         (subst (λ (ws : List Val). vs ≡ vstruct (of_list (ptr_val d.at ∷ (ws ++ []))) ∷ []) ea
         (subst (λ (ps : List Val). vs ≡ vstruct (of_list (ps ++ (vss.1.0 ++ []))) ∷ []) ep ev)) fits))))
+
+    -- and it is kept so
+    pub handle_words : K → (d : (HandleRow T).Denot) (vs : List Val)
+        → ((hv : Val) → vs ≡ pair (ptr_val d.at) hv ∷ [] → Fits E.al hv
+        → Seq K 𝓛 (‵ ((HandleRow T).own_val d (pair (ptr_val d.at) hv ∷ [])) ∷ Γ) G)
+        → Seq K 𝓛 (‵ ((HandleRow T).own_val d vs) ∷ Γ) G
+    handle_words t d vs next =
+        handle_out t d vs (λ hv words fits.
+        nothing t $ move t (2 ∷ 0 ∷ []) $ fjoin t $
+        feq_i t (List Val) (ptr_val d.at ∷ []) (ptr_val d.at ∷ []) refl $ fjoin t $
+        feq_i t (List Val) (pair (ptr_val d.at) hv ∷ []) (pair (ptr_val d.at) hv ∷ []) refl $ fjoin t $
+        fpack t (Valss (RawPtr ∷ P E ∷ [])) (within (shape (owning E)) (d.at, (d.alloc, tt)) (pair (ptr_val d.at) hv ∷ []))
+        (ptr_val d.at ∷ [], (hv ∷ [], tt)) $ fjoin t $ next hv words fits)

@@ -1,3 +1,4 @@
 pub mod Words
 pub mod HandleBox
+pub mod HandleSend
 mod Examples

@@ -5,16 +5,18 @@
 
 mod callsites;
 mod data;
+mod drain_handle;
 mod exports;
 mod opening;
 mod reader;
 mod reading;
 mod registry;
+mod registry_handle;
 mod valid;
 
 pub use data::{
     SpanCounts, SpanField, SpanFound, SpanHeld, SpanLayer, SpanLimits, SpanMeta, SpanRule,
     SpanSizes,
 };
-pub use reader::SpanDrain;
-pub use registry::SpanRegistry;
+pub use drain_handle::SpanDrain;
+pub use registry_handle::SpanRegistry;

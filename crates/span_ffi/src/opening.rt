@@ -17,7 +17,7 @@ ghost use Rattle.span_ffi.specs.Opening.{said_filters, said_forms, said_limits, 
 
 use crate::callsites::Callsites;
 use crate::data::{SpanLayer, SpanLimits, SpanRule};
-use crate::reader::Lines;
+use crate::reader::Reader;
 use crate::reading::{read_level, read_text, unread};
 use crate::registry::Registry;
 use crate::valid::are_layers;
@@ -235,7 +235,7 @@ fn make(
     alloc: Global,
     checked: &Checked,
     layers: PlainLayers,
-) -> Result<(Box<Registry>, Box<Lines>), Fault>
+) -> Result<(Box<Registry>, Box<Reader>), Fault>
     ensures core { IfOk result (λ made. made.0.value.core ≡ record {
       limits = checked.now;
       rules = filters_in layers;
@@ -265,7 +265,7 @@ fn make(
     let Ok(registry) = box_registry(alloc, checked, filters, ring) else {
         return Err(Fault::Memory);
     };
-    let Ok(reader) = Box::new(alloc, lines) else {
+    let Ok(reader) = Box::new(alloc, Reader { lines }) else {
         return Err(Fault::Memory);
     };
     Ok((registry, reader))
@@ -278,7 +278,7 @@ pub(crate) fn open(
     layers: &[SpanLayer],
     rules: &[SpanRule],
     bytes: &[u8],
-) -> Result<(Box<Registry>, Box<Lines>), Status>
+) -> Result<(Box<Registry>, Box<Reader>), Status>
     ensures new { IfOk result (λ made.
         AreNew limits.now layers.now rules.now bytes.now made.0.value made.1.value) }
     ensures none { IfErr result (λ status. WhyNone limits.now layers.now rules.now bytes.now status) }

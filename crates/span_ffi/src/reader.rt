@@ -1,11 +1,22 @@
-//! The other end of a registry's ring, from which lines are read.
+//! What lies behind the handle of a drain.
 
-use span_border::Handle;
 use span_layers::{ByForm, Formatters};
 use span_outlet::LineReader;
+use std::marker::Model;
 
-/// The reader of a registry whose layers write in their forms.
+/// The other end of a registry's ring, whose layers write in their forms.
 pub(crate) type Lines = LineReader<Formatters<ByForm>>;
 
-/// A reader that C holds, or none.
-pub type SpanDrain = Handle<Lines>;
+/// The reader behind a handle. Contracts see the line reader.
+#[derive(Drop)]
+pub struct Reader {
+    pub(crate) lines: Lines,
+}
+
+impl Model for Reader {
+    ghost use Rattle.span_outlet.specs.LineReader.{LineReaderView};
+
+    ghost Value = { LineReaderView };
+
+    ghost view = { λ reader. reader.lines };
+}

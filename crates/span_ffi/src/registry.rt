@@ -1,7 +1,6 @@
 //! What lies behind the handle of a registry.
 
 use crate::callsites::Callsites;
-use span_border::Handle;
 use span_core::Core;
 use span_layers::{Admitters, ByRule};
 use span_outlet::Ring;
@@ -24,6 +23,3 @@ impl Model for Registry {
 
     ghost view = { λ registry. record { core = registry.core; callsites = registry.callsites } };
 }
-
-/// A registry that C holds, or none.
-pub type SpanRegistry = Handle<Registry>;

@@ -8,9 +8,9 @@ ghost use Rattle.span_store_ffi.specs.Calls.{Adds, KeepsSpan, ReleasesSpan, Ends
 
 mod details;
 
-use crate::SpanStore;
 use crate::data::{SpanStoreCounts, SpanStoreFound};
-use span_border::{Status, id_number};
+use crate::handle::SpanStore;
+use span_border::{Holds, Status, id_number};
 use span_id::{Bits, Fault, Id, Limits};
 use span_store::Store;
 use span_store::laws::each_slot_has_one_id_there;

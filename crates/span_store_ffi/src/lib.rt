@@ -3,10 +3,7 @@
 
 mod data;
 mod exports;
+mod handle;
 
 pub use data::{SpanStoreCounts, SpanStoreDetails, SpanStoreFound};
-use span_border::Handle;
-use span_store::Store;
-
-/// A store that C holds, or none.
-pub type SpanStore = Handle<Store>;
+pub use handle::SpanStore;

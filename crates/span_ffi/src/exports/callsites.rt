@@ -11,9 +11,9 @@ ghost use Rattle.span_ffi.specs.inside.Adding.{WhyNoNumber, AddsMeta};
 use crate::callsites::Callsites;
 use crate::data::SpanMeta;
 use crate::reading::{read_meta, unread};
-use crate::registry::SpanRegistry;
+use crate::registry_handle::SpanRegistry;
 use crate::valid::is_span;
-use span_border::Status;
+use span_border::{Holds, Status};
 use span_id::{Fault, SharedMeta};
 use std::alloc::Global;
 

@@ -6,8 +6,9 @@ ghost use Rattle.span_border.specs.Buffers.{KeepsLength};
 ghost use Rattle.span_ffi.specs.Lines.{GivesLine, CountsLines};
 ghost use Rattle.span_ffi.specs.inside.Giving.{GivesFirst};
 
-use crate::reader::{Lines, SpanDrain};
-use span_border::{Status, write_all};
+use crate::drain_handle::SpanDrain;
+use crate::reader::Lines;
+use span_border::{Holds, Status, write_all};
 use std::alloc::Global;
 
 fn give_line(lines: &mut Lines, layer: &mut u32, into: &mut [u8], len: &mut usize) -> Status
@@ -56,7 +57,7 @@ pub extern "C" fn span_drain_line(
     let Some(mut held) = drain.take(alloc) else {
         return Status::EmptyHandle.number();
     };
-    let status = give_line(&mut held, layer, into, len);
+    let status = give_line(&mut held.lines, layer, into, len);
     drain.put(held);
     status.number()
 }
@@ -76,8 +77,8 @@ pub extern "C" fn span_drain_counts(
     let Some(held) = drain.take(alloc) else {
         return Status::EmptyHandle.number();
     };
-    *batches = held.taken();
-    *refused = held.refused();
+    *batches = held.lines.taken();
+    *refused = held.lines.refused();
     drain.put(held);
     Status::Done.number()
 }

@@ -6,8 +6,9 @@ ghost use Rattle.span_border.specs.Ends.{OnHeld, Keeps};
 ghost use Rattle.span_ffi.specs.Calls.{Clones, Releases};
 
 use crate::exports::callers::{has_worker, id_of};
-use crate::registry::{RingCore, SpanRegistry};
-use span_border::Status;
+use crate::registry::RingCore;
+use crate::registry_handle::SpanRegistry;
+use span_border::{Holds, Status};
 use span_id::Fault;
 use std::alloc::Global;
 

@@ -8,8 +8,9 @@ ghost use Rattle.span_ffi.specs.Holding.{held_as, TellsOpen, TellsHolders, Tells
 
 use crate::data::SpanHeld;
 use crate::exports::callers::id_of;
-use crate::registry::{RingCore, SpanRegistry};
-use span_border::{Status, ToldOf, write_all, write_told};
+use crate::registry::RingCore;
+use crate::registry_handle::SpanRegistry;
+use span_border::{Holds, Status, ToldOf, write_all, write_told};
 use span_forest::Held;
 use span_id::Fault;
 use std::alloc::Global;

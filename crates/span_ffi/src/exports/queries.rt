@@ -7,8 +7,9 @@ ghost use Rattle.span_ffi.specs.Calls.{Finds, SeesCurrent, Counts};
 
 use crate::data::{SpanCounts, SpanFound};
 use crate::exports::callers::{has_worker, id_of};
-use crate::registry::{RingCore, SpanRegistry};
-use span_border::{Status, id_number};
+use crate::registry::RingCore;
+use crate::registry_handle::SpanRegistry;
+use span_border::{Holds, Status, id_number};
 use span_id::Fault;
 use std::alloc::Global;
 

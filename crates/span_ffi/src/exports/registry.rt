@@ -4,10 +4,10 @@ ghost use Rattle.span_border.specs.Status.{meant};
 ghost use Rattle.span_ffi.specs.Opening.{Opens};
 
 use crate::data::{SpanLayer, SpanLimits, SpanRule};
+use crate::drain_handle::SpanDrain;
 use crate::opening::open;
-use crate::reader::SpanDrain;
-use crate::registry::SpanRegistry;
-use span_border::Status;
+use crate::registry_handle::SpanRegistry;
+use span_border::{Holds, Status};
 use std::alloc::Global;
 
 /// Fills two empty handles with a new registry and the other end of its ring. Each layer takes the next of the rules for

@@ -7,8 +7,9 @@ ghost use Rattle.span_ffi.specs.Wants.{TellsWanted, TellsWantedAt};
 
 use crate::callsites::Callsites;
 use crate::reading::read_level;
-use crate::registry::{RingCore, SpanRegistry};
-use span_border::Status;
+use crate::registry::RingCore;
+use crate::registry_handle::SpanRegistry;
+use span_border::{Holds, Status};
 use span_id::{Fault, Level, Meta};
 use std::alloc::{AllocError, Global};
 use std::str;

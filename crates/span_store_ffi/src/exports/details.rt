@@ -5,9 +5,9 @@ ghost use Rattle.span_border.specs.Ends.{OnHeld, Keeps};
 ghost use Rattle.span_border.specs.Buffers.{KeepsLength};
 ghost use Rattle.span_store_ffi.specs.Details.{details_as, TellsDetails};
 
-use crate::SpanStore;
 use crate::data::SpanStoreDetails;
-use span_border::{Status, ToldOf, id_number, write_told};
+use crate::handle::SpanStore;
+use span_border::{Holds, Status, ToldOf, id_number, write_told};
 use span_store::{SpanDetails, Store};
 use std::alloc::Global;
 

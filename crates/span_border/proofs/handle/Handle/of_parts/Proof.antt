@@ -47,7 +47,6 @@ of_parts_spec 𝓤 𝓛 𝓜 𝓡 wired T L =
     alloc_all ! (λ l. pass_all ! refl (box_typed B hv b o fits, tt) $
     sets ! (of_opd ! (get_in ! (fld ! refl (stop !)) (sub ! 0 refl (whole !)))) refl (tt, tt) $
     sets ! (of_opd ! (get_in ! (fld ! refl (stop !)) (sub ! 1 refl (whole !)))) refl fits $
-    sets ! (of_opd ! (get ! refl)) refl (tt, tt) $
     sets ! (agg ! (and_then ! (get ! refl) (and_then ! (get ! refl) (no_more !)))) refl (box_typed B hv b o fits) $
     returns ! (look_at ! 0 refl) $ free_all ! refl $
     use0 𝓛 (raw (fact 𝓤 (made.held ≡ Some v.value))) (fact_i 𝓤 (made.held ≡ Some v.value) (emp 𝓤) refl) $
