@@ -11,30 +11,26 @@ use std::mem;
 pub trait Holds<T: Drop>: Sized + Drop {
     ghost held: { Self → Option T };
 
-    /// The struct that holds what a handle does.
-    fn of_handle(handle: Handle<T>) -> Self
-        ensures { held result ≡ handle.held };
+    /// The struct that holds none.
+    fn none(alloc: Global) -> Self
+        ensures { held result ≡ None };
 
     /// The handle of what it holds.
     fn into_handle(self) -> Handle<T>
         ensures { result.held ≡ held self };
+
+    /// Holds a value from now on, where it held none.
+    fn put(&mut self, value: Box<T>)
+        requires { held self.old ≡ None }
+        ensures { held self.new ≡ Some value.value };
 
     /// Takes the value out, if there is one: nothing is held then.
     fn take(&mut self, alloc: Global) -> Option<Box<T>>
         ensures value { option_map (λ value. value.value) result ≡ held self.old }
         ensures empty { held self.new ≡ None }
     {
-        mem::replace(self, Self::of_handle(Handle::empty(alloc)))
-            .into_handle()
-            .into_box()
-    }
-
-    /// Holds a value from now on, where it held none.
-    fn put(&mut self, value: Box<T>)
-        requires { held self.old ≡ None }
-        ensures { held self.new ≡ Some value.value }
-    {
-        *self = Self::of_handle(Handle::full(value));
+        let taken = mem::replace(self, Self::none(alloc));
+        taken.into_handle().into_box()
     }
 
     /// Whether it holds none. It stays as it is.

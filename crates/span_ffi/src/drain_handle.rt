@@ -1,5 +1,5 @@
 //! The handle of a reader: one word, which owns a reader where it isn't null.
-ghost use Rattle.std.specs.Prelude.{◌≡◌, Option};
+ghost use Rattle.std.specs.Prelude.{◌≡◌, Some, None, Option};
 ghost use Rattle.span_border.specs.inside.HandleOwned.{handle_owns};
 ghost use Rattle.span_outlet.specs.LineReader.{LineReaderView};
 ghost use Rattle.span_ffi.specs.inside.ReaderHeld.{the_row, held_coded};
@@ -47,12 +47,19 @@ impl SpanDrain {
 impl Holds<Reader> for SpanDrain {
     ghost held = { λ drain. drain.held };
 
-    fn of_handle(handle: Handle<Reader>) -> SpanDrain {
-        SpanDrain::around(handle)
+    fn none(alloc: Global) -> SpanDrain {
+        SpanDrain::around(Handle::empty(alloc))
     }
 
     fn into_handle(self) -> Handle<Reader> {
         self.inside()
+    }
+
+    fn put(&mut self, reader: Box<Reader>)
+        requires { self.old.held ≡ None }
+        ensures { self.new.held ≡ Some reader.value }
+    {
+        *self = SpanDrain::around(Handle::full(reader));
     }
 }
 

@@ -1,5 +1,5 @@
 //! The handle of a registry: one word, which owns a registry where it isn't null.
-ghost use Rattle.std.specs.Prelude.{◌≡◌, Option};
+ghost use Rattle.std.specs.Prelude.{◌≡◌, Some, None, Option};
 ghost use Rattle.span_border.specs.inside.HandleOwned.{handle_owns};
 ghost use Rattle.span_ffi.specs.Registry.{RegistryView};
 ghost use Rattle.span_ffi.specs.inside.RegistryHeld.{the_row, held_coded};
@@ -47,12 +47,19 @@ impl SpanRegistry {
 impl Holds<Registry> for SpanRegistry {
     ghost held = { λ registry. registry.held };
 
-    fn of_handle(handle: Handle<Registry>) -> SpanRegistry {
-        SpanRegistry::around(handle)
+    fn none(alloc: Global) -> SpanRegistry {
+        SpanRegistry::around(Handle::empty(alloc))
     }
 
     fn into_handle(self) -> Handle<Registry> {
         self.inside()
+    }
+
+    fn put(&mut self, registry: Box<Registry>)
+        requires { self.old.held ≡ None }
+        ensures { self.new.held ≡ Some registry.value }
+    {
+        *self = SpanRegistry::around(Handle::full(registry));
     }
 }
 

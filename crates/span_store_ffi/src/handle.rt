@@ -1,5 +1,5 @@
 //! The handle of a store: one word, which owns a store where it isn't null.
-ghost use Rattle.std.specs.Prelude.{◌≡◌, Option};
+ghost use Rattle.std.specs.Prelude.{◌≡◌, Some, None, Option};
 ghost use Rattle.span_border.specs.inside.HandleOwned.{handle_owns};
 ghost use Rattle.span_store.specs.Store.{StoreView};
 ghost use Rattle.span_store_ffi.specs.inside.Held.{the_row, held_coded};
@@ -47,12 +47,19 @@ impl SpanStore {
 impl Holds<Store> for SpanStore {
     ghost held = { λ store. store.held };
 
-    fn of_handle(handle: Handle<Store>) -> SpanStore {
-        SpanStore::around(handle)
+    fn none(alloc: Global) -> SpanStore {
+        SpanStore::around(Handle::empty(alloc))
     }
 
     fn into_handle(self) -> Handle<Store> {
         self.inside()
+    }
+
+    fn put(&mut self, store: Box<Store>)
+        requires { self.old.held ≡ None }
+        ensures { self.new.held ≡ Some store.value }
+    {
+        *self = SpanStore::around(Handle::full(store));
     }
 }
 
