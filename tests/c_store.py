@@ -16,7 +16,7 @@ from c_interface import CHECKED, TOP, WRAPS, built, counted
 
 CRATE = TOP / "crates/span_store_ffi"
 # The crates that the library is made of.
-BELOW = ["span_id", "span_slots", "span_store", "span_store_ffi"]
+BELOW = ["span_id", "span_slots", "span_store", "span_border", "span_store_ffi"]
 
 
 def current_library():

@@ -88,13 +88,14 @@ CRATES = {
     "span_id": ("ids, levels, limits", 3), "span_json": ("a line's value", 0),
     "span_layers": ("who is told, and how", 1), "span_known": ("known, in no bytes", 2),
     "span_seats": ("a handle's proof", 3), "span_stack": ("who is inside", 4),
-    "span_recent": ("copied lately", 5), "span_slots": ("no id twice", 6), "span_script": ("a line, read", 0.5),
+    "span_recent": ("copied lately", 5), "span_slots": ("no id twice", 6), "span_border": ("what C holds", 7.5),
+    "span_script": ("a line, read", 0.5),
     "span_outlet": ("what leaves the core", 2), "span_forest": ("what holds a span", 5.5),
     "span_store": ("closes in two steps", 6.5), "span_run": ("devices, faults", 0.5),
     "span_history": ("what a worker saw", 2.7), "span_core": ("a call, a lawful step", 4.2),
-    "span_store_ffi": ("the store for C", 6.5), "span_replay": ("a script run", 1.55),
+    "span_store_ffi": ("the store for C", 7.3), "span_replay": ("a script run", 1.55),
     "span_why": ("why spans are open", 2.25),
-    "span_registry": ("the lock, handles", 3.3), "span_ffi": ("the core for C", 5.2),
+    "span_registry": ("the lock, handles", 3.3), "span_ffi": ("the core for C", 6.2),
     "span_storm": ("many workers, a drain", 2.6), "tracerun_command_line": ("words to an order", 0.25),
     "tracerun": ("the program", 1.8),
 }
@@ -129,7 +130,7 @@ def architecture():
     row, wide, high, across, down = rows_of(graph), 150, 48, 165, 92
     told = "; ".join(f"{name} ({CRATES[name][0]}) stands on {', '.join(graph[name]) or 'no other'}" for name in graph)
     rows = max(row.values()) + 1
-    picture = Picture(7.5 * across + 10, down * rows - 24, "The crates, each above those that it stands on", told + ".")
+    picture = Picture(8.5 * across + 10, down * rows - 24, "The crates, each above those that it stands on", told + ".")
     middle = {it: (90 + across * CRATES[it][1], 10 + down * (rows - 1 - row[it])) for it in graph}
     for name, stands_on in graph.items():
         for it in stands_on:

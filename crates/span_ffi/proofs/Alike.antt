@@ -10,8 +10,8 @@ use Rattle.span_outlet.specs.Request.{Request, new_span}
 use Rattle.span_core.specs.Step.{is_open}
 use Rattle.span_core.specs.Parent.{parent_found}
 use Rattle.span_core.specs.Core.{CoreView, WhyRefused}
-use Rattle.span_ffi.specs.declared.status.Status.{Status}
-use Rattle.span_ffi.specs.declared.status.Status.TheVariants.{Done, Refused, BadData, EmptyHandle, HandleInUse, NoSuchWorker, NoLine, ShortBuffer, NoSuchCallsite}
+use Rattle.span_border.specs.declared.status.Status.{Status}
+use Rattle.span_border.specs.declared.status.Status.TheVariants.{Done, Refused, BadData, EmptyHandle, HandleInUse, NoSuchWorker, NoLine, ShortBuffer, NoSuchCallsite}
 use Rattle.span_ffi.specs.Data.{said_parent}
 use Rattle.span_ffi.specs.Calls.{HasWorker, IsMadeOrRefused, MakesAsked, span_asked}
 use Rattle.span_ffi.specs.inside.Parents.{AreAlike}

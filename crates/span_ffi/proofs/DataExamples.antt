@@ -12,7 +12,7 @@ use Rattle.span_ffi.specs.declared.data.SpanField.{SpanField}
 use Rattle.span_ffi.specs.declared.data.SpanMeta.{SpanMeta}
 use Rattle.span_ffi.specs.declared.data.SpanLayer.{SpanLayer}
 use Rattle.span_ffi.specs.declared.data.SpanRule.{SpanRule}
-use Rattle.span_ffi.specs.declared.status.Status.TheVariants.{Done, Refused}
+use Rattle.span_border.specs.declared.status.Status.TheVariants.{Done, Refused}
 use Rattle.span_ffi.specs.Data.{BeginsWithText, AreFields, IsCallsite, said_fields, said_meta}
 use Rattle.span_ffi.specs.Callsites.{AddsCallsite}
 use Rattle.span_ffi.specs.Opening.{AreRules, said_pairs, behind_rules, AreLayers, said_filters, said_forms}

@@ -1,6 +1,3 @@
-pub mod Words
-pub mod RegistryBox
-pub mod ReaderBox
 pub mod Alike
 pub mod Found
 pub mod Read

@@ -6,10 +6,10 @@ use Rattle.span_outlet.specs.Request.{Request, Answer, event, told}
 use Rattle.span_core.specs.Core.{CoreView}
 use Rattle.span_ffi.specs.declared.data.SpanMeta.{SpanMeta}
 use Rattle.span_ffi.specs.declared.data.SpanField.{SpanField}
-use Rattle.span_ffi.specs.declared.status.Status.{Status}
-use Rattle.span_ffi.specs.declared.status.Status.TheVariants.{Done, Refused, BadData, EmptyHandle, HandleInUse, NoSuchWorker, NoLine, ShortBuffer, NoSuchCallsite}
+use Rattle.span_border.specs.declared.status.Status.{Status}
+use Rattle.span_border.specs.declared.status.Status.TheVariants.{Done, Refused, BadData, EmptyHandle, HandleInUse, NoSuchWorker, NoLine, ShortBuffer, NoSuchCallsite}
 use Rattle.span_ffi.specs.Data.{IsMeta, IsEvent, IsEventAt, said_meta, said_fields, behind_meta}
-use Rattle.span_ffi.specs.Calls.{AnswersData, Tells}
+use Rattle.span_ffi.specs.Calls.{AnswersData, TellsEvent}
 
 -- the same call, where other words say when the data say something
 module _ (worker : ℕ) (Says Says' : Type 0) (request : Request) (answer : Answer) (old new : CoreView)
@@ -44,7 +44,7 @@ module _ (worker : ℕ) (meta : SpanMeta) (message_len : ℕ) (fields : List Spa
 
   pub tells_as_read : (read : PlainMeta) (rest : List ℕ) → IsMeta meta bytes
       → read ≡ said_meta meta bytes → rest ≡ behind_meta meta bytes
-      → tells_read read rest → Tells worker meta message_len fields bytes old status new
+      → tells_read read rest → TellsEvent worker meta message_len fields bytes old status new
   tells_as_read read rest meta_is is behind tells =
       let behind_bytes = behind_meta meta bytes in
       said_alike worker (IsEventAt message_len fields behind_bytes) (IsEvent meta message_len fields bytes)

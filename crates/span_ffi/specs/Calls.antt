@@ -20,9 +20,10 @@ use Rattle.span_ffi.specs.declared.data.SpanMeta.{SpanMeta}
 use Rattle.span_ffi.specs.declared.data.SpanField.{SpanField}
 use Rattle.span_ffi.specs.declared.data.SpanFound.{SpanFound}
 use Rattle.span_ffi.specs.declared.data.SpanCounts.{SpanCounts}
-use Rattle.span_ffi.specs.declared.status.Status.{Status}
-use Rattle.span_ffi.specs.declared.status.Status.TheVariants.{Done, Refused, BadData, NoSuchWorker}
-use Rattle.span_ffi.specs.Ends.{IfDone, flag}
+use Rattle.span_border.specs.declared.status.Status.{Status}
+use Rattle.span_border.specs.declared.status.Status.TheVariants.{Done, Refused, BadData, NoSuchWorker}
+use Rattle.span_border.specs.Ends.{IfDone}
+use Rattle.span_border.specs.Numbers.{flag, id_number}
 use Rattle.span_ffi.specs.Data.{IsSpan, IsEvent, AreFields, said_meta, said_fields, said_parent, behind_meta}
 
 -- the registry has a worker of this number
@@ -35,26 +36,27 @@ LacksWorker old worker new = (old.limits.workers ≤ worker) × (new ≡ old)
 
 -- A call of a worker: it is one step of the registry with this answer, or the registry refused it with this fault, or
 -- there is no such worker.
-abbrev pub Answers : Request → Answer → CoreView → Status → CoreView → Type 0
-Answers request answer old Done new = HasWorker old (worker_of request) × IsAccepted old request answer new
-Answers request answer old (Refused fault) new = HasWorker old (worker_of request) × IsRefused old request fault new
-Answers request answer old NoSuchWorker new = LacksWorker old (worker_of request) new
-Answers request answer old _ new = ⊥
+abbrev pub AnswersWorker : Request → Answer → CoreView → Status → CoreView → Type 0
+AnswersWorker request answer old Done new = HasWorker old (worker_of request) × IsAccepted old request answer new
+AnswersWorker request answer old (Refused fault) new =
+    HasWorker old (worker_of request) × IsRefused old request fault new
+AnswersWorker request answer old NoSuchWorker new = LacksWorker old (worker_of request) new
+AnswersWorker request answer old _ new = ⊥
 
 -- one more handle of a span
 abbrev pub Clones : ℕ → ℕ → CoreView → Status → CoreView → Type 0
-Clones worker id = Answers (clone_span worker id) cloned
+Clones worker id = AnswersWorker (clone_span worker id) cloned
 
 -- A worker enters a span; 1 is told where the entry is no duplicate, else 0.
 abbrev pub Enters : ℕ → ℕ → ℕ → CoreView → Status → CoreView → Type 0
 Enters worker id first old status new =
-    Answers (enter worker id) (entered (first == 1)) old status new × IfDone status (first ≤ 1)
+    AnswersWorker (enter worker id) (entered (first == 1)) old status new × IfDone status (first ≤ 1)
 
 -- A worker leaves a span; 1 is told where the span closed, and then it is no longer found, else 0.
 abbrev pub Exits : ℕ → ℕ → ℕ → CoreView → Status → CoreView → Type 0
 Exits worker id closed old status new =
     let closing = closed_by_exit old.world worker id in
-    Answers (exit worker id) (exited closing) old status new
+    AnswersWorker (exit worker id) (exited closing) old status new
     × IfDone status (closed ≡ flag (nat_lt 0 (length closing)))
     × IfDone status (closed ≡ flag (is_none (find new.world.spans id)))
 
@@ -62,7 +64,7 @@ Exits worker id closed old status new =
 abbrev pub Releases : ℕ → ℕ → ℕ → CoreView → Status → CoreView → Type 0
 Releases worker id closed old status new =
     let closing = closing_list old.world.spans id Handle in
-    Answers (try_close worker id) (released closing) old status new
+    AnswersWorker (try_close worker id) (released closing) old status new
     × IfDone status (closed ≡ flag (nat_lt 0 (length closing)))
     × IfDone status (closed ≡ flag (is_none (find new.world.spans id)))
 
@@ -74,7 +76,7 @@ abbrev pub AnswersData : ℕ → Type 0 → Request → Answer → CoreView → 
 AnswersData worker Says request answer old NoSuchWorker new = LacksWorker old worker new
 AnswersData worker Says request answer old BadData new = HasWorker old worker × (Says → ⊥) × (new ≡ old)
 AnswersData worker Says request answer old (Refused Memory) new = HasWorker old worker × Says × (new ≡ old)
-AnswersData worker Says request answer old status new = Says × Answers request answer old status new
+AnswersData worker Says request answer old status new = Says × AnswersWorker request answer old status new
 
 -- fields are appended to those of a span
 abbrev pub Records : ℕ → ℕ → List SpanField → List ℕ → CoreView → Status → CoreView → Type 0
@@ -82,8 +84,8 @@ Records worker id fields bytes =
     AnswersData worker (AreFields fields bytes) (record_fields worker id (said_fields fields bytes)) recorded
 
 -- an event is told
-abbrev pub Tells : ℕ → SpanMeta → ℕ → List SpanField → List ℕ → CoreView → Status → CoreView → Type 0
-Tells worker meta message_len fields bytes =
+abbrev pub TellsEvent : ℕ → SpanMeta → ℕ → List SpanField → List ℕ → CoreView → Status → CoreView → Type 0
+TellsEvent worker meta message_len fields bytes =
     let behind = behind_meta meta bytes in
     AnswersData worker (IsEvent meta message_len fields bytes)
     (event worker (said_meta meta bytes) (take message_len behind) (said_fields fields (drop message_len behind))) told
@@ -95,14 +97,14 @@ span_asked worker kind parent meta fields core =
 
 -- the span was made, and the id is the one that the history so far gives; or there are layers and none admits it, and
 -- the id is 0
-abbrev pub IsMade : Request → ℕ → CoreView → CoreView → Type 0
-IsMade request id old new =
+abbrev pub IsMadeOrUnwanted : Request → ℕ → CoreView → CoreView → Type 0
+IsMadeOrUnwanted request id old new =
     (id ≡ 0 → IsNotWanted old request new)
     × (id ≢ 0 → IsAccepted old request (made id) new × (id_after old ≡ Some id))
 
 -- the call ended as `IsMade` says, or the registry refused it with this fault
 abbrev pub IsMadeOrRefused : Request → ℕ → CoreView → Status → CoreView → Type 0
-IsMadeOrRefused request id old Done new = IsMade request id old new
+IsMadeOrRefused request id old Done new = IsMadeOrUnwanted request id old new
 IsMadeOrRefused request id old (Refused fault) new = IsRefused old request fault new
 IsMadeOrRefused request id old _ new = ⊥
 
@@ -117,18 +119,13 @@ MakesAsked worker Says request id old status new =
     HasWorker old worker × Says × IsMadeOrRefused request id old status new
 
 -- the same of the meta and the fields that the data say
-abbrev pub MakesSpan : ℕ → ℕ → ℕ → SpanMeta → List SpanField → List ℕ → ℕ → CoreView → Status → CoreView → Type 0
-MakesSpan worker kind parent meta fields bytes id old =
+abbrev pub MakesSaid : ℕ → ℕ → ℕ → SpanMeta → List SpanField → List ℕ → ℕ → CoreView → Status → CoreView → Type 0
+MakesSaid worker kind parent meta fields bytes id old =
     let said = said_fields fields (behind_meta meta bytes) in
     MakesAsked worker (IsSpan kind meta fields bytes)
     (span_asked worker kind parent (said_meta meta bytes) said old) id old
 
 -- ---- questions, which change nothing
-
--- an id as a number, 0 where there is none
-abbrev pub id_number : Option ℕ → ℕ
-id_number None = 0
-id_number (Some id) = id
 
 -- what is told of an open span
 abbrev pub found_as : Spans → ℕ → Node → SpanFound
@@ -156,8 +153,8 @@ SeesCurrent worker id old _ new = ⊥
 
 -- How many spans were made and closed, how many calls were accepted, how many handles and entries all spans have, how
 -- many spans are open, and how many workers there are.
-abbrev pub counts_of : CoreView → SpanCounts
-counts_of core = record {
+abbrev pub counts_as : CoreView → SpanCounts
+counts_as core = record {
   made = length (issued core.sent);
   closed = length (closed_in core.sent);
   calls = length core.sent;
@@ -168,5 +165,5 @@ counts_of core = record {
 
 -- the registry's counts are told, and nothing changes
 abbrev pub Counts : SpanCounts → CoreView → Status → CoreView → Type 0
-Counts counts old Done new = (counts ≡ counts_of old) × (new ≡ old)
+Counts counts old Done new = (counts ≡ counts_as old) × (new ≡ old)
 Counts counts old _ new = ⊥

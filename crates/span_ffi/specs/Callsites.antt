@@ -7,8 +7,8 @@ use Rattle.span_outlet.specs.Request.{event, told}
 use Rattle.span_core.specs.Core.{CoreView}
 use Rattle.span_ffi.specs.declared.data.SpanMeta.{SpanMeta}
 use Rattle.span_ffi.specs.declared.data.SpanField.{SpanField}
-use Rattle.span_ffi.specs.declared.status.Status.{Status}
-use Rattle.span_ffi.specs.declared.status.Status.TheVariants.{Done, Refused, BadData, NoSuchWorker, NoSuchCallsite}
+use Rattle.span_border.specs.declared.status.Status.{Status}
+use Rattle.span_border.specs.declared.status.Status.TheVariants.{Done, Refused, BadData, NoSuchWorker, NoSuchCallsite}
 use Rattle.span_ffi.specs.Data.{IsCallsite, IsSpanAt, IsEventAt, said_meta, said_fields}
 use Rattle.span_ffi.specs.Calls.{HasWorker, LacksWorker, AnswersData, MakesAsked, span_asked}
 
@@ -35,7 +35,7 @@ AtCallsite worker found Does old NoSuchWorker new = LacksWorker old worker new
 AtCallsite worker found Does old NoSuchCallsite new = HasWorker old worker × (found ≡ None) × (new ≡ old)
 AtCallsite worker found Does old status new = IsSomeAnd found (λ meta. Does meta old status new)
 
--- a worker makes a span with the meta of a callsite, as `MakesSpan` says of a meta
+-- a worker makes a span with the meta of a callsite, as `MakesSaid` says of a meta
 abbrev pub MakesSpanAt : ℕ → ℕ → ℕ → ℕ → List SpanField → List ℕ → ℕ
     → List PlainMeta → CoreView → Status → CoreView → Type 0
 MakesSpanAt worker kind parent callsite fields bytes id callsites =
@@ -43,7 +43,7 @@ MakesSpanAt worker kind parent callsite fields bytes id callsites =
     MakesAsked worker (IsSpanAt kind fields bytes) (span_asked worker kind parent meta (said_fields fields bytes) old)
     id old)
 
--- an event is told with the meta of a callsite, as `Tells` says of a meta
+-- an event is told with the meta of a callsite, as `TellsEvent` says of a meta
 abbrev pub TellsAt : ℕ → ℕ → ℕ → List SpanField → List ℕ → List PlainMeta → CoreView → Status → CoreView → Type 0
 TellsAt worker callsite message_len fields bytes callsites =
     AtCallsite worker (slice_get callsites callsite) (λ meta.

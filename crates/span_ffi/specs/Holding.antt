@@ -7,9 +7,9 @@ use Rattle.span_forest.specs.Holding.{open_ids, what_holds}
 use Rattle.span_core.specs.World.{workers_with}
 use Rattle.span_core.specs.Core.{CoreView}
 use Rattle.span_ffi.specs.declared.data.SpanHeld.{SpanHeld}
-use Rattle.span_ffi.specs.declared.status.Status.{Status}
-use Rattle.span_ffi.specs.declared.status.Status.TheVariants.{Refused}
-use Rattle.span_ffi.specs.Lines.{WritesAll}
+use Rattle.span_border.specs.declared.status.Status.{Status}
+use Rattle.span_border.specs.declared.status.Status.TheVariants.{Refused}
+use Rattle.span_border.specs.Buffers.{WritesAll}
 
 -- a span that has handles or entries, as it is told
 abbrev pub held_as : Held → SpanHeld

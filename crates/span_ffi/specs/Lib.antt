@@ -1,6 +1,4 @@
-pub mod Status
 pub mod Abi
-pub mod Ends
 pub mod Data
 pub mod Registry
 pub mod Opening

@@ -1,29 +1,16 @@
--- What the calls on a drain do, by their status, and how texts and lists go into a buffer.
-use Rattle.std.specs.Prelude.{◌≡◌, ℕ, ◌<◌, ◌≤◌, List, [], ◌∷◌, ◌++◌, length, drop, slice_get, Option, Some, None, IsSomeAnd}
+-- What the calls on a drain do, by their status, and how a text goes into a buffer.
+use Rattle.std.specs.Prelude.{◌≡◌, ℕ, ◌<◌, List, [], ◌∷◌, length, slice_get, Option, Some, None, IsSomeAnd}
 use Rattle.span_outlet.specs.Lines.{PlainLine}
 use Rattle.span_outlet.specs.LineReader.{LineReaderView, TakesBatches, looks_of_fill}
-use Rattle.span_ffi.specs.declared.status.Status.{Status}
-use Rattle.span_ffi.specs.declared.status.Status.TheVariants.{Done, BadData, NoLine, ShortBuffer}
+use Rattle.span_border.specs.declared.status.Status.{Status}
+use Rattle.span_border.specs.declared.status.Status.TheVariants.{Done, BadData, NoLine, ShortBuffer}
+use Rattle.span_border.specs.Buffers.{WritesAll}
 
--- The bytes of a text, or other things, go into a buffer: they stand at its beginning, and how many they are is told.
--- Where they are more than it has room for, only that is told.
-abbrev pub WritesAll : {X : Type 0} → List X → List X → Status → List X → ℕ → Type 0
-WritesAll things old Done new len =
-    (length things ≤ length old) × (new ≡ things ++ drop (length things) old) × (len ≡ length things)
-WritesAll things old ShortBuffer new len = (length old < length things) × (new ≡ old) × (len ≡ length things)
-WritesAll things old _ new len = ⊥
-
--- the same where there is a text, and where there is none the status says that the data say nothing
+-- a text goes into a buffer, and where there is none the status says that the data say nothing
 abbrev pub WritesIfSome : Option (List ℕ) → List ℕ → Option Status → List ℕ → ℕ → Type 0
 WritesIfSome text old None new len = ⊥
 WritesIfSome None old (Some status) new len = (status ≡ BadData) × (new ≡ old)
 WritesIfSome (Some text) old (Some status) new len = WritesAll text old status new len
-
--- a length is as it was, unless one was told
-abbrev pub KeepsLength : Option Status → ℕ → ℕ → Type 0
-KeepsLength (Some Done) old new = Unit {0}
-KeepsLength (Some ShortBuffer) old new = Unit {0}
-KeepsLength _ old new = new ≡ old
 
 -- batches were taken, perhaps none, and none where a line waited already; where none waited, the ring was looked into
 pub record Fills (old new : LineReaderView) : Type 0 where

@@ -13,8 +13,8 @@ use Rattle.span_core.specs.World.{empty_world}
 use Rattle.span_ffi.specs.declared.data.SpanLimits.{SpanLimits}
 use Rattle.span_ffi.specs.declared.data.SpanLayer.{SpanLayer}
 use Rattle.span_ffi.specs.declared.data.SpanRule.{SpanRule}
-use Rattle.span_ffi.specs.declared.status.Status.{Status}
-use Rattle.span_ffi.specs.declared.status.Status.TheVariants.{Done, Refused, BadData, HandleInUse}
+use Rattle.span_border.specs.declared.status.Status.{Status}
+use Rattle.span_border.specs.declared.status.Status.TheVariants.{Done, Refused, BadData, HandleInUse}
 use Rattle.span_ffi.specs.Data.{BeginsWithText, said_level}
 use Rattle.span_ffi.specs.Registry.{RegistryView}
 

@@ -2,7 +2,7 @@
 use Rattle.std.specs.Prelude.{◌≡◌, List}
 use Rattle.span_id.specs.Meta.{PlainMeta}
 use Rattle.span_core.specs.Core.{CoreView}
-use Rattle.span_ffi.specs.declared.status.Status.{Status}
+use Rattle.span_border.specs.declared.status.Status.{Status}
 
 -- the core, and the metas of the callsites by their numbers from 0 on
 pub record RegistryView : Type 0 where

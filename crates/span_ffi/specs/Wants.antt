@@ -5,9 +5,9 @@ use Rattle.span_id.specs.declared.fault.Fault.TheVariants.{Memory}
 use Rattle.span_id.specs.Meta.{PlainMeta}
 use Rattle.span_core.specs.Wanted.{some_rule_admits}
 use Rattle.span_core.specs.Core.{CoreView}
-use Rattle.span_ffi.specs.declared.status.Status.{Status}
-use Rattle.span_ffi.specs.declared.status.Status.TheVariants.{Done, Refused, BadData, NoSuchCallsite}
-use Rattle.span_ffi.specs.Ends.{flag}
+use Rattle.span_border.specs.declared.status.Status.{Status}
+use Rattle.span_border.specs.declared.status.Status.TheVariants.{Done, Refused, BadData, NoSuchCallsite}
+use Rattle.span_border.specs.Numbers.{flag}
 use Rattle.span_ffi.specs.Data.{said_level}
 
 -- the level is there, and the bytes are a text

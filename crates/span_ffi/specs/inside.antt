@@ -1,6 +1,6 @@
 -- What only the proofs of this crate need: no public clause cites it.
-pub mod RegistryOwned
-pub mod ReaderOwned
+pub mod RegistryHeld
+pub mod ReaderHeld
 pub mod Parents
 pub mod Adding
 pub mod Giving

@@ -8,12 +8,10 @@ mod data;
 mod drain_handle;
 mod exports;
 mod opening;
-mod parts;
 mod reader;
 mod reading;
 mod registry;
 mod registry_handle;
-mod status;
 mod valid;
 
 pub use data::{
@@ -22,4 +20,3 @@ pub use data::{
 };
 pub use drain_handle::SpanDrain;
 pub use registry_handle::SpanRegistry;
-pub use status::Status;

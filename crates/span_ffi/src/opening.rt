@@ -20,9 +20,9 @@ use crate::data::{SpanLayer, SpanLimits, SpanRule};
 use crate::reader::Reader;
 use crate::reading::{read_level, read_text, unread};
 use crate::registry::Registry;
-use crate::status::Status;
 use crate::valid::are_layers;
 use bitflags::Flags;
+use span_border::Status;
 use span_core::Core;
 use span_id::{Checked, Fault, Level, Limits};
 use span_layers::{

@@ -5,7 +5,7 @@ ghost use Rattle.span_id.specs.Meta.{plain_fields, key_value};
 ghost use Rattle.span_ffi.specs.Data.{BeginsWithText, said_level, IsMeta, said_meta, behind_meta, AreFields, said_fields, behind_field};
 
 use crate::data::{SpanField, SpanMeta};
-use crate::status::Status;
+use span_border::Status;
 use span_id::{Fault, Field, Fields, Level, Meta, SharedMeta};
 use std::alloc::Global;
 use std::str;

@@ -10,11 +10,12 @@ use Rattle.span_store.specs.Node.{Node}
 use Rattle.span_store.specs.Spans.{children, is_closing, total_handles}
 use Rattle.span_store.specs.Store.{StoreView}
 use Rattle.span_store.specs.Calls.{Call, Add, Keep, Release, Ended, refusal, after, told}
+use Rattle.span_border.specs.declared.status.Status.{Status}
+use Rattle.span_border.specs.declared.status.Status.TheVariants.{Done, Refused, HandleInUse}
+use Rattle.span_border.specs.Ends.{IfDone}
+use Rattle.span_border.specs.Numbers.{flag, id_number}
 use Rattle.span_store_ffi.specs.declared.data.SpanStoreFound.{SpanStoreFound}
 use Rattle.span_store_ffi.specs.declared.data.SpanStoreCounts.{SpanStoreCounts}
-use Rattle.span_store_ffi.specs.declared.status.Status.{Status}
-use Rattle.span_store_ffi.specs.declared.status.Status.TheVariants.{Done, Refused, HandleInUse}
-use Rattle.span_store_ffi.specs.Ends.{IfDone, flag}
 
 -- the version of the interface
 abbrev pub store_abi_version : ℕ
@@ -29,11 +30,6 @@ Makes call old _ new = ⊥
 -- the parent that a number means: 0 none
 abbrev pub parent_numbered : ℕ → Option ℕ
 parent_numbered number = cond (number == 0) None (Some number)
-
--- an id as a number, 0 where there is none
-abbrev pub id_number : Option ℕ → ℕ
-id_number None = 0
-id_number (Some id) = id
 
 -- a new span, whose id is told
 abbrev pub Adds : ℕ → ℕ → ℕ → ℕ → StoreView → Status → StoreView → Type 0

@@ -1,5 +1,3 @@
-pub mod Status
-pub mod Ends
 pub mod Calls
 pub mod Details
 pub mod inside

@@ -2,16 +2,15 @@
 ghost use Rattle.std.specs.Prelude.{◌≡◌, Some, None, Option, is_some, if◌then◌else◌, IfSome, IfNone, IfOk, IfErr};
 ghost use Rattle.span_slots.specs.Table.{value_at};
 ghost use Rattle.span_store.specs.Spans.{is_closing};
-ghost use Rattle.span_store_ffi.specs.Status.{meaning};
-ghost use Rattle.span_store_ffi.specs.Ends.{Ends, Keeps};
-ghost use Rattle.span_store_ffi.specs.Calls.{Adds, KeepsSpan, ReleasesSpan, EndsSpan, TellsSpan, TellsNext, TellsCounts, OpensStore, parent_numbered, id_number, store_limits, empty_store, WhyNotOpened, store_abi_version};
+ghost use Rattle.span_border.specs.Status.{meant};
+ghost use Rattle.span_border.specs.Ends.{OnHeld, Keeps};
+ghost use Rattle.span_store_ffi.specs.Calls.{Adds, KeepsSpan, ReleasesSpan, EndsSpan, TellsSpan, TellsNext, TellsCounts, OpensStore, parent_numbered, store_limits, empty_store, WhyNotOpened, store_abi_version};
 
 mod details;
 
 use crate::data::{SpanStoreCounts, SpanStoreFound};
 use crate::handle::SpanStore;
-use crate::held::Held;
-use crate::status::Status;
+use span_border::{Holds, Status, id_number};
 use span_id::{Bits, Fault, Id, Limits};
 use span_store::Store;
 use span_store::laws::each_slot_has_one_id_there;
@@ -26,19 +25,14 @@ fn id_of(store: &Store, number: u64) -> Option<Id>
     Id::from_u64(number)
 }
 
-// An id as a number, 0 where there is none.
-pub(crate) fn id_number(id: Option<Id>) -> u64
-    ensures { result ≡ id_number id }
-{
-    match id {
-        Some(id) => id.get(),
-        None => 0,
-    }
-}
-
 // A new store in a box.
-fn open(alloc: Global, slots: u32, last_generation: u32, max_count: u32) -> Result<Box<Held>, Fault>
-    ensures new { IfOk result (λ held. held.value ≡ empty_store (store_limits slots last_generation max_count)) }
+fn open(
+    alloc: Global,
+    slots: u32,
+    last_generation: u32,
+    max_count: u32,
+) -> Result<Box<Store>, Fault>
+    ensures new { IfOk result (λ store. store.value ≡ empty_store (store_limits slots last_generation max_count)) }
     ensures why { IfErr result (λ fault. WhyNotOpened (store_limits slots last_generation max_count) fault) }
 {
     let limits = Limits {
@@ -50,7 +44,7 @@ fn open(alloc: Global, slots: u32, last_generation: u32, max_count: u32) -> Resu
     };
     let checked = limits.check()?;
     let store = Store::new(alloc, &checked)?;
-    Ok(Box::new(alloc, Held { store })?)
+    Ok(Box::new(alloc, store)?)
 }
 
 /// The version of this interface. It rises where a program that was built for an earlier one would go wrong.
@@ -70,7 +64,7 @@ pub extern "C" fn span_store_new(
     last_generation: u32,
     max_count: u32,
 ) -> u32
-    ensures { OpensStore (store_limits slots last_generation max_count) store.old.held (meaning result) store.new.held }
+    ensures { OpensStore (store_limits slots last_generation max_count) store.old.held (meant result) store.new.held }
 {
     if !store.is_empty(alloc) {
         return Status::HandleInUse.number();
@@ -87,14 +81,10 @@ pub extern "C" fn span_store_new(
 /// Gives a store and its memory up: the handle is empty then.
 #[unsafe(no_mangle)]
 pub extern "C" fn span_store_free(alloc: Global, store: &mut SpanStore) -> u32
-    ensures status { meaning result ≡ Some (if is_some store.old.held then Status.Done else Status.EmptyHandle) }
+    ensures status { meant result ≡ Some (if is_some store.old.held then Status.Done else Status.EmptyHandle) }
     ensures empty { store.new.held ≡ None }
 {
-    let Some(held) = store.take(alloc) else {
-        return Status::EmptyHandle.number();
-    };
-    drop(held);
-    Status::Done.number()
+    store.free(alloc).number()
 }
 
 fn add(store: &mut Store, parent: u64, bits: u64, word: u64, id: &mut u64) -> Status
@@ -128,13 +118,13 @@ pub extern "C" fn span_store_add(
     word: u64,
     id: &mut u64,
 ) -> u32
-    ensures added { Ends store.old.held (Adds parent bits word id.new) (meaning result) store.new.held }
-    ensures kept { Keeps (meaning result) id.old id.new }
+    ensures added { OnHeld store.old.held (Adds parent bits word id.new) (meant result) store.new.held }
+    ensures kept { Keeps (meant result) id.old id.new }
 {
     let Some(mut held) = store.take(alloc) else {
         return Status::EmptyHandle.number();
     };
-    let status = add(&mut held.store, parent, bits, word, id);
+    let status = add(&mut held, parent, bits, word, id);
     store.put(held);
     status.number()
 }
@@ -154,12 +144,12 @@ fn keep(store: &mut Store, id: u64) -> Status
 /// One more handle of a span that is open.
 #[unsafe(no_mangle)]
 pub extern "C" fn span_store_keep(alloc: Global, store: &mut SpanStore, id: u64) -> u32
-    ensures { Ends store.old.held (KeepsSpan id) (meaning result) store.new.held }
+    ensures { OnHeld store.old.held (KeepsSpan id) (meant result) store.new.held }
 {
     let Some(mut held) = store.take(alloc) else {
         return Status::EmptyHandle.number();
     };
-    let status = keep(&mut held.store, id);
+    let status = keep(&mut held, id);
     store.put(held);
     status.number()
 }
@@ -188,13 +178,13 @@ pub extern "C" fn span_store_release(
     id: u64,
     closing: &mut u32,
 ) -> u32
-    ensures released { Ends store.old.held (ReleasesSpan id closing.new) (meaning result) store.new.held }
-    ensures kept { Keeps (meaning result) closing.old closing.new }
+    ensures released { OnHeld store.old.held (ReleasesSpan id closing.new) (meant result) store.new.held }
+    ensures kept { Keeps (meant result) closing.old closing.new }
 {
     let Some(mut held) = store.take(alloc) else {
         return Status::EmptyHandle.number();
     };
-    let status = release(&mut held.store, id, closing);
+    let status = release(&mut held, id, closing);
     store.put(held);
     status.number()
 }
@@ -223,13 +213,13 @@ pub extern "C" fn span_store_ended(
     id: u64,
     parent: &mut u64,
 ) -> u32
-    ensures ended { Ends store.old.held (EndsSpan id parent.new) (meaning result) store.new.held }
-    ensures kept { Keeps (meaning result) parent.old parent.new }
+    ensures ended { OnHeld store.old.held (EndsSpan id parent.new) (meant result) store.new.held }
+    ensures kept { Keeps (meant result) parent.old parent.new }
 {
     let Some(mut held) = store.take(alloc) else {
         return Status::EmptyHandle.number();
     };
-    let status = ended(&mut held.store, id, parent);
+    let status = ended(&mut held, id, parent);
     store.put(held);
     status.number()
 }
@@ -262,13 +252,13 @@ pub extern "C" fn span_store_find(
     id: u64,
     found: &mut SpanStoreFound,
 ) -> u32
-    ensures found { Ends store.old.held (TellsSpan id found.new) (meaning result) store.new.held }
-    ensures kept { Keeps (meaning result) found.old found.new }
+    ensures found { OnHeld store.old.held (TellsSpan id found.new) (meant result) store.new.held }
+    ensures kept { Keeps (meant result) found.old found.new }
 {
     let Some(held) = store.take(alloc) else {
         return Status::EmptyHandle.number();
     };
-    let status = find(&held.store, id, found);
+    let status = find(&held, id, found);
     store.put(held);
     status.number()
 }
@@ -298,13 +288,13 @@ pub extern "C" fn span_store_next(
     after: u64,
     id: &mut u64,
 ) -> u32
-    ensures told { Ends store.old.held (TellsNext after id.new) (meaning result) store.new.held }
-    ensures kept { Keeps (meaning result) id.old id.new }
+    ensures told { OnHeld store.old.held (TellsNext after id.new) (meant result) store.new.held }
+    ensures kept { Keeps (meant result) id.old id.new }
 {
     let Some(held) = store.take(alloc) else {
         return Status::EmptyHandle.number();
     };
-    let status = next(&held.store, after, id);
+    let status = next(&held, after, id);
     store.put(held);
     status.number()
 }
@@ -325,13 +315,13 @@ pub extern "C" fn span_store_counts(
     store: &mut SpanStore,
     counts: &mut SpanStoreCounts,
 ) -> u32
-    ensures counts { Ends store.old.held (TellsCounts counts.new) (meaning result) store.new.held }
-    ensures kept { Keeps (meaning result) counts.old counts.new }
+    ensures counts { OnHeld store.old.held (TellsCounts counts.new) (meant result) store.new.held }
+    ensures kept { Keeps (meant result) counts.old counts.new }
 {
     let Some(held) = store.take(alloc) else {
         return Status::EmptyHandle.number();
     };
-    *counts = counts_of(&held.store);
+    *counts = counts_of(&held);
     store.put(held);
     Status::Done.number()
 }

@@ -1,15 +1,13 @@
 //! The handle of a store: one word, which owns a store where it isn't null.
-ghost use Rattle.std.specs.Prelude.{◌≡◌, Some, None, Option, is_none};
-ghost use Rattle.std.specs.Option.{option_map};
-ghost use denote.RawPtr.{null_ptr};
+ghost use Rattle.std.specs.Prelude.{◌≡◌, Some, None, Option};
+ghost use Rattle.span_border.specs.inside.HandleOwned.{handle_owns};
 ghost use Rattle.span_store.specs.Store.{StoreView};
-ghost use Rattle.span_store_ffi.specs.inside.HandleOwned.{held_coded, handle_owns};
+ghost use Rattle.span_store_ffi.specs.inside.Held.{the_row, held_coded};
 
-use crate::held::Held;
-use crate::parts::Parts;
+use span_border::{Handle, Holds};
+use span_store::Store;
 use std::alloc::Global;
 use std::marker::Model;
-use std::{mem, ptr};
 
 /// A store for C, or none: then it is null.
 #[repr(C)]
@@ -21,82 +19,48 @@ pub struct SpanStore {
 }
 
 impl Model for SpanStore {
-    ghost also_owns = { λ handle. handle_owns handle.alloc handle.at handle.held };
+    ghost also_owns = { λ store. handle_owns the_row store.alloc store.at store.held };
 }
 
 impl SpanStore {
-    fn of_null(at: *mut u8, alloc: Global) -> SpanStore
-        requires { at ≡ null_ptr }
-        ensures { result.held ≡ None }
+    fn around(handle: Handle<Store>) -> SpanStore
+        ensures { result.held ≡ handle.held }
     {
-        SpanStore { at, alloc }
-    }
-
-    fn of_parts(parts: Parts<Held, Global>) -> SpanStore
-        ensures { result.held ≡ Some parts.value }
-    {
-        let Parts { at, alloc } = parts;
+        let Handle { at, alloc } = handle;
         SpanStore {
             at: at as *mut u8,
             alloc,
         }
     }
 
-    fn into_parts(self) -> Option<Parts<Held, Global>>
-        ensures { option_map (λ parts. parts.value) result ≡ self.held }
+    fn inside(self) -> Handle<Store>
+        ensures { result.held ≡ self.held }
     {
         let SpanStore { at, alloc } = self;
-        if at.is_null() {
-            None
-        } else {
-            Some(Parts {
-                at: at as *mut Held,
-                alloc,
-            })
+        Handle {
+            at: at as *mut Store,
+            alloc,
         }
-    }
-
-    fn empty(alloc: Global) -> SpanStore
-        ensures { result.held ≡ None }
-    {
-        SpanStore::of_null(null(), alloc)
-    }
-
-    /// Whether there is no store. The handle stays as it is.
-    pub fn is_empty(&mut self, alloc: Global) -> bool
-        ensures empty { result ≡ is_none self.old.held }
-        ensures same { self.new.held ≡ self.old.held }
-    {
-        let Some(held) = self.take(alloc) else {
-            return true;
-        };
-        self.put(held);
-        false
-    }
-
-    /// Takes the store out, if there is one: the handle is empty then.
-    pub fn take(&mut self, alloc: Global) -> Option<Box<Held>>
-        ensures held { option_map (λ held. held.value) result ≡ self.old.held }
-        ensures empty { self.new.held ≡ None }
-    {
-        let taken = mem::replace(self, SpanStore::empty(alloc));
-        let parts = taken.into_parts()?;
-        Some(parts.into_box())
-    }
-
-    /// Puts a store into an empty handle.
-    pub fn put(&mut self, held: Box<Held>)
-        requires { self.old.held ≡ None }
-        ensures { self.new.held ≡ Some held.value }
-    {
-        *self = SpanStore::of_parts(Parts::of(held));
     }
 }
 
-fn null() -> *mut u8
-    ensures { result ≡ null_ptr }
-{
-    ptr::null_mut()
+impl Holds<Store> for SpanStore {
+    ghost held = { λ store. store.held };
+
+    fn none(alloc: Global) -> SpanStore {
+        SpanStore::around(Handle::empty(alloc))
+    }
+
+    fn into_handle(self) -> Handle<Store> {
+        self.inside()
+    }
+
+    fn put(&mut self, store: Box<Store>)
+        requires { self.old.held ≡ None }
+        ensures { self.new.held ≡ Some store.value }
+    {
+        *self = SpanStore::around(Handle::full(store));
+    }
 }
 
 unsafe impl Send for SpanStore {}

@@ -4,10 +4,6 @@
 mod data;
 mod exports;
 mod handle;
-mod held;
-mod parts;
-mod status;
 
 pub use data::{SpanStoreCounts, SpanStoreDetails, SpanStoreFound};
 pub use handle::SpanStore;
-pub use status::Status;

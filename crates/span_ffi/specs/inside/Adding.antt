@@ -4,8 +4,8 @@ use Rattle.span_id.specs.declared.fault.Fault.{Fault}
 use Rattle.span_id.specs.declared.fault.Fault.TheVariants.{CountFull, BadName, Memory}
 use Rattle.span_id.specs.Name.{is_name}
 use Rattle.span_id.specs.Meta.{PlainMeta}
-use Rattle.span_ffi.specs.declared.status.Status.{Status}
-use Rattle.span_ffi.specs.declared.status.Status.TheVariants.{Done, Refused}
+use Rattle.span_border.specs.declared.status.Status.{Status}
+use Rattle.span_border.specs.declared.status.Status.TheVariants.{Done, Refused}
 
 -- no span and no event may have the name, or else each number is taken
 abbrev pub WhyNoNumber : PlainMeta → List PlainMeta → Fault → Type 0

@@ -2,9 +2,9 @@
 use Rattle.std.specs.Prelude.{◌≡◌, ℕ, List, [], ◌∷◌, slice_get, IsSomeAnd}
 use Rattle.span_outlet.specs.Lines.{PlainLine}
 use Rattle.span_outlet.specs.LineReader.{LineReaderView}
-use Rattle.span_ffi.specs.declared.status.Status.{Status}
-use Rattle.span_ffi.specs.declared.status.Status.TheVariants.{Done, NoLine, ShortBuffer}
-use Rattle.span_ffi.specs.Lines.{WritesAll}
+use Rattle.span_border.specs.declared.status.Status.{Status}
+use Rattle.span_border.specs.declared.status.Status.TheVariants.{Done, NoLine, ShortBuffer}
+use Rattle.span_border.specs.Buffers.{WritesAll}
 
 -- as `GivesLine`, of the lines that wait already
 abbrev pub GivesFirst : ℕ → List ℕ → List ℕ → ℕ → LineReaderView → Status → LineReaderView → Type 0

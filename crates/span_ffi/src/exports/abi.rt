@@ -1,13 +1,13 @@
 //! What a program compares before it makes a registry.
 ghost use Rattle.std.specs.Prelude.{◌≡◌, Some};
-ghost use Rattle.span_ffi.specs.Status.{meaning};
+ghost use Rattle.span_border.specs.Status.{meant};
 ghost use Rattle.span_ffi.specs.Abi.{abi_version, struct_sizes};
 
 use crate::data::{
     SpanCounts, SpanField, SpanFound, SpanHeld, SpanLayer, SpanLimits, SpanMeta, SpanRule,
     SpanSizes,
 };
-use crate::status::Status;
+use span_border::Status;
 use std::mem::size_of;
 
 const _: () = prove!(size_of::<SpanLimits>() == 20);
@@ -37,7 +37,7 @@ pub extern "C" fn span_abi_version() -> u32
 /// How many bytes each struct takes in this library.
 #[unsafe(no_mangle)]
 pub extern "C" fn span_struct_sizes(sizes: &mut SpanSizes) -> u32
-    ensures done { meaning result ≡ Some Status.Done }
+    ensures done { meant result ≡ Some Status.Done }
     ensures sizes { sizes.new ≡ struct_sizes }
 {
     *sizes = SpanSizes {

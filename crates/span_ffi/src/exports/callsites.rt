@@ -1,8 +1,8 @@
 //! New callsites: metas that are handed over once.
 ghost use Rattle.std.specs.Prelude.{◌≡◌, true, length, Some, IfOk, IfErr, OnOk, OnSome, IfSome};
 ghost use Rattle.span_id.specs.Name.{is_name};
-ghost use Rattle.span_ffi.specs.Status.{meaning};
-ghost use Rattle.span_ffi.specs.Ends.{Ends, Keeps};
+ghost use Rattle.span_border.specs.Status.{meant};
+ghost use Rattle.span_border.specs.Ends.{OnHeld, Keeps};
 ghost use Rattle.span_ffi.specs.Registry.{OnCallsites};
 ghost use Rattle.span_ffi.specs.Data.{IsCallsite, said_meta};
 ghost use Rattle.span_ffi.specs.Callsites.{AddsCallsite};
@@ -12,8 +12,8 @@ use crate::callsites::Callsites;
 use crate::data::SpanMeta;
 use crate::reading::{read_meta, unread};
 use crate::registry_handle::SpanRegistry;
-use crate::status::Status;
 use crate::valid::is_span;
+use span_border::{Holds, Status};
 use span_id::{Fault, SharedMeta};
 use std::alloc::Global;
 
@@ -81,9 +81,9 @@ pub extern "C" fn span_registry_add_callsite(
     texts: &[u8],
     number: &mut u32,
 ) -> u32
-    ensures added { Ends registry.old.held (OnCallsites (AddsCallsite meta.now texts.now number.new))
-        (meaning result) registry.new.held }
-    ensures kept { Keeps (meaning result) number.old number.new }
+    ensures added { OnHeld registry.old.held (OnCallsites (AddsCallsite meta.now texts.now number.new))
+        (meant result) registry.new.held }
+    ensures kept { Keeps (meant result) number.old number.new }
 {
     let Some(mut held) = registry.take(alloc) else {
         return Status::EmptyHandle.number();

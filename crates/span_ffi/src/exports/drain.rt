@@ -1,14 +1,14 @@
 //! The end from which lines are read.
 ghost use Rattle.std.specs.Prelude.{◌≡◌, Some, None, is_some, if◌then◌else◌};
-ghost use Rattle.span_ffi.specs.Status.{meaning};
-ghost use Rattle.span_ffi.specs.Ends.{Ends, Keeps};
-ghost use Rattle.span_ffi.specs.Lines.{GivesLine, KeepsLength, CountsLines};
+ghost use Rattle.span_border.specs.Status.{meant};
+ghost use Rattle.span_border.specs.Ends.{OnHeld, Keeps};
+ghost use Rattle.span_border.specs.Buffers.{KeepsLength};
+ghost use Rattle.span_ffi.specs.Lines.{GivesLine, CountsLines};
 ghost use Rattle.span_ffi.specs.inside.Giving.{GivesFirst};
 
 use crate::drain_handle::SpanDrain;
-use crate::exports::texts::write_text;
 use crate::reader::Lines;
-use crate::status::Status;
+use span_border::{Holds, Status, write_all};
 use std::alloc::Global;
 
 fn give_line(lines: &mut Lines, layer: &mut u32, into: &mut [u8], len: &mut usize) -> Status
@@ -31,7 +31,7 @@ fn give_first(lines: &mut Lines, layer: &mut u32, into: &mut [u8], len: &mut usi
     let Some(line) = lines.peek() else {
         return Status::NoLine;
     };
-    let status = write_text(line.text.as_slice(), into, len);
+    let status = write_all(line.text.as_slice(), into, len);
     if status == Status::Done {
         *layer = line.layer;
         lines.next();
@@ -49,10 +49,10 @@ pub extern "C" fn span_drain_line(
     into: &mut [u8],
     len: &mut usize,
 ) -> u32
-    ensures line { Ends drain.old.held (GivesLine layer.new into.old into.new len.new) (meaning result) drain.new.held }
-    ensures layer { Keeps (meaning result) layer.old layer.new }
-    ensures into { Keeps (meaning result) into.old into.new }
-    ensures len { KeepsLength (meaning result) len.old len.new }
+    ensures line { OnHeld drain.old.held (GivesLine layer.new into.old into.new len.new) (meant result) drain.new.held }
+    ensures layer { Keeps (meant result) layer.old layer.new }
+    ensures into { Keeps (meant result) into.old into.new }
+    ensures len { KeepsLength (meant result) len.old len.new }
 {
     let Some(mut held) = drain.take(alloc) else {
         return Status::EmptyHandle.number();
@@ -70,9 +70,9 @@ pub extern "C" fn span_drain_counts(
     batches: &mut u64,
     refused: &mut u64,
 ) -> u32
-    ensures counts { Ends drain.old.held (CountsLines batches.new refused.new) (meaning result) drain.new.held }
-    ensures batches { Keeps (meaning result) batches.old batches.new }
-    ensures refused { Keeps (meaning result) refused.old refused.new }
+    ensures counts { OnHeld drain.old.held (CountsLines batches.new refused.new) (meant result) drain.new.held }
+    ensures batches { Keeps (meant result) batches.old batches.new }
+    ensures refused { Keeps (meant result) refused.old refused.new }
 {
     let Some(held) = drain.take(alloc) else {
         return Status::EmptyHandle.number();
@@ -87,13 +87,9 @@ pub extern "C" fn span_drain_counts(
 /// calls are refused.
 #[unsafe(no_mangle)]
 pub extern "C" fn span_drain_free(alloc: Global, drain: &mut SpanDrain) -> u32
-    ensures status { meaning result
+    ensures status { meant result
         ≡ Some (if is_some drain.old.held then Status.Done else Status.EmptyHandle) }
     ensures empty { drain.new.held ≡ None }
 {
-    let Some(held) = drain.take(alloc) else {
-        return Status::EmptyHandle.number();
-    };
-    drop(held);
-    Status::Done.number()
+    drain.free(alloc).number()
 }

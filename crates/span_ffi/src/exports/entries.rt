@@ -1,14 +1,14 @@
 //! The calls that change a worker's stack.
 ghost use Rattle.std.specs.Prelude.{Some};
-ghost use Rattle.span_ffi.specs.Status.{meaning};
+ghost use Rattle.span_border.specs.Status.{meant};
 ghost use Rattle.span_ffi.specs.Registry.{OnCore};
-ghost use Rattle.span_ffi.specs.Ends.{Ends, Keeps};
+ghost use Rattle.span_border.specs.Ends.{OnHeld, Keeps};
 ghost use Rattle.span_ffi.specs.Calls.{Enters, Exits};
 
 use crate::exports::callers::{has_worker, id_of};
 use crate::registry::RingCore;
 use crate::registry_handle::SpanRegistry;
-use crate::status::Status;
+use span_border::{Holds, Status};
 use span_id::Fault;
 use std::alloc::Global;
 
@@ -40,8 +40,8 @@ pub extern "C" fn span_registry_enter(
     id: u64,
     first: &mut u32,
 ) -> u32
-    ensures entered { Ends registry.old.held (OnCore (Enters worker id first.new)) (meaning result) registry.new.held }
-    ensures kept { Keeps (meaning result) first.old first.new }
+    ensures entered { OnHeld registry.old.held (OnCore (Enters worker id first.new)) (meant result) registry.new.held }
+    ensures kept { Keeps (meant result) first.old first.new }
 {
     let Some(mut held) = registry.take(alloc) else {
         return Status::EmptyHandle.number();
@@ -79,8 +79,8 @@ pub extern "C" fn span_registry_exit(
     id: u64,
     closed: &mut u32,
 ) -> u32
-    ensures exited { Ends registry.old.held (OnCore (Exits worker id closed.new)) (meaning result) registry.new.held }
-    ensures kept { Keeps (meaning result) closed.old closed.new }
+    ensures exited { OnHeld registry.old.held (OnCore (Exits worker id closed.new)) (meant result) registry.new.held }
+    ensures kept { Keeps (meant result) closed.old closed.new }
 {
     let Some(mut held) = registry.take(alloc) else {
         return Status::EmptyHandle.number();

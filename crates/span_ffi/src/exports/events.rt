@@ -4,11 +4,11 @@ ghost use Rattle.std.specs.Arc.{arc_str_bytes};
 ghost use Rattle.span_id.specs.Meta.{plain_fields};
 ghost use Rattle.span_outlet.specs.Request.{event, told};
 ghost use Rattle.span_core.specs.Core.{are_keys};
-ghost use Rattle.span_ffi.specs.Status.{meaning};
+ghost use Rattle.span_border.specs.Status.{meant};
 ghost use Rattle.span_ffi.specs.Registry.{OnCore, WithCallsites};
-ghost use Rattle.span_ffi.specs.Ends.{Ends};
+ghost use Rattle.span_border.specs.Ends.{OnHeld};
 ghost use Rattle.span_ffi.specs.Data.{IsEventAt, said_fields};
-ghost use Rattle.span_ffi.specs.Calls.{Records, Tells, AnswersData};
+ghost use Rattle.span_ffi.specs.Calls.{Records, TellsEvent, AnswersData};
 ghost use Rattle.span_ffi.specs.Callsites.{TellsAt};
 
 use crate::callsites::Callsites;
@@ -17,8 +17,8 @@ use crate::exports::callers::{has_worker, id_of};
 use crate::reading::{read_fields, read_message, read_meta, unread};
 use crate::registry::{Registry, RingCore};
 use crate::registry_handle::SpanRegistry;
-use crate::status::Status;
 use crate::valid::{are_fields, is_event, is_told};
+use span_border::{Holds, Status};
 use span_id::{Fault, Field, Fields, SharedMeta};
 use std::alloc::Global;
 use std::sync::ArcStr;
@@ -76,7 +76,7 @@ pub extern "C" fn span_registry_record(
     fields: &[SpanField],
     texts: &[u8],
 ) -> u32
-    ensures { Ends registry.old.held (OnCore (Records worker id fields.now texts.now)) (meaning result)
+    ensures { OnHeld registry.old.held (OnCore (Records worker id fields.now texts.now)) (meant result)
         registry.new.held }
 {
     let Some(mut held) = registry.take(alloc) else {
@@ -96,7 +96,7 @@ fn event(
     fields: &[SpanField],
     texts: &[u8],
 ) -> Status
-    ensures { Tells worker meta.now message_len fields.now texts.now core.old result core.new }
+    ensures { TellsEvent worker meta.now message_len fields.now texts.now core.old result core.new }
 {
     if !has_worker(core, worker) {
         return Status::NoSuchWorker;
@@ -159,8 +159,8 @@ pub extern "C" fn span_registry_event(
     fields: &[SpanField],
     texts: &[u8],
 ) -> u32
-    ensures { Ends registry.old.held (OnCore (Tells worker meta.now message_len fields.now texts.now)) (meaning result)
-        registry.new.held }
+    ensures { OnHeld registry.old.held (OnCore (TellsEvent worker meta.now message_len fields.now texts.now))
+        (meant result) registry.new.held }
 {
     let Some(mut held) = registry.take(alloc) else {
         return Status::EmptyHandle.number();
@@ -211,8 +211,8 @@ pub extern "C" fn span_registry_event_at(
     fields: &[SpanField],
     texts: &[u8],
 ) -> u32
-    ensures { Ends registry.old.held (WithCallsites (TellsAt worker callsite message_len fields.now texts.now))
-        (meaning result) registry.new.held }
+    ensures { OnHeld registry.old.held (WithCallsites (TellsAt worker callsite message_len fields.now texts.now))
+        (meant result) registry.new.held }
 {
     let Some(mut held) = registry.take(alloc) else {
         return Status::EmptyHandle.number();

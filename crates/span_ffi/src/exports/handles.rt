@@ -1,14 +1,14 @@
 //! The handles of spans.
 ghost use Rattle.std.specs.Prelude.{Some};
-ghost use Rattle.span_ffi.specs.Status.{meaning};
+ghost use Rattle.span_border.specs.Status.{meant};
 ghost use Rattle.span_ffi.specs.Registry.{OnCore};
-ghost use Rattle.span_ffi.specs.Ends.{Ends, Keeps};
+ghost use Rattle.span_border.specs.Ends.{OnHeld, Keeps};
 ghost use Rattle.span_ffi.specs.Calls.{Clones, Releases};
 
 use crate::exports::callers::{has_worker, id_of};
 use crate::registry::RingCore;
 use crate::registry_handle::SpanRegistry;
-use crate::status::Status;
+use span_border::{Holds, Status};
 use span_id::Fault;
 use std::alloc::Global;
 
@@ -35,7 +35,7 @@ pub extern "C" fn span_registry_clone_span(
     worker: u32,
     id: u64,
 ) -> u32
-    ensures { Ends registry.old.held (OnCore (Clones worker id)) (meaning result) registry.new.held }
+    ensures { OnHeld registry.old.held (OnCore (Clones worker id)) (meant result) registry.new.held }
 {
     let Some(mut held) = registry.take(alloc) else {
         return Status::EmptyHandle.number();
@@ -73,9 +73,9 @@ pub extern "C" fn span_registry_try_close(
     id: u64,
     closed: &mut u32,
 ) -> u32
-    ensures released { Ends registry.old.held (OnCore (Releases worker id closed.new)) (meaning result)
+    ensures released { OnHeld registry.old.held (OnCore (Releases worker id closed.new)) (meant result)
         registry.new.held }
-    ensures kept { Keeps (meaning result) closed.old closed.new }
+    ensures kept { Keeps (meant result) closed.old closed.new }
 {
     let Some(mut held) = registry.take(alloc) else {
         return Status::EmptyHandle.number();

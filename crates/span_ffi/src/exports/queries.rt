@@ -1,27 +1,17 @@
 //! Questions, which change nothing.
-ghost use Rattle.std.specs.Prelude.{◌≡◌, Some, Option};
-ghost use Rattle.span_ffi.specs.Status.{meaning};
+ghost use Rattle.std.specs.Prelude.{Some};
+ghost use Rattle.span_border.specs.Status.{meant};
 ghost use Rattle.span_ffi.specs.Registry.{OnCore};
-ghost use Rattle.span_ffi.specs.Ends.{Ends, Keeps};
-ghost use Rattle.span_ffi.specs.Calls.{Finds, SeesCurrent, Counts, id_number};
+ghost use Rattle.span_border.specs.Ends.{OnHeld, Keeps};
+ghost use Rattle.span_ffi.specs.Calls.{Finds, SeesCurrent, Counts};
 
 use crate::data::{SpanCounts, SpanFound};
 use crate::exports::callers::{has_worker, id_of};
 use crate::registry::RingCore;
 use crate::registry_handle::SpanRegistry;
-use crate::status::Status;
-use span_id::{Fault, Id};
+use span_border::{Holds, Status, id_number};
+use span_id::Fault;
 use std::alloc::Global;
-
-// An id as a number, 0 where there is none.
-fn id_number(id: Option<Id>) -> u64
-    ensures { result ≡ id_number id }
-{
-    match id {
-        Some(id) => id.get(),
-        None => 0,
-    }
-}
 
 fn find(core: &RingCore, id: u64, found: &mut SpanFound) -> Status
     ensures found { Finds id found.new core.now result core.now }
@@ -51,8 +41,8 @@ pub extern "C" fn span_registry_find(
     id: u64,
     found: &mut SpanFound,
 ) -> u32
-    ensures found { Ends registry.old.held (OnCore (Finds id found.new)) (meaning result) registry.new.held }
-    ensures kept { Keeps (meaning result) found.old found.new }
+    ensures found { OnHeld registry.old.held (OnCore (Finds id found.new)) (meant result) registry.new.held }
+    ensures kept { Keeps (meant result) found.old found.new }
 {
     let Some(held) = registry.take(alloc) else {
         return Status::EmptyHandle.number();
@@ -81,8 +71,8 @@ pub extern "C" fn span_registry_current_span(
     worker: u32,
     id: &mut u64,
 ) -> u32
-    ensures current { Ends registry.old.held (OnCore (SeesCurrent worker id.new)) (meaning result) registry.new.held }
-    ensures kept { Keeps (meaning result) id.old id.new }
+    ensures current { OnHeld registry.old.held (OnCore (SeesCurrent worker id.new)) (meant result) registry.new.held }
+    ensures kept { Keeps (meant result) id.old id.new }
 {
     let Some(held) = registry.take(alloc) else {
         return Status::EmptyHandle.number();
@@ -112,8 +102,8 @@ pub extern "C" fn span_registry_counts(
     registry: &mut SpanRegistry,
     counts: &mut SpanCounts,
 ) -> u32
-    ensures counts { Ends registry.old.held (OnCore (Counts counts.new)) (meaning result) registry.new.held }
-    ensures kept { Keeps (meaning result) counts.old counts.new }
+    ensures counts { OnHeld registry.old.held (OnCore (Counts counts.new)) (meant result) registry.new.held }
+    ensures kept { Keeps (meant result) counts.old counts.new }
 {
     let Some(held) = registry.take(alloc) else {
         return Status::EmptyHandle.number();

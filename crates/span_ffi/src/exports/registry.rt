@@ -1,13 +1,13 @@
 //! The beginning and the end of a registry.
 ghost use Rattle.std.specs.Prelude.{◌≡◌, Some, None, is_some, if◌then◌else◌};
-ghost use Rattle.span_ffi.specs.Status.{meaning};
+ghost use Rattle.span_border.specs.Status.{meant};
 ghost use Rattle.span_ffi.specs.Opening.{Opens};
 
 use crate::data::{SpanLayer, SpanLimits, SpanRule};
 use crate::drain_handle::SpanDrain;
 use crate::opening::open;
 use crate::registry_handle::SpanRegistry;
-use crate::status::Status;
+use span_border::{Holds, Status};
 use std::alloc::Global;
 
 /// Fills two empty handles with a new registry and the other end of its ring. Each layer takes the next of the rules for
@@ -22,7 +22,7 @@ pub extern "C" fn span_registry_new(
     rules: &[SpanRule],
     texts: &[u8],
 ) -> u32
-    ensures { Opens limits.now layers.now rules.now texts.now registry.old.held drain.old.held (meaning result)
+    ensures { Opens limits.now layers.now rules.now texts.now registry.old.held drain.old.held (meant result)
         registry.new.held drain.new.held }
 {
     if !(registry.is_empty(alloc) && drain.is_empty(alloc)) {
@@ -41,13 +41,9 @@ pub extern "C" fn span_registry_new(
 /// Gives a registry and its memory up: the handle is empty then. Its drain may still be read.
 #[unsafe(no_mangle)]
 pub extern "C" fn span_registry_free(alloc: Global, registry: &mut SpanRegistry) -> u32
-    ensures status { meaning result
+    ensures status { meant result
         ≡ Some (if is_some registry.old.held then Status.Done else Status.EmptyHandle) }
     ensures empty { registry.new.held ≡ None }
 {
-    let Some(held) = registry.take(alloc) else {
-        return Status::EmptyHandle.number();
-    };
-    drop(held);
-    Status::Done.number()
+    registry.free(alloc).number()
 }

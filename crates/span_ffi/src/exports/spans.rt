@@ -3,11 +3,11 @@ ghost use Rattle.std.specs.Prelude.{◌≡◌, ◌≤◌, ◌<◌, ◌↔◌, fa
 ghost use Rattle.span_outlet.specs.Request.{new_span};
 ghost use Rattle.span_core.specs.Step.{is_open};
 ghost use Rattle.span_core.specs.Parent.{parent_found};
-ghost use Rattle.span_ffi.specs.Status.{meaning};
+ghost use Rattle.span_border.specs.Status.{meant};
 ghost use Rattle.span_ffi.specs.Registry.{OnCore, WithCallsites};
-ghost use Rattle.span_ffi.specs.Ends.{Ends, Keeps};
+ghost use Rattle.span_border.specs.Ends.{OnHeld, Keeps};
 ghost use Rattle.span_ffi.specs.Data.{IsMeta, AreFields, said_meta, said_fields, said_parent, behind_meta};
-ghost use Rattle.span_ffi.specs.Calls.{MakesSpan, IsMadeOrRefused};
+ghost use Rattle.span_ffi.specs.Calls.{MakesSaid, IsMadeOrRefused};
 ghost use Rattle.span_ffi.specs.Callsites.{MakesSpanAt};
 ghost use Rattle.span_ffi.specs.inside.Parents.{AreAlike};
 
@@ -17,8 +17,8 @@ use crate::exports::callers::{has_worker, id_of};
 use crate::reading::{read_fields, read_meta, unread};
 use crate::registry::{Registry, RingCore};
 use crate::registry_handle::SpanRegistry;
-use crate::status::Status;
 use crate::valid::{are_fields, is_span};
+use span_border::{Holds, Status};
 use span_core::laws::each_slot_has_one_open_span;
 use span_id::{Fault, Fields, Id, SharedMeta};
 use span_outlet::ParentOf;
@@ -106,7 +106,7 @@ fn make_span(
     texts: &[u8],
     id: &mut u64,
 ) -> Status
-    ensures made { MakesSpan worker parent_kind parent meta.now fields.now texts.now id.new core.old result core.new }
+    ensures made { MakesSaid worker parent_kind parent meta.now fields.now texts.now id.new core.old result core.new }
     ensures kept { Keeps (Some result) id.old id.new }
 {
     if !has_worker(core, worker) {
@@ -135,9 +135,9 @@ pub extern "C" fn span_registry_new_span(
     texts: &[u8],
     id: &mut u64,
 ) -> u32
-    ensures made { Ends registry.old.held (OnCore (MakesSpan worker parent_kind parent meta.now fields.now texts.now
-        id.new)) (meaning result) registry.new.held }
-    ensures kept { Keeps (meaning result) id.old id.new }
+    ensures made { OnHeld registry.old.held (OnCore (MakesSaid worker parent_kind parent meta.now fields.now texts.now
+        id.new)) (meant result) registry.new.held }
+    ensures kept { Keeps (meant result) id.old id.new }
 {
     let Some(mut held) = registry.take(alloc) else {
         return Status::EmptyHandle.number();
@@ -203,9 +203,9 @@ pub extern "C" fn span_registry_new_span_at(
     texts: &[u8],
     id: &mut u64,
 ) -> u32
-    ensures made { Ends registry.old.held (WithCallsites (MakesSpanAt worker parent_kind parent callsite fields.now
-        texts.now id.new)) (meaning result) registry.new.held }
-    ensures kept { Keeps (meaning result) id.old id.new }
+    ensures made { OnHeld registry.old.held (WithCallsites (MakesSpanAt worker parent_kind parent callsite fields.now
+        texts.now id.new)) (meant result) registry.new.held }
+    ensures kept { Keeps (meant result) id.old id.new }
 {
     let Some(mut held) = registry.take(alloc) else {
         return Status::EmptyHandle.number();

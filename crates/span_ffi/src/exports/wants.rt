@@ -1,7 +1,7 @@
 //! Whether anything listens.
 ghost use Rattle.std.specs.Prelude.{◌≡◌, Some, IfOk, string_bytes};
-ghost use Rattle.span_ffi.specs.Status.{meaning};
-ghost use Rattle.span_ffi.specs.Ends.{Ends, Keeps};
+ghost use Rattle.span_border.specs.Status.{meant};
+ghost use Rattle.span_border.specs.Ends.{OnHeld, Keeps};
 ghost use Rattle.span_ffi.specs.Registry.{OnCore, WithCallsites};
 ghost use Rattle.span_ffi.specs.Wants.{TellsWanted, TellsWantedAt};
 
@@ -9,7 +9,7 @@ use crate::callsites::Callsites;
 use crate::reading::read_level;
 use crate::registry::RingCore;
 use crate::registry_handle::SpanRegistry;
-use crate::status::Status;
+use span_border::{Holds, Status};
 use span_id::{Fault, Level, Meta};
 use std::alloc::{AllocError, Global};
 use std::str;
@@ -56,9 +56,9 @@ pub extern "C" fn span_registry_wants(
     target: &[u8],
     wanted: &mut u32,
 ) -> u32
-    ensures wanted { Ends registry.old.held (OnCore (TellsWanted level target.now wanted.new)) (meaning result)
+    ensures wanted { OnHeld registry.old.held (OnCore (TellsWanted level target.now wanted.new)) (meant result)
         registry.new.held }
-    ensures kept { Keeps (meaning result) wanted.old wanted.new }
+    ensures kept { Keeps (meant result) wanted.old wanted.new }
 {
     let Some(held) = registry.take(alloc) else {
         return Status::EmptyHandle.number();
@@ -87,9 +87,9 @@ pub extern "C" fn span_registry_callsite_wants(
     callsite: u32,
     wanted: &mut u32,
 ) -> u32
-    ensures wanted { Ends registry.old.held (WithCallsites (TellsWantedAt callsite wanted.new)) (meaning result)
+    ensures wanted { OnHeld registry.old.held (WithCallsites (TellsWantedAt callsite wanted.new)) (meant result)
         registry.new.held }
-    ensures kept { Keeps (meaning result) wanted.old wanted.new }
+    ensures kept { Keeps (meant result) wanted.old wanted.new }
 {
     let Some(held) = registry.take(alloc) else {
         return Status::EmptyHandle.number();

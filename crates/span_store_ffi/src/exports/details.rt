@@ -1,30 +1,28 @@
 //! Which spans are there, and what holds each.
-ghost use Rattle.std.specs.Prelude.{◌≡◌, ◌≤◌, ◌++◌, map, drop, length, Some};
-ghost use Rattle.span_store_ffi.specs.Status.{meaning};
-ghost use Rattle.span_store_ffi.specs.Ends.{Ends, Keeps};
-ghost use Rattle.span_store_ffi.specs.Details.{details_as, TellsDetails, KeepsLength};
+ghost use Rattle.std.specs.Prelude.{Some};
+ghost use Rattle.span_border.specs.Status.{meant};
+ghost use Rattle.span_border.specs.Ends.{OnHeld, Keeps};
+ghost use Rattle.span_border.specs.Buffers.{KeepsLength};
+ghost use Rattle.span_store_ffi.specs.Details.{details_as, TellsDetails};
 
 use crate::data::SpanStoreDetails;
-use crate::exports::id_number;
 use crate::handle::SpanStore;
-use crate::status::Status;
+use span_border::{Holds, Status, ToldOf, id_number, write_told};
 use span_store::{SpanDetails, Store};
 use std::alloc::Global;
 
-// Copies what is known of spans to the beginning of a buffer that has room for it.
-fn copy_details(details: &[SpanDetails], into: &mut [SpanStoreDetails])
-    requires { length details.now ≤ length into.old }
-    ensures { into.new ≡ map details_as details.now ++ drop (length details.now) into.old }
-{
-    for (place, one) in details.iter().enumerate() {
-        into[place] = SpanStoreDetails {
+impl ToldOf<SpanDetails> for SpanStoreDetails {
+    ghost told = { details_as };
+
+    fn told_of(one: &SpanDetails) -> SpanStoreDetails {
+        SpanStoreDetails {
             id: one.id.get(),
             parent: id_number(one.parent),
             word: one.word,
             handles: one.handles,
             children: one.children,
             closing: u32::from(one.closing),
-        };
+        }
     }
 }
 
@@ -33,16 +31,10 @@ fn details(store: &Store, into: &mut [SpanStoreDetails], len: &mut usize) -> Sta
     ensures into { Keeps (Some result) into.old into.new }
     ensures len { KeepsLength (Some result) len.old len.new }
 {
-    let details = match store.span_details() {
-        Ok(details) => details,
-        Err(fault) => return Status::Refused(fault),
-    };
-    *len = details.len();
-    if details.len() > into.len() {
-        return Status::ShortBuffer;
+    match store.span_details() {
+        Ok(details) => write_told(details.as_slice(), into, len),
+        Err(fault) => Status::Refused(fault),
     }
-    copy_details(details.as_slice(), into);
-    Status::Done
 }
 
 /// Writes what is known of each span that is there to the beginning of a buffer, by ascending slot, and tells how many
@@ -54,14 +46,14 @@ pub extern "C" fn span_store_details(
     into: &mut [SpanStoreDetails],
     len: &mut usize,
 ) -> u32
-    ensures details { Ends store.old.held (TellsDetails into.old into.new len.new) (meaning result) store.new.held }
-    ensures into { Keeps (meaning result) into.old into.new }
-    ensures len { KeepsLength (meaning result) len.old len.new }
+    ensures details { OnHeld store.old.held (TellsDetails into.old into.new len.new) (meant result) store.new.held }
+    ensures into { Keeps (meant result) into.old into.new }
+    ensures len { KeepsLength (meant result) len.old len.new }
 {
     let Some(held) = store.take(alloc) else {
         return Status::EmptyHandle.number();
     };
-    let status = details(&held.store, into, len);
+    let status = details(&held, into, len);
     store.put(held);
     status.number()
 }

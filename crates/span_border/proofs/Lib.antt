@@ -1,0 +1,4 @@
+pub mod Words
+pub mod HandleBox
+pub mod HandleSend
+mod Examples

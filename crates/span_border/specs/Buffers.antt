@@ -1,0 +1,18 @@
+-- How texts and lists go into a buffer.
+use Rattle.std.specs.Prelude.{◌≡◌, ℕ, ◌<◌, ◌≤◌, List, ◌++◌, length, drop, Option, Some}
+use Rattle.span_border.specs.declared.status.Status.{Status}
+use Rattle.span_border.specs.declared.status.Status.TheVariants.{Done, ShortBuffer}
+
+-- The bytes of a text, or other things, go into a buffer: they stand at its beginning, and how many they are is told.
+-- Where they are more than it has room for, only that is told.
+abbrev pub WritesAll : {X : Type 0} → List X → List X → Status → List X → ℕ → Type 0
+WritesAll things old Done new len =
+    (length things ≤ length old) × (new ≡ things ++ drop (length things) old) × (len ≡ length things)
+WritesAll things old ShortBuffer new len = (length old < length things) × (new ≡ old) × (len ≡ length things)
+WritesAll things old _ new len = ⊥
+
+-- a length is as it was, unless one was told
+abbrev pub KeepsLength : Option Status → ℕ → ℕ → Type 0
+KeepsLength (Some Done) old new = Unit {0}
+KeepsLength (Some ShortBuffer) old new = Unit {0}
+KeepsLength _ old new = new ≡ old

@@ -1,0 +1,5 @@
+pub mod Status
+pub mod Ends
+pub mod Numbers
+pub mod Buffers
+pub mod inside

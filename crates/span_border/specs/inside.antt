@@ -1,0 +1,2 @@
+-- What only the proofs of this crate need: no public clause cites it.
+pub mod HandleOwned

@@ -1,0 +1,15 @@
+//! What a C caller hands in and gets back: handles, statuses, numbers and buffers.
+#![tactic(auto)]
+
+mod buffers;
+mod handle;
+mod holds;
+mod numbers;
+mod parts;
+mod status;
+
+pub use buffers::{ToldOf, write_all, write_told};
+pub use handle::Handle;
+pub use holds::Holds;
+pub use numbers::id_number;
+pub use status::Status;
