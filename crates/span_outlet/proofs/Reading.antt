@@ -1,9 +1,8 @@
 -- Batches that are taken until a line waits, and lines that are given out.
-use Rattle.std.proofs.Common.{◌≡◌, ℕ, ◌+◌, ◌-◌, ◌^◌, ◌≤◌, Option, Some, None, List, [], ◌∷◌, ◌++◌, length, map, refl, sym, ap, ◌∙◌, subst, arith, append_assoc}
+use Rattle.std.proofs.Common.{◌≡◌, ℕ, ◌+◌, ◌-◌, ◌^◌, ◌≤◌, List, [], ◌∷◌, ◌++◌, length, map, refl, sym, ap, ◌∙◌, subst, arith, append_assoc}
 use mathlib.Core.List.{reverse}
 use Rattle.std.specs.Prelude.{All, flat_map}
 use Rattle.std.specs.List.{enumerate_from}
-use Rattle.std.specs.Option.{option_to_list}
 use Rattle.std.proofs.lemmas.List.{append-nil, length-append, length-map, map-append, reverse-append, reverse-reverse, nil_from_length}
 use Rattle.std.proofs.lemmas.List.Concat.{flat_map-append}
 use Rattle.std.proofs.lemmas.List.Elements.{All-nil, All-tail, All-weaker}
@@ -12,13 +11,13 @@ use Rattle.span_outlet.specs.declared.posted.Posted.{Posted}
 use Rattle.span_outlet.specs.declared.line.Line.{Line}
 use Rattle.span_outlet.specs.Batch.{PlainBatch}
 use Rattle.span_outlet.specs.Outlet.{RingName}
-use Rattle.span_outlet.specs.Lines.{plain_line}
+use Rattle.span_outlet.specs.Lines.{PlainLine, plain_line, lines_of}
 use Rattle.span_outlet.specs.Kept.{numbered_in, numbered, AreKept, GainsLines}
 use Rattle.span_outlet.specs.Kept.AreTold.{none}
-use Rattle.span_outlet.specs.LineReader.{LineReaderView, numbered_from, TakesBatches, AreLeft}
+use Rattle.span_outlet.specs.LineReader.{LineReaderView, numbered_from, TakesBatches, AreLeft, HasGiven}
 use Rattle.span_outlet.specs.Posted.{plain_posted}
 use Rattle.span_outlet.specs.inside.Reading.{reader_view}
-use Rattle.span_outlet.proofs.Keeping.{gains_none, gains_more, kept_more}
+use Rattle.span_outlet.proofs.Keeping.{gains_none, gains_more, kept_more, whole}
 use Rattle.span_outlet.proofs.Apart.{of_one_batch}
 
 -- ---- the notes of batches
@@ -40,7 +39,7 @@ takes_none view low = record { batches = []; taken = sym (append-nil view.taken)
 
 -- the ring was looked at, and no batch was taken
 pub takes_nothing : (name same : RingName) (forms : List Form) (old new : List Posted) (lines : List Line) (refused : ℕ) → new ≡ old → lines ≡ [] → refused ≤ 2 ^ 64 - 1
-    → TakesBatches (reader_view name 0 forms old [] refused) (reader_view same 0 forms new lines refused)
+    → TakesBatches (reader_view name 0 forms old [] [] refused) (reader_view same 0 forms new [] lines refused)
 takes_nothing name same forms old new lines refused is nothing low = record {
   batches = [];
   taken = ap (map plain_posted) is ∙ sym (append-nil (map plain_posted old));
@@ -51,9 +50,9 @@ takes_nothing name same forms old new lines refused is nothing low = record {
 pub takes_more : (name same other : RingName) (forms kept still : List Form) (old mid new : List Posted) (batch : Posted) (number : ℕ)
     (lines after : List Line) (refused some more : ℕ)
     → kept ≡ forms → number ≡ length mid → new ≡ mid ++ batch ∷ []
-    → TakesBatches (reader_view name 0 forms old [] refused) (reader_view same 0 kept mid lines some)
+    → TakesBatches (reader_view name 0 forms old [] [] refused) (reader_view same 0 kept mid [] lines some)
     → GainsLines kept (numbered_in (number, plain_posted batch)) (map plain_line lines) some (map plain_line after) more
-    → TakesBatches (reader_view name 0 forms old [] refused) (reader_view other 0 still new after more)
+    → TakesBatches (reader_view name 0 forms old [] [] refused) (reader_view other 0 still new [] after more)
 takes_more name same other forms kept still old mid new batch number lines after refused some more kept_is number_is is takes gains =
     let first = length (map plain_posted old) in
     let count : length mid ≡ first + length takes.batches = sym (length-map mid plain_posted) ∙ ap length takes.taken ∙ length-append (map plain_posted old) takes.batches in
@@ -94,49 +93,56 @@ none_of_last taken lines nothing = subst (OfLast taken) (sym nothing) (All-nil (
 -- ---- the lines are those that are left
 
 -- nothing was taken yet
-pub nothing_left : (name : RingName) (looks : ℕ) (forms : List Form) (taken : List Posted) (lines : List Line) → taken ≡ [] → lines ≡ [] → AreLeft (reader_view name looks forms taken lines 0)
-nothing_left name looks forms taken lines none_taken no_lines = rw (none_taken, no_lines) (record { given = []; kept = record { missed = []; each = none; counted = refl } })
+pub nothing_left : (name : RingName) (looks : ℕ) (forms : List Form) (taken : List Posted) (given : List PlainLine) (lines : List Line) → taken ≡ [] → given ≡ [] → lines ≡ []
+    → AreLeft (reader_view name looks forms taken given lines 0)
+nothing_left name looks forms taken given lines none_taken none_given no_lines =
+    rw (none_taken, none_given, no_lines) (record { kept = record { missed = []; each = none; counted = refl } })
 
 -- batches more were taken where no line waited
-pub more_left : (old new : LineReaderView) → old.waiting ≡ [] → new.forms ≡ old.forms → AreLeft old → TakesBatches old new → AreLeft new
-more_left old new nothing same left takes =
+pub more_left : (old new : LineReaderView) → old.waiting ≡ [] → new.forms ≡ old.forms → new.given ≡ old.given → AreLeft old → TakesBatches old new → AreLeft new
+more_left old new nothing same none_given left takes =
     let gains = takes.gains in
-    let before : AreKept old.forms (numbered old.taken) left.given old.refused =
-    subst (λ ls. AreKept old.forms (numbered old.taken) ls old.refused) (ap (λ ls. left.given ++ ls) nothing ∙ append-nil left.given) left.kept in
+    let before : AreKept old.forms (numbered old.taken) old.given old.refused =
+    subst (λ ls. AreKept old.forms (numbered old.taken) ls old.refused) (ap (λ ls. old.given ++ ls) nothing ∙ append-nil old.given) left.kept in
     let waits : new.waiting ≡ gains.added = gains.lines_are ∙ ap (λ ls. ls ++ gains.added) nothing in
-    let further : GainsLines old.forms (numbered_from (length old.taken) takes.batches) left.given old.refused (left.given ++ new.waiting) new.refused =
-    record { added = gains.added; missed = gains.missed; each = gains.each; lines_are = ap (λ ls. left.given ++ ls) waits; counted = gains.counted } in
+    let further : GainsLines old.forms (numbered_from (length old.taken) takes.batches) old.given old.refused (new.given ++ new.waiting) new.refused =
+    record {
+      added = gains.added;
+      missed = gains.missed;
+      each = gains.each;
+      lines_are = ap (λ ls. ls ++ new.waiting) none_given ∙ ap (λ ls. old.given ++ ls) waits;
+      counted = gains.counted;
+    } in
     let notes : numbered old.taken ++ numbered_from (length old.taken) takes.batches ≡ numbered new.taken =
     sym (ap numbered takes.taken ∙ numbered_append 0 old.taken takes.batches ∙ ap (λ n. numbered old.taken ++ numbered_from n takes.batches) (omega arith)) in
     record {
-      given = left.given;
-      kept = subst (λ fs. AreKept fs (numbered new.taken) (left.given ++ new.waiting) new.refused) (sym same)
-          (subst (λ ns. AreKept old.forms ns (left.given ++ new.waiting) new.refused) notes
-          (kept_more old.forms _ _ left.given (left.given ++ new.waiting) old.refused new.refused before further));
+      kept = subst (λ fs. AreKept fs (numbered new.taken) (new.given ++ new.waiting) new.refused) (sym same)
+          (subst (λ ns. AreKept old.forms ns (new.given ++ new.waiting) new.refused) notes
+          (kept_more old.forms _ _ old.given (new.given ++ new.waiting) old.refused new.refused before further));
     }
 
 -- The lines as they are kept, the last one first, are those that were told. Before, there were none.
 pub as_told : (lines kept : List Line) → kept ≡ reverse lines → reverse kept ≡ lines
 as_told lines kept is = ap reverse is ∙ reverse-reverse lines
 
-pub filled_takes : (name seen same : RingName) (times counted : ℕ) (forms kept : List Form) (old looked new : List Posted) (before lines waiting : List Line) (refused more : ℕ)
-    → before ≡ [] → looked ≡ old → waiting ≡ lines → TakesBatches (reader_view seen 0 forms looked [] refused) (reader_view same 0 kept new lines more)
-    → TakesBatches (reader_view name times forms old before refused) (reader_view same counted kept new waiting more)
-filled_takes name seen same times counted forms kept old looked new before lines waiting refused more nothing looks is takes =
-    let from_old : TakesBatches (reader_view seen 0 forms old before refused) (reader_view same 0 kept new lines more) =
-    subst (λ bs. TakesBatches (reader_view seen 0 forms bs before refused) (reader_view same 0 kept new lines more)) looks
-    (subst (λ ls. TakesBatches (reader_view seen 0 forms looked ls refused) (reader_view same 0 kept new lines more)) (sym nothing) takes) in
-    let to_new : TakesBatches (reader_view seen 0 forms old before refused) (reader_view same 0 kept new waiting more) =
-    subst (λ ls. TakesBatches (reader_view seen 0 forms old before refused) (reader_view same 0 kept new ls more)) (sym is) from_old in
+pub filled_takes : (name seen same : RingName) (times counted : ℕ) (forms kept : List Form) (old looked new : List Posted) (given : List PlainLine) (before lines waiting : List Line) (refused more : ℕ)
+    → before ≡ [] → looked ≡ old → waiting ≡ lines → TakesBatches (reader_view seen 0 forms looked [] [] refused) (reader_view same 0 kept new [] lines more)
+    → TakesBatches (reader_view name times forms old given before refused) (reader_view same counted kept new given waiting more)
+filled_takes name seen same times counted forms kept old looked new given before lines waiting refused more nothing looks is takes =
+    let from_old : TakesBatches (reader_view seen 0 forms old [] before refused) (reader_view same 0 kept new [] lines more) =
+    subst (λ bs. TakesBatches (reader_view seen 0 forms bs [] before refused) (reader_view same 0 kept new [] lines more)) looks
+    (subst (λ ls. TakesBatches (reader_view seen 0 forms looked [] ls refused) (reader_view same 0 kept new [] lines more)) (sym nothing) takes) in
+    let to_new : TakesBatches (reader_view seen 0 forms old [] before refused) (reader_view same 0 kept new [] waiting more) =
+    subst (λ ls. TakesBatches (reader_view seen 0 forms old [] before refused) (reader_view same 0 kept new [] ls more)) (sym is) from_old in
     record { batches = to_new.batches; taken = to_new.taken; gains = to_new.gains }
 
-pub filled_left : (name seen same : RingName) (times counted : ℕ) (forms kept : List Form) (old looked new : List Posted) (before lines waiting : List Line) (refused more : ℕ)
+pub filled_left : (name seen same : RingName) (times counted : ℕ) (forms kept : List Form) (old looked new : List Posted) (given : List PlainLine) (before lines waiting : List Line) (refused more : ℕ)
     → before ≡ [] → kept ≡ forms → looked ≡ old → waiting ≡ lines
-    → AreLeft (reader_view name times forms old before refused) → TakesBatches (reader_view seen 0 forms looked [] refused) (reader_view same 0 kept new lines more)
-    → AreLeft (reader_view same counted kept new waiting more)
-filled_left name seen same times counted forms kept old looked new before lines waiting refused more nothing kept_is looks is left takes =
-    more_left (reader_view name times forms old before refused) (reader_view same counted kept new waiting more) (ap (map plain_line) nothing) kept_is left
-    (filled_takes name seen same times counted forms kept old looked new before lines waiting refused more nothing looks is takes)
+    → AreLeft (reader_view name times forms old given before refused) → TakesBatches (reader_view seen 0 forms looked [] [] refused) (reader_view same 0 kept new [] lines more)
+    → AreLeft (reader_view same counted kept new given waiting more)
+filled_left name seen same times counted forms kept old looked new given before lines waiting refused more nothing kept_is looks is left takes =
+    more_left (reader_view name times forms old given before refused) (reader_view same counted kept new given waiting more) (ap (map plain_line) nothing) kept_is refl left
+    (filled_takes name seen same times counted forms kept old looked new given before lines waiting refused more nothing looks is takes)
 
 -- where nothing is left in the ring
 pub all_taken : (taken standing : List Posted) (lines waiting : List Line) (sent : List PlainBatch) → waiting ≡ lines → (lines ≡ [] → standing ≡ []) → map plain_posted (taken ++ standing) ≡ sent
@@ -145,28 +151,30 @@ all_taken taken standing lines waiting sent is rest fifo nothing =
     let no_lines : lines ≡ [] = nil_from_length lines (sym (length-map lines plain_line) ∙ ap length (ap (map plain_line) (sym is) ∙ nothing)) in
     ap (map plain_posted) (sym (ap (λ l. taken ++ l) (rest no_lines) ∙ append-nil taken)) ∙ fifo
 
+-- then what was given out is all that there is
+pub all_given : (view : LineReaderView) (sent : List PlainBatch) → AreLeft view → view.taken ≡ sent → view.waiting ≡ [] → HasGiven sent view
+all_given view sent left all nothing =
+    let given : AreKept view.forms (numbered view.taken) view.given view.refused =
+    subst (λ ls. AreKept view.forms (numbered view.taken) ls view.refused) (ap (λ ls. view.given ++ ls) nothing ∙ append-nil view.given) left.kept in
+    record { kept = subst (λ bs. AreKept view.forms (numbered bs) view.given view.refused) all given }
+
+pub all_whole : (view : LineReaderView) (sent : List PlainBatch) → HasGiven sent view → view.refused ≡ 0 → view.given ≡ lines_of view.forms sent
+all_whole view sent has none_refused = whole view.forms sent view.given view.refused has.kept none_refused
+
 -- ---- a line is given out
 
 -- it was the last of the lines as they are kept
-pub first_out : (old new : List Line) (line : Option Line) → old ≡ new ++ option_to_list line → reverse old ≡ option_to_list line ++ reverse new
-first_out old new None is = ap reverse (is ∙ append-nil new)
-first_out old new (Some line) is = ap reverse is ∙ reverse-append new (line ∷ [])
+pub first_out : (old new : List Line) (line : Line) → old ≡ new ++ line ∷ [] → reverse old ≡ line ∷ reverse new
+first_out old new line is = ap reverse is ∙ reverse-append new (line ∷ [])
 
-all_rest : {X : Type 0} (P : X → Type 0) (xs ys : List X) → All P (xs ++ ys) → All P ys
-all_rest P [] ys each = each
-all_rest P (x ∷ xs) ys each = all_rest P xs ys (All-tail P x (xs ++ ys) each)
+pub rest_left : (name : RingName) (looks : ℕ) (forms : List Form) (taken : List Posted) (given after : List PlainLine) (lines rest : List Line) (line : Line) (refused : ℕ)
+    → lines ≡ line ∷ rest → after ≡ given ++ plain_line line ∷ []
+    → AreLeft (reader_view name looks forms taken given lines refused) → AreLeft (reader_view name looks forms taken after rest refused)
+rest_left name looks forms taken given after lines rest line refused is one_more left =
+    let all : given ++ map plain_line lines ≡ after ++ map plain_line rest =
+    (ap (λ ls. given ++ map plain_line ls) is ∙ sym (append_assoc given (plain_line line ∷ []) (map plain_line rest)) ∙ ap (λ ls. ls ++ map plain_line rest) (sym one_more)) in
+    record { kept = subst (λ ls. AreKept forms (numbered (map plain_posted taken)) ls refused) all left.kept }
 
-pub rest_left : (name : RingName) (looks : ℕ) (forms : List Form) (taken : List Posted) (lines out rest : List Line) (refused : ℕ) → lines ≡ out ++ rest
-    → AreLeft (reader_view name looks forms taken lines refused) → AreLeft (reader_view name looks forms taken rest refused)
-rest_left name looks forms taken lines out rest refused is left =
-    let all : left.given ++ map plain_line lines ≡ (left.given ++ map plain_line out) ++ map plain_line rest =
-    (ap (λ ls. left.given ++ map plain_line ls) is ∙ ap (λ ls. left.given ++ ls) (map-append plain_line out rest) ∙ sym (append_assoc left.given (map plain_line out) (map plain_line rest))) in
-    record {
-      given = left.given ++ map plain_line out;
-      kept = subst (λ ls. AreKept forms (numbered (map plain_posted taken)) ls refused) all left.kept;
-    }
-
-pub rest_of_last : (taken : List Posted) (lines out rest : List Line) → lines ≡ out ++ rest → OfLast taken lines → OfLast taken rest
-rest_of_last taken lines out rest is each =
-    all_rest (λ line. line.batch + 1 ≡ length (map plain_posted taken)) (map plain_line out) (map plain_line rest)
-    (subst (All (λ line. line.batch + 1 ≡ length (map plain_posted taken))) (ap (map plain_line) is ∙ map-append plain_line out rest) each)
+pub rest_of_last : (taken : List Posted) (lines rest : List Line) (line : Line) → lines ≡ line ∷ rest → OfLast taken lines → OfLast taken rest
+rest_of_last taken lines rest line is each =
+    All-tail (λ line. line.batch + 1 ≡ length (map plain_posted taken)) (plain_line line) (map plain_line rest) (subst (OfLast taken) is each)

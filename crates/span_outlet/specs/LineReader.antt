@@ -8,12 +8,13 @@ use Rattle.span_outlet.specs.Lines.{PlainLine}
 use Rattle.span_outlet.specs.Kept.{AreKept, GainsLines, NumberedNote, numbered, numbered_in}
 
 -- the name of its ring, how often it looked there for batches, the forms in which it writes, the batches that it took,
--- the lines of their notes that were not given out yet, in order, and how many notes were missed
+-- the lines of their notes that it gave out and those that wait, both in order, and how many notes were missed
 pub record LineReaderView : Type 0 where
   pub name : RingName
   pub looks : ℕ
   pub forms : List Form
   pub taken : List PlainBatch
+  pub given : List PlainLine
   pub waiting : List PlainLine
   pub refused : ℕ
 
@@ -34,11 +35,14 @@ abbrev pub looks_of_fill : List PlainLine → ℕ → ℕ
 looks_of_fill [] looks = one_more looks
 looks_of_fill (_ ∷ _) looks = looks
 
--- The lines that wait are the last ones of all that was taken: with those given out before them they are its lines, but
--- for the notes that were missed.
+-- The lines that wait are what is left of all that was taken: those that were given out and they, in this order, are its
+-- lines, but for the notes that were missed.
 pub record AreLeft (view : LineReaderView) : Type 0 where
-  pub given : List PlainLine
-  pub kept : AreKept view.forms (numbered view.taken) (given ++ view.waiting) view.refused
+  pub kept : AreKept view.forms (numbered view.taken) (view.given ++ view.waiting) view.refused
+
+-- It has given out the lines of this history, each once and in order, but for the notes that were missed.
+pub record HasGiven (history : List PlainBatch) (view : LineReaderView) : Type 0 where
+  pub kept : AreKept view.forms (numbered history) view.given view.refused
 
 -- No more waits than one batch brought: each line that waits is of the last batch taken.
 abbrev pub AreOfLast : LineReaderView → Type 0

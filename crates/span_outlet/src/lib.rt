@@ -4,6 +4,7 @@
 
 mod batch;
 mod drain;
+mod given_out;
 mod kept;
 mod known_event;
 mod latest;

@@ -1,25 +1,27 @@
 //! What takes the batches out of a ring and gives out the lines of their notes, one after another.
 ghost use Rattle.std.specs.Prelude.{◌≡◌, ◌<◌, ◌+◌, ◌∷◌, [], ◌++◌, ◌↔◌, false, Some, IfSome, IfNone, IsTrue, map, take, length, slice_get};
 ghost use Rattle.rtrb.specs.Ring.{received, known_items, ConsumerLooked};
-ghost use Rattle.span_outlet.specs.Lines.{plain_line};
+ghost use Rattle.span_outlet.specs.Lines.{plain_line, lines_of};
 ghost use Rattle.span_outlet.specs.Outlet.{one_more};
-ghost use Rattle.span_outlet.specs.LineReader.{AreLeft, AreOfLast, TakesBatches, looks_of_fill};
+ghost use Rattle.span_outlet.specs.LineReader.{AreLeft, AreOfLast, HasGiven, TakesBatches, looks_of_fill};
 ghost use Rattle.span_outlet.specs.inside.Ends.{name_of_consumer};
 ghost use Rattle.span_outlet.specs.Posted.{plain_posted};
 ghost use Rattle.span_outlet.specs.inside.Reading.{reader_view};
 
+use crate::given_out::GivenOut;
 use crate::line::Line;
 use crate::ring::{Consuming, Ring, Tap};
 use crate::told::Told;
+use span_known::KnownValue;
 use span_layers::{Formatters, Say, Tellers};
 use std::alloc::Global;
 use std::marker::Model;
 
 /// Takes the batches out of a ring, and gives out the lines of their notes, each once and in order.
 ///
-/// It keeps no line that it gave out, and takes a batch only where no line waits. So it keeps at most the lines of one
-/// batch. It takes no lock, so it may run beside the core, in a thread of its own. Notes are missed as by a `Drain`.
-/// `V` makes the texts.
+/// It keeps no line that it gave out, which contracts alone know, and takes a batch only where no line waits. So it keeps
+/// at most the lines of one batch. It takes no lock, so it may run beside the core, in a thread of its own. Notes are
+/// missed as by a `Drain`. `V` makes the texts.
 #[derive(Drop)]
 pub struct LineReader<V = Formatters> {
     consumer: Consuming,
@@ -28,6 +30,8 @@ pub struct LineReader<V = Formatters> {
     taken: u64,
     // The lines that wait, the last one first: so the first one can be popped.
     told: Told,
+    // The lines that it gave out. It has no bytes.
+    given: KnownValue<GivenOut>,
     formatters: V,
 }
 
@@ -37,19 +41,20 @@ impl<V> Model for LineReader<V> {
     ghost use Rattle.rtrb.specs.Ring.{received};
     ghost use Rattle.span_outlet.specs.LineReader.{AreLeft, AreOfLast, LineReaderView};
     ghost use Rattle.span_outlet.specs.inside.Ends.{name_of_consumer};
+    ghost use Rattle.span_outlet.specs.inside.GivenOut.{lines_given};
     ghost use Rattle.span_outlet.specs.inside.Reading.{reader_view};
 
     ghost Value = { LineReaderView };
 
     ghost view = { λ reader.
         reader_view (name_of_consumer reader.consumer) reader.looks reader.told.forms (received reader.consumer)
-        (reverse reader.told.lines.items) reader.told.refused };
+        (lines_given reader.given.value) (reverse reader.told.lines.items) reader.told.refused };
 
     ghost invariant = { λ reader.
         AreLeft (reader_view (name_of_consumer reader.consumer) reader.looks reader.told.forms (received reader.consumer)
-        (reverse reader.told.lines.items) reader.told.refused)
+        (lines_given reader.given.value) (reverse reader.told.lines.items) reader.told.refused)
         × AreOfLast (reader_view (name_of_consumer reader.consumer) reader.looks reader.told.forms (received reader.consumer)
-        (reverse reader.told.lines.items) reader.told.refused)
+        (lines_given reader.given.value) (reverse reader.told.lines.items) reader.told.refused)
         × (reader.taken ≡ length (received reader.consumer)) };
 }
 
@@ -78,11 +83,11 @@ fn take_until_told<V: Say>(
     ensures name { name_of_consumer consumer.new ≡ name_of_consumer consumer.old }
     ensures forms { told.new.forms ≡ told.old.forms }
     ensures batches { TakesBatches
-        (reader_view (name_of_consumer consumer.old) 0 told.old.forms (received consumer.old) [] told.old.refused)
-        (reader_view (name_of_consumer consumer.new) 0 told.new.forms (received consumer.new) told.new.lines.items
+        (reader_view (name_of_consumer consumer.old) 0 told.old.forms (received consumer.old) [] [] told.old.refused)
+        (reader_view (name_of_consumer consumer.new) 0 told.new.forms (received consumer.new) [] told.new.lines.items
         told.new.refused) }
     ensures last { AreOfLast
-        (reader_view (name_of_consumer consumer.new) 0 told.new.forms (received consumer.new) told.new.lines.items
+        (reader_view (name_of_consumer consumer.new) 0 told.new.forms (received consumer.new) [] told.new.lines.items
         told.new.refused) }
     ensures fifo { map plain_posted (received consumer.new ++ known_items consumer.new)
         ≡ map plain_posted (received consumer.old ++ known_items consumer.old) }
@@ -104,6 +109,7 @@ impl<F: Drop> LineReader<Formatters<F>> {
           looks = 0;
           forms = tellers.forms;
           taken = [];
+          given = [];
           waiting = [];
           refused = 0;
         } }
@@ -120,6 +126,7 @@ impl<F: Drop> LineReader<Formatters<F>> {
                 spare: Vec::new(alloc),
                 refused: 0,
             },
+            given: GivenOut::nothing(),
             formatters,
         }
     }
@@ -136,6 +143,7 @@ impl<V: Say> LineReader<V> {
         ensures waited { 0 < length self.old.waiting → self.new ≡ self.old }
         ensures looked { self.new.looks ≡ looks_of_fill self.old.waiting self.old.looks }
         ensures taken { TakesBatches self.old self.new }
+        ensures given { self.new.given ≡ self.old.given }
         ensures name { self.new.name ≡ self.old.name }
         ensures forms { self.new.forms ≡ self.old.forms }
     {
@@ -144,6 +152,7 @@ impl<V: Say> LineReader<V> {
             looks,
             taken,
             told,
+            given: _,
             formatters,
         } = self;
         if !told.lines.is_empty() {
@@ -156,7 +165,7 @@ impl<V: Say> LineReader<V> {
     }
 
     /// The same where both ends of the ring are in one thread, so that the look at the ring is up to date: false means
-    /// that everything that was sent is taken, and that no line waits.
+    /// that everything that was sent is taken, and that all its lines were given out, but for the notes that were missed.
     pub fn fill_beside(&mut self, ring: &mut Ring) -> bool
         requires pair { ring.old.name ≡ self.old.name }
         ensures answer { IsTrue result ↔ (0 < length self.new.waiting) }
@@ -164,7 +173,11 @@ impl<V: Say> LineReader<V> {
         ensures waited { 0 < length self.old.waiting → self.new ≡ self.old }
         ensures looked { self.new.looks ≡ looks_of_fill self.old.waiting self.old.looks }
         ensures taken { TakesBatches self.old self.new }
+        ensures given { self.new.given ≡ self.old.given }
         ensures sent { self.new.waiting ≡ [] → self.new.taken ≡ ring.old.sent }
+        ensures read { self.new.waiting ≡ [] → HasGiven ring.old.sent self.new }
+        ensures whole { self.new.waiting ≡ [] → self.new.refused ≡ 0
+            → self.new.given ≡ lines_of self.new.forms ring.old.sent }
         ensures name { self.new.name ≡ self.old.name }
         ensures forms { self.new.forms ≡ self.old.forms }
         ensures ring { ring.new ≡ record ring.old { free = ring.new.free } }
@@ -174,6 +187,7 @@ impl<V: Say> LineReader<V> {
             looks,
             taken,
             told,
+            given: _,
             formatters,
         } = self;
         if !told.lines.is_empty() {
@@ -199,13 +213,20 @@ impl<V> LineReader<V> {
     }
 
     /// Gives the first line that waits out. None where no line waits.
+    ///
+    /// What was given out so far and what still waits are, in this order, the lines of what was taken.
     pub fn next(&mut self) -> Option<Line>
         ensures some { IfSome result (λ line. self.old.waiting ≡ plain_line line ∷ self.new.waiting) }
         ensures none { IfNone result (self.old.waiting ≡ []) }
         ensures same { IfNone result (self.new ≡ self.old) }
-        ensures rest { self.new ≡ record self.old { waiting = self.new.waiting } }
+        ensures given { IfSome result (λ line. self.new.given ≡ self.old.given ++ plain_line line ∷ []) }
+        ensures rest { self.new ≡ record self.old { given = self.new.given; waiting = self.new.waiting } }
+        ensures left { AreLeft self.new }
     {
-        self.told.lines.pop()
+        let LineReader { told, given, .. } = self;
+        let line = told.lines.pop()?;
+        GivenOut::add(given, &line);
+        Some(line)
     }
 
     /// How many batches still stand in the ring, in a thread that has both of its ends: those that were taken are the

@@ -15,6 +15,6 @@ invariant-loop g l = record {
   standing : length (known_items l.consumer) + l.counter ≡ l.standing;
   fifo : map plain_posted (received l.consumer ++ known_items l.consumer) ≡ map plain_posted (received l.fn.consumer ++ known_items l.fn.consumer);
   nothing : l.told.lines.items ≡ [];
-  batches : TakesBatches (reader_view (name_of_consumer l.fn.consumer) 0 l.fn.told.forms (received l.fn.consumer) [] l.fn.told.refused)
-      (reader_view (name_of_consumer l.consumer) 0 l.told.forms (received l.consumer) l.told.lines.items l.told.refused);
+  batches : TakesBatches (reader_view (name_of_consumer l.fn.consumer) 0 l.fn.told.forms (received l.fn.consumer) [] [] l.fn.told.refused)
+      (reader_view (name_of_consumer l.consumer) 0 l.told.forms (received l.consumer) [] l.told.lines.items l.told.refused);
 }

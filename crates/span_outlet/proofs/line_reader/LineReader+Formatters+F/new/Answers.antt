@@ -7,4 +7,4 @@ use Rattle.span_outlet.proofs.line_reader.LineReader+Formatters+F.new.Goals as g
 pub invariant_of-result-2 : goal.invariant_of-result-2
 invariant_of-result-2 g c =
     let nothing : reverse c.new.result.items ≡ [] = ap reverse c.new.ensures.items in
-    (nothing_left _ _ _ (received c.tap.inside.consumer) _ c.tap.invariant nothing, none_of_last _ _ nothing, search rules)
+    (nothing_left _ _ _ (received c.tap.inside.consumer) _ _ c.tap.invariant c.nothing.ensures nothing, none_of_last _ _ nothing, search rules)

@@ -14,7 +14,7 @@ invariant_of-self-2 g c =
     let nothing : c.self.inside.told.lines.items ≡ [] = nil_from_length _ (search rules) in
     let looks : received c.look-standing.new.consumer ≡ received c.self.inside.consumer = search rules in
     let told : reverse c.reverse.new.self.items ≡ c.take_until_told.new.told.lines.items = as_told _ _ c.reverse.ensures.items in (
-      filled_left _ _ _ _ _ _ _ _ _ _ _ _ _ _ _ (ap reverse nothing) c.take_until_told.ensures.forms looks told c.self.invariant.0 c.take_until_told.ensures.batches,
+      filled_left _ _ _ _ _ _ _ _ _ _ _ _ _ _ _ _ (ap reverse nothing) c.take_until_told.ensures.forms looks told c.self.invariant.0 c.take_until_told.ensures.batches,
       subst (OfLast _) (sym told) c.take_until_told.ensures.last,
       c.take_until_told.ensures.number,
     )
@@ -24,7 +24,7 @@ returns-clause-taken g c =
     let nothing : c.self.inside.told.lines.items ≡ [] = nil_from_length _ (search rules) in
     let looks : received c.look-standing.new.consumer ≡ received c.self.inside.consumer = search rules in
     let told : reverse c.reverse.new.self.items ≡ c.take_until_told.new.told.lines.items = as_told _ _ c.reverse.ensures.items in
-    rw (← c.self.view_is) (filled_takes _ _ _ _ _ _ _ _ _ _ _ _ _ _ _ (ap reverse nothing) looks told c.take_until_told.ensures.batches)
+    rw (← c.self.view_is) (filled_takes _ _ _ _ _ _ _ _ _ _ _ _ _ _ _ _ (ap reverse nothing) looks told c.take_until_told.ensures.batches)
 
 pub returns-then-not-is_empty-clause-answer : goal.returns-then-not-is_empty-clause-answer
 returns-then-not-is_empty-clause-answer g c = (λ _. some_wait c.self.inside.told.lines.items _ _ c.is_empty.ensures (omega (arith, c.self.inside.told.lines.ok.0)) c.if-not-is_empty.true, λ _. search rules)

@@ -2,7 +2,7 @@ use Rattle.std.proofs.Common.{rules, ◌≡◌, [], sym, ap, ◌∙◌, subst, a
 use mathlib.Core.List.{reverse}
 use Rattle.rtrb.specs.Ring.{received}
 use Rattle.std.proofs.lemmas.List.{nil_from_length}
-use Rattle.span_outlet.proofs.Reading.{takes_none, as_told, filled_left, filled_takes, all_taken, OfLast}
+use Rattle.span_outlet.proofs.Reading.{takes_none, as_told, filled_left, filled_takes, all_taken, all_given, all_whole, OfLast}
 use Rattle.span_outlet.proofs.Waiting.{some_wait, no_lines, none_wait, none_wait_here, answered, not_looked, none_waited}
 use Rattle.span_outlet.proofs.line_reader.LineReader.fill_beside.Goals as goal
 
@@ -14,7 +14,7 @@ invariant_of-self-2 g c =
     let nothing : c.self.inside.told.lines.items ≡ [] = nil_from_length _ (search rules) in
     let looks : received c.look_beside-standing.new.consumer ≡ received c.self.inside.consumer = search rules in
     let told : reverse c.reverse.new.self.items ≡ c.take_until_told.new.told.lines.items = as_told _ _ c.reverse.ensures.items in (
-      filled_left _ _ _ _ _ _ _ _ _ _ _ _ _ _ _ (ap reverse nothing) c.take_until_told.ensures.forms looks told c.self.invariant.0 c.take_until_told.ensures.batches,
+      filled_left _ _ _ _ _ _ _ _ _ _ _ _ _ _ _ _ (ap reverse nothing) c.take_until_told.ensures.forms looks told c.self.invariant.0 c.take_until_told.ensures.batches,
       subst (OfLast _) (sym told) c.take_until_told.ensures.last,
       c.take_until_told.ensures.number,
     )
@@ -24,12 +24,18 @@ returns-clause-taken g c =
     let nothing : c.self.inside.told.lines.items ≡ [] = nil_from_length _ (search rules) in
     let looks : received c.look_beside-standing.new.consumer ≡ received c.self.inside.consumer = search rules in
     let told : reverse c.reverse.new.self.items ≡ c.take_until_told.new.told.lines.items = as_told _ _ c.reverse.ensures.items in
-    rw (← c.self.view_is) (filled_takes _ _ _ _ _ _ _ _ _ _ _ _ _ _ _ (ap reverse nothing) looks told c.take_until_told.ensures.batches)
+    rw (← c.self.view_is) (filled_takes _ _ _ _ _ _ _ _ _ _ _ _ _ _ _ _ (ap reverse nothing) looks told c.take_until_told.ensures.batches)
 
 pub returns-clause-sent : goal.returns-clause-sent
 returns-clause-sent g c =
     let told : reverse c.reverse.new.self.items ≡ c.take_until_told.new.told.lines.items = as_told _ _ c.reverse.ensures.items in
     all_taken _ _ _ _ _ told c.take_until_told.ensures.none_left (c.take_until_told.ensures.fifo ∙ c.look_beside-standing.ensures.fifo)
+
+pub returns-clause-read : goal.returns-clause-read
+returns-clause-read g c = λ nothing. all_given _ _ (invariant_of-self-2 g c).0 (returns-clause-sent g c nothing) nothing
+
+pub returns-clause-whole : goal.returns-clause-whole
+returns-clause-whole g c = λ nothing none_refused. all_whole _ _ (returns-clause-read g c nothing) none_refused
 
 pub returns-then-not-is_empty-clause-answer : goal.returns-then-not-is_empty-clause-answer
 returns-then-not-is_empty-clause-answer g c = (λ _. some_wait c.self.inside.told.lines.items _ _ c.is_empty.ensures (omega (arith, c.self.inside.told.lines.ok.0)) c.if-not-is_empty.true, λ _. search rules)
@@ -39,6 +45,16 @@ returns-then-not-is_empty-clause-looked g c = rw (← c.self.view_is) (not_looke
 
 pub returns-then-not-is_empty-clause-sent : goal.returns-then-not-is_empty-clause-sent
 returns-then-not-is_empty-clause-sent g c = λ none.
+    let some = some_wait c.self.inside.told.lines.items _ _ c.is_empty.ensures (omega (arith, c.self.inside.told.lines.ok.0)) c.if-not-is_empty.true in
+    absurd (none_wait_here _ some none)
+
+pub returns-then-not-is_empty-clause-read : goal.returns-then-not-is_empty-clause-read
+returns-then-not-is_empty-clause-read g c = λ none.
+    let some = some_wait c.self.inside.told.lines.items _ _ c.is_empty.ensures (omega (arith, c.self.inside.told.lines.ok.0)) c.if-not-is_empty.true in
+    absurd (none_wait_here _ some none)
+
+pub returns-then-not-is_empty-clause-whole : goal.returns-then-not-is_empty-clause-whole
+returns-then-not-is_empty-clause-whole g c = λ none none_refused.
     let some = some_wait c.self.inside.told.lines.items _ _ c.is_empty.ensures (omega (arith, c.self.inside.told.lines.ok.0)) c.if-not-is_empty.true in
     absurd (none_wait_here _ some none)
 
