@@ -66,7 +66,8 @@ def differences(where, listed):
 def opened(top, shut):
     """What fails of the words that one file alone opens: nothing for each that no other file opens."""
     texts = {path.relative_to(top).as_posix(): path.read_text(encoding="utf-8")
-             for pattern in ("crates/*/src/**/*.rt", "crates/*/*/**/*.antt") for path in sorted(top.glob(pattern))}
+             for folder in ("src", "specs", "proofs") for path in sorted(top.glob(f"crates/*/{folder}/**/*"))
+             if path.suffix in (".rt", ".antt")}
     for word, home in shut.items():
         opens = re.compile(rf"\bunfold(?:ing)?\b.*\b{word}\b|\b{word} as\b")
         found = [path for path, text in texts.items() if opens.search(text)]
