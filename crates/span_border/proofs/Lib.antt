@@ -1,4 +1,5 @@
 pub mod Words
 pub mod HandleBox
 pub mod HandleSend
+pub mod Ids
 mod Examples

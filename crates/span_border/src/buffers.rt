@@ -64,3 +64,11 @@ pub fn write_told<S, T: ToldOf<S>>(things: &[S], into: &mut [T], len: &mut usize
     copy_told(things, into);
     Status::Done
 }
+
+/// Writes ids as numbers, as `write_all` writes things.
+#[tactic(auto, using(crate::proofs::Ids::same_ids))]
+pub fn write_ids(ids: &[Id], into: &mut [u64], len: &mut usize) -> Status
+    ensures { WritesAll ids.now into.old result into.new len.new }
+{
+    write_told(ids, into, len)
+}

@@ -8,7 +8,7 @@ mod numbers;
 mod parts;
 mod status;
 
-pub use buffers::{ToldOf, write_all, write_told};
+pub use buffers::{ToldOf, write_all, write_ids, write_told};
 pub use handle::Handle;
 pub use holds::Holds;
 pub use numbers::id_number;

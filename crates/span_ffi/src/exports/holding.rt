@@ -10,7 +10,7 @@ use crate::data::SpanHeld;
 use crate::exports::callers::id_of;
 use crate::registry::RingCore;
 use crate::registry_handle::SpanRegistry;
-use span_border::{Holds, Status, ToldOf, write_all, write_told};
+use span_border::{Holds, Status, ToldOf, write_all, write_ids, write_told};
 use span_forest::Held;
 use span_id::Fault;
 use std::alloc::Global;
@@ -21,7 +21,7 @@ fn open_ids(core: &RingCore, into: &mut [u64], len: &mut usize) -> Status
     ensures len { KeepsLength (Some result) len.old len.new }
 {
     match core.open_spans() {
-        Ok(ids) => write_told(ids.as_slice(), into, len),
+        Ok(ids) => write_ids(ids.as_slice(), into, len),
         Err(fault) => Status::Refused(fault),
     }
 }
