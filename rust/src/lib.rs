@@ -36,6 +36,7 @@ mod raw;
 mod refusal;
 mod registry;
 mod ring;
+mod routing;
 mod seats;
 mod site;
 mod span;

@@ -3,6 +3,7 @@
 use crate::meta::{Counts, Meta};
 use crate::part::{Common, Part};
 use crate::refusal::Refusal;
+use crate::routing;
 use crate::site::Site;
 use crate::state::State;
 use crate::workers;
@@ -79,8 +80,7 @@ impl Parts {
     }
 
     fn home_of_several(&self) -> u32 {
-        // Below 128.
-        ((workers::thread() - 1) % u64::from(self.count())) as u32
+        routing::home(self.count())
     }
 
     /// What is done before a call of a part: what others owe, which that call doesn't do itself.

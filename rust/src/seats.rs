@@ -5,18 +5,17 @@
 //! *outsider*, a worker that is never inside a span.
 #![forbid(unsafe_code)]
 use crate::refusal::Refusal;
+use crate::routing::NOBODY;
 
-/// No thread.
-pub(crate) const NOBODY: u64 = 0;
 /// A thread that has ended and is still inside: its number is nobody's until it has left.
-const GONE: u64 = u64::MAX;
+const GONE: u64 = NOBODY - 1;
 /// No seat.
 pub(crate) const NONE: u32 = u32::MAX;
 
 /// A thread of the process that calls, as it is known before the lock is taken.
 #[derive(Clone, Copy, Debug)]
 pub(crate) struct Caller {
-    /// From 1 on, and never the same for two threads; [`NOBODY`] where it can't give a number back when it ends.
+    /// Never the same for two threads; [`NOBODY`] where it can't give a number back when it ends.
     pub(crate) thread: u64,
     /// The number that it had last in this registry, or [`NONE`].
     pub(crate) last: u32,
@@ -204,8 +203,9 @@ impl Seats {
 
 #[cfg(test)]
 mod tests {
-    use super::{Caller, Seats, NOBODY, NONE};
+    use super::{Caller, Seats, NONE};
     use crate::refusal::Refusal;
+    use crate::routing::NOBODY;
 
     fn caller(thread: u64, last: Option<u32>) -> Caller {
         Caller {
