@@ -9,6 +9,7 @@
 //! the lines.
 #![deny(missing_docs, unsafe_code)]
 
+mod at;
 mod builder;
 mod callsite;
 mod directives;

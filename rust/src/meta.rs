@@ -73,8 +73,14 @@ impl Id {
         Some(Id::of(registry, part, RawId::from_u64(own)?))
     }
 
-    /// Its number there and the part, where it is an id of this registry: there is no other way from an `Id` to a call.
+    /// Its number there, where it is an id of this registry, which has one part: each of its ids names the first.
     #[inline(always)]
+    pub(crate) fn in_only_part(self, registry: u64) -> Option<RawId> {
+        (self.registry == registry).then_some(RawId(self.number))
+    }
+
+    /// Its number there and the part, where it is an id of this registry. There is no other way than these two from an
+    /// `Id` to a call.
     pub(crate) fn in_registry(self, registry: u64) -> Result<(u32, RawId), Error> {
         if self.registry != registry {
             return Err(Error::OtherRegistry);

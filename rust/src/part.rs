@@ -2,6 +2,7 @@
 #![forbid(unsafe_code)]
 use crate::interest::Interest;
 use crate::lost::{Losses, Lost};
+use crate::owed::Debt;
 use crate::refusal::Refusal;
 use crate::ring::Ring;
 use crate::seats::Caller;
@@ -26,7 +27,7 @@ pub(crate) struct Common {
     // What was lost when that was last told. Who has the lock of a part may take this one.
     told: Mutex<Lost>,
     // How many parts owe something.
-    owing: AtomicU32,
+    owing: Arc<AtomicU32>,
     // Who adds a callsite has this one, and then the lock of a part.
     adding: Mutex<()>,
 }
@@ -40,7 +41,7 @@ impl Common {
             is_over: AtomicBool::new(false),
             losses,
             told: Mutex::default(),
-            owing: AtomicU32::new(0),
+            owing: Arc::default(),
             adding: Mutex::default(),
         }
     }
@@ -63,6 +64,11 @@ impl Common {
     /// One callsite is added after another.
     pub(crate) fn adding(&self) -> &Mutex<()> {
         &self.adding
+    }
+
+    /// A part's debt.
+    pub(crate) fn debt(&self) -> Arc<Debt> {
+        Arc::new(Debt::new(Arc::clone(&self.owing)))
     }
 
     /// Whether a part owes something, told without a lock.
@@ -91,20 +97,19 @@ pub(crate) struct Part {
     place: u32,
     // The number by which lines tell its first worker.
     first_worker: u32,
-    // Whether something is owed, as of the last time that the lock was given back.
-    owes: AtomicBool,
+    debt: Arc<Debt>,
 }
 
 impl Part {
     pub(crate) fn new(state: State, ring: Arc<Ring>, common: Arc<Common>, place: u32) -> Part {
         Part {
             first_worker: state.as_told(0),
+            debt: Arc::clone(state.debt()),
             state: Mutex::new(state),
             ring,
             number: common.number + u64::from(place),
             common,
             place,
-            owes: AtomicBool::new(false),
         }
     }
 
@@ -114,21 +119,7 @@ impl Part {
     #[inline(always)]
     pub(crate) fn with<T>(&self, call: impl FnOnce(&mut State) -> T) -> T {
         let mut state: MutexGuard<'_, State> = self.state.lock().unwrap_or_else(PoisonError::into_inner);
-        let result = call(&mut state);
-        if state.owes() != self.owes.load(Ordering::Relaxed) {
-            self.owes_now(state.owes());
-        }
-        result
-    }
-
-    #[cold]
-    fn owes_now(&self, owes: bool) {
-        self.owes.store(owes, Ordering::Release);
-        if owes {
-            self.common.owing.fetch_add(1, Ordering::AcqRel);
-        } else {
-            self.common.owing.fetch_sub(1, Ordering::AcqRel);
-        }
+        call(&mut state)
     }
 
     /// Makes a call until it isn't refused for want of a place, where the registry waits for the drain.
@@ -236,7 +227,7 @@ impl Part {
     /// Whether something is owed, told without the lock.
     #[inline]
     pub(crate) fn owes(&self) -> bool {
-        self.owes.load(Ordering::Acquire)
+        self.debt.is_there()
     }
 }
 
@@ -267,7 +258,7 @@ mod tests {
                 spans.push(registry.span(&meta, Parent::Root, &[])?);
                 drain.lines().for_each(drop);
             }
-            let threads = registry.parts().at(0).with(|_| {
+            let threads = registry.parts().part(0).with(|_| {
                 let threads: Vec<_> = (0..4)
                     .map(|_| spans.split_off(spans.len() - SPANS as usize / 4))
                     .map(|some: Vec<Span>| thread::spawn(move || drop(some)))
