@@ -259,7 +259,8 @@ mod tests {
             owing.made(id(1));
             all.push(owing);
         }
-        let known = || (debts.each_ref().map(|debt| debt.is_there()), parts.load(Ordering::Relaxed));
+        let owing = || debts.each_ref().map(|debt| debt.is_there());
+        let known = || (owing(), parts.load(Ordering::Relaxed));
         assert_eq!(known(), ([false, false], 0));
         all[0].owe_close(0, id(1), 1)?;
         all[0].owe_end(0)?;

@@ -1,6 +1,7 @@
 //! A part of a registry: its lock, and what may be asked without it.
 #![forbid(unsafe_code)]
 use crate::interest::Interest;
+use crate::lock::Lock;
 use crate::lost::{Losses, Lost};
 use crate::owed::Debt;
 use crate::refusal::Refusal;
@@ -9,7 +10,7 @@ use crate::seats::Caller;
 use crate::state::State;
 use crate::workers;
 use std::sync::atomic::{AtomicBool, AtomicU32, AtomicU64, Ordering};
-use std::sync::{Arc, Mutex, MutexGuard, PoisonError};
+use std::sync::{Arc, Mutex, PoisonError};
 use std::thread;
 use std::time::Duration;
 
@@ -89,7 +90,7 @@ impl Common {
 /// A proved registry with its lock and its ring. No two parts have a line of the processors' caches in common.
 #[repr(align(128))]
 pub(crate) struct Part {
-    state: Mutex<State>,
+    state: Lock<State>,
     ring: Arc<Ring>,
     common: Arc<Common>,
     number: u64,
@@ -105,7 +106,7 @@ impl Part {
         Part {
             first_worker: state.as_told(0),
             debt: Arc::clone(state.debt()),
-            state: Mutex::new(state),
+            state: Lock::new(state),
             ring,
             number: common.number + u64::from(place),
             common,
@@ -118,8 +119,7 @@ impl Part {
     /// is done whole or refused: the poison says nothing.
     #[inline(always)]
     pub(crate) fn with<T>(&self, call: impl FnOnce(&mut State) -> T) -> T {
-        let mut state: MutexGuard<'_, State> = self.state.lock().unwrap_or_else(PoisonError::into_inner);
-        call(&mut state)
+        call(&mut self.state.take())
     }
 
     /// Makes a call until it isn't refused for want of a place, where the registry waits for the drain.

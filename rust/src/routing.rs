@@ -107,15 +107,17 @@ mod tests {
 
     /// Those of the two crates, with the greatest number of a registry.
     const ALL: [(Ids, u64); 2] = [(Ids::new(57, 7), 0), (Ids::new(44, 6), (1 << 13) - 1)];
+    const SLOTS: u64 = 1 << SLOT_BITS;
 
     #[test]
     fn each_id_of_each_part_comes_back() {
         for (ids, greatest) in ALL {
-            let last = (u64::from(ids.last_generation()) + 1) << SLOT_BITS;
+            let last = (u64::from(ids.last_generation()) + 1) * SLOTS;
             let mut seen = HashSet::new();
-            for &registry in [0, 1, greatest / 2, greatest].iter().filter(|&&number| number <= greatest) {
+            let all = [0, 1, greatest / 2, greatest];
+            for &registry in all.iter().filter(|&&number| number <= greatest) {
                 for part in 0..ids.parts() {
-                    for own in [1, 2, (1 << SLOT_BITS) - 1, 1 << SLOT_BITS, (1 << SLOT_BITS) + 1, last - 1, last] {
+                    for own in [1, 2, SLOTS - 1, SLOTS, SLOTS + 1, last - 1, last] {
                         let id = ids.above(registry, part) | own;
                         assert_eq!((ids.route(registry, id), ids.part(id)), (Some((part, own)), part));
                         assert_eq!(ids.route(registry ^ 1, id), None);
@@ -132,10 +134,10 @@ mod tests {
     #[test]
     fn the_last_generation_is_the_greatest_that_fits() {
         let [(wide, _), (narrow, _)] = ALL;
-        assert_eq!((wide.last_generation(), narrow.last_generation()), (u32::MAX, (1 << 20) - 2));
-        assert_eq!((wide.parts(), narrow.parts()), (128, 64));
-        let id = |generation: u32, slot: u64| (u64::from(generation) << SLOT_BITS) + slot + 1;
-        let last_slot = (1 << SLOT_BITS) - 1;
+        assert_eq!((wide.last_generation(), wide.parts()), (u32::MAX, 128));
+        assert_eq!((narrow.last_generation(), narrow.parts()), ((1 << 20) - 2, 64));
+        let id = |generation: u32, slot: u64| u64::from(generation) * SLOTS + slot + 1;
+        let last_slot = SLOTS - 1;
         for (ids, _) in ALL {
             let last = ids.last_generation();
             assert!(id(last, last_slot) < ids.above(0, 1));
@@ -162,7 +164,8 @@ mod tests {
             number
         };
         let threads: Vec<_> = (0..64).map(|_| spawn(asks)).collect();
-        let numbers: HashSet<u64> = threads.into_iter().map(|thread| thread.join().expect("no panic")).collect();
+        let joined = threads.into_iter().map(|thread| thread.join().expect("no panic"));
+        let numbers: HashSet<u64> = joined.collect();
         assert_eq!(numbers.len(), 64);
         assert_eq!(home(1), 0);
     }

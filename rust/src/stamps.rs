@@ -159,7 +159,7 @@ mod tests {
         assert_eq!([true.sent(), false.sent(), ().sent()], [Sent::Batch; 3]);
         assert_eq!(None::<RawId>.sent(), Sent::Nothing);
         assert_eq!(
-            RawId::from_u64(7).map(|id| (Some(id).sent() == Sent::Span(id))),
+            RawId::from_u64(7).map(|id| Some(id).sent() == Sent::Span(id)),
             Some(true)
         );
         Ok(())

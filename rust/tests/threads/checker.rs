@@ -169,7 +169,11 @@ impl Checker {
     fn closed(&mut self, id: u64, thread: u32, rest: &str) {
         let open = self.open.remove(&id).unwrap_or_else(|| panic!("span {id} isn't open"));
         assert_eq!(rest, format!("{}{}", open.path, open.fields));
-        assert_eq!((open.handles, open.children, open.inside.len()), (0, 0, 0), "{id} {rest}");
+        assert_eq!(
+            (open.handles, open.children, open.inside.len()),
+            (0, 0, 0),
+            "{id} {rest}"
+        );
         self.closed_elsewhere += u64::from(open.maker != thread);
         if open.parent != 0 {
             self.span(open.parent).children -= 1;

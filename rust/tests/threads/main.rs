@@ -56,7 +56,11 @@ fn check(mut drain: Drain, mut checker: Checker) -> Checker {
 }
 
 fn run(parts: u32) -> Checker {
-    let builder = Registry::builder().parts(parts).workers(THREADS).slots(4096).layer(Layer::compact());
+    let builder = Registry::builder()
+        .parts(parts)
+        .workers(THREADS)
+        .slots(4096)
+        .layer(Layer::compact());
     let (registry, drain) = builder.build().expect("it fits");
     let (introduce, introduced) = channel();
     let callers = start(&registry, &introduce);
