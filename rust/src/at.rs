@@ -43,7 +43,7 @@ impl<'a> At<'a> {
 
     /// A call as the worker whose number the thread has there.
     #[inline(always)]
-    pub(crate) fn call<T>(self, call: impl FnMut(&mut State, u32) -> Result<T, Refusal>) -> Result<T, Refusal> {
+    pub(crate) fn call<T>(self, call: impl Fn(&mut State, u32) -> Result<T, Refusal> + Copy) -> Result<T, Refusal> {
         self.before()?;
         self.part
             .call(|state: &mut State, caller: Caller| Ok(state.worker(caller)), call)
@@ -56,7 +56,7 @@ impl<'a> At<'a> {
             workers::reserve_entry()?;
         }
         self.before()?;
-        let enter = |state: &mut State, worker| Ok((state.enter(worker, id)?, worker));
+        let enter = move |state: &mut State, worker| Ok((state.enter(worker, id)?, worker));
         let entered = self.part.call(State::worker_to_enter, enter)?;
         if self.several.is_some() {
             workers::entered(self.part, id, entered.0);

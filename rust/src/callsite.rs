@@ -119,11 +119,11 @@ impl Registry {
         let made = if are_marked(NO_NAME, fields.fields) {
             Err(Refusal::BAD_NAME)
         } else {
-            at.call(|state, worker| state.new_span_at(worker, number, parent, fields))
+            at.call(move |state, worker| state.new_span_at(worker, number, parent, fields))
         };
-        let made = made.or_else(|refusal| {
-            with_written(refusal, NO_NAME, fields, |_, given| {
-                at.call(|state, worker| state.new_span_at(worker, number, parent, given))
+        let made = made.or_else(move |refusal| {
+            with_written(refusal, NO_NAME, fields, move |_, given| {
+                at.call(move |state, worker| state.new_span_at(worker, number, parent, given))
             })
         })?;
         Ok(made.map(|id| told(at.part, id)))
@@ -143,11 +143,11 @@ impl Registry {
         let told = if are_marked(NO_NAME, fields.fields) {
             Err(Refusal::BAD_NAME)
         } else {
-            at.call(|state, worker| state.event_at(worker, number, message, fields))
+            at.call(move |state, worker| state.event_at(worker, number, message, fields))
         };
-        told.or_else(|refusal| {
-            with_written(refusal, NO_NAME, fields, |_, given| {
-                at.call(|state, worker| state.event_at(worker, number, message, given))
+        told.or_else(move |refusal| {
+            with_written(refusal, NO_NAME, fields, move |_, given| {
+                at.call(move |state, worker| state.event_at(worker, number, message, given))
             })
         })
     }

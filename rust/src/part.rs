@@ -93,6 +93,7 @@ pub(crate) struct Part {
     state: Lock<State>,
     ring: Arc<Ring>,
     common: Arc<Common>,
+    losses: Arc<Losses>,
     number: u64,
     // Among the parts of its registry.
     place: u32,
@@ -109,6 +110,7 @@ impl Part {
             state: Lock::new(state),
             ring,
             number: common.number + u64::from(place),
+            losses: Arc::clone(&common.losses),
             common,
             place,
         }
@@ -150,27 +152,48 @@ impl Part {
     #[inline(always)]
     pub(crate) fn call<T>(
         self: &Arc<Part>,
+        as_worker: impl Fn(&mut State, Caller) -> Result<u32, Refusal> + Copy,
+        call: impl Fn(&mut State, u32) -> Result<T, Refusal> + Copy,
+    ) -> Result<T, Refusal> {
+        let called = self.call_now(as_worker, call);
+        called.or_else(move |refusal| self.call_again(refusal, as_worker, call))
+    }
+
+    #[inline(always)]
+    fn call_now<T>(
+        self: &Arc<Part>,
         as_worker: impl Fn(&mut State, Caller) -> Result<u32, Refusal>,
-        mut call: impl FnMut(&mut State, u32) -> Result<T, Refusal>,
+        call: impl Fn(&mut State, u32) -> Result<T, Refusal>,
+    ) -> Result<T, Refusal> {
+        let caller = workers::caller(self);
+        self.with(|state| {
+            state.settle()?;
+            let worker = as_worker(state, caller)?;
+            // A refused call may have taken a number too.
+            workers::called_as(self, caller, worker);
+            let answer = call(state, worker)?;
+            self.tell(state);
+            Ok(answer)
+        })
+    }
+
+    // A call that was refused. While it waits, the thread may take a number or lose it.
+    #[cold]
+    fn call_again<T>(
+        self: &Arc<Part>,
+        mut refusal: Refusal,
+        as_worker: impl Fn(&mut State, Caller) -> Result<u32, Refusal> + Copy,
+        call: impl Fn(&mut State, u32) -> Result<T, Refusal> + Copy,
     ) -> Result<T, Refusal> {
         let mut turn: u32 = 0;
-        loop {
-            // While it waited, the thread may have taken a number or lost it.
-            let caller = workers::caller(self);
-            let result = self.with(|state| {
-                state.settle()?;
-                let worker = as_worker(state, caller)?;
-                // A refused call may have taken a number too.
-                workers::called_as(self, caller, worker);
-                let answer = call(state, worker)?;
-                self.tell(state);
-                Ok(answer)
-            });
-            if !matches!(result, Err(Refusal::BACKLOG)) || !self.has_waited(turn) {
-                return result;
+        while refusal == Refusal::BACKLOG && self.has_waited(turn) {
+            match self.call_now(as_worker, call) {
+                Err(again) => refusal = again,
+                answer => return answer,
             }
             turn = turn.saturating_add(1);
         }
+        Err(refusal)
     }
 
     /// By which it is told from all others of the process, also those that are gone.
@@ -200,7 +223,7 @@ impl Part {
 
     /// Whether something was lost since the last telling, and somebody may read of it.
     pub(crate) fn is_untold(&self) -> bool {
-        self.common.losses.is_untold() && !self.ring.is_unread()
+        self.losses.is_untold() && !self.ring.is_unread()
     }
 
     /// Tells what was lost since the last telling, if there is anything and the ring has room.
@@ -213,7 +236,7 @@ impl Part {
 
     #[cold]
     fn tell_now(&self, state: &mut State) {
-        let losses = &self.common.losses;
+        let losses = &self.losses;
         let mut told = self.common.told.lock().unwrap_or_else(PoisonError::into_inner);
         // What is lost from here on is told the next time.
         losses.set_untold(false);

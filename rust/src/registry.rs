@@ -200,10 +200,10 @@ impl Registry {
         let made = if are_marked(meta.name, fields) {
             Err(Refusal::BAD_NAME)
         } else {
-            at.call(|state, worker| state.new_span(worker, meta, parent, fields.into()))
+            at.call(move |state, worker| state.new_span(worker, meta, parent, fields.into()))
         };
-        let made = made.or_else(|refusal| {
-            with_written(refusal, meta.name, fields.into(), |name, given| {
+        let made = made.or_else(move |refusal| {
+            with_written(refusal, meta.name, fields.into(), move |name, given| {
                 let meta = Meta { name, ..*meta };
                 at.call(|state, worker| state.new_span(worker, &meta, parent, given))
             })
@@ -221,11 +221,11 @@ impl Registry {
         let recorded = if are_marked(NO_NAME, fields) {
             Err(Refusal::BAD_NAME)
         } else {
-            at.call(|state, worker| state.record(worker, id, fields.into()))
+            at.call(move |state, worker| state.record(worker, id, fields.into()))
         };
-        recorded.or_else(|refusal| {
-            with_written(refusal, NO_NAME, fields.into(), |_, given| {
-                at.call(|state, worker| state.record(worker, id, given))
+        recorded.or_else(move |refusal| {
+            with_written(refusal, NO_NAME, fields.into(), move |_, given| {
+                at.call(move |state, worker| state.record(worker, id, given))
             })
         })
     }
@@ -241,10 +241,10 @@ impl Registry {
         let told = if are_marked(meta.name, fields) {
             Err(Refusal::BAD_NAME)
         } else {
-            at.call(|state, worker| state.event(worker, meta, message, fields.into()))
+            at.call(move |state, worker| state.event(worker, meta, message, fields.into()))
         };
-        told.or_else(|refusal| {
-            with_written(refusal, meta.name, fields.into(), |name, given| {
+        told.or_else(move |refusal| {
+            with_written(refusal, meta.name, fields.into(), move |name, given| {
                 let meta = Meta { name, ..*meta };
                 at.call(|state, worker| state.event(worker, &meta, message, given))
             })
@@ -269,7 +269,7 @@ impl Registry {
     /// [`Backlog`](Error::Backlog), [`OutOfMemory`](Error::OutOfMemory).
     pub fn exit(&self, id: Id) -> Result<bool, Error> {
         let (at, id) = self.own(id)?;
-        let closed = at.call(|state, worker| state.exit(worker, id))?;
+        let closed = at.call(move |state, worker| state.exit(worker, id))?;
         at.left(id);
         Ok(closed)
     }
@@ -281,7 +281,7 @@ impl Registry {
     /// [`Backlog`](Error::Backlog), [`OutOfMemory`](Error::OutOfMemory).
     pub fn clone_span(&self, id: Id) -> Result<(), Error> {
         let (at, id) = self.own(id)?;
-        Ok(at.call(|state, worker| state.clone_span(worker, id))?)
+        Ok(at.call(move |state, worker| state.clone_span(worker, id))?)
     }
 
     /// Gives a handle of a span back. True where the span closed: nothing else holds it.
@@ -291,7 +291,7 @@ impl Registry {
     /// [`Backlog`](Error::Backlog), [`OutOfMemory`](Error::OutOfMemory).
     pub fn try_close(&self, id: Id) -> Result<bool, Error> {
         let (at, id) = self.own(id)?;
-        Ok(at.call(|state, worker| state.try_close(worker, id))?)
+        Ok(at.call(move |state, worker| state.try_close(worker, id))?)
     }
 
     /// [`exit`](Registry::exit) for callers that can't make it again: what can't be done now is owed, as where a guard

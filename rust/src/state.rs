@@ -17,6 +17,14 @@ use crate::stamps::{Answer, Sent};
 use std::collections::HashSet;
 use std::sync::Arc;
 
+/// Says what is to be noted of a call, which may be made again: so what is captured is copied.
+trait Noting: Fn(&Origins) -> Result<What, Refusal> + Copy {}
+impl<F: Fn(&Origins) -> Result<What, Refusal> + Copy> Noting for F {}
+
+/// A call of the core with the packed texts.
+trait Sending<T>: Fn(&mut Core, &Packed) -> Result<T, Refusal> + Copy {}
+impl<T, F: Fn(&mut Core, &Packed) -> Result<T, Refusal> + Copy> Sending<T> for F {}
+
 pub(crate) struct State {
     core: Core,
     // Workers are numbered from 0 on here and in the core, and from this one on where they are told.
@@ -152,26 +160,31 @@ impl State {
     // A call that takes a place of the ring: where lines may be thrown away for one, they are. `what` says what is to
     // be noted of it.
     #[inline(always)]
-    fn placed<T: Answer>(
+    fn placed<T: Answer>(&mut self, what: impl Noting, call: impl Sending<T>) -> Result<T, Refusal> {
+        let sent = self.sent(what, call);
+        sent.or_else(move |refusal| self.placed_again(refusal, what, call))
+    }
+
+    // A call that was refused.
+    #[cold]
+    fn placed_again<T: Answer>(
         &mut self,
-        what: impl Fn(&Origins) -> Result<What, Refusal>,
-        mut call: impl FnMut(&mut Core, &Packed) -> Result<T, Refusal>,
+        mut refusal: Refusal,
+        what: impl Noting,
+        call: impl Sending<T>,
     ) -> Result<T, Refusal> {
-        loop {
-            match self.sent(&what, &mut call) {
-                Err(Refusal::BACKLOG) if self.ring.makes_place() => {}
-                result => return result,
+        while refusal == Refusal::BACKLOG && self.ring.makes_place() {
+            match self.sent(what, call) {
+                Err(again) => refusal = again,
+                answer => return answer,
             }
         }
+        Err(refusal)
     }
 
     // A call that may put a batch into the ring.
     #[inline(always)]
-    fn sent<T: Answer>(
-        &mut self,
-        what: impl FnOnce(&Origins) -> Result<What, Refusal>,
-        call: impl FnOnce(&mut Core, &Packed) -> Result<T, Refusal>,
-    ) -> Result<T, Refusal> {
+    fn sent<T: Answer>(&mut self, what: impl Noting, call: impl Sending<T>) -> Result<T, Refusal> {
         if self.has_more {
             self.sent_with_more(what, call)
         } else {
@@ -181,11 +194,7 @@ impl State {
 
     // The same, with a note and a stamp of the batch, where these are kept.
     #[cold]
-    fn sent_with_more<T: Answer>(
-        &mut self,
-        what: impl FnOnce(&Origins) -> Result<What, Refusal>,
-        call: impl FnOnce(&mut Core, &Packed) -> Result<T, Refusal>,
-    ) -> Result<T, Refusal> {
+    fn sent_with_more<T: Answer>(&mut self, what: impl Noting, call: impl Sending<T>) -> Result<T, Refusal> {
         let what = match self.ring.notes() {
             Some(notes) => {
                 notes.reserve()?;
@@ -236,8 +245,8 @@ impl State {
         self.packed.pack(&[meta.name, meta.target], given.fields)?;
         self.origins.reserve_span(names, &self.packed)?;
         let id = self.placed(
-            |_| Ok(What::Made(known_as_written(meta, given)?)),
-            |core, packed| core.new_span(worker, parent, meta, packed),
+            move |_| Ok(What::Made(known_as_written(meta, given)?)),
+            move |core, packed| core.new_span(worker, parent, meta, packed),
         )?;
         if let Some(id) = id {
             self.made(id, None, names);
@@ -272,8 +281,8 @@ impl State {
         self.packed.pack(&[], given.fields)?;
         self.origins.reserve_span(names, &self.packed)?;
         let id = self.placed(
-            |origins| Ok(What::Made(origins.known(callsite, given)?)),
-            |core, packed| core.new_span_at(worker, parent, callsite, packed),
+            move |origins| Ok(What::Made(origins.known(callsite, given)?)),
+            move |core, packed| core.new_span_at(worker, parent, callsite, packed),
         )?;
         if let Some(id) = id {
             self.made(id, Some(callsite), names);
@@ -289,7 +298,7 @@ impl State {
 
     pub(crate) fn clone_span(&mut self, worker: u32, id: RawId) -> Result<(), Refusal> {
         self.owing.reserve_handle()?;
-        self.placed(|_| Ok(What::Other), |core, _| core.clone_span(worker, id))?;
+        self.placed(|_| Ok(What::Other), move |core, _| core.clone_span(worker, id))?;
         self.owing.cloned();
         Ok(())
     }
@@ -297,7 +306,7 @@ impl State {
     #[inline]
     pub(crate) fn enter(&mut self, worker: u32, id: RawId) -> Result<bool, Refusal> {
         self.owing.reserve_entry(worker)?;
-        let first = self.placed(|_| Ok(What::Other), |core, _| core.enter(worker, id))?;
+        let first = self.placed(|_| Ok(What::Other), move |core, _| core.enter(worker, id))?;
         self.seats.entered(worker);
         self.owing.entered(worker, id);
         Ok(first)
@@ -312,7 +321,7 @@ impl State {
 
     #[inline(always)]
     fn give_back_entry(&mut self, worker: u32, id: RawId) -> Result<bool, Refusal> {
-        let closed = self.placed(|_| Ok(What::Other), |core, _| core.exit(worker, id))?;
+        let closed = self.placed(|_| Ok(What::Other), move |core, _| core.exit(worker, id))?;
         self.seats.left(worker);
         self.owing.given_back();
         Ok(closed)
@@ -320,7 +329,7 @@ impl State {
 
     #[inline(always)]
     pub(crate) fn try_close(&mut self, worker: u32, id: RawId) -> Result<bool, Refusal> {
-        let closed = self.placed(|_| Ok(What::Other), |core, _| core.try_close(worker, id))?;
+        let closed = self.placed(|_| Ok(What::Other), move |core, _| core.try_close(worker, id))?;
         self.owing.given_back();
         Ok(closed)
     }
@@ -329,8 +338,8 @@ impl State {
         self.packed.pack(&[], given.fields)?;
         self.origins.reserve_record(id, &self.packed)?;
         self.placed(
-            |_| Ok(What::Record(id, given.all_kinds()?)),
-            |core, packed| core.record(worker, id, packed),
+            move |_| Ok(What::Record(id, given.all_kinds()?)),
+            move |core, packed| core.record(worker, id, packed),
         )?;
         self.origins.recorded(id, &self.packed);
         Ok(())
@@ -345,8 +354,8 @@ impl State {
     ) -> Result<(), Refusal> {
         self.packed.pack(&[meta.name, meta.target, message], given.fields)?;
         self.placed(
-            |_| Ok(What::Made(known_as_written(meta, given)?)),
-            |core, packed| core.event(worker, meta, message, packed),
+            move |_| Ok(What::Made(known_as_written(meta, given)?)),
+            move |core, packed| core.event(worker, meta, message, packed),
         )
     }
 
@@ -359,8 +368,8 @@ impl State {
     ) -> Result<(), Refusal> {
         self.packed.pack(&[message], given.fields)?;
         self.placed(
-            |origins| Ok(What::Made(origins.known(callsite, given)?)),
-            |core, packed| core.event_at(worker, callsite, message, packed),
+            move |origins| Ok(What::Made(origins.known(callsite, given)?)),
+            move |core, packed| core.event_at(worker, callsite, message, packed),
         )
     }
 
