@@ -1,5 +1,5 @@
 //! What the lines of all threads have to be, one after another.
-use std::collections::{HashMap, HashSet};
+use std::collections::{HashMap, HashSet, VecDeque};
 use std::sync::mpsc::Receiver;
 use std::time::Duration;
 
@@ -27,11 +27,13 @@ pub struct Checker {
     workers: u32,
     introduced: Receiver<(u32, Told)>,
     told: HashMap<u32, Told>,
+    // By thread and part: exits that were told, and came to be owed while the thread left spans of other parts.
+    owed: HashMap<(u32, u32), VecDeque<String>>,
     // Whose the numbers in other parts are.
     threads: HashMap<u32, u32>,
     open: HashMap<u64, Open>,
-    // The span that may close now by what the thread did last.
-    may_close: HashMap<u32, u64>,
+    // By thread and part: the span there that may close now by what the thread did last in that part.
+    may_close: HashMap<(u32, u32), u64>,
     // The last generation of each slot of each part.
     generations: HashMap<(u32, u32), u64>,
     pub lines: u64,
@@ -45,6 +47,7 @@ impl Checker {
             workers,
             introduced,
             told: HashMap::new(),
+            owed: HashMap::new(),
             threads: HashMap::new(),
             open: HashMap::new(),
             may_close: HashMap::new(),
@@ -62,12 +65,13 @@ impl Checker {
         let (kind, id, worker, rest) = (word(), word().parse().expect("an id"), &word()[1..], word());
         let worker = worker.parse().expect("a worker's number");
         assert!(id == 0 || part_of(id) == worker / self.workers, "{line}");
-        let thread = self.thread(kind, worker, rest);
+        let (thread, part) = (self.thread(kind, worker, rest), worker / self.workers);
         if kind != "close" {
-            let told = self.told[&thread].recv_timeout(LONG);
-            assert_eq!(told, Ok(format!("{kind} {id} {rest}")));
+            assert_eq!(self.told(thread, part), format!("{kind} {id} {rest}"));
+            let mut owed = self.owed.iter().filter(|((who, _), _)| *who == thread);
+            assert!(kind == "exit" || owed.all(|(_, exits)| exits.is_empty()), "{line}");
         }
-        let closing = self.may_close.remove(&thread);
+        let closing = self.may_close.remove(&(thread, part));
         match kind {
             "new" => self.made(id, thread, rest),
             "enter" => *self.span(id).inside.entry(thread).or_default() += 1,
@@ -82,6 +86,23 @@ impl Checker {
                 self.closed(id, thread, rest);
             }
             _ => panic!("no such kind: {line}"),
+        }
+    }
+
+    // The next line of a thread in a part, as it told. Only exits of other parts may come later than it said.
+    fn told(&mut self, thread: u32, part: u32) -> String {
+        if let Some(exit) = self.owed.entry((thread, part)).or_default().pop_front() {
+            return exit;
+        }
+        loop {
+            let told = self.told[&thread].recv_timeout(LONG).expect("it tells what it does");
+            let id = told.split(' ').nth(1).expect("an id").parse().expect("an id");
+            let place = if id == 0 { thread / self.workers } else { part_of(id) };
+            if place == part {
+                return told;
+            }
+            assert!(told.starts_with("exit "), "{told} of w{thread} comes later");
+            self.owed.entry((thread, place)).or_default().push_back(told);
         }
     }
 
@@ -149,7 +170,7 @@ impl Checker {
         *times -= 1;
         if *times == 0 {
             inside.remove(&thread);
-            self.may_close.insert(thread, id);
+            self.may_close.insert((thread, part_of(id)), id);
         }
     }
 
@@ -162,7 +183,7 @@ impl Checker {
         if let Some(id) = message.strip_prefix("drop ") {
             let id = id.parse().expect("an id");
             self.span(id).handles -= 1;
-            self.may_close.insert(thread, id);
+            self.may_close.insert((thread, part_of(id)), id);
         }
     }
 
@@ -177,13 +198,14 @@ impl Checker {
         self.closed_elsewhere += u64::from(open.maker != thread);
         if open.parent != 0 {
             self.span(open.parent).children -= 1;
-            self.may_close.insert(thread, open.parent);
+            self.may_close.insert((thread, part_of(id)), open.parent);
         }
     }
 
     /// After the last line.
     pub fn finish(self) -> Checker {
         assert_eq!(self.open.len(), 0, "spans are left open");
+        assert!(self.owed.values().all(VecDeque::is_empty), "an exit is missing");
         for told in self.told.values() {
             assert_eq!(told.try_recv().ok(), None, "a line is missing");
         }
