@@ -274,7 +274,8 @@ impl Making<'_> {
         let ring = Ring::new(lines, notes, stamps, self.on_full, Arc::clone(&self.losses));
         let ring = Arc::new(ring);
         // So no two parts have a worker's number in common.
-        let state = State::new(core, Arc::clone(&ring), place * self.limits.workers)?;
+        let first_worker = place * self.limits.workers;
+        let state = State::new(core, Arc::clone(&ring), self.common.debt(), first_worker)?;
         Ok(Arc::new(Part::new(state, ring, Arc::clone(&self.common), place)))
     }
 }

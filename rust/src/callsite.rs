@@ -80,7 +80,7 @@ impl Registry {
     /// [`OtherRegistry`](Error::OtherRegistry).
     pub fn enabled_at(&self, callsite: &Callsite) -> Result<bool, Error> {
         let number = callsite.number_in(self)?;
-        Ok(self.parts().home().with(|state| state.callsite_wants(number))?)
+        Ok(self.parts().home().part.with(|state| state.callsite_wants(number))?)
     }
 
     /// [`span`](Registry::span) with the meta of a callsite.
@@ -115,18 +115,18 @@ impl Registry {
         fields: Given<'_>,
         told: impl FnOnce(&Part, RawId) -> T,
     ) -> Result<Option<T>, Error> {
-        let (part, parent) = self.own_parent(parent)?;
+        let (at, parent) = self.own_parent(parent)?;
         let made = if are_marked(NO_NAME, fields.fields) {
             Err(Refusal::BAD_NAME)
         } else {
-            self.call(part, |state, worker| state.new_span_at(worker, number, parent, fields))
+            at.call(move |state, worker| state.new_span_at(worker, number, parent, fields))
         };
-        let made = made.or_else(|refusal| {
-            with_written(refusal, NO_NAME, fields, |_, given| {
-                self.call(part, |state, worker| state.new_span_at(worker, number, parent, given))
+        let made = made.or_else(move |refusal| {
+            with_written(refusal, NO_NAME, fields, move |_, given| {
+                at.call(move |state, worker| state.new_span_at(worker, number, parent, given))
             })
         })?;
-        Ok(made.map(|id| told(part, id)))
+        Ok(made.map(|id| told(at.part, id)))
     }
 
     /// [`event`](Registry::event) with the meta of a callsite.
@@ -139,15 +139,15 @@ impl Registry {
     }
 
     pub(crate) fn event_at_number(&self, number: u32, message: &str, fields: Given<'_>) -> Result<(), Error> {
-        let part = self.parts().inside();
+        let at = self.parts().inside();
         let told = if are_marked(NO_NAME, fields.fields) {
             Err(Refusal::BAD_NAME)
         } else {
-            self.call(part, |state, worker| state.event_at(worker, number, message, fields))
+            at.call(move |state, worker| state.event_at(worker, number, message, fields))
         };
-        told.or_else(|refusal| {
-            with_written(refusal, NO_NAME, fields, |_, given| {
-                self.call(part, |state, worker| state.event_at(worker, number, message, given))
+        told.or_else(move |refusal| {
+            with_written(refusal, NO_NAME, fields, move |_, given| {
+                at.call(move |state, worker| state.event_at(worker, number, message, given))
             })
         })
     }

@@ -260,12 +260,12 @@ impl Drain {
 
     fn part(&self, at: usize) -> &Part {
         // At most 128.
-        self.parts.at(at as u32)
+        self.parts.part(at as u32)
     }
 
     #[inline]
     fn look_at(&mut self, at: usize) -> bool {
-        let part = self.parts.at(at as u32);
+        let part = self.parts.part(at as u32);
         let head = &mut self.heads[at];
         if !head.look(part) {
             return false;
@@ -331,7 +331,7 @@ impl Drain {
     fn write_open(&mut self, outs: &mut impl Outs) -> io::Result<u64> {
         let (mut lines, mut room) = (0, OPEN_AT_END);
         for place in 0..self.parts.count() {
-            let part = Arc::clone(self.parts.at(place));
+            let part = Arc::clone(self.parts.part(place));
             let open = part.with(|state| state.open_spans()).unwrap_or_default();
             let mut left = &open[..open.len().min(room)];
             room -= left.len();

@@ -9,6 +9,7 @@
 //! the lines.
 #![deny(missing_docs, unsafe_code)]
 
+mod at;
 mod builder;
 mod callsite;
 mod directives;
@@ -19,6 +20,7 @@ mod interest;
 mod json;
 mod kind;
 mod level;
+mod lock;
 mod lost;
 mod macros;
 mod meta;
@@ -36,6 +38,7 @@ mod raw;
 mod refusal;
 mod registry;
 mod ring;
+mod routing;
 mod seats;
 mod site;
 mod span;

@@ -5,17 +5,17 @@ use crate::kind::Kind;
 use crate::level::Level;
 use crate::packed::reserve;
 use crate::refusal::Refusal;
+use crate::routing::{self, Ids, SLOT_BITS};
 use crate::span::Span;
 use std::fmt;
 use std::num::NonZeroU64;
 
-/// A slot below 2^24 and a generation below 2^32 make an id.
-const SLOTS: u64 = 1 << 24;
-const MAX_ID: u64 = 1 << 56;
-/// The bits from this one on are free in all of them: they name the part of the registry.
-const PART_BIT: u32 = MAX_ID.ilog2() + 1;
-/// So many parts have numbers in them.
-pub(crate) const MOST_PARTS: u32 = 1 << (u64::BITS - PART_BIT);
+/// The seven bits above a part's own id name the part. An `Id` has its registry's number beside it.
+const IDS: Ids = Ids::new(57, 7);
+/// The last slot's id in its last generation.
+const MAX_ID: u64 = (IDS.last_generation() as u64 + 1) << SLOT_BITS;
+/// How many parts a registry may have.
+pub(crate) const MOST_PARTS: u32 = IDS.parts();
 
 /// The number of an id, as the C interface of its part takes and tells it. Whose id it is, nothing says.
 #[derive(Clone, Copy, Debug, PartialEq, Eq, PartialOrd, Ord, Hash)]
@@ -36,12 +36,12 @@ impl RawId {
     /// The number of the id, where its part is this one.
     #[inline]
     pub(crate) fn in_part(self, part: u32) -> NonZeroU64 {
-        self.0 | (u64::from(part) << PART_BIT)
+        self.0 | IDS.above(0, part)
     }
 
     /// The slot of its span, below 2^24.
     pub(crate) fn slot(self) -> usize {
-        ((self.get() - 1) % SLOTS) as usize
+        routing::slot(self.get()) as usize
     }
 }
 
@@ -69,20 +69,26 @@ impl Id {
 
     /// That of a number, if it has one.
     pub(crate) fn of_number(registry: u64, number: u64) -> Option<Id> {
-        let raw = RawId::from_u64(number % (1 << PART_BIT))?;
-        Some(Id::of(registry, part_of(number), raw))
+        let (part, own) = IDS.route(0, number)?;
+        Some(Id::of(registry, part, RawId::from_u64(own)?))
     }
 
-    /// Its number there and the part, where it is an id of this registry: there is no other way from an `Id` to a call.
+    /// Its number there, where it is an id of this registry, which has one part: each of its ids names the first.
     #[inline(always)]
+    pub(crate) fn in_only_part(self, registry: u64) -> Option<RawId> {
+        (self.registry == registry).then_some(RawId(self.number))
+    }
+
+    /// Its number there and the part, where it is an id of this registry. There is no other way than these two from an
+    /// `Id` to a call.
     pub(crate) fn in_registry(self, registry: u64) -> Result<(u32, RawId), Error> {
         if self.registry != registry {
             return Err(Error::OtherRegistry);
         }
-        let number = self.number.get();
+        let (part, own) = IDS.route(0, self.number.get()).ok_or(Error::Unknown)?;
         // It isn't 0.
-        let raw = NonZeroU64::new(number % (1 << PART_BIT)).ok_or(Error::Unknown)?;
-        Ok((part_of(number), RawId(raw)))
+        let raw = NonZeroU64::new(own).ok_or(Error::Unknown)?;
+        Ok((part, RawId(raw)))
     }
 
     /// Its number, which lines show.
@@ -95,13 +101,21 @@ impl Id {
     /// number.
     #[must_use]
     pub fn part(self) -> u32 {
-        part_of(self.number.get())
+        IDS.part(self.number.get())
     }
-}
 
-fn part_of(number: u64) -> u32 {
-    // It has 7 bits.
-    (number >> PART_BIT) as u32
+    /// Which slot of that part the span has, below 2^24. No other open span of the part has it.
+    #[must_use]
+    pub fn slot(self) -> u32 {
+        routing::slot(self.number.get())
+    }
+
+    /// How many spans had the slot before.
+    #[must_use]
+    pub fn generation(self) -> u32 {
+        // The part's bits are above these.
+        ((self.number.get() - 1) >> SLOT_BITS) as u32
+    }
 }
 
 impl fmt::Display for Id {
@@ -278,6 +292,9 @@ mod tests {
                 assert_eq!((id.part(), id.in_registry(7)), (part, Ok((part, raw))));
                 assert_eq!(id.in_registry(8), Err(Error::OtherRegistry));
                 assert_eq!(Id::of_number(7, id.into_u64()), Some(id));
+                let above = u64::from(part) << 57;
+                let own = (u64::from(id.generation()) << 24) + u64::from(id.slot()) + 1;
+                assert_eq!(above + own, id.into_u64());
             }
         }
         let no_ids = [0, MAX_ID + 1, 1 << 57, (5 << 57) + MAX_ID + 1, u64::MAX];

@@ -254,8 +254,8 @@ impl Registry {
     /// [`OtherRegistry`](Error::OtherRegistry), [`Unknown`](Error::Unknown) where it isn't open,
     /// [`OutOfMemory`](Error::OutOfMemory).
     pub fn why_open(&self, id: Id) -> Result<OpenSpans, Error> {
-        let (part, id) = self.own(id)?;
-        OpenSpans::found(part, |state| state.why_open(id))
+        let (at, id) = self.own(id)?;
+        OpenSpans::found(at.part, |state| state.why_open(id))
     }
 }
 

@@ -3,6 +3,41 @@
 use crate::meta::RawId;
 use crate::refusal::Refusal;
 use std::collections::VecDeque;
+use std::sync::atomic::{AtomicBool, AtomicU32, Ordering};
+use std::sync::Arc;
+
+/// Whether a part owes something, told without its lock.
+pub(crate) struct Debt {
+    is_there: AtomicBool,
+    // How many parts of the registry owe something.
+    parts: Arc<AtomicU32>,
+}
+
+impl Debt {
+    /// None yet.
+    pub(crate) fn new(parts: Arc<AtomicU32>) -> Debt {
+        Debt {
+            is_there: AtomicBool::new(false),
+            parts,
+        }
+    }
+
+    /// Where it is not, what was owed is done.
+    #[inline]
+    pub(crate) fn is_there(&self) -> bool {
+        self.is_there.load(Ordering::Acquire)
+    }
+
+    fn begins(&self) {
+        self.is_there.store(true, Ordering::Release);
+        self.parts.fetch_add(1, Ordering::AcqRel);
+    }
+
+    fn ends(&self) {
+        self.is_there.store(false, Ordering::Release);
+        self.parts.fetch_sub(1, Ordering::AcqRel);
+    }
+}
 
 /// Something that is still to be done.
 #[derive(Clone, Copy, Debug, PartialEq, Eq)]
@@ -20,6 +55,8 @@ pub(crate) enum Owed {
 pub(crate) struct Owing {
     // In the order in which it came.
     list: VecDeque<Owed>,
+    // Whether it is not empty.
+    debt: Arc<Debt>,
     // Handles and entries, duplicates too, that are not given back.
     held: usize,
     // By worker: the spans of its entries whose exits aren't owed, the outermost first.
@@ -29,19 +66,24 @@ pub(crate) struct Owing {
 }
 
 impl Owing {
-    /// Of so many workers.
-    pub(crate) fn new(workers: usize) -> Result<Owing, Refusal> {
+    /// Of so many workers. Nothing is owed.
+    pub(crate) fn new(workers: usize, debt: Arc<Debt>) -> Result<Owing, Refusal> {
         let mut inside = Vec::new();
         inside.try_reserve_exact(workers).map_err(|_| Refusal::OUT_OF_MEMORY)?;
         inside.resize_with(workers, Vec::new);
         let mut owing = Owing {
             list: VecDeque::new(),
+            debt,
             held: 0,
             inside,
             closes: Vec::new(),
         };
         owing.reserve(0)?;
         Ok(owing)
+    }
+
+    pub(crate) fn debt(&self) -> &Arc<Debt> {
+        &self.debt
     }
 
     // For the ends of all workers, for all that is held, and for so many more.
@@ -127,7 +169,7 @@ impl Owing {
         if !self.left(worker, id) {
             return Err(Refusal::NOT_ENTERED);
         }
-        self.list.push_back(Owed::Exit { worker, id });
+        self.owe(Owed::Exit { worker, id });
         Ok(())
     }
 
@@ -136,7 +178,7 @@ impl Owing {
         self.has_room()?;
         let owed = self.closes.get_mut(id.slot()).filter(|owed| **owed < handles);
         *owed.ok_or(Refusal::UNKNOWN)? += 1;
-        self.list.push_back(Owed::Close { worker, id });
+        self.owe(Owed::Close { worker, id });
         Ok(())
     }
 
@@ -144,8 +186,15 @@ impl Owing {
     pub(crate) fn owe_end(&mut self, worker: u32) -> Result<(), Refusal> {
         self.has_room()?;
         self.left_all(worker);
-        self.list.push_back(Owed::Leave { worker });
+        self.owe(Owed::Leave { worker });
         Ok(())
+    }
+
+    fn owe(&mut self, owed: Owed) {
+        if self.list.is_empty() {
+            self.debt.begins();
+        }
+        self.list.push_back(owed);
     }
 
     // It has. Were there none, that would be an answer too.
@@ -160,8 +209,12 @@ impl Owing {
 
     /// The first was done.
     pub(crate) fn done(&mut self) {
-        if let Some(Owed::Close { id, .. }) = self.list.pop_front() {
+        let Some(done) = self.list.pop_front() else { return };
+        if let Owed::Close { id, .. } = done {
             self.closes[id.slot()] -= 1;
+        }
+        if self.list.is_empty() {
+            self.debt.ends();
         }
     }
 
@@ -181,18 +234,53 @@ impl Owing {
 
 #[cfg(test)]
 mod tests {
-    use super::{Owed, Owing};
+    use super::{Debt, Owed, Owing};
     use crate::meta::RawId;
     use crate::refusal::Refusal;
+    use std::sync::atomic::{AtomicU32, Ordering};
+    use std::sync::Arc;
 
     fn id(number: u64) -> RawId {
         RawId::from_u64(number).expect("not 0")
     }
 
+    fn owing_of(workers: usize) -> Result<Owing, Refusal> {
+        Owing::new(workers, Arc::new(Debt::new(Arc::default())))
+    }
+
+    #[test]
+    fn whether_something_is_owed_is_known_of_each_part_and_of_all() -> Result<(), Refusal> {
+        let parts = Arc::new(AtomicU32::new(0));
+        let debts = [(); 2].map(|()| Arc::new(Debt::new(Arc::clone(&parts))));
+        let mut all = Vec::new();
+        for debt in &debts {
+            let mut owing = Owing::new(1, Arc::clone(debt))?;
+            owing.reserve_span()?;
+            owing.made(id(1));
+            all.push(owing);
+        }
+        let owing = || debts.each_ref().map(|debt| debt.is_there());
+        let known = || (owing(), parts.load(Ordering::Relaxed));
+        assert_eq!(known(), ([false, false], 0));
+        all[0].owe_close(0, id(1), 1)?;
+        all[0].owe_end(0)?;
+        assert_eq!(known(), ([true, false], 1));
+        all[1].owe_end(0)?;
+        assert_eq!(known(), ([true, true], 2));
+        all[0].done();
+        assert_eq!(known(), ([true, true], 2));
+        all[0].done();
+        all[0].done();
+        assert_eq!(known(), ([false, true], 1));
+        all[1].done();
+        assert_eq!(known(), ([false, false], 0));
+        Ok(())
+    }
+
     #[test]
     fn no_more_is_owed_than_is_held() -> Result<(), Refusal> {
         let (a, b) = (id(1), id(2));
-        let mut owing = Owing::new(2)?;
+        let mut owing = owing_of(2)?;
         for made in [a, b] {
             owing.reserve_span()?;
             owing.made(made);
@@ -221,7 +309,7 @@ mod tests {
 
     #[test]
     fn to_owe_what_is_held_takes_no_memory() -> Result<(), Refusal> {
-        let mut owing = Owing::new(3)?;
+        let mut owing = owing_of(3)?;
         for number in 1..=1000 {
             owing.reserve_span()?;
             owing.made(id(number));

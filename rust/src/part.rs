@@ -1,14 +1,16 @@
 //! A part of a registry: its lock, and what may be asked without it.
 #![forbid(unsafe_code)]
 use crate::interest::Interest;
+use crate::lock::Lock;
 use crate::lost::{Losses, Lost};
+use crate::owed::Debt;
 use crate::refusal::Refusal;
 use crate::ring::Ring;
 use crate::seats::Caller;
 use crate::state::State;
 use crate::workers;
 use std::sync::atomic::{AtomicBool, AtomicU32, AtomicU64, Ordering};
-use std::sync::{Arc, Mutex, MutexGuard, PoisonError};
+use std::sync::{Arc, Mutex, PoisonError};
 use std::thread;
 use std::time::Duration;
 
@@ -26,7 +28,7 @@ pub(crate) struct Common {
     // What was lost when that was last told. Who has the lock of a part may take this one.
     told: Mutex<Lost>,
     // How many parts owe something.
-    owing: AtomicU32,
+    owing: Arc<AtomicU32>,
     // Who adds a callsite has this one, and then the lock of a part.
     adding: Mutex<()>,
 }
@@ -40,7 +42,7 @@ impl Common {
             is_over: AtomicBool::new(false),
             losses,
             told: Mutex::default(),
-            owing: AtomicU32::new(0),
+            owing: Arc::default(),
             adding: Mutex::default(),
         }
     }
@@ -65,6 +67,11 @@ impl Common {
         &self.adding
     }
 
+    /// A part's debt.
+    pub(crate) fn debt(&self) -> Arc<Debt> {
+        Arc::new(Debt::new(Arc::clone(&self.owing)))
+    }
+
     /// Whether a part owes something, told without a lock.
     #[inline]
     pub(crate) fn owes(&self) -> bool {
@@ -83,28 +90,29 @@ impl Common {
 /// A proved registry with its lock and its ring. No two parts have a line of the processors' caches in common.
 #[repr(align(128))]
 pub(crate) struct Part {
-    state: Mutex<State>,
+    state: Lock<State>,
     ring: Arc<Ring>,
     common: Arc<Common>,
+    losses: Arc<Losses>,
     number: u64,
     // Among the parts of its registry.
     place: u32,
     // The number by which lines tell its first worker.
     first_worker: u32,
-    // Whether something is owed, as of the last time that the lock was given back.
-    owes: AtomicBool,
+    debt: Arc<Debt>,
 }
 
 impl Part {
     pub(crate) fn new(state: State, ring: Arc<Ring>, common: Arc<Common>, place: u32) -> Part {
         Part {
             first_worker: state.as_told(0),
-            state: Mutex::new(state),
+            debt: Arc::clone(state.debt()),
+            state: Lock::new(state),
             ring,
             number: common.number + u64::from(place),
+            losses: Arc::clone(&common.losses),
             common,
             place,
-            owes: AtomicBool::new(false),
         }
     }
 
@@ -113,22 +121,7 @@ impl Part {
     /// is done whole or refused: the poison says nothing.
     #[inline(always)]
     pub(crate) fn with<T>(&self, call: impl FnOnce(&mut State) -> T) -> T {
-        let mut state: MutexGuard<'_, State> = self.state.lock().unwrap_or_else(PoisonError::into_inner);
-        let result = call(&mut state);
-        if state.owes() != self.owes.load(Ordering::Relaxed) {
-            self.owes_now(state.owes());
-        }
-        result
-    }
-
-    #[cold]
-    fn owes_now(&self, owes: bool) {
-        self.owes.store(owes, Ordering::Release);
-        if owes {
-            self.common.owing.fetch_add(1, Ordering::AcqRel);
-        } else {
-            self.common.owing.fetch_sub(1, Ordering::AcqRel);
-        }
+        call(&mut self.state.take())
     }
 
     /// Makes a call until it isn't refused for want of a place, where the registry waits for the drain.
@@ -159,27 +152,48 @@ impl Part {
     #[inline(always)]
     pub(crate) fn call<T>(
         self: &Arc<Part>,
+        as_worker: impl Fn(&mut State, Caller) -> Result<u32, Refusal> + Copy,
+        call: impl Fn(&mut State, u32) -> Result<T, Refusal> + Copy,
+    ) -> Result<T, Refusal> {
+        let called = self.call_now(as_worker, call);
+        called.or_else(move |refusal| self.call_again(refusal, as_worker, call))
+    }
+
+    #[inline(always)]
+    fn call_now<T>(
+        self: &Arc<Part>,
         as_worker: impl Fn(&mut State, Caller) -> Result<u32, Refusal>,
-        mut call: impl FnMut(&mut State, u32) -> Result<T, Refusal>,
+        call: impl Fn(&mut State, u32) -> Result<T, Refusal>,
+    ) -> Result<T, Refusal> {
+        let caller = workers::caller(self);
+        self.with(|state| {
+            state.settle()?;
+            let worker = as_worker(state, caller)?;
+            // A refused call may have taken a number too.
+            workers::called_as(self, caller, worker);
+            let answer = call(state, worker)?;
+            self.tell(state);
+            Ok(answer)
+        })
+    }
+
+    // A call that was refused. While it waits, the thread may take a number or lose it.
+    #[cold]
+    fn call_again<T>(
+        self: &Arc<Part>,
+        mut refusal: Refusal,
+        as_worker: impl Fn(&mut State, Caller) -> Result<u32, Refusal> + Copy,
+        call: impl Fn(&mut State, u32) -> Result<T, Refusal> + Copy,
     ) -> Result<T, Refusal> {
         let mut turn: u32 = 0;
-        loop {
-            // While it waited, the thread may have taken a number or lost it.
-            let caller = workers::caller(self);
-            let result = self.with(|state| {
-                state.settle()?;
-                let worker = as_worker(state, caller)?;
-                // A refused call may have taken a number too.
-                workers::called_as(self, caller, worker);
-                let answer = call(state, worker)?;
-                self.tell(state);
-                Ok(answer)
-            });
-            if !matches!(result, Err(Refusal::BACKLOG)) || !self.has_waited(turn) {
-                return result;
+        while refusal == Refusal::BACKLOG && self.has_waited(turn) {
+            match self.call_now(as_worker, call) {
+                Err(again) => refusal = again,
+                answer => return answer,
             }
             turn = turn.saturating_add(1);
         }
+        Err(refusal)
     }
 
     /// By which it is told from all others of the process, also those that are gone.
@@ -209,7 +223,7 @@ impl Part {
 
     /// Whether something was lost since the last telling, and somebody may read of it.
     pub(crate) fn is_untold(&self) -> bool {
-        self.common.losses.is_untold() && !self.ring.is_unread()
+        self.losses.is_untold() && !self.ring.is_unread()
     }
 
     /// Tells what was lost since the last telling, if there is anything and the ring has room.
@@ -222,7 +236,7 @@ impl Part {
 
     #[cold]
     fn tell_now(&self, state: &mut State) {
-        let losses = &self.common.losses;
+        let losses = &self.losses;
         let mut told = self.common.told.lock().unwrap_or_else(PoisonError::into_inner);
         // What is lost from here on is told the next time.
         losses.set_untold(false);
@@ -236,7 +250,7 @@ impl Part {
     /// Whether something is owed, told without the lock.
     #[inline]
     pub(crate) fn owes(&self) -> bool {
-        self.owes.load(Ordering::Acquire)
+        self.debt.is_there()
     }
 }
 
@@ -267,7 +281,7 @@ mod tests {
                 spans.push(registry.span(&meta, Parent::Root, &[])?);
                 drain.lines().for_each(drop);
             }
-            let threads = registry.parts().at(0).with(|_| {
+            let threads = registry.parts().part(0).with(|_| {
                 let threads: Vec<_> = (0..4)
                     .map(|_| spans.split_off(spans.len() - SPANS as usize / 4))
                     .map(|some: Vec<Span>| thread::spawn(move || drop(some)))

@@ -1,8 +1,10 @@
 //! The parts of a registry: what registries, spans and the drain share, and to which of them a call goes.
 #![forbid(unsafe_code)]
+use crate::at::At;
 use crate::meta::{Counts, Meta};
 use crate::part::{Common, Part};
 use crate::refusal::Refusal;
+use crate::routing;
 use crate::site::Site;
 use crate::state::State;
 use crate::workers;
@@ -48,9 +50,25 @@ impl Parts {
         iter::once(&self.first).chain(&*self.others)
     }
 
+    /// The only one.
+    #[inline(always)]
+    pub(crate) fn only(&self) -> At<'_> {
+        At::only(&self.first)
+    }
+
     /// That of this place.
+    #[inline(always)]
+    pub(crate) fn at(&self, place: u32) -> At<'_> {
+        if self.are_several() {
+            At::one_of(self, place)
+        } else {
+            self.only()
+        }
+    }
+
+    /// The same, for what is no call.
     #[inline]
-    pub(crate) fn at(&self, place: u32) -> &Arc<Part> {
+    pub(crate) fn part(&self, place: u32) -> &Arc<Part> {
         match place {
             0 => &self.first,
             place => self.others.get(place as usize - 1).unwrap_or(&self.first),
@@ -59,42 +77,32 @@ impl Parts {
 
     /// That of the thread's roots.
     #[inline(always)]
-    pub(crate) fn home(&self) -> &Arc<Part> {
+    pub(crate) fn home(&self) -> At<'_> {
         if self.are_several() {
-            self.at(self.home_of_several())
+            At::one_of(self, routing::home(self.count()))
         } else {
-            &self.first
+            self.only()
         }
     }
 
     /// That of the innermost span that the thread is inside of, else that of its roots.
     #[inline(always)]
-    pub(crate) fn inside(&self) -> &Arc<Part> {
+    pub(crate) fn inside(&self) -> At<'_> {
         if self.are_several() {
-            let innermost = workers::innermost(&self.common);
-            self.at(innermost.unwrap_or_else(|| self.home_of_several()))
+            self.inside_of_several()
         } else {
-            &self.first
+            self.only()
         }
     }
 
-    fn home_of_several(&self) -> u32 {
-        // Below 128.
-        ((workers::thread() - 1) % u64::from(self.count())) as u32
+    fn inside_of_several(&self) -> At<'_> {
+        let innermost = workers::innermost(&self.common);
+        At::one_of(self, innermost.unwrap_or_else(|| routing::home(self.count())))
     }
 
-    /// What is done before a call of a part: what others owe, which that call doesn't do itself.
-    #[inline(always)]
-    pub(crate) fn before(&self, part: &Part) -> Result<(), Refusal> {
-        if self.are_several() {
-            self.settle_others(part)
-        } else {
-            Ok(())
-        }
-    }
-
+    /// Does what other parts than this one owe.
     #[inline(never)]
-    fn settle_others(&self, part: &Part) -> Result<(), Refusal> {
+    pub(crate) fn settle_others(&self, part: &Part) -> Result<(), Refusal> {
         if !self.common.owes() {
             return Ok(());
         }

@@ -22,8 +22,13 @@ impl Refusal {
         if status == raw::OK {
             Ok(())
         } else {
-            Err(Refusal(u8::try_from(status).unwrap_or(u8::MAX)))
+            Err(Refusal::of(status))
         }
+    }
+
+    #[cold]
+    fn of(status: u32) -> Refusal {
+        Refusal(u8::try_from(status).unwrap_or(u8::MAX))
     }
 
     /// As [`Error::may_pass`].

@@ -1,5 +1,6 @@
 //! The registry: calls by ids, under the names of `tracing`'s `Subscriber`.
 #![forbid(unsafe_code)]
+use crate::at::At;
 use crate::builder::RegistryBuilder;
 use crate::error::Error;
 use crate::level::Level;
@@ -8,10 +9,8 @@ use crate::names::{are_marked, with_written, NO_NAME};
 use crate::part::{wait, Part};
 use crate::parts::Parts;
 use crate::refusal::Refusal;
-use crate::seats::Caller;
 use crate::site::NO_KEY;
 use crate::span::Span;
-use crate::state::State;
 use crate::workers;
 use std::fmt;
 use std::sync::Arc;
@@ -54,10 +53,15 @@ pub struct Registry {
     user: Arc<User>,
 }
 
+/// Registries are numbered from 1 on.
+const NO_NUMBER: u64 = 0;
+
 /// All registries that are clones of one another. When it goes, only the drain is left.
 struct User {
     parts: Parts,
     number: u64,
+    // The same where it has one part; else no registry's.
+    number_of_one: u64,
     // Its number in the process, where that has 32 bits; else none's.
     key: u32,
 }
@@ -76,9 +80,15 @@ impl Registry {
 
     pub(crate) fn of(parts: Parts) -> Registry {
         let number = parts.common().number();
+        let number_of_one = if parts.are_several() { NO_NUMBER } else { number };
         let key = u32::try_from(number).unwrap_or(NO_KEY);
         Registry {
-            user: Arc::new(User { parts, number, key }),
+            user: Arc::new(User {
+                parts,
+                number,
+                number_of_one,
+                key,
+            }),
         }
     }
 
@@ -99,34 +109,31 @@ impl Registry {
         self.user.key
     }
 
-    /// A call of a part, as the worker whose number the thread has there.
-    #[inline(always)]
-    pub(crate) fn call<T>(
-        &self,
-        part: &Arc<Part>,
-        call: impl FnMut(&mut State, u32) -> Result<T, Refusal>,
-    ) -> Result<T, Refusal> {
-        let as_worker = |state: &mut State, caller: Caller| Ok(state.worker(caller));
-        self.parts().before(part)?;
-        part.call(as_worker, call)
-    }
-
     /// The part of one of its ids, which other registries' are not, and its number there.
     #[inline(always)]
-    pub(crate) fn own(&self, id: Id) -> Result<(&Arc<Part>, RawId), Error> {
+    pub(crate) fn own(&self, id: Id) -> Result<(At<'_>, RawId), Error> {
+        match id.in_only_part(self.user.number_of_one) {
+            Some(raw) => Ok((self.parts().only(), raw)),
+            None => self.own_of_several(id),
+        }
+    }
+
+    // Or of another registry's, which is refused.
+    #[cold]
+    fn own_of_several(&self, id: Id) -> Result<(At<'_>, RawId), Error> {
         let (place, raw) = id.in_registry(self.number())?;
         Ok((self.parts().at(place), raw))
     }
 
     /// The part of a new span with this parent.
     #[inline(always)]
-    pub(crate) fn own_parent(&self, parent: Parent) -> Result<(&Arc<Part>, RawParent), Error> {
+    pub(crate) fn own_parent(&self, parent: Parent) -> Result<(At<'_>, RawParent), Error> {
         Ok(match parent {
             Parent::Root => (self.parts().home(), RawParent::Root),
             Parent::Current => (self.parts().inside(), RawParent::Current),
             Parent::Of(id) => {
-                let (part, raw) = self.own(id)?;
-                (part, RawParent::Of(raw))
+                let (at, raw) = self.own(id)?;
+                (at, RawParent::Of(raw))
             }
         })
     }
@@ -151,7 +158,7 @@ impl Registry {
     /// [`Backlog`](Error::Backlog) or [`OutOfMemory`](Error::OutOfMemory) where something is owed and can't be done
     /// now.
     pub fn worker(&self) -> Result<u32, Error> {
-        Ok(self.call(self.parts().home(), |state, worker| Ok(state.as_told(worker)))?)
+        Ok(self.parts().home().call(|state, worker| Ok(state.as_told(worker)))?)
     }
 
     /// Whether some layer admits spans and events of this level and target. It takes no lock and no place in the ring.
@@ -188,22 +195,20 @@ impl Registry {
         Ok(made.map(|(part, id)| self.id_of(part, id)))
     }
 
-    fn made(&self, meta: &Meta<'_>, parent: Parent, fields: Fields<'_>) -> Result<Option<(&Arc<Part>, RawId)>, Error> {
-        let (part, parent) = self.own_parent(parent)?;
+    fn made(&self, meta: &Meta<'_>, parent: Parent, fields: Fields<'_>) -> Result<Option<(&Part, RawId)>, Error> {
+        let (at, parent) = self.own_parent(parent)?;
         let made = if are_marked(meta.name, fields) {
             Err(Refusal::BAD_NAME)
         } else {
-            self.call(part, |state, worker| {
-                state.new_span(worker, meta, parent, fields.into())
-            })
+            at.call(move |state, worker| state.new_span(worker, meta, parent, fields.into()))
         };
-        let made = made.or_else(|refusal| {
-            with_written(refusal, meta.name, fields.into(), |name, given| {
+        let made = made.or_else(move |refusal| {
+            with_written(refusal, meta.name, fields.into(), move |name, given| {
                 let meta = Meta { name, ..*meta };
-                self.call(part, |state, worker| state.new_span(worker, &meta, parent, given))
+                at.call(|state, worker| state.new_span(worker, &meta, parent, given))
             })
         })?;
-        Ok(made.map(|id| (part, id)))
+        Ok(made.map(|id| (&**at.part, id)))
     }
 
     /// Puts fields at the end of a span's list. A repeated key stands twice.
@@ -212,15 +217,15 @@ impl Registry {
     /// [`OtherRegistry`](Error::OtherRegistry), [`BadName`](Error::BadName) for a key, [`Unknown`](Error::Unknown),
     /// [`Backlog`](Error::Backlog), [`OutOfMemory`](Error::OutOfMemory), [`BadData`](Error::BadData).
     pub fn record(&self, id: Id, fields: Fields<'_>) -> Result<(), Error> {
-        let (part, id) = self.own(id)?;
+        let (at, id) = self.own(id)?;
         let recorded = if are_marked(NO_NAME, fields) {
             Err(Refusal::BAD_NAME)
         } else {
-            self.call(part, |state, worker| state.record(worker, id, fields.into()))
+            at.call(move |state, worker| state.record(worker, id, fields.into()))
         };
-        recorded.or_else(|refusal| {
-            with_written(refusal, NO_NAME, fields.into(), |_, given| {
-                self.call(part, |state, worker| state.record(worker, id, given))
+        recorded.or_else(move |refusal| {
+            with_written(refusal, NO_NAME, fields.into(), move |_, given| {
+                at.call(move |state, worker| state.record(worker, id, given))
             })
         })
     }
@@ -232,16 +237,16 @@ impl Registry {
     /// [`BadName`](Error::BadName) for the name or a key, [`Backlog`](Error::Backlog),
     /// [`OutOfMemory`](Error::OutOfMemory), [`BadData`](Error::BadData).
     pub fn event(&self, meta: &Meta<'_>, message: &str, fields: Fields<'_>) -> Result<(), Error> {
-        let part = self.parts().inside();
+        let at = self.parts().inside();
         let told = if are_marked(meta.name, fields) {
             Err(Refusal::BAD_NAME)
         } else {
-            self.call(part, |state, worker| state.event(worker, meta, message, fields.into()))
+            at.call(move |state, worker| state.event(worker, meta, message, fields.into()))
         };
-        told.or_else(|refusal| {
-            with_written(refusal, meta.name, fields.into(), |name, given| {
+        told.or_else(move |refusal| {
+            with_written(refusal, meta.name, fields.into(), move |name, given| {
                 let meta = Meta { name, ..*meta };
-                self.call(part, |state, worker| state.event(worker, &meta, message, given))
+                at.call(|state, worker| state.event(worker, &meta, message, given))
             })
         })
     }
@@ -253,31 +258,8 @@ impl Registry {
     /// [`Unknown`](Error::Unknown), [`CountFull`](Error::CountFull), [`Backlog`](Error::Backlog),
     /// [`OutOfMemory`](Error::OutOfMemory).
     pub fn enter(&self, id: Id) -> Result<bool, Error> {
-        let (part, id) = self.own(id)?;
-        self.enter_as(part, id).map(|(is_first, _)| is_first)
-    }
-
-    /// As which worker too.
-    #[inline(always)]
-    pub(crate) fn enter_as(&self, part: &Arc<Part>, id: RawId) -> Result<(bool, u32), Error> {
-        if self.parts().are_several() {
-            workers::reserve_entry()?;
-        }
-        self.parts().before(part)?;
-        let enter = |state: &mut State, worker| Ok((state.enter(worker, id)?, worker));
-        let entered = part.call(State::worker_to_enter, enter)?;
-        if self.parts().are_several() {
-            workers::entered(part, id, entered.0);
-        }
-        Ok(entered)
-    }
-
-    // The thread did leave it, or owes that.
-    #[inline]
-    fn left(&self, part: &Part, id: RawId) {
-        if self.parts().are_several() {
-            workers::left(part, id);
-        }
+        let (at, id) = self.own(id)?;
+        Ok(at.enter(id)?.0)
     }
 
     /// The calling thread leaves its topmost entry of a span. True where the span closed.
@@ -286,9 +268,9 @@ impl Registry {
     /// [`OtherRegistry`](Error::OtherRegistry), [`Unknown`](Error::Unknown), [`NotEntered`](Error::NotEntered),
     /// [`Backlog`](Error::Backlog), [`OutOfMemory`](Error::OutOfMemory).
     pub fn exit(&self, id: Id) -> Result<bool, Error> {
-        let (part, id) = self.own(id)?;
-        let closed = self.call(part, |state, worker| state.exit(worker, id))?;
-        self.left(part, id);
+        let (at, id) = self.own(id)?;
+        let closed = at.call(move |state, worker| state.exit(worker, id))?;
+        at.left(id);
         Ok(closed)
     }
 
@@ -298,8 +280,8 @@ impl Registry {
     /// [`OtherRegistry`](Error::OtherRegistry), [`Unknown`](Error::Unknown), [`CountFull`](Error::CountFull),
     /// [`Backlog`](Error::Backlog), [`OutOfMemory`](Error::OutOfMemory).
     pub fn clone_span(&self, id: Id) -> Result<(), Error> {
-        let (part, id) = self.own(id)?;
-        Ok(self.call(part, |state, worker| state.clone_span(worker, id))?)
+        let (at, id) = self.own(id)?;
+        Ok(at.call(move |state, worker| state.clone_span(worker, id))?)
     }
 
     /// Gives a handle of a span back. True where the span closed: nothing else holds it.
@@ -308,8 +290,8 @@ impl Registry {
     /// [`OtherRegistry`](Error::OtherRegistry), [`Unknown`](Error::Unknown) also where no handle of it is out,
     /// [`Backlog`](Error::Backlog), [`OutOfMemory`](Error::OutOfMemory).
     pub fn try_close(&self, id: Id) -> Result<bool, Error> {
-        let (part, id) = self.own(id)?;
-        Ok(self.call(part, |state, worker| state.try_close(worker, id))?)
+        let (at, id) = self.own(id)?;
+        Ok(at.call(move |state, worker| state.try_close(worker, id))?)
     }
 
     /// [`exit`](Registry::exit) for callers that can't make it again: what can't be done now is owed, as where a guard
@@ -319,24 +301,13 @@ impl Registry {
     /// [`OtherRegistry`](Error::OtherRegistry), [`Unknown`](Error::Unknown), [`NotEntered`](Error::NotEntered) where
     /// the thread has no entry of the span whose exit isn't owed already: so no more is owed than is held.
     pub fn exit_or_owe(&self, id: Id) -> Result<(), Error> {
-        let (part, id) = self.own(id)?;
-        let caller = workers::caller(part);
-        part.with(|state| {
+        let (at, id) = self.own(id)?;
+        let caller = workers::caller(at.part);
+        at.part.with(|state| {
             let worker = state.worker_of(caller).ok_or(Refusal::NOT_ENTERED)?;
             state.exit_or_owe(worker, id)
         })?;
-        self.left(part, id);
-        Ok(())
-    }
-
-    /// As this worker, if the thread still has that number: else it has left all spans.
-    pub(crate) fn exit_as(&self, part: &Arc<Part>, id: RawId, worker: u32) -> Result<(), Error> {
-        let caller = workers::caller(part);
-        part.with(|state| match state.worker_of(caller) {
-            Some(number) if number == worker => state.exit_or_owe(worker, id),
-            _ => Ok(()),
-        })?;
-        self.left(part, id);
+        at.left(id);
         Ok(())
     }
 
@@ -347,16 +318,8 @@ impl Registry {
     /// [`OtherRegistry`](Error::OtherRegistry), [`Unknown`](Error::Unknown) where the span has no handle whose close
     /// isn't owed already: so no more is owed than is held.
     pub fn close_or_owe(&self, id: Id) -> Result<(), Error> {
-        let (part, id) = self.own(id)?;
-        self.close_raw(part, id)
-    }
-
-    pub(crate) fn close_raw(&self, part: &Arc<Part>, id: RawId) -> Result<(), Error> {
-        let caller = workers::caller(part);
-        Ok(part.with(|state| {
-            let worker = state.worker_or_outsider(caller);
-            state.close_or_owe(worker, id)
-        })?)
+        let (at, id) = self.own(id)?;
+        Ok(at.close_or_owe(id)?)
     }
 
     /// The innermost span that the calling thread is inside of; entries that repeat a span are skipped. After entering
@@ -366,30 +329,30 @@ impl Registry {
     /// [`Backlog`](Error::Backlog) or [`OutOfMemory`](Error::OutOfMemory) where something is owed and can't be done
     /// now.
     pub fn current_span(&self) -> Result<Option<Id>, Error> {
-        let part = self.parts().inside();
-        self.parts().before(part)?;
-        let current = part.until_placed(|| {
-            let caller = workers::caller(part);
-            part.with(|state| {
+        let at = self.parts().inside();
+        at.before()?;
+        let current = at.part.until_placed(|| {
+            let caller = workers::caller(at.part);
+            at.part.with(|state| {
                 state.settle()?;
                 let worker = state.worker_of(caller);
                 worker.map_or(Ok(None), |worker| state.current_span(worker))
             })
         })?;
-        Ok(current.map(|raw| self.id_of(part, raw)))
+        Ok(current.map(|raw| self.id_of(at.part, raw)))
     }
 
     /// An open span; none where no span of this registry is open with the id. What is owed and can't be done now
     /// counts as not done.
     #[must_use]
     pub fn find(&self, id: Id) -> Option<Found> {
-        let (part, id) = self.own(id).ok()?;
-        let found = part.with(|state| {
+        let (at, id) = self.own(id).ok()?;
+        let found = at.part.with(|state| {
             let _owing = state.settle();
             state.find(id)
         })?;
         Some(Found {
-            parent: RawId::from_u64(found.parent).map(|raw| self.id_of(part, raw)),
+            parent: RawId::from_u64(found.parent).map(|raw| self.id_of(at.part, raw)),
             handles: found.handles,
             entries: found.entries,
             count: found.count,

@@ -5,18 +5,19 @@
 //! *outsider*, a worker that is never inside a span.
 #![forbid(unsafe_code)]
 use crate::refusal::Refusal;
+use crate::routing::NOBODY;
 
-/// No thread.
-pub(crate) const NOBODY: u64 = 0;
 /// A thread that has ended and is still inside: its number is nobody's until it has left.
-const GONE: u64 = u64::MAX;
+const GONE: u64 = NOBODY - 1;
 /// No seat.
 pub(crate) const NONE: u32 = u32::MAX;
+/// No neighbour, of a seat that isn't in the list.
+const UNLISTED: u32 = u32::MAX - 1;
 
 /// A thread of the process that calls, as it is known before the lock is taken.
 #[derive(Clone, Copy, Debug)]
 pub(crate) struct Caller {
-    /// From 1 on, and never the same for two threads; [`NOBODY`] where it can't give a number back when it ends.
+    /// Never the same for two threads; [`NOBODY`] where it can't give a number back when it ends.
     pub(crate) thread: u64,
     /// The number that it had last in this registry, or [`NONE`].
     pub(crate) last: u32,
@@ -35,9 +36,18 @@ struct Seat {
     thread: u64,
     // Entries that it hasn't left, also those that repeat a span.
     depth: u32,
-    // Its neighbours among the idle seats.
+    // Its neighbours in the list.
     before: u32,
     after: u32,
+}
+
+impl Seat {
+    const FREE: Seat = Seat {
+        thread: NOBODY,
+        depth: 0,
+        before: UNLISTED,
+        after: UNLISTED,
+    };
 }
 
 /// The seats of all workers but the outsider.
@@ -45,7 +55,8 @@ pub(crate) struct Seats {
     seats: Vec<Seat>,
     // Those that no thread has; the next one is at the end.
     free: Vec<u32>,
-    // Of those that a thread has and isn't inside by, which was idle longest, and which shortest.
+    // The list of all idle seats, which begins with the one that is idle longest. One by which a thread entered a span
+    // since stays where it is: so a thread that enters and leaves, and no other meanwhile, changes nothing here.
     first: u32,
     last: u32,
 }
@@ -56,13 +67,7 @@ impl Seats {
         let room = workers as usize;
         seats.try_reserve_exact(room).map_err(|_| Refusal::OUT_OF_MEMORY)?;
         free.try_reserve_exact(room).map_err(|_| Refusal::OUT_OF_MEMORY)?;
-        let seat = Seat {
-            thread: NOBODY,
-            depth: 0,
-            before: NONE,
-            after: NONE,
-        };
-        seats.resize(room, seat);
+        seats.resize(room, Seat::FREE);
         free.extend((0..workers).rev());
         Ok(Seats {
             seats,
@@ -129,11 +134,14 @@ impl Seats {
     }
 
     fn take_over(&mut self, caller: Caller) -> Option<u32> {
-        if !caller.may_own() || self.first == NONE {
+        if !caller.may_own() {
             return None;
         }
-        let at = self.first;
-        self.is_idle_no_more(at);
+        // What is not idle any longer is looked at once.
+        while self.first != NONE && self.seats[self.first as usize].depth > 0 {
+            self.unlist(self.first);
+        }
+        let at = (self.first != NONE).then_some(self.first)?;
         self.seats[at as usize].thread = caller.thread;
         self.becomes_idle(at);
         Some(at)
@@ -142,9 +150,6 @@ impl Seats {
     /// The worker has one entry more.
     #[inline]
     pub(crate) fn entered(&mut self, worker: u32) {
-        if self.seats[worker as usize].depth == 0 {
-            self.is_idle_no_more(worker);
-        }
         self.seats[worker as usize].depth += 1;
     }
 
@@ -153,19 +158,26 @@ impl Seats {
     pub(crate) fn left(&mut self, worker: u32) {
         let seat = &mut self.seats[worker as usize];
         seat.depth -= 1;
-        if seat.depth == 0 && seat.thread != GONE {
-            self.becomes_idle(worker);
+        if seat.depth == 0 && self.last != worker {
+            self.is_idle_again(worker);
+        }
+    }
+
+    #[inline(never)]
+    fn is_idle_again(&mut self, at: u32) {
+        if self.seats[at as usize].thread != GONE {
+            self.becomes_idle(at);
         }
     }
 
     /// The thread ends. Its number, where it is still inside by it: nobody has that until [`free`](Seats::free).
     pub(crate) fn ends(&mut self, caller: Caller) -> Option<u32> {
         let at = self.of(caller)?;
+        self.unlist(at);
         if self.seats[at as usize].depth > 0 {
             self.seats[at as usize].thread = GONE;
             return Some(at);
         }
-        self.is_idle_no_more(at);
         self.free(at);
         None
     }
@@ -177,8 +189,9 @@ impl Seats {
         self.free.push(worker);
     }
 
-    #[inline]
+    // It is idle for the shortest time.
     fn becomes_idle(&mut self, at: u32) {
+        self.unlist(at);
         let seat = &mut self.seats[at as usize];
         (seat.before, seat.after) = (self.last, NONE);
         match self.last {
@@ -188,9 +201,14 @@ impl Seats {
         self.last = at;
     }
 
-    #[inline]
-    fn is_idle_no_more(&mut self, at: u32) {
-        let Seat { before, after, .. } = self.seats[at as usize];
+    // It is not in the list.
+    fn unlist(&mut self, at: u32) {
+        let seat = &mut self.seats[at as usize];
+        let (before, after) = (seat.before, seat.after);
+        if before == UNLISTED {
+            return;
+        }
+        (seat.before, seat.after) = (UNLISTED, UNLISTED);
         match before {
             NONE => self.first = after,
             before => self.seats[before as usize].after = after,
@@ -204,8 +222,9 @@ impl Seats {
 
 #[cfg(test)]
 mod tests {
-    use super::{Caller, Seats, NOBODY, NONE};
+    use super::{Caller, Seats, NONE};
     use crate::refusal::Refusal;
+    use crate::routing::NOBODY;
 
     fn caller(thread: u64, last: Option<u32>) -> Caller {
         Caller {
@@ -247,6 +266,33 @@ mod tests {
         assert_eq!(seats.entering(caller(1, Some(0))), Ok(0));
         seats.entered(0);
         assert_eq!(seats.entering(caller(3, Some(2))), Err(Refusal::TOO_MANY_THREADS));
+        Ok(())
+    }
+
+    #[test]
+    fn of_those_that_left_again_the_one_that_left_first_loses_its_number() -> Result<(), Refusal> {
+        let mut seats = Seats::new(3)?;
+        let own = [1, 2, 3].map(|thread| seats.of_or_free(caller(thread, None)));
+        assert_eq!(own, [0, 1, 2]);
+        // All have been idle since their first calls, and one of them is inside again and again.
+        for _ in 0..3 {
+            seats.entered(2);
+            seats.left(2);
+        }
+        seats.entered(0);
+        seats.entered(0);
+        seats.left(0);
+        // The first in the list is inside, and the second is idle longest.
+        assert_eq!(seats.entering(caller(4, None)), Ok(1));
+        assert_eq!(seats.of(caller(2, Some(1))), None);
+        seats.entered(1);
+        seats.left(0);
+        // Now the third is, and then the first, which is in the list again.
+        for (thread, number) in [(5, 2), (6, 0)] {
+            assert_eq!(seats.entering(caller(thread, None)), Ok(number));
+            seats.entered(number);
+        }
+        assert_eq!(seats.entering(caller(7, None)), Err(Refusal::TOO_MANY_THREADS));
         Ok(())
     }
 

@@ -94,7 +94,7 @@ impl Site {
         let Meta { level, target, .. } = self.meta;
         let interest = registry.parts().common().interest();
         // (all parts have the same rules)
-        let asked = registry.parts().home().with(|state| state.wants(level, target));
+        let asked = registry.parts().home().part.with(|state| state.wants(level, target));
         // (where memory is refused, the rules as they were given say it)
         asked.unwrap_or_else(|_| interest.admits(level, target)) || self.is_of_spans && interest.is_silent()
     }

@@ -1,5 +1,6 @@
 //! Handles of spans that give themselves back, and guards of entered spans.
 #![forbid(unsafe_code)]
+use crate::at::At;
 use crate::error::Error;
 use crate::meta::{Fields, Id, RawId};
 use crate::part::Part;
@@ -128,7 +129,7 @@ impl Span {
             return Ok(Span::none());
         };
         handle.registry.clone_span(handle.id())?;
-        Ok(Span::of(&handle.registry, handle.part(), handle.id))
+        Ok(Span::of(&handle.registry, handle.at().part, handle.id))
     }
 
     /// Gives the handle back, as a drop does, and tells whether the span closed. False where other clones share it.
@@ -151,17 +152,17 @@ impl Span {
 }
 
 impl Handle {
-    #[inline]
-    fn part(&self) -> &Arc<Part> {
+    #[inline(always)]
+    fn at(&self) -> At<'_> {
         self.registry.parts().at(self.part)
     }
 
     fn id(&self) -> Id {
-        self.registry.id_of(self.part(), self.id)
+        self.registry.id_of(self.at().part, self.id)
     }
 
     fn enter(&self) -> Result<Entry<'_>, Error> {
-        let (is_first, worker) = self.registry.enter_as(self.part(), self.id)?;
+        let (is_first, worker) = self.at().enter(self.id)?;
         Ok(Entry {
             handle: self,
             worker,
@@ -178,7 +179,7 @@ impl Drop for Handle {
     fn drop(&mut self) {
         if !self.is_given_back {
             // Refused is only what somebody gave back by its id.
-            let _closed_or_owed = self.registry.close_raw(self.part(), self.id);
+            let _closed_or_owed = self.at().close_or_owe(self.id);
         }
     }
 }
@@ -226,7 +227,7 @@ impl Drop for Entered<'_> {
             return;
         };
         // Refused is only what somebody left by its id.
-        let _left_or_owed = handle.registry.exit_as(handle.part(), handle.id, worker);
+        let _left_or_owed = handle.at().exit_or_owe(handle.id, worker);
     }
 }
 

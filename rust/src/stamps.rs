@@ -26,11 +26,19 @@ impl Clock {
     }
 }
 
+/// What an accepted call put into the ring.
+#[derive(Clone, Copy, Debug, PartialEq, Eq)]
+pub(crate) enum Sent {
+    Nothing,
+    Batch,
+    /// The batch of this new span.
+    Span(RawId),
+}
+
 /// What an accepted call answers.
 pub(crate) trait Answer {
-    /// Whether it put a batch into the ring.
-    fn has_sent(&self) -> bool {
-        true
+    fn sent(&self) -> Sent {
+        Sent::Batch
     }
 }
 
@@ -39,8 +47,8 @@ impl Answer for bool {}
 
 /// Of a new span. One that no layer wants isn't made.
 impl Answer for Option<RawId> {
-    fn has_sent(&self) -> bool {
-        self.is_some()
+    fn sent(&self) -> Sent {
+        self.map_or(Sent::Nothing, Sent::Span)
     }
 }
 
@@ -78,7 +86,6 @@ impl Stamps {
     }
 
     /// A call is made that may put a batch into the ring. For who has the part's lock, until the call has ended.
-    #[cold]
     pub(crate) fn begin(&self) {
         // It is seen by whoever sees the clock go on below.
         self.begun
@@ -89,7 +96,6 @@ impl Stamps {
     }
 
     /// The call has ended, and did so or not.
-    #[cold]
     pub(crate) fn end(&self, has_sent: bool) {
         if has_sent {
             self.sent
@@ -129,7 +135,7 @@ impl Stamps {
 
 #[cfg(test)]
 mod tests {
-    use super::{Answer, Clock, Stamps};
+    use super::{Answer, Clock, Sent, Stamps};
     use crate::meta::RawId;
     use crate::refusal::Refusal;
     use std::sync::Arc;
@@ -150,8 +156,12 @@ mod tests {
         assert_eq!((one.sent(), one.of(1), one.of(2)), (2, 0, 3));
         assert_eq!((other.sent(), other.of(1)), (1, 1));
         assert_eq!((one.bound(), other.bound()), (4, 4));
-        assert!(true.has_sent() && false.has_sent() && ().has_sent());
-        assert!(RawId::from_u64(7).has_sent() && !None::<RawId>.has_sent());
+        assert_eq!([true.sent(), false.sent(), ().sent()], [Sent::Batch; 3]);
+        assert_eq!(None::<RawId>.sent(), Sent::Nothing);
+        assert_eq!(
+            RawId::from_u64(7).map(|id| Some(id).sent() == Sent::Span(id)),
+            Some(true)
+        );
         Ok(())
     }
 

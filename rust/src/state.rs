@@ -6,16 +6,24 @@ use crate::meta::{Counts, Fields, Given, Meta, RawId, RawParent};
 use crate::notes::{known_as_written, What};
 use crate::open::Open;
 use crate::origins::{Names, Origins};
-use crate::owed::{Owed, Owing};
+use crate::owed::{Debt, Owed, Owing};
 use crate::packed::{reserve, Packed};
 use crate::raw::{Core, SpanFound};
 use crate::refusal::Refusal;
 use crate::ring::Ring;
 use crate::seats::{Caller, Seats};
 use crate::site::Site;
-use crate::stamps::Answer;
+use crate::stamps::{Answer, Sent};
 use std::collections::HashSet;
 use std::sync::Arc;
+
+/// Says what is to be noted of a call, which may be made again: so what is captured is copied.
+trait Noting: Fn(&Origins) -> Result<What, Refusal> + Copy {}
+impl<F: Fn(&Origins) -> Result<What, Refusal> + Copy> Noting for F {}
+
+/// A call of the core with the packed texts.
+trait Sending<T>: Fn(&mut Core, &Packed) -> Result<T, Refusal> + Copy {}
+impl<T, F: Fn(&mut Core, &Packed) -> Result<T, Refusal> + Copy> Sending<T> for F {}
 
 pub(crate) struct State {
     core: Core,
@@ -27,29 +35,23 @@ pub(crate) struct State {
     // The core has one worker more, the outsider, which is inside of no span.
     seats: Seats,
     origins: Origins,
-    // Whether a layer asks for notes.
-    has_notes: bool,
-    // Whether batches have stamps.
-    has_stamps: bool,
-    // What the call does that is being made, where one does.
-    noted: Option<What>,
+    // Whether batches have notes or stamps.
+    has_more: bool,
 }
 
 impl State {
     /// Of a part whose first worker lines tell by this number.
-    pub(crate) fn new(mut core: Core, ring: Arc<Ring>, first_worker: u32) -> Result<State, Refusal> {
+    pub(crate) fn new(mut core: Core, ring: Arc<Ring>, debt: Arc<Debt>, first_worker: u32) -> Result<State, Refusal> {
         let workers = core.counts().workers - 1;
         Ok(State {
             core,
             first_worker,
-            has_notes: ring.notes().is_some(),
-            has_stamps: ring.stamps().is_some(),
+            has_more: ring.notes().is_some() || ring.stamps().is_some(),
             ring,
             packed: Packed::default(),
-            owing: Owing::new(workers as usize)?,
+            owing: Owing::new(workers as usize, debt)?,
             seats: Seats::new(workers)?,
             origins: Origins::default(),
-            noted: None,
         })
     }
 
@@ -155,32 +157,79 @@ impl State {
         self.seats.entering(caller)
     }
 
-    // A call that takes a place of the ring: where lines may be thrown away for one, they are.
+    // A call that takes a place of the ring: where lines may be thrown away for one, they are. `what` says what is to
+    // be noted of it.
     #[inline(always)]
-    fn placed<T: Answer>(
+    fn placed<T: Answer>(&mut self, what: impl Noting, call: impl Sending<T>) -> Result<T, Refusal> {
+        let sent = self.sent(what, call);
+        sent.or_else(move |refusal| self.placed_again(refusal, what, call))
+    }
+
+    // A call that was refused.
+    #[cold]
+    fn placed_again<T: Answer>(
         &mut self,
-        mut call: impl FnMut(&mut Core, &Packed) -> Result<T, Refusal>,
+        mut refusal: Refusal,
+        what: impl Noting,
+        call: impl Sending<T>,
     ) -> Result<T, Refusal> {
-        loop {
-            match self.sent(&mut call) {
-                Err(Refusal::BACKLOG) if self.ring.makes_place() => {}
-                result => return result,
+        while refusal == Refusal::BACKLOG && self.ring.makes_place() {
+            match self.sent(what, call) {
+                Err(again) => refusal = again,
+                answer => return answer,
             }
+        }
+        Err(refusal)
+    }
+
+    // A call that may put a batch into the ring.
+    #[inline(always)]
+    fn sent<T: Answer>(&mut self, what: impl Noting, call: impl Sending<T>) -> Result<T, Refusal> {
+        if self.has_more {
+            self.sent_with_more(what, call)
+        } else {
+            call(&mut self.core, &self.packed)
         }
     }
 
-    // A call that may put a batch into the ring, which has a stamp then.
-    #[inline(always)]
-    fn sent<T: Answer>(&mut self, call: impl FnOnce(&mut Core, &Packed) -> Result<T, Refusal>) -> Result<T, Refusal> {
-        let stamps = if self.has_stamps { self.ring.stamps() } else { None };
-        if let Some(stamps) = stamps {
+    // The same, with a note and a stamp of the batch, where these are kept.
+    #[cold]
+    fn sent_with_more<T: Answer>(&mut self, what: impl Noting, call: impl Sending<T>) -> Result<T, Refusal> {
+        let what = match self.ring.notes() {
+            Some(notes) => {
+                notes.reserve()?;
+                Some(what(&self.origins)?)
+            }
+            None => None,
+        };
+        if let Some(stamps) = self.ring.stamps() {
             stamps.begin();
         }
         let answer = call(&mut self.core, &self.packed);
-        if let Some(stamps) = stamps {
-            stamps.end(answer.as_ref().is_ok_and(Answer::has_sent));
+        let sent = answer.as_ref().map_or(Sent::Nothing, Answer::sent);
+        if let Some(stamps) = self.ring.stamps() {
+            stamps.end(sent != Sent::Nothing);
+        }
+        if let Some(what) = what {
+            self.note(what, sent);
         }
         answer
+    }
+
+    // There is room for it.
+    fn note(&mut self, what: What, sent: Sent) {
+        let what = match sent {
+            Sent::Nothing => return,
+            Sent::Batch => what,
+            Sent::Span(id) => {
+                let parent = self.core.find(id).and_then(|found| RawId::from_u64(found.parent));
+                what.of_span(id, parent)
+            }
+        };
+        let number = self.calls();
+        if let Some(notes) = self.ring.notes().filter(|_| !self.ring.is_unread()) {
+            notes.add(number, what);
+        }
     }
 
     #[inline]
@@ -195,8 +244,10 @@ impl State {
         self.owing.reserve_span()?;
         self.packed.pack(&[meta.name, meta.target], given.fields)?;
         self.origins.reserve_span(names, &self.packed)?;
-        self.noting(|_| Ok(What::Made(known_as_written(meta, given)?)))?;
-        let id = self.placed(|core, packed| core.new_span(worker, parent, meta, packed))?;
+        let id = self.placed(
+            move |_| Ok(What::Made(known_as_written(meta, given)?)),
+            move |core, packed| core.new_span(worker, parent, meta, packed),
+        )?;
         if let Some(id) = id {
             self.made(id, None, names);
         }
@@ -229,8 +280,10 @@ impl State {
         self.owing.reserve_span()?;
         self.packed.pack(&[], given.fields)?;
         self.origins.reserve_span(names, &self.packed)?;
-        self.noting(|origins| Ok(What::Made(origins.known(callsite, given)?)))?;
-        let id = self.placed(|core, packed| core.new_span_at(worker, parent, callsite, packed))?;
+        let id = self.placed(
+            move |origins| Ok(What::Made(origins.known(callsite, given)?)),
+            move |core, packed| core.new_span_at(worker, parent, callsite, packed),
+        )?;
         if let Some(id) = id {
             self.made(id, Some(callsite), names);
         }
@@ -241,58 +294,11 @@ impl State {
     fn made(&mut self, id: RawId, callsite: Option<u32>, names: Names) {
         self.owing.made(id);
         self.origins.made(id, callsite, names, &mut self.packed);
-        if self.has_notes {
-            self.note_span(id);
-        }
-    }
-
-    #[cold]
-    fn note_span(&mut self, id: RawId) {
-        let parent = self.core.find(id).and_then(|found| RawId::from_u64(found.parent));
-        self.noted = self.noted.take().map(|what| what.of_span(id, parent));
-        self.note_now();
-    }
-
-    // What is to be noted of a call, if a layer asks for notes, with room for it.
-    #[inline]
-    fn noting(&mut self, what: impl FnOnce(&Origins) -> Result<What, Refusal>) -> Result<(), Refusal> {
-        if self.has_notes {
-            self.note_soon(what)?;
-        }
-        Ok(())
-    }
-
-    #[cold]
-    fn note_soon(&mut self, what: impl FnOnce(&Origins) -> Result<What, Refusal>) -> Result<(), Refusal> {
-        if let Some(notes) = self.ring.notes() {
-            notes.reserve()?;
-            self.noted = Some(what(&self.origins)?);
-        }
-        Ok(())
-    }
-
-    // The call was accepted.
-    #[inline]
-    fn note(&mut self) {
-        if self.has_notes {
-            self.note_now();
-        }
-    }
-
-    #[cold]
-    fn note_now(&mut self) {
-        let (number, what) = (self.calls(), self.noted.take());
-        let notes = self.ring.notes().filter(|_| !self.ring.is_unread());
-        if let (Some(notes), Some(what)) = (notes, what) {
-            notes.add(number, what);
-        }
     }
 
     pub(crate) fn clone_span(&mut self, worker: u32, id: RawId) -> Result<(), Refusal> {
         self.owing.reserve_handle()?;
-        self.noting(|_| Ok(What::Other))?;
-        self.placed(|core, _| core.clone_span(worker, id))?;
-        self.note();
+        self.placed(|_| Ok(What::Other), move |core, _| core.clone_span(worker, id))?;
         self.owing.cloned();
         Ok(())
     }
@@ -300,9 +306,7 @@ impl State {
     #[inline]
     pub(crate) fn enter(&mut self, worker: u32, id: RawId) -> Result<bool, Refusal> {
         self.owing.reserve_entry(worker)?;
-        self.noting(|_| Ok(What::Other))?;
-        let first = self.placed(|core, _| core.enter(worker, id))?;
-        self.note();
+        let first = self.placed(|_| Ok(What::Other), move |core, _| core.enter(worker, id))?;
         self.seats.entered(worker);
         self.owing.entered(worker, id);
         Ok(first)
@@ -317,9 +321,7 @@ impl State {
 
     #[inline(always)]
     fn give_back_entry(&mut self, worker: u32, id: RawId) -> Result<bool, Refusal> {
-        self.noting(|_| Ok(What::Other))?;
-        let closed = self.placed(|core, _| core.exit(worker, id))?;
-        self.note();
+        let closed = self.placed(|_| Ok(What::Other), move |core, _| core.exit(worker, id))?;
         self.seats.left(worker);
         self.owing.given_back();
         Ok(closed)
@@ -327,9 +329,7 @@ impl State {
 
     #[inline(always)]
     pub(crate) fn try_close(&mut self, worker: u32, id: RawId) -> Result<bool, Refusal> {
-        self.noting(|_| Ok(What::Other))?;
-        let closed = self.placed(|core, _| core.try_close(worker, id))?;
-        self.note();
+        let closed = self.placed(|_| Ok(What::Other), move |core, _| core.try_close(worker, id))?;
         self.owing.given_back();
         Ok(closed)
     }
@@ -337,10 +337,11 @@ impl State {
     pub(crate) fn record(&mut self, worker: u32, id: RawId, given: Given<'_>) -> Result<(), Refusal> {
         self.packed.pack(&[], given.fields)?;
         self.origins.reserve_record(id, &self.packed)?;
-        self.noting(|_| Ok(What::Record(id, given.all_kinds()?)))?;
-        self.placed(|core, packed| core.record(worker, id, packed))?;
+        self.placed(
+            move |_| Ok(What::Record(id, given.all_kinds()?)),
+            move |core, packed| core.record(worker, id, packed),
+        )?;
         self.origins.recorded(id, &self.packed);
-        self.note();
         Ok(())
     }
 
@@ -352,10 +353,10 @@ impl State {
         given: Given<'_>,
     ) -> Result<(), Refusal> {
         self.packed.pack(&[meta.name, meta.target, message], given.fields)?;
-        self.noting(|_| Ok(What::Made(known_as_written(meta, given)?)))?;
-        self.placed(|core, packed| core.event(worker, meta, message, packed))?;
-        self.note();
-        Ok(())
+        self.placed(
+            move |_| Ok(What::Made(known_as_written(meta, given)?)),
+            move |core, packed| core.event(worker, meta, message, packed),
+        )
     }
 
     pub(crate) fn event_at(
@@ -366,21 +367,21 @@ impl State {
         given: Given<'_>,
     ) -> Result<(), Refusal> {
         self.packed.pack(&[message], given.fields)?;
-        self.noting(|origins| Ok(What::Made(origins.known(callsite, given)?)))?;
-        self.placed(|core, packed| core.event_at(worker, callsite, message, packed))?;
-        self.note();
-        Ok(())
+        self.placed(
+            move |origins| Ok(What::Made(origins.known(callsite, given)?)),
+            move |core, packed| core.event_at(worker, callsite, message, packed),
+        )
     }
 
     /// Tells something of the registry itself, as the outsider, if the ring has room: nothing is thrown away for it.
     fn tell_of_itself(&mut self, message: &str, fields: Fields<'_>) -> Result<(), Refusal> {
         let meta = Meta::event(Level::Warn, TARGET);
         self.packed.pack(&[meta.name, meta.target, message], fields)?;
-        self.noting(|_| Ok(What::Made(known_as_written(&meta, fields.into())?)))?;
         let outsider = self.seats.outsider();
-        self.sent(|core, packed| core.event(outsider, &meta, message, packed))?;
-        self.note();
-        Ok(())
+        self.sent(
+            |_| Ok(What::Made(known_as_written(&meta, fields.into())?)),
+            |core, packed| core.event(outsider, &meta, message, packed),
+        )
     }
 
     /// Tells what was lost, as the outsider, if the ring has room. It takes memory, unlike the losses themselves.
@@ -502,7 +503,11 @@ impl State {
     }
 
     #[inline]
-    pub(crate) fn owes(&self) -> bool {
+    fn owes(&self) -> bool {
         self.owing.len() > 0
+    }
+
+    pub(crate) fn debt(&self) -> &Arc<Debt> {
+        self.owing.debt()
     }
 }

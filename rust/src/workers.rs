@@ -4,13 +4,10 @@
 use crate::meta::RawId;
 use crate::part::{Common, Part};
 use crate::refusal::Refusal;
-use crate::seats::{Caller, NOBODY, NONE};
+use crate::routing::{thread, NOBODY};
+use crate::seats::{Caller, NONE};
 use std::cell::{Cell, RefCell};
-use std::sync::atomic::{AtomicU64, Ordering};
 use std::sync::{Arc, Weak};
-
-/// How many threads of this process have called.
-static THREADS: AtomicU64 = AtomicU64::new(0);
 
 /// A part in which this thread may have a number, to be given back when it ends.
 struct Place {
@@ -36,14 +33,19 @@ struct Places {
     inside: Vec<Inside>,
 }
 
-const NO_CALL: (u64, u32) = (0, 0);
+/// A call of no part: parts are numbered from 1 on.
+const NO_CALL: (u64, Caller) = (
+    0,
+    Caller {
+        thread: NOBODY,
+        last: NONE,
+    },
+);
 
 thread_local! {
-    // None of these two needs a drop, so a look at them costs little, and they are there while the places are dropped.
-    static THREAD: Cell<u64> = const { Cell::new(0) };
-    // The number of the part that was last called, and the worker's number there: mostly the next call is the same.
-    // Parts are numbered from 1 on.
-    static LAST: Cell<(u64, u32)> = const { Cell::new(NO_CALL) };
+    // The number of the part that was last called, and the thread with its worker's number there: mostly the next call
+    // is the same. It needs no drop, so a look at it costs little, and it is there while the places are dropped.
+    static LAST: Cell<(u64, Caller)> = const { Cell::new(NO_CALL) };
     static PLACES: RefCell<Places> = const {
         RefCell::new(Places {
             parts: Vec::new(),
@@ -69,24 +71,14 @@ impl Drop for Places {
     }
 }
 
-/// The thread's number, from 1 on.
-pub(crate) fn thread() -> u64 {
-    if THREAD.get() == 0 {
-        THREAD.set(THREADS.fetch_add(1, Ordering::Relaxed) + 1);
-    }
-    THREAD.get()
-}
-
 /// The calling thread, for a call of this part.
 #[inline]
 pub(crate) fn caller(part: &Arc<Part>) -> Caller {
-    let (last, worker) = LAST.get();
-    if last != part.number() {
-        return looked_up(part);
-    }
-    Caller {
-        thread: THREAD.get(),
-        last: worker,
+    let (last, caller) = LAST.get();
+    if last == part.number() {
+        caller
+    } else {
+        looked_up(part)
     }
 }
 
@@ -107,34 +99,35 @@ fn looked_up(part: &Arc<Part>) -> Caller {
         Some(NONE)
     };
     let place = PLACES.try_with(place).ok().flatten();
-    if let Some(worker) = place.filter(|&worker| worker != NONE) {
-        LAST.set((part.number(), worker));
-    }
-    Caller {
+    let caller = Caller {
         thread: if place.is_some() { thread() } else { NOBODY },
         last: place.unwrap_or(NONE),
+    };
+    if caller.last != NONE {
+        LAST.set((part.number(), caller));
     }
+    caller
 }
 
 /// The call was made as this worker.
 #[inline]
 pub(crate) fn called_as(part: &Arc<Part>, caller: Caller, worker: u32) {
     if caller.last != worker && caller.may_own() {
-        keep(part, worker);
+        keep(part, Caller { last: worker, ..caller });
     }
 }
 
 #[cold]
-fn keep(part: &Arc<Part>, worker: u32) {
+fn keep(part: &Arc<Part>, caller: Caller) {
     let put = |places: &RefCell<Places>| {
         let places = &mut places.borrow_mut().parts;
         let is_this = |place: &&mut Place| place.part.as_ptr() == Arc::as_ptr(part);
         let place = places.iter_mut().find(is_this)?;
-        place.worker = worker;
+        place.worker = caller.last;
         Some(())
     };
     if PLACES.try_with(put).ok().flatten().is_some() {
-        LAST.set((part.number(), worker));
+        LAST.set((part.number(), caller));
     }
 }
 

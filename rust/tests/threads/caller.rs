@@ -1,5 +1,6 @@
-//! A thread that makes calls at random, and tells what their lines have to be.
+//! A thread that makes calls at random, and tells what their lines have to be but for the worker's number.
 use span_registry::{retry, Id, Level, Meta, Parent, Registry, Span};
+use std::collections::HashSet;
 use std::sync::mpsc::{Receiver, Sender, SyncSender, TrySendError};
 use std::sync::Barrier;
 use std::time::Instant;
@@ -14,10 +15,14 @@ pub struct Held {
     path: String,
 }
 
-/// Each line but those of closes is told to the checker; before a handle is dropped or made, an event says so.
+/// Each line but those of closes is told to the checker; before a handle is dropped or made, an event says so. Its
+/// first line in each part but that of its roots says whose it is.
 pub struct Caller {
     registry: Registry,
+    // Its number in the part of its roots.
     worker: u32,
+    // Those where it is known.
+    parts: HashSet<u32>,
     tell: Sender<String>,
     inbox: Receiver<Held>,
     others: Vec<SyncSender<Held>>,
@@ -30,6 +35,7 @@ impl Caller {
     pub fn new(
         registry: Registry,
         worker: u32,
+        home: u32,
         tell: Sender<String>,
         inbox: Receiver<Held>,
         others: Vec<SyncSender<Held>>,
@@ -39,6 +45,7 @@ impl Caller {
         Caller {
             registry,
             worker,
+            parts: HashSet::from([home]),
             tell,
             inbox,
             others,
@@ -56,9 +63,7 @@ impl Caller {
             steps += 1;
         }
         all_stopped.wait();
-        while let Ok(held) = self.inbox.try_recv() {
-            self.held.push(held);
-        }
+        while self.receive() {}
         while let Some(held) = self.held.pop() {
             self.release(held, &[]);
         }
@@ -84,7 +89,7 @@ impl Caller {
             5 => self.event("m", inside),
             6 => self.release_one(inside),
             7 => self.send(),
-            8 => self.held.extend(self.inbox.try_recv()),
+            8 => drop(self.receive()),
             _ => self.enter(inside),
         }
     }
@@ -110,7 +115,7 @@ impl Caller {
         let meta = Meta::new(Level::Info, "app", name);
         let span = retry(|| self.registry.span(&meta, parent, &[("p", &above)])).expect("new");
         let id = span.id().expect("the layer wants it");
-        self.tell(format!("new {id} w{} {path} p={above}", self.worker));
+        self.tell(format!("new {id} {path} p={above}"));
         self.held.extend(under);
         self.held.push(Held { span, id, path });
     }
@@ -130,18 +135,19 @@ impl Caller {
     fn record(&mut self) {
         let Some(held) = self.take() else { return };
         let value = self.below(1000).to_string();
-        retry(|| held.span.try_record(&[("r", &value)])).expect("record");
-        self.tell(format!("record {} w{} {} r={value}", held.id, self.worker, held.path));
+        self.put(&held, "r", &value);
         self.held.push(held);
+    }
+
+    fn put(&self, held: &Held, key: &str, value: &str) {
+        retry(|| held.span.try_record(&[(key, value)])).expect("record");
+        self.tell(format!("record {} {} {key}={value}", held.id, held.path));
     }
 
     fn event(&self, message: &str, inside: &[&Held]) {
         let meta = Meta::event(Level::Info, "app");
         retry(|| self.registry.event(&meta, message, &[])).expect("event");
-        let seen = current(inside).map_or_else(
-            || format!("0 w{} -", self.worker),
-            |held| format!("{} w{} {}", held.id, self.worker, held.path),
-        );
+        let seen = current(inside).map_or_else(|| "0 -".to_owned(), |held| format!("{} {}", held.id, held.path));
         self.tell(format!("event {seen} INFO {message}"));
     }
 
@@ -165,6 +171,16 @@ impl Caller {
         }
     }
 
+    // Whether there was something to receive.
+    fn receive(&mut self) -> bool {
+        let Ok(held) = self.inbox.try_recv() else { return false };
+        if self.parts.insert(held.id.part()) {
+            self.put(&held, "by", &self.worker.to_string());
+        }
+        self.held.push(held);
+        true
+    }
+
     // Enters a span that it holds, or once more one that it is inside of, and does some steps there.
     fn enter(&mut self, inside: &[&Held]) {
         if inside.len() >= 4 {
@@ -182,12 +198,12 @@ impl Caller {
 
     fn steps_inside(&mut self, held: &Held, inside: &[&Held]) {
         let _guard = retry(|| held.span.try_enter()).expect("enter");
-        self.tell(format!("enter {} w{} {}", held.id, self.worker, held.path));
+        self.tell(format!("enter {} {}", held.id, held.path));
         let deeper = [inside, &[held]].concat();
         for _ in 0..self.below(6) {
             self.step(&deeper);
         }
-        self.tell(format!("exit {} w{} {}", held.id, self.worker, held.path));
+        self.tell(format!("exit {} {}", held.id, held.path));
     }
 }
 

@@ -1,7 +1,7 @@
 //! Eight threads make, share, enter and drop spans, while one more reads the lines and checks each of them against what
-//! the threads did.
+//! the threads did: behind one lock, and in four parts.
 //!
-//! It takes 2 seconds, or as many as SPAN_REGISTRY_SECONDS says.
+//! Each takes 2 seconds, or as many as SPAN_REGISTRY_SECONDS says.
 mod caller;
 mod checker;
 
@@ -10,11 +10,15 @@ use checker::{Checker, Told};
 use span_registry::{retry, Drain, Layer, Registry};
 use std::env;
 use std::sync::mpsc::{channel, sync_channel, Sender};
-use std::sync::{Arc, Barrier};
+use std::sync::{Arc, Barrier, Mutex, PoisonError};
 use std::thread::{self, JoinHandle};
 use std::time::{Duration, Instant};
 
-const THREADS: usize = 8;
+const THREADS: u32 = 8;
+/// How many workers each part has, of which one is no thread's.
+const WORKERS: u32 = THREADS + 1;
+/// Threads take the parts in turn, so those of one test begin together.
+static ONE_TEST: Mutex<()> = Mutex::new(());
 
 fn seconds() -> u64 {
     env::var("SPAN_REGISTRY_SECONDS").map_or(2, |text| text.parse().expect("SPAN_REGISTRY_SECONDS is a whole number"))
@@ -25,7 +29,7 @@ fn seconds() -> u64 {
 fn start(registry: &Registry, introduce: &Sender<(u32, Told)>) -> Vec<JoinHandle<u64>> {
     let until = Instant::now() + Duration::from_secs(seconds());
     let (inboxes, receivers): (Vec<_>, Vec<_>) = (0..THREADS).map(|_| sync_channel(16)).unzip();
-    let all_stopped = Arc::new(Barrier::new(THREADS));
+    let all_stopped = Arc::new(Barrier::new(receivers.len()));
     let start = |(seed, inbox)| {
         let (registry, others, all_stopped) = (registry.clone(), inboxes.clone(), Arc::clone(&all_stopped));
         let introduce = introduce.clone();
@@ -33,7 +37,8 @@ fn start(registry: &Registry, introduce: &Sender<(u32, Told)>) -> Vec<JoinHandle
             let (tell, told) = channel();
             let worker = retry(|| registry.worker()).expect("there are enough");
             introduce.send((worker, told)).expect("the checker waits");
-            Caller::new(registry, worker, tell, inbox, others, seed).run(until, &all_stopped)
+            let home = worker / WORKERS;
+            Caller::new(registry, worker, home, tell, inbox, others, seed).run(until, &all_stopped)
         })
     };
     receivers.into_iter().enumerate().map(start).collect()
@@ -50,14 +55,16 @@ fn check(mut drain: Drain, mut checker: Checker) -> Checker {
     }
 }
 
-#[test]
-fn each_line_is_what_the_threads_did() {
-    let workers = u32::try_from(THREADS).expect("few");
-    let builder = Registry::builder().workers(workers).slots(4096).layer(Layer::compact());
+fn run(parts: u32) -> Checker {
+    let builder = Registry::builder()
+        .parts(parts)
+        .workers(THREADS)
+        .slots(4096)
+        .layer(Layer::compact());
     let (registry, drain) = builder.build().expect("it fits");
     let (introduce, introduced) = channel();
     let callers = start(&registry, &introduce);
-    let checking = thread::spawn(move || check(drain, Checker::new(introduced)));
+    let checking = thread::spawn(move || check(drain, Checker::new(WORKERS, introduced)));
     let sent: u64 = callers.into_iter().map(|caller| caller.join().expect("no panic")).sum();
     let counts = registry.counts();
     drop(registry);
@@ -74,4 +81,18 @@ fn each_line_is_what_the_threads_did() {
         seen.made > 100 && sent > 10 && seen.closed_elsewhere > 10,
         "too little happened"
     );
+    seen
+}
+
+#[test]
+fn each_line_is_what_the_threads_did() {
+    let _alone = ONE_TEST.lock().unwrap_or_else(PoisonError::into_inner);
+    assert_eq!(run(1).parts(), (1, 0));
+}
+
+#[test]
+fn each_line_of_four_parts_is_what_the_threads_did() {
+    let _alone = ONE_TEST.lock().unwrap_or_else(PoisonError::into_inner);
+    let (parts, elsewhere) = run(4).parts();
+    assert!(parts == 4 && elsewhere > THREADS as usize, "{parts} parts, {elsewhere}");
 }

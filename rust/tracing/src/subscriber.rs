@@ -14,9 +14,6 @@ use tracing_core::{Event, Interest, LevelFilter, Metadata, Subscriber};
 
 /// What `tracing` is told as the id of a span that wasn't made. The registry never gives it.
 const NONE: u64 = u64::MAX;
-/// A span's id is generation * 2^24 + slot + 1, with a generation below 2^32, and its part stands above that.
-const SLOT_BITS: u32 = 24;
-const GENERATION_BITS: u32 = 32;
 
 /// A subscriber of `tracing` that writes lines, all the way over the proved registry. Clones are the same one.
 ///
@@ -92,9 +89,8 @@ impl ProvedSubscriber {
 
     // What is known of its slot, and its generation in the upper half.
     fn slot(&self, id: span_registry::Id) -> Option<(&AtomicU64, u64)> {
-        let number = id.into_u64() - 1;
-        let known = self.inner.places.get(id.part() as usize)?.get((number % (1 << SLOT_BITS)) as usize)?;
-        Some((known, (number >> SLOT_BITS) % (1 << GENERATION_BITS) << 32))
+        let known = self.inner.places.get(id.part() as usize)?.get(id.slot() as usize)?;
+        Some((known, u64::from(id.generation()) << 32))
     }
 
     // Where the span was made.

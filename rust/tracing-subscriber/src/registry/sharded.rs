@@ -8,6 +8,7 @@ mod open;
 mod places;
 mod raw;
 mod refused;
+mod routing;
 mod spans;
 mod threads;
 

@@ -8,7 +8,7 @@ use super::{
     places::{Clear, Places},
     raw::{Found, Held, Store},
     refused::{boxed, Refused},
-    threads,
+    routing::{home, slot, Ids},
 };
 use crate::{filter::FilterMap, registry::extensions::ExtensionsInner, sync::RwLock};
 use std::{
@@ -23,17 +23,15 @@ use std::{
 use tracing_core::{dispatcher::WeakDispatch, span::Id, Metadata};
 
 /// An id is, from its highest bits on: a bit that is 0, the registry's number (13 bits), the store's place in the
-/// registry, and the store's own id, which is generation * 2^24 + slot + 1.
-const OWN_BITS: u32 = 44;
-const STORE_BITS: u32 = 6;
-const SLOT_BITS: u32 = 24;
-/// So that a store's ids are below 2^44.
-const LAST_GENERATION: u32 = (1 << (OWN_BITS - SLOT_BITS)) - 2;
+/// registry, and the store's own id.
+const IDS: Ids = Ids::new(44, 6);
+const LAST_GENERATION: u32 = IDS.last_generation();
 
 /// How many seats threads take, and how many stores each has, which are opened as those before are full.
 const SEATS: usize = 16;
 const ROWS: usize = 4;
 const STORES: usize = SEATS * ROWS;
+const _: () = assert!(STORES == IDS.parts() as usize);
 /// How many slots the stores of each row have. Their memory is asked for at once, and taken slot by slot.
 const SLOTS: [u32; ROWS] = [1 << 16, 1 << 20, 1 << 20, 1 << 20];
 /// How many handles and children may hold a span.
@@ -111,12 +109,6 @@ impl Drop for Closing {
     }
 }
 
-/// The slot of a store's own id.
-#[inline]
-fn slot_of(own: u64) -> u32 {
-    (own.wrapping_sub(1) % (1 << SLOT_BITS)) as u32
-}
-
 /// The part of an id, and its id in the store there.
 struct Place<'a> {
     part: &'a Part,
@@ -182,23 +174,21 @@ impl Spans {
 
     /// Whether an id names this registry.
     pub(super) fn is_own(&self, id: u64) -> bool {
-        id >> (OWN_BITS + STORE_BITS) == self.number
+        IDS.route(self.number, id).is_some()
     }
 
     #[inline]
     fn place(&self, id: u64) -> Option<Place<'_>> {
-        if !self.is_own(id) {
-            return None;
-        }
-        let index = (id >> OWN_BITS) as usize % STORES;
+        let (index, own) = IDS.route(self.number, id)?;
+        let index = index as usize;
         let [part] = &**self.parts[index].get()?;
-        Some(Place { part, index, own: id % (1 << OWN_BITS) })
+        Some(Place { part, index, own })
     }
 
     /// The id of a store's own one.
     #[inline]
     fn full_id(&self, index: usize, own: u64) -> u64 {
-        (self.number << STORE_BITS | index as u64) << OWN_BITS | own
+        IDS.above(self.number, index as u32) | own
     }
 
     #[cold]
@@ -222,7 +212,7 @@ impl Spans {
             }
         };
         let id = self.full_id(made.index, made.own);
-        let filled = made.part.data.put(slot_of(made.own), id, |data| {
+        let filled = made.part.data.put(slot(made.own), id, |data| {
             data.id = id;
             data.is_apart = made.is_apart;
             data.parent = parent.map(Id::from_u64);
@@ -236,7 +226,7 @@ impl Spans {
 
     #[inline(always)]
     fn add_root(&self) -> Result<Made<'_>, Refused> {
-        let seat = threads::seat() % SEATS;
+        let seat = home(SEATS as u32) as usize;
         let part = match self.parts[seat].get() {
             Some(part) => &part[0],
             None => self.open(seat)?,
@@ -327,7 +317,7 @@ impl Spans {
         let id = closing.id();
         mem::forget(closing);
         let Some(place) = self.place(id) else { return (None, None) };
-        let data = place.part.data.take(slot_of(place.own), id);
+        let data = place.part.data.take(slot(place.own), id);
         let ended = place.part.store.ended(place.own);
         debug_assert!(ended.is_ok() && data.is_some(), "a span ends once");
         let parent = match &data {
@@ -347,7 +337,7 @@ impl Spans {
     #[inline]
     pub(super) fn data(&self, id: u64) -> Option<Held<'_, DataInner>> {
         let place = self.place(id)?;
-        place.part.data.get(slot_of(place.own), id)
+        place.part.data.get(slot(place.own), id)
     }
 
     /// Shows each span that is there throughout, once, with what holds it in its store.
@@ -357,7 +347,7 @@ impl Spans {
             let mut own = 0;
             while let Ok(next @ 1..) = part.store.next(own) {
                 own = next;
-                let data = part.data.get(slot_of(own), self.full_id(index, own));
+                let data = part.data.get(slot(own), self.full_id(index, own));
                 if let (Some(data), Ok(found)) = (data, part.store.find(own)) {
                     show(&data, found);
                 }

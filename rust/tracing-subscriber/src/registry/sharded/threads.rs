@@ -1,4 +1,4 @@
-//! What belongs to a thread: its seat, and its stack of entered spans in each registry.
+//! What belongs to a thread: its stack of entered spans in each registry.
 //!
 //! A stack is given up when its thread ends: what is still entered is left then. In what runs in a thread after that,
 //! the destructors of other thread locals, nothing can be entered, and no span is the current one.
@@ -7,24 +7,16 @@ use crate::registry::stack::SpanStack;
 use std::{
     cell::{Cell, RefCell},
     panic::{catch_unwind, AssertUnwindSafe},
-    sync::{
-        atomic::{AtomicUsize, Ordering},
-        Arc, Weak,
-    },
+    sync::{Arc, Weak},
 };
 use tracing_core::span::Id;
-
-const NO_SEAT: usize = usize::MAX;
 
 /// Of how many registries a thread keeps stacks in which nothing is entered.
 const FEW: usize = 8;
 
-static SEATS: AtomicUsize = AtomicUsize::new(0);
-
 thread_local! {
-    // These have no destructor, so that they are there to a thread's end.
-    static SEAT: Cell<usize> = const { Cell::new(NO_SEAT) };
-    // How many entries of the thread hold their span, in all registries; more, where a registry went with some.
+    // How many entries of the thread hold their span, in all registries; more, where a registry went with some. It has
+    // no destructor, so that it is there to the thread's end.
     static HOLDING: Cell<usize> = const { Cell::new(0) };
     static STACKS: RefCell<Stacks> = const { RefCell::new(Stacks(Vec::new())) };
 }
@@ -74,17 +66,6 @@ impl Drop for Stacks {
             let _panicked = catch_unwind(AssertUnwindSafe(|| drop(spans)));
         }
     }
-}
-
-/// A number of the thread, given when it is first asked for.
-#[inline]
-pub(super) fn seat() -> usize {
-    SEAT.with(|seat| {
-        if seat.get() == NO_SEAT {
-            seat.set(SEATS.fetch_add(1, Ordering::Relaxed));
-        }
-        seat.get()
-    })
 }
 
 /// Shows the thread's stack in the registry to a function that runs no code of others. None where the thread has none
