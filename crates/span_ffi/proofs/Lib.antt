@@ -3,6 +3,7 @@ pub mod RegistryBox
 pub mod ReaderBox
 pub mod Alike
 pub mod Found
+pub mod Given
 pub mod Read
 mod Examples
 mod DataExamples
