@@ -1,5 +1,6 @@
 pub mod Alike
 pub mod Found
+pub mod Given
 pub mod Read
 mod Examples
 mod DataExamples

@@ -12,20 +12,23 @@ WritesIfSome text old None new len = ⊥
 WritesIfSome None old (Some status) new len = (status ≡ BadData) × (new ≡ old)
 WritesIfSome (Some text) old (Some status) new len = WritesAll text old status new len
 
--- batches were taken, perhaps none, and none where a line waited already; where none waited, the ring was looked into
+-- batches were taken, perhaps none, and none where a line waited already; where none waited, the ring was looked into; no
+-- line was given out
 pub record Fills (old new : LineReaderView) : Type 0 where
   pub taken : TakesBatches old new
+  pub given : new.given ≡ old.given
   pub waited : 0 < length old.waiting → new ≡ old
   pub looked : new.looks ≡ looks_of_fill old.waiting old.looks
   pub name : new.name ≡ old.name
   pub forms : new.forms ≡ old.forms
 
--- The first line that waits is given out: it waits no longer, its layer is told, and its text goes into the buffer.
+-- The first line that waits is given out, behind those before it: it waits no longer, its layer is told, and its text goes
+-- into the buffer.
 -- Where it is longer than the buffer, it stays the first one. Where no line waits, no batch that was taken has one.
 abbrev pub GivesLine : ℕ → List ℕ → List ℕ → ℕ → LineReaderView → Status → LineReaderView → Type 0
 GivesLine layer into into' len old Done new =
-    (line : PlainLine) × Fills old (record new { waiting = line ∷ new.waiting }) × (layer ≡ line.layer)
-    × WritesAll line.text into Done into' len
+    (line : PlainLine) × Fills old (record new { given = old.given; waiting = line ∷ new.waiting })
+    × (new.given ≡ old.given ++ line ∷ []) × (layer ≡ line.layer) × WritesAll line.text into Done into' len
 GivesLine layer into into' len old ShortBuffer new =
     Fills old new × IsSomeAnd (slice_get new.waiting 0) (λ line. WritesAll line.text into ShortBuffer into' len)
 GivesLine layer into into' len old NoLine new = Fills old new × (new.waiting ≡ [])

@@ -75,7 +75,7 @@ said_forms layers = map (λ layer. said_form layer.form) layers
 
 -- A new registry and the other end of its ring: the limits are in their ranges, the layers are few enough, and the data
 -- say them. The ring has as many places as the limits say. No span is open, there are no callsites, nothing was sent,
--- and nothing was taken.
+-- and nothing was taken or given out.
 pub record AreNew
     (limits : SpanLimits) (layers : List SpanLayer) (rules : List SpanRule) (bytes : List ℕ)
     (registry : RegistryView) (reader : LineReaderView)
@@ -99,6 +99,7 @@ pub record AreNew
     looks = 0;
     forms = said_forms layers;
     taken = [];
+    given = [];
     waiting = [];
     refused = 0;
   }

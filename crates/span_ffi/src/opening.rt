@@ -251,6 +251,7 @@ fn make(
       looks = 0;
       forms = forms_in layers;
       taken = [];
+      given = [];
       waiting = [];
       refused = 0;
     }) }

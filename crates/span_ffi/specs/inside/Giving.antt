@@ -1,5 +1,5 @@
 -- How the first line that waits is given out: no public clause cites it.
-use Rattle.std.specs.Prelude.{◌≡◌, ℕ, List, [], ◌∷◌, slice_get, IsSomeAnd}
+use Rattle.std.specs.Prelude.{◌≡◌, ℕ, List, [], ◌∷◌, ◌++◌, slice_get, IsSomeAnd}
 use Rattle.span_outlet.specs.Lines.{PlainLine}
 use Rattle.span_outlet.specs.LineReader.{LineReaderView}
 use Rattle.span_border.specs.declared.status.Status.{Status}
@@ -9,8 +9,8 @@ use Rattle.span_border.specs.Buffers.{WritesAll}
 -- as `GivesLine`, of the lines that wait already
 abbrev pub GivesFirst : ℕ → List ℕ → List ℕ → ℕ → LineReaderView → Status → LineReaderView → Type 0
 GivesFirst layer into into' len old Done new =
-    (line : PlainLine) × (old ≡ record new { waiting = line ∷ new.waiting }) × (layer ≡ line.layer)
-    × WritesAll line.text into Done into' len
+    (line : PlainLine) × (old ≡ record new { given = old.given; waiting = line ∷ new.waiting })
+    × (new.given ≡ old.given ++ line ∷ []) × (layer ≡ line.layer) × WritesAll line.text into Done into' len
 GivesFirst layer into into' len old ShortBuffer new =
     (new ≡ old) × IsSomeAnd (slice_get new.waiting 0) (λ line. WritesAll line.text into ShortBuffer into' len)
 GivesFirst layer into into' len old NoLine new = (new ≡ old) × (new.waiting ≡ [])

@@ -11,6 +11,7 @@ use crate::reader::Lines;
 use span_border::{Holds, Status, write_all};
 use std::alloc::Global;
 
+#[tactic(auto, using(crate::proofs::Given::filled_gives))]
 fn give_line(lines: &mut Lines, layer: &mut u32, into: &mut [u8], len: &mut usize) -> Status
     ensures line { GivesLine layer.new into.old into.new len.new lines.old result lines.new }
     ensures layer { Keeps (Some result) layer.old layer.new }

@@ -51,7 +51,8 @@ impl<H: Ledger, C: Ledger, S: Setup, A: Drop> Registry<H, C, S, Ring, A> {
     /// without lines, and the ring. So a run may be as long as it likes: nothing keeps its lines.
     ///
     /// Nothing is taken from the reader. All that was sent and that it has not taken is still in the ring: with both in
-    /// one thread `LineReader::fill_beside` takes it, and `next` gives its lines out; false means that everything was.
+    /// one thread `LineReader::fill_beside` takes it, and `next` gives its lines out; false means that all lines of the
+    /// whole history were given out.
     pub fn finish_reading<V>(
         self,
         share: Share<H, C, S>,

@@ -1,11 +1,13 @@
 //! A whole run, from the making of its registry to its last line.
 ghost use Rattle.std.specs.Prelude.{◌≡◌, ◌+◌, ◌<◌, ◌↔◌, [], Some, IfOk};
+ghost use Rattle.span_layers.specs.Layers.{filters_in, forms_in};
 ghost use Rattle.workloads.specs.Back.{IsMadeByNew};
+ghost use Rattle.workloads.specs.ReadOut.{EndsReadOut};
 
 use crate::ended::Ended;
 use crate::order::{Crew, Plan};
 use crate::parts::{CoreParts, Parts};
-use crate::reading::{Reading, read_to_end};
+use crate::reading::{Reading, finish_and_read};
 use crate::soak::threads::in_threads;
 use crate::texts::Texts;
 use span_id::{Fault, Limits};
@@ -43,7 +45,8 @@ pub fn soak<R: Threads + Wait + Clock + Sync>(
     beside_a_reader(rt, alloc, limits, plan, layers)
 }
 
-/// Has as many workers as the limits say follow the plan on one registry with these layers, and ends it.
+/// Has as many workers as the limits say follow the plan on one registry with these layers, ends it, and reads its lines
+/// to the last one: they are those of its whole history.
 pub fn beside_a_reader<R: Threads + Wait + Clock + Sync>(
     rt: &R,
     alloc: Global,
@@ -56,6 +59,7 @@ pub fn beside_a_reader<R: Threads + Wait + Clock + Sync>(
     ensures empty { IfOk result (λ ended. (ended.counts.left ≡ 0) ↔ (ended.counts.entries ≡ 0)) }
     ensures balance { IfOk result (λ ended. ended.counts.made ≡ ended.counts.closed + ended.counts.left) }
     ensures read { IfOk result (λ ended. ended.read ≡ ended.counts.calls) }
+    ensures told { IfOk result (λ ended. EndsReadOut limits (filters_in layers) (forms_in layers) ended) }
 {
     let Parts { core, blanks } = Parts::new(alloc, limits, plan.fields())?;
     let CoreParts {
@@ -97,6 +101,7 @@ fn run<
     requires workers { 0 < S.limits.workers }
     requires setup { (filters.rules ≡ S.rules) × ([] ≡ S.forms) × (Some ring.name ≡ S.ring) }
     requires ring { (ring.sent ≡ []) × (Some reader.name ≡ S.ring) }
+    requires given { reader.given ≡ [] }
     requires blanks { blanks ≡ record {
       limits = S.limits;
       handles = H.name;
@@ -111,12 +116,12 @@ fn run<
     ensures empty { IfOk result (λ ended. (ended.counts.left ≡ 0) ↔ (ended.counts.entries ≡ 0)) }
     ensures balance { IfOk result (λ ended. ended.counts.made ≡ ended.counts.closed + ended.counts.left) }
     ensures read { IfOk result (λ ended. ended.read ≡ ended.counts.calls) }
+    ensures told { IfOk result (λ ended. EndsReadOut S.limits S.rules reader.forms ended) }
 {
     let (registry, workers) = Registry::<H, C, S, Ring>::new(alloc, filters, ring, blanks)?;
     let (whole, read) = in_threads(rt, &registry, texts, plan, workers, reader)?;
     let Reading { mut reader, lines } = read;
-    let (counts, mut ring) = registry.finish_reading(whole.share, &mut reader);
-    let rest = read_to_end(&mut reader, &mut ring);
+    let (counts, rest) = finish_and_read(registry, whole.share, &mut reader);
     Ok(Ended {
         counts,
         lines: lines.saturating_add(rest),

@@ -1,6 +1,7 @@
 //! All threads of a run, and what comes back of them.
 ghost use Rattle.std.specs.Prelude.{◌≡◌, ◌<◌, IfOk, vec_len};
 ghost use Rattle.workloads.specs.Back.{ComesBack, HasAll};
+ghost use Rattle.workloads.specs.ReadOut.{HasReadOn};
 
 use crate::call_costs::slow_reader::make_rounds;
 use crate::order::Plan;
@@ -50,7 +51,7 @@ pub fn in_threads<
 ) -> Result<(Returned<H, C, S>, Reading<V>), Fault>
     requires some { 0 < vec_len workers }
     ensures whole { IfOk result (λ back. HasAll plan workers.items back.0.share) }
-    ensures reader { IfOk result (λ back. back.1.reader.name ≡ reader.name) }
+    ensures reader { IfOk result (λ back. HasReadOn reader back.1.reader back.1.lines) }
 {
     let all_back = AtomicBool::new(false);
     let flag = &all_back;
@@ -60,7 +61,7 @@ pub fn in_threads<
         move |scope| -> Result<(Returned<H, C, S>, Reading<V>), Fault>
             requires some { 0 < vec_len workers }
             ensures whole { IfOk result (λ back. HasAll plan workers.items back.0.share) }
-            ensures reader { IfOk result (λ back. back.1.reader.name ≡ reader.name) }
+            ensures reader { IfOk result (λ back. HasReadOn reader back.1.reader back.1.lines) }
         {
             let reading = start_reading(rt, scope, reader, plan.pace(), flag)?;
             let whole = run_workers(rt, scope, registry, texts, plan, workers);

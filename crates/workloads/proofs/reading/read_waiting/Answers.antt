@@ -1,0 +1,16 @@
+use Rattle.std.proofs.Common.{rules, refl, ◌∙◌}
+use Rattle.workloads.proofs.ReadToEnd.{gives_none, gives_one, moved_out, still}
+use Rattle.workloads.proofs.reading.read_waiting.Goals as goal
+
+pub loop-line-init : goal.loop-line-init
+loop-line-init g c = record { same = refl; read = refl; lines = gives_none _ _ refl }
+
+pub loop-line-preserved : goal.loop-line-preserved
+loop-line-preserved g c =
+    let before = c.loop-line.invariant in
+    let next = c.in-Some.ensures in
+    record {
+      same = still _ _ _ before.same next.rest;
+      read = moved_out _ _ _ next.some next.given ∙ before.read;
+      lines = gives_one _ _ _ _ _ _ before.lines next.given (search rules);
+    }
