@@ -1,5 +1,5 @@
 -- What the calls on a drain do, by their status, and how a text goes into a buffer.
-use Rattle.std.specs.Prelude.{◌≡◌, ℕ, ◌<◌, List, [], ◌∷◌, length, slice_get, Option, Some, None, IsSomeAnd}
+use Rattle.std.specs.Prelude.{◌≡◌, ℕ, ◌<◌, List, [], ◌∷◌, ◌++◌, length, slice_get, Option, Some, None, IsSomeAnd}
 use Rattle.span_outlet.specs.Lines.{PlainLine}
 use Rattle.span_outlet.specs.LineReader.{LineReaderView, TakesBatches, looks_of_fill}
 use Rattle.span_border.specs.declared.status.Status.{Status}
