@@ -116,14 +116,15 @@ impl Registry {
         told: impl FnOnce(&Part, RawId) -> T,
     ) -> Result<Option<T>, Error> {
         let (at, parent) = self.own_parent(parent)?;
+        let given = &fields;
         let made = if are_marked(NO_NAME, fields.fields) {
             Err(Refusal::BAD_NAME)
         } else {
-            at.call(move |state, worker| state.new_span_at(worker, number, parent, fields))
+            at.call(move |state, worker| state.new_span_at(worker, number, parent, given))
         };
         let made = made.or_else(move |refusal| {
             with_written(refusal, NO_NAME, fields, move |_, given| {
-                at.call(move |state, worker| state.new_span_at(worker, number, parent, given))
+                at.call(|state, worker| state.new_span_at(worker, number, parent, &given))
             })
         })?;
         Ok(made.map(|id| told(at.part, id)))
@@ -140,14 +141,15 @@ impl Registry {
 
     pub(crate) fn event_at_number(&self, number: u32, message: &str, fields: Given<'_>) -> Result<(), Error> {
         let at = self.parts().inside();
+        let given = &fields;
         let told = if are_marked(NO_NAME, fields.fields) {
             Err(Refusal::BAD_NAME)
         } else {
-            at.call(move |state, worker| state.event_at(worker, number, message, fields))
+            at.call(move |state, worker| state.event_at(worker, number, message, given))
         };
         told.or_else(move |refusal| {
             with_written(refusal, NO_NAME, fields, move |_, given| {
-                at.call(move |state, worker| state.event_at(worker, number, message, given))
+                at.call(|state, worker| state.event_at(worker, number, message, &given))
             })
         })
     }

@@ -294,9 +294,14 @@ impl Drain {
     }
 
     // Whether something was owed or lost, and some of it was done or told now.
+    #[inline]
     fn settles(&self) -> bool {
-        // Each of them does.
-        self.parts.all().filter(|part| settles(part)).count() > 0
+        if self.parts.are_several() {
+            // Each of them does.
+            self.parts.all().filter(|part| settles(part)).count() > 0
+        } else {
+            settles(self.parts.part(0))
+        }
     }
 
     fn write_out(&mut self, outs: &mut impl Outs) -> io::Result<u64> {
@@ -434,10 +439,13 @@ fn noted(part: &Part, forms: &[Form], head: &Head) -> Option<Note> {
 }
 
 // Whether something was owed or lost, and some of it was done or told now.
+#[inline]
 fn settles(part: &Part) -> bool {
-    if !part.owes() && !part.is_untold() {
-        return false;
-    }
+    (part.owes() || part.is_untold()) && settles_now(part)
+}
+
+#[cold]
+fn settles_now(part: &Part) -> bool {
     part.with(|state| {
         let before = state.calls();
         if state.settle().is_ok() {

@@ -1,7 +1,6 @@
 //! A part of a registry: its lock, and what may be asked without it.
 #![forbid(unsafe_code)]
 use crate::interest::Interest;
-use crate::lock::Lock;
 use crate::lost::{Losses, Lost};
 use crate::owed::Debt;
 use crate::refusal::Refusal;
@@ -90,7 +89,7 @@ impl Common {
 /// A proved registry with its lock and its ring. No two parts have a line of the processors' caches in common.
 #[repr(align(128))]
 pub(crate) struct Part {
-    state: Lock<State>,
+    state: Mutex<State>,
     ring: Arc<Ring>,
     common: Arc<Common>,
     losses: Arc<Losses>,
@@ -107,7 +106,7 @@ impl Part {
         Part {
             first_worker: state.as_told(0),
             debt: Arc::clone(state.debt()),
-            state: Lock::new(state),
+            state: Mutex::new(state),
             ring,
             number: common.number + u64::from(place),
             losses: Arc::clone(&common.losses),
@@ -121,7 +120,7 @@ impl Part {
     /// is done whole or refused: the poison says nothing.
     #[inline(always)]
     pub(crate) fn with<T>(&self, call: impl FnOnce(&mut State) -> T) -> T {
-        call(&mut self.state.take())
+        call(&mut self.state.lock().unwrap_or_else(PoisonError::into_inner))
     }
 
     /// Makes a call until it isn't refused for want of a place, where the registry waits for the drain.

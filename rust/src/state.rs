@@ -274,14 +274,14 @@ impl State {
         worker: u32,
         callsite: u32,
         parent: RawParent,
-        given: Given<'_>,
+        given: &Given<'_>,
     ) -> Result<Option<RawId>, Refusal> {
         let names = Names::default();
         self.owing.reserve_span()?;
         self.packed.pack(&[], given.fields)?;
         self.origins.reserve_span(names, &self.packed)?;
         let id = self.placed(
-            move |origins| Ok(What::Made(origins.known(callsite, given)?)),
+            move |origins| Ok(What::Made(origins.known(callsite, *given)?)),
             move |core, packed| core.new_span_at(worker, parent, callsite, packed),
         )?;
         if let Some(id) = id {
@@ -364,11 +364,11 @@ impl State {
         worker: u32,
         callsite: u32,
         message: &str,
-        given: Given<'_>,
+        given: &Given<'_>,
     ) -> Result<(), Refusal> {
         self.packed.pack(&[message], given.fields)?;
         self.placed(
-            move |origins| Ok(What::Made(origins.known(callsite, given)?)),
+            move |origins| Ok(What::Made(origins.known(callsite, *given)?)),
             move |core, packed| core.event_at(worker, callsite, message, packed),
         )
     }
