@@ -4,7 +4,8 @@
 Builds border.c beside this file against the static library of crates/span_ffi (`./rust/build` makes it), runs it, and
 prints a table in Markdown: nanoseconds of a round, and after the plus of reading its lines. The C compiler is $CC, else
 cc. With --figures the same rounds are run by the Rust package and in plain Rust (rust/examples/border), and both go to
-bench/figures/border.json, from where tests/figures.py takes them to the pages.
+bench/figures/border.json, and what no layer wants (rust/examples/disabled) to disabled.json, from where
+tests/figures.py takes them to the pages.
 
 usage: border.py [--library FILE] [--figures]
 """
@@ -20,6 +21,7 @@ HERE = Path(__file__).resolve().parent
 TOP = HERE.parent
 sys.path.insert(0, str(TOP / "tests"))
 
+import c_interface  # noqa: E402
 import figures  # noqa: E402
 
 LIBRARY = TOP / "crates/span_ffi/out/libspan_ffi.a"
@@ -34,23 +36,22 @@ OF_RUST = {
 CALLS = 4  # of a round
 
 
-def built(library, folder):
-    """The program over the library."""
-    page = subprocess.run(["rt", "doc"], check=True, capture_output=True, text=True).stdout.strip()
-    shim = Path(page).parent / "c/liblibc_c.a"
-    program = Path(folder) / "border"
-    subprocess.run([os.environ.get("CC", "cc"), "-std=gnu11", "-O2", "-Wall", "-Wextra", "-Werror", "-pthread", "-I",
-                    str(TOP / "include"), str(HERE / "border.c"), str(library), str(shim), "-o", str(program)],
-                   check=True)
-    return program
-
-
-def told_by_rust(library):
-    """What the example prints: of each line its layers, its name, the cost of a round and that of reading."""
-    words = ["cargo", "run", "--quiet", "--release", "--offline", "--example", "border"]
+def said_by_example(library, name):
+    """What an example of the Rust package prints."""
+    words = ["cargo", "run", "--quiet", "--release", "--offline", "--example", name]
     places = {**os.environ, "SPAN_REGISTRY_LIB": str(library.resolve().parent)}
-    done = subprocess.run(words, cwd=TOP / "rust", env=places, check=True, capture_output=True, text=True)
-    return re.findall(r"^(\d+) layers, (.*?) +(\d+) \+ +(\d+)$", done.stdout, flags=re.M)
+    return subprocess.run(words, cwd=TOP / "rust", env=places, check=True, capture_output=True, text=True).stdout
+
+
+def rounds_in_rust(library):
+    """Of each line that the example prints its layers, its name, the cost of a round and that of reading."""
+    return re.findall(r"^(\d+) layers, (.*?) +(\d+) \+ +(\d+)$", said_by_example(library, "border"), flags=re.M)
+
+
+def record_disabled(library):
+    """The nanoseconds of each call that no layer wants."""
+    told = re.findall(r"^(\w+)!?: ([\d.]+) ns$", said_by_example(library, "disabled"), flags=re.M)
+    figures.record("disabled", values={name: float(nanoseconds) for name, nanoseconds in told})
 
 
 def record(of_c, of_rust):
@@ -78,7 +79,10 @@ def main():
     if not library.exists():
         sys.exit(f"border: there is no {library}: ./rust/build makes it")
     with tempfile.TemporaryDirectory() as folder:
-        told = subprocess.run([built(library, folder)], check=True, capture_output=True, text=True).stdout
+        program = c_interface.built(library, HERE / "border.c", Path(folder) / "border", ["-O2"])
+        if program is None:
+            sys.exit("border: the program was not built")
+        told = subprocess.run([program], check=True, capture_output=True, text=True).stdout
     rows, of_c = {}, [tuple(map(int, line.split())) for line in told.splitlines()]
     for layers, fields, at_callsite, cost, reading in of_c:
         rows.setdefault(layers, {})[fields, at_callsite] = f"{cost:,} + {reading:,}"
@@ -87,7 +91,8 @@ def main():
     for layers, costs in rows.items():
         print(f"| {layers} | {' | '.join(costs[column] for column in COLUMNS)} |")
     if asked.figures:
-        record(of_c, told_by_rust(library))
+        record(of_c, rounds_in_rust(library))
+        record_disabled(library)
 
 
 if __name__ == "__main__":

@@ -2,14 +2,13 @@
 """Measures calls a second over 1 to 8 threads: of the package in rust/ with one lock and in four parts, of the same
 registry in plain Rust behind one `Mutex` and with a lock for each thread, and of tracing-subscriber's `Registry`.
 
-    bench/parts.py [--library libspan_ffi.a] [--turns N] [--write]
+    bench/parts.py [--library libspan_ffi.a] [--turns N] [--figures]
 
-builds bench/parts and prints a table; with --write it puts it into docs/benchmarks/parts.txt, of which
-tests/pictures.py draws docs/pictures/parts.svg. All take turns, and the best of each counts. What is needed is what
-tests/tracing.py needs, and the library of `./rust/build`; on a quiet machine.
+builds bench/parts and prints a table; with --figures it goes to bench/figures/parts.json, of which tests/pictures.py
+draws docs/pictures/parts.svg. All take turns, and the best of each counts. What is needed is what tests/tracing.py
+needs, and the library of `./rust/build`; on a quiet machine.
 """
 import argparse
-import datetime
 import os
 import shutil
 import subprocess
@@ -20,9 +19,9 @@ from pathlib import Path
 TOP = Path(__file__).resolve().parent.parent
 sys.path.insert(0, str(TOP / "tests"))
 
+import figures  # noqa: E402
 import tracing_yard  # noqa: E402
 
-FIGURES = TOP / "docs/benchmarks/parts.txt"
 WHOSE = ["package", "parts", "plain", "plains", "real"]
 LAYERS = [0, 1]
 THREADS = range(1, 9)
@@ -44,27 +43,22 @@ def built(folder, library, jobs):
 
 
 def measured(program, turns):
-    """By layers and threads, million calls a second of each."""
-    # The real registry has no layer of this kind.
-    rows = {(layers, threads): {whose: 0.0 for whose in WHOSE if whose != "real" or layers == 0}
-            for layers in LAYERS for threads in THREADS}
+    """For each number of layers and threads, million calls a second of each."""
+    rows = [{"layers": layers, "threads": threads} for layers in LAYERS for threads in THREADS]
     for _ in range(turns):
-        for (layers, threads), row in rows.items():
-            for whose in row:
-                words = [str(word) for word in (program, whose, layers, threads, TURNS_OF_A_RUN)]
+        for row in rows:
+            # The real registry has no layer of this kind.
+            for whose in (it for it in WHOSE if it != "real" or row["layers"] == 0):
+                words = [str(word) for word in (program, whose, row["layers"], row["threads"], TURNS_OF_A_RUN)]
                 done = subprocess.run(words, capture_output=True, text=True, check=True)
-                row[whose] = max(row[whose], float(done.stdout))
+                row[whose] = max(row.get(whose, 0), float(done.stdout))
     return rows
 
 
-def table(rows, turns):
-    day = datetime.date.today().isoformat()
-    lines = [f"# Million calls a second, the best of {turns * TURNS_OF_A_RUN} turns, {day}, {os.cpu_count()} processors.",
-             "# layers threads " + " ".join(WHOSE)]
-    for (layers, threads), row in rows.items():
-        figures = " ".join(f"{row[whose]:.2f}" if whose in row else "-" for whose in WHOSE)
-        lines.append(f"{layers} {threads} {figures}")
-    return "\n".join(lines) + "\n"
+def show(rows, turns):
+    print(f"million calls a second, the best of {turns * TURNS_OF_A_RUN} turns\nlayers threads {' '.join(WHOSE)}")
+    for row in rows:
+        print(row["layers"], row["threads"], *(f"{row[whose]:.2f}" if whose in row else "-" for whose in WHOSE))
 
 
 def main():
@@ -73,16 +67,16 @@ def main():
     parser.add_argument("--folder", type=Path, help="where to build; it is kept then")
     parser.add_argument("--jobs", type=int, default=2)
     parser.add_argument("--turns", type=int, default=5)
-    parser.add_argument("--write", action="store_true")
+    parser.add_argument("--figures", action="store_true", help="they go to bench/figures")
     asked = parser.parse_args()
     if lack := tracing_yard.missing():
         sys.exit(f"not run: {lack}")
     with tempfile.TemporaryDirectory() as made:
         program = built((asked.folder or Path(made)).resolve(), asked.library.resolve(), asked.jobs)
-        text = table(measured(program, asked.turns), asked.turns)
-    print(text, end="")
-    if asked.write:
-        FIGURES.write_text(text, encoding="utf-8")
+        rows = measured(program, asked.turns)
+    show(rows, asked.turns)
+    if asked.figures:
+        figures.record("parts", rows)
 
 
 if __name__ == "__main__":

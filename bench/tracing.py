@@ -7,11 +7,11 @@
                                     least of so many turns each; on a quiet machine
     bench/tracing.py benches        the crate's own four benches, with a stand-in for criterion: nanoseconds of the
                                     clock, as above
-    bench/tracing.py figures        instructions and clock, and what pages have of them into bench/figures/tracing.json,
-                                    from where tests/figures.py takes it
 
-Each line ends in ours over the original's; of the clock it has the calls a second of all threads, too. What is needed
-is what tests/tracing.py needs.
+Each line ends in ours over the original's; of the clock it has the calls a second of all threads, too. With --figures
+instructions are counted on the proved registry of rust/tracing, too, and the clock is looked at for what pages tell
+alone; both go to bench/figures (tracing.json, tracing-clock.json), from where tests/figures.py takes them to the pages.
+What is needed is what tests/tracing.py needs.
 """
 
 import argparse
@@ -63,21 +63,25 @@ TOLD = {
     "an event": ("raw", "event", "none", 1),
     "all with `fmt`, 1 below": ("raw", "all", "fmt", 1),
 }
+SPAN = TOLD["a span, 1 below"]
 SHARED = ("raw", "shared", "line", 0)
 BENCHES = ["enter", "filter", "filter_log", "fmt"]
 SIDES = ("original", "copy")
 
 
 def built(yard, name):
-    """The program of rounds over one of the two."""
+    """The program of rounds over the original, over the copy, or over the proved registry of rust/tracing."""
     folder = yard.folder / name / "rounds"
     left_out = shutil.ignore_patterns("target", "Cargo.lock")
-    shutil.copytree(TOP / "bench/tracing", folder, dirs_exist_ok=True, ignore=left_out)
+    for source, to in (("bench/tracing", folder), ("rust", folder.parent.parent / "rust")):
+        shutil.copytree(TOP / source, to, dirs_exist_ok=True, ignore=left_out)
     words = ["--release"]
     if name == "copy":
         laid = yard.folder / name / "laid"
         yard.lay(laid)
         words += ["--config", f'patch.crates-io.tracing-subscriber.path="{laid}"']
+    if name == "proved":
+        words += ["--features", "proved"]
     done = yard.cargo("build", folder, *words)
     if done.returncode != 0:
         sys.exit(done.stdout)
@@ -99,14 +103,17 @@ def instructions_of(program, words, rounds):
     return int(re.search(r"Collected : (\d+)", done.stderr)[1])
 
 
+def instructions_of_round(program, words):
+    # What differs from run to run, as by the seeds of maps, is some thousands of instructions in all.
+    few = 5000 if words[2] == "none" else 500 if words[3] < 100 else 100
+    return (instructions_of(program, words, 3 * few) - instructions_of(program, words, few)) / (2 * few)
+
+
 def instructions(programs):
     """Of each round those of the original and ours."""
     found = {}
     for words in ROUNDS:
-        # What differs from run to run, as by the seeds of maps, is some thousands of instructions in all.
-        few = 5000 if words[2] == "none" else 500 if words[3] < 100 else 100
-        found[words] = [(instructions_of(program, words, 3 * few) - instructions_of(program, words, few)) / (2 * few)
-                        for program in programs]
+        found[words] = [instructions_of_round(program, words) for program in programs]
         line(words, *found[words], "instructions")
     return found
 
@@ -123,10 +130,10 @@ def allocations(programs):
         line(words, *(figures_of(program, words, 1, 2000, 3)[2] for program in programs), "allocations")
 
 
-def clock(programs, threads, turns, rounds):
+def clock(programs, timed, threads, turns, rounds):
     """Of each round and number of threads the nanoseconds of the original and ours."""
     found = {}
-    for words in TIMED:
+    for words in timed:
         for count in threads:
             least = [[float("inf")] * 3 for _ in programs]
             for _ in range(turns):
@@ -140,20 +147,24 @@ def clock(programs, threads, turns, rounds):
     return found
 
 
-def record(by_callgrind, by_clock, threads):
-    """The figures of the rounds that pages tell of."""
-    rows = []
-    for name, words in TOLD.items():
-        there, ours = by_callgrind[words]
-        row = {"name": name, "instructions_there": there, "instructions": ours}
-        for count in threads:
-            row[f"ns_{count}_there"], row[f"ns_{count}"] = by_clock[words, count]
-        rows.append(row)
-    (span_there, span), more = by_callgrind[TOLD["a span, 1 below"]], sum(a < b for a, b in by_callgrind.values())
-    values = {"span_there": span_there, "span": span, "rounds": len(by_callgrind), "more": str(more or "none")}
-    for count in threads:
-        values[f"shared_{count}_there"], values[f"shared_{count}"] = by_clock[SHARED, count]
+def record_instructions(found, proved):
+    """What pages tell of all rounds, and of a span on the proved registry."""
+    rows = [{"name": name, "there": found[words][0], "ours": found[words][1]} for name, words in TOLD.items()]
+    more = sum(original < ours for original, ours in found.values())
+    values = {"span_there": found[SPAN][0], "span": found[SPAN][1], "proved": instructions_of_round(proved, SPAN),
+              "rounds": len(found), "more": str(more or "none")}
     figures.record("tracing", rows, values)
+
+
+def record_clock(found, threads):
+    """What pages tell of the clock."""
+    def of(words, name):
+        pairs = {count: found[words, count] for count in threads}
+        return {f"{name}_{count}{side}": nanoseconds for count, pair in pairs.items()
+                for side, nanoseconds in zip(("_there", ""), pair)}
+
+    rows = [{"name": name, **of(words, "ns")} for name, words in TOLD.items()]
+    figures.record("tracing-clock", rows, of(SHARED, "shared"))
 
 
 def benches_of(yard, name):
@@ -179,43 +190,53 @@ def benches(sides, turns):
     for programs in zip(*sides):
         least = [{}, {}]
         for _ in range(turns):
-            for figures, program in zip(least, programs):
+            for of_side, program in zip(least, programs):
                 done = subprocess.run([program, "--bench"], capture_output=True, text=True, check=True)
                 for bench, figure in re.findall(r"^(\S+) ([\d.]+) ns$", done.stdout, re.MULTILINE):
-                    figures[bench] = min(float(figure), figures.get(bench, float("inf")))
+                    of_side[bench] = min(float(figure), of_side.get(bench, float("inf")))
         for bench, figure in least[0].items():
             line((bench,), figure, least[1][bench], "ns")
 
 
+def measured(asked, yard):
+    """Does what is asked for, and keeps what pages tell of it."""
+    build = benches_of if asked.what == "benches" else built
+    programs = [build(yard, name) for name in SIDES]
+    print(f"{'':44} {'original':>12} {'ours':>12}")
+    if asked.what == "benches":
+        benches(programs, asked.turns)
+    elif asked.what == "allocations":
+        allocations(programs)
+    elif asked.what == "instructions":
+        found = instructions(programs)
+        if asked.figures:
+            record_instructions(found, built(yard, "proved"))
+    else:
+        timed = [*TOLD.values(), SHARED] if asked.figures else TIMED
+        found = clock(programs, timed, asked.threads, asked.turns, asked.rounds)
+        if asked.figures:
+            record_clock(found, asked.threads)
+
+
 def main():
     parser = argparse.ArgumentParser(description=__doc__, formatter_class=argparse.RawDescriptionHelpFormatter)
-    parser.add_argument("what", choices=["instructions", "allocations", "clock", "benches", "figures"])
+    parser.add_argument("what", choices=["instructions", "allocations", "clock", "benches"])
     parser.add_argument("--library", type=Path, help="libspan_store_ffi.a; without it, that of rt lib")
+    parser.add_argument("--registry-library", type=Path, default=TOP / "crates/span_ffi/out/libspan_ffi.a",
+                        help="libspan_ffi.a, on which rust/tracing stands")
     parser.add_argument("--folder", type=Path, help="where to build; it is kept then")
     parser.add_argument("--jobs", type=int, default=2)
     parser.add_argument("--threads", type=int, nargs="+", default=[1, 2, 4, 8])
     parser.add_argument("--turns", type=int, default=5)
     parser.add_argument("--rounds", type=int, default=50_000)
+    parser.add_argument("--figures", action="store_true", help="what pages tell goes to bench/figures")
     asked = parser.parse_args()
     if lack := tracing.missing():
         sys.exit(f"not run: {lack}")
     library = asked.library.resolve() if asked.library else tracing.current_library()
+    os.environ["SPAN_REGISTRY_LIB"] = str(asked.registry_library.resolve().parent)
     with tempfile.TemporaryDirectory() as made:
-        yard = tracing.Yard((asked.folder or Path(made)).resolve(), library, asked.jobs)
-        build = benches_of if asked.what == "benches" else built
-        programs = [build(yard, name) for name in SIDES]
-        print(f"{'':44} {'original':>12} {'ours':>12}")
-        if asked.what == "benches":
-            benches(programs, asked.turns)
-        elif asked.what == "instructions":
-            instructions(programs)
-        elif asked.what == "allocations":
-            allocations(programs)
-        elif asked.what == "figures":
-            by_callgrind = instructions(programs)
-            record(by_callgrind, clock(programs, asked.threads, asked.turns, asked.rounds), asked.threads)
-        else:
-            clock(programs, asked.threads, asked.turns, asked.rounds)
+        measured(asked, tracing.Yard((asked.folder or Path(made)).resolve(), library, asked.jobs))
 
 
 if __name__ == "__main__":

@@ -9,7 +9,7 @@ figure that is taken from a page has the toolchain that README named with it.
 - `table` has the columns of a table of the rows: of each its head (a blank after it makes it another one), and its
   cells as Python's `format` writes them. A cell whose value a row hasn't is empty. The table stands in a page between
   `<!-- figures NAME -->` and `<!-- end -->`, with a line that says where it comes from.
-- `says` has for each page the texts in which values stand there, written likewise.
+- `says` has for each page the texts in which values stand there, written likewise; none for one that has a picture.
 
 What measures writes such a file by `record`, which keeps `table` and `says`. With --write the pages get what the files
 say; without it they are compared. No other figure may stand in a page, but for those in NOT_MEASURED: no table with a
@@ -42,7 +42,7 @@ VERSION = re.compile(r"\b(?:Python|Rust|rustc|glibc|Linux|tracing-subscriber)`? 
 NOT_MEASURED = {
     "bench/README.md": ["2 GB of memory", "over 1.2 where"],
     "crates/span_benchmark/README.md": ["15 MB each"],
-    "docs/BENCHMARKS.md": ["entered 390 times", "53 times the script"],
+    "docs/BENCHMARKS.md": ["53 times the script"],
     "docs/DECISIONS.md": ["at most 75 minutes"],
     "docs/FORMATS.md": ["60 seconds"],
     "rust/README.md": ["(1.82 or later)"], "rust/tracing/README.md": ["| 4,096"],
@@ -64,13 +64,14 @@ def machine():
     return names[0] if names else platform.machine()
 
 
-def record(name, rows=(), values=None, at=TOP):
-    """Writes a file of what the running script measured of a checkout."""
+def record(name, rows=(), values=None, at=TOP, beside=None):
+    """Writes a file of what the running script measured of a checkout, or of it beside another one."""
     path = FOLDER / f"{name}.json"
     before = json.loads(path.read_text(encoding="utf-8")) if path.exists() else {}
     others = [":!bench/figures", ":!*.md", ":!*.svg"]  # a run's second file finds its first one changed
     differs = said_by("git", "diff", "HEAD", "--", *others, at=at) != "not known"
     commit = said_by("git", "describe", "--always", at=at) + "-dirty" * differs
+    commit += f", beside {said_by('git', 'describe', '--always', at=beside)}" if beside else ""
     script = Path(sys.argv[0]).resolve().relative_to(TOP).as_posix()
     data = {
         "date": datetime.date.today().isoformat(), "machine": machine(), "processors": os.cpu_count(),

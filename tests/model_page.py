@@ -4,8 +4,8 @@
     model_page.py [--write]
 
 Crates stand in the order of crates.txt, files in that of the crate's Lib.antt, words in that of their file. What only
-the proofs of a crate need, in specs/inside/, is left out. Without --write nothing is changed; the last line is
-'N passed, M failed', and the status is 0 where nothing failed.
+the proofs of a crate need, in specs/inside/, is left out. A word with no comment of its own fails. Without --write
+nothing is changed; the last line is 'N passed, M failed', and the status is 0 where nothing failed.
 """
 import re
 import sys
@@ -22,7 +22,7 @@ HEAD = """# The model: what the contracts speak of
 
 Contracts see plain values: numbers, lists, finite maps, texts as bytes. This page has the definitions of `specs/` that
 public clauses cite, each with its comment, in the order in which they are to be read. A name that begins with a capital
-letter is a type or a relation, another one a function. A word with no comment says what its definition reads as.
+letter is a type or a relation, another one a function.
 
 No count is kept in the model: it has holders and *live* spans, and a closing list is what a comparison of two forests
 leaves over. A call is a relation between the value before it and the value after it; `Outcome` says the same as a
@@ -75,42 +75,33 @@ def files_of(crate, top=TOP):
     return [(name, read(specs / f"{name}.antt")) for name in named if name != "inside"]
 
 
-def listed(words):
-    """A row for each word with its comment. Words without one stand in one row, as far as they are neighbours."""
-    rows, is_open = [], False
-    for word, said in words:
-        if not said and is_open:
-            rows[-1] += f", `{word}`"
-        else:
-            rows.append(f"- `{word}`" + (f": {said}" if said else ""))
-        is_open = not said
-    return "\n".join(rows) + "\n"
-
-
 def page():
-    text = [HEAD]
+    """The page, and the words with no comment, as CRATE.FILE.WORD."""
+    text, silent = [HEAD], []
     for line in (TOP / "crates.txt").read_text(encoding="utf-8").splitlines():
         crate = re.match(r"\w*", line)[0]
-        files = files_of(crate) if crate else []
-        if any(file.words for _, file in files):
-            text.append(f"## `{crate}`\n")
+        files = [(name, file) for name, file in files_of(crate) if file.words] if crate else []
+        text += [f"## `{crate}`\n"] if files else []
         for name, file in files:
-            if file.words:
-                text += [f"**{name}**: {file.said}\n", listed(file.words)]
-    return "\n".join(text)
+            text += [f"**{name}**: {file.said}\n", "".join(f"- `{word}`: {said}\n" for word, said in file.words)]
+            silent += [f"{crate}.{name}.{word}" for word, said in file.words if not said]
+    return "\n".join(text), silent
 
 
 def main(arguments):
     if arguments not in ([], ["--write"]):
         sys.exit(__doc__)
-    text = page()
+    text, silent = page()
     if arguments:
         PAGE.write_text(text, encoding="utf-8")
     is_current = PAGE.read_text(encoding="utf-8") == text
     if not is_current:
         print("docs/MODEL.md isn't what the comments say: python3 tests/model_page.py --write")
-    print(f"{int(is_current)} passed, {int(not is_current)} failed")
-    return 0 if is_current else 1
+    for word in silent:
+        print(f"{word} has no comment that says what it means")
+    failed = (not is_current) + len(silent)
+    print(f"{int(is_current) + int(not silent)} passed, {failed} failed")
+    return 1 if failed else 0
 
 
 if __name__ == "__main__":

@@ -7,6 +7,8 @@ A part that needs nothing begins beside `rt ci`. Those on the programs that it l
 `rt lib`, and those on the libraries after it, each kind one after the other. A part whose program or library wasn't
 made failed; one whose tool isn't on the PATH isn't run, and says so. With --quick nothing is proved, and the parts that
 QUICK lists run side by side. The last line is 'N passed, M failed', the sums of what the parts say in such a line.
+`rt` proves as many crates at once as RT_JOBS says, which is set here where it isn't: one for each processor, as far as
+memory goes.
 """
 import contextlib
 import os
@@ -25,6 +27,7 @@ from typing import NamedTuple
 
 TOP = Path(__file__).resolve().parent.parent
 COUNTS = re.compile(r"(\d+) passed, (\d+) failed\b")
+MEMORY_OF_A_CHECK = 5 << 30
 
 
 class Part(NamedTuple):
@@ -100,6 +103,12 @@ class Ended(NamedTuple):
     passed: int
     failed: int
     seconds: float = 0
+
+
+def jobs():
+    """How many crates are proved at once."""
+    memory = os.sysconf("SC_PAGE_SIZE") * os.sysconf("SC_PHYS_PAGES")
+    return max(1, min(len(os.sched_getaffinity(0)), memory // MEMORY_OF_A_CHECK))
 
 
 def counted(lines, status):
@@ -262,6 +271,7 @@ def main():
     sys.stdout.reconfigure(encoding="utf-8", errors="replace")
     for number in (signal.SIGINT, signal.SIGTERM, signal.SIGHUP):
         signal.signal(number, lambda number, _: sys.exit(128 + number))
+    os.environ.setdefault("RT_JOBS", str(jobs()))
     start, is_quick = time.monotonic(), sys.argv[1:] == ["--quick"]
     with tempfile.TemporaryDirectory(prefix="check-") as room:
         runs = Runs(room)

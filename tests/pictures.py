@@ -289,8 +289,7 @@ def peer():
 
 # ---- calls a second, by threads
 
-# What bench/parts.py wrote, and how each of the registries there is told and drawn.
-FIGURES = TOP / "docs/benchmarks/parts.txt"
+# How each of the registries in the file is told and drawn.
 WHOSE = {
     "package": ("one lock", "curve one"), "parts": ("four parts", "curve four"),
     "plain": ("plain Rust, one Mutex", "curve two dashed"), "plains": ("plain Rust, a lock a thread", "curve three dashed"),
@@ -298,30 +297,26 @@ WHOSE = {
 }
 
 
-def read_parts():
+def by_layers(rows):
     """By layers, of each registry its threads and million calls a second."""
-    figures, names = {}, []
-    for line in FIGURES.read_text(encoding="utf-8").splitlines():
-        words = line.split()
-        if words[:3] == ["#", "layers", "threads"]:
-            names = words[3:]
-        elif words[0] != "#":
-            for name, figure in zip(names, words[2:]):
-                if figure != "-":
-                    of = figures.setdefault(int(words[0]), {}).setdefault(name, [])
-                    of.append((int(words[1]), float(figure)))
+    figures = {}
+    for row in rows:
+        for name in (it for it in WHOSE if it in row):
+            figures.setdefault(row["layers"], {}).setdefault(name, []).append((row["threads"], row[name]))
     return figures
 
 
 def told_figures(layers, of):
-    rows = "; ".join(f"{WHOSE[name][0]} " + ", ".join(f"{calls:g}" for _, calls in points) for name, points in of.items())
+    rows = "; ".join(f"{WHOSE[name][0]} " + ", ".join(f"{calls:.2f}" for _, calls in of[name]) for name in of)
     return f"With {layers or 'no'} layer{'s' if layers > 1 else ''}, by threads from 1 on: {rows}."
 
 
 def parts():
-    figures = read_parts()
-    told = "Million calls a second. " + " ".join(told_figures(layers, of) for layers, of in figures.items())
-    picture = Picture(900, 372, "Calls a second of several threads", told, STYLE + CURVES)
+    data = read_figures()["parts"]
+    figures, source = by_layers(data["rows"]), said_of(data)
+    told = " ".join(["Million calls a second.", *(told_figures(*it) for it in figures.items()), f"{source}."])
+    picture = Picture(900, 392, "Calls a second of several threads", told, STYLE + CURVES)
+    picture.text(16, 382, source)
     for number, (name, kind) in enumerate(WHOSE.values()):
         x, y = 30 + 290 * (number % 3), 20 + 22 * (number // 3)
         picture.curve([(x, y), (x + 34, y)], kind)

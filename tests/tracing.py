@@ -13,6 +13,9 @@ which is made first where it isn't there or a source is newer, or with that of -
 Over the library of crates/span_ffi, where that is built, the tests of rust/tracing run: of ProvedRegistry (the part
 outside), and of ProvedSubscriber with its example (the part under), these under valgrind too.
 
+With --figures what pages say of a run in which all passed goes to bench/figures (tests/figures.py): how many of the
+crate's own tests pass, how many spans stress made, and how many of them stayed open over the original.
+
 Without cargo and patch, or without Debian's packages of the crates' sources, nothing is run, and that is said.
 """
 
@@ -26,6 +29,7 @@ import tempfile
 import time
 from pathlib import Path
 
+import figures
 from tracing_yard import OURS, REGISTRY, VALGRIND, Count, Yard, missing, run
 
 TOP = Path(__file__).resolve().parent.parent
@@ -145,6 +149,7 @@ def suite_counts(yard, name):
 
 
 def run_suites(yard, count):
+    """Runs the crate's own tests over both, and answers how many pass over the copy, as a figure."""
     original, said = suite_counts(yard, "original")
     if sum(passed for passed, _ in original.values()) == 0:
         print(said)
@@ -162,6 +167,7 @@ def run_suites(yard, count):
         units = sum(passed for file, (passed, _) in counts.items() if file != "doc tests")
         documented = counts.get("doc tests", (0, 0))[0]
         print(f"tracing-subscriber's own tests over {name}: {units} passed, and {documented} doc tests")
+    return {"tests-of-the-original": {"tests": units, "doc_tests": documented}}
 
 
 def make_small(laid):
@@ -234,7 +240,7 @@ def compare_texts(original, ours, count):
 
 
 def check_run(count, whose, program, words, seconds, fault=None):
-    """A program ends well, or with a fault that is known."""
+    """A program ends well, or with a fault that is known; answers what it said."""
     said, status = run(program, words, seconds)
     what = f"{whose}{program.name} {' '.join(words)}"
     print(f"{what}: {(said.splitlines() or [''])[-1]}")
@@ -245,6 +251,7 @@ def check_run(count, whose, program, words, seconds, fault=None):
     else:
         is_seen = status not in (0, None) and re.search(fault, said) is not None
         count.check(is_seen, f"{what} fails as docs/FROM_TRACING.md says: status {status}\n{said[-3000:]}")
+    return said
 
 
 def run_parking_lot(yard, ours, count):
@@ -286,21 +293,13 @@ def run_limits(yard, count):
         count.check(status == 0, f"limits {limit} {most}: status {status}\n{said[-3000:]}")
 
 
-def run_programs(yard, count, seconds, seed):
-    original, ours = (build_programs(yard, name) for name in ("original", "copy"))
-    if original is None or ours is None:
-        count.check(False, "the programs are built")
-        return
-    compare_answers(original, ours, count)
-    compare_texts(original, ours, count)
-    compare_random(original, ours, seed, count)
-    stress = ("stress", [str(seconds), str(int(time.time()) % 100_000)], seconds + 300)
-    for program, words, limit in [*SOUND, stress]:
-        check_run(count, "", ours / program, words, limit)
-    run_limits(yard, count)
-    run_parking_lot(yard, ours, count)
-    for program, words, limit, fault in UNSOUND:
-        check_run(count, "the original, ", original / program, words, limit, fault)
+def stressed(said):
+    """How many spans stress made, and how many of them it left open."""
+    found = re.findall(r"turns, (\d+) spans, (\d+) left open", said)
+    return {"spans": int(found[-1][0]), "open": int(found[-1][1])} if found else {}
+
+
+def run_under_valgrind(ours, count):
     if shutil.which("valgrind") is None:
         print("not run under valgrind: it isn't there")
         return
@@ -308,6 +307,26 @@ def run_programs(yard, count, seconds, seed):
         before = VALGRIND + (LOST if looks_for_lost else [])
         said, status = run(ours / program, words, 600, before)
         count.check(status == 0, f"valgrind, {program}: status {status}\n{said[-3000:]}")
+
+
+def run_programs(yard, count, seconds, seed):
+    """Runs the programs over both, and answers what stress made of spans, as figures."""
+    original, ours = (build_programs(yard, name) for name in ("original", "copy"))
+    if original is None or ours is None:
+        count.check(False, "the programs are built")
+        return {}
+    compare_answers(original, ours, count)
+    compare_texts(original, ours, count)
+    compare_random(original, ours, seed, count)
+    stress = ("stress", [str(seconds), str(int(time.time()) % 100_000)], seconds + 300)
+    said = {program: check_run(count, "", ours / program, words, limit) for program, words, limit in [*SOUND, stress]}
+    run_limits(yard, count)
+    run_parking_lot(yard, ours, count)
+    said_there = {program: check_run(count, "the original, ", original / program, words, limit, fault)
+                  for program, words, limit, fault in UNSOUND}
+    run_under_valgrind(ours, count)
+    return {"stress": {**stressed(said["stress"]), "minutes": seconds / 60},
+            "stress-original": stressed(said_there["stress"])}
 
 
 def run_example(yard, count):
@@ -382,14 +401,16 @@ def run_over_registry(yard, library, parts, count):
 
 
 def run_over_store(yard, parts, seconds, seed, count):
-    """The parts over the store's library."""
+    """The parts over the store's library; answers what pages say of them, by the names of files in bench/figures."""
+    found = {}
     if "programs" in parts:
-        run_programs(yard, count, seconds, seed)
+        found.update(run_programs(yard, count, seconds, seed))
     if "example" in parts:
         run_lay(yard, count)
         run_example(yard, count)
     if "suites" in parts:
-        run_suites(yard, count)
+        found.update(run_suites(yard, count))
+    return found
 
 
 def asked_for():
@@ -401,6 +422,7 @@ def asked_for():
     parser.add_argument("--folder", type=Path, help="where to build; it is kept then")
     parser.add_argument("--registry-library", type=Path, default=TOP / "crates/span_ffi/out/libspan_ffi.a",
                         help="libspan_ffi.a, on which rust/tracing stands")
+    parser.add_argument("--figures", action="store_true", help="what pages say of the run goes to bench/figures")
     parser.add_argument("--part", choices=[*PARTS_OF_STORE, *PARTS_OF_REGISTRY], help="this part alone")
     return parser.parse_args()
 
@@ -420,9 +442,12 @@ def main():
             return 1
     with tempfile.TemporaryDirectory() as made:
         yard = Yard((asked.folder or Path(made)).resolve(), library, asked.jobs)
-        run_over_store(yard, parts, asked.seconds, asked.seed, count)
+        found = run_over_store(yard, parts, asked.seconds, asked.seed, count)
         if set(parts) & set(PARTS_OF_REGISTRY):
             run_over_registry(yard, asked.registry_library, parts, count)
+    if asked.figures and count.failed == 0:
+        for name, values in found.items():
+            figures.record(name, values=values)
     print(f"{count.passed} passed, {count.failed} failed")
     return int(count.failed > 0)
 

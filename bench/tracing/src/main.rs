@@ -1,4 +1,5 @@
-//! The same work on a registry of tracing-subscriber, whichever it is built with.
+//! The same work on a registry of tracing-subscriber, whichever it is built with, or with the feature `proved` on the
+//! proved registry of rust/tracing.
 //!
 //!     rounds CALLS WORK LAYER DEPTH THREADS ROUNDS TURNS
 //!
@@ -18,7 +19,11 @@ use std::time::{Duration, Instant};
 use tracing_core::field::Value;
 use tracing_core::span::{Attributes, Id};
 use tracing_core::{dispatcher, metadata::Kind, Dispatch, Event, Field, Level, Metadata};
+#[cfg(feature = "proved")]
+use tracing_span_registry::ProvedRegistry as Registry;
 use tracing_subscriber::prelude::*;
+#[cfg(not(feature = "proved"))]
+use tracing_subscriber::Registry;
 
 /// Counts what each thread asks for: threads that count together would wait for one another.
 struct Counting;
@@ -219,7 +224,7 @@ fn by_raw_calls(clock: &Clock<'_>, dispatch: &Dispatch) {
 }
 
 fn dispatch_with(layer: &str) -> Dispatch {
-    let registry = tracing_subscriber::registry();
+    let registry = Registry::default();
     match layer {
         "none" => Dispatch::new(registry.with(layers::Quiet)),
         "line" => Dispatch::new(registry.with(layers::Lines)),

@@ -16,7 +16,7 @@ pub record PlainDetails : Type 0 where
   pub workers : List ℕ
   pub children : ℕ
 
--- what the code's value stands for
+-- what is told of an open span, as plain values
 abbrev pub plain_details : SpanDetails → PlainDetails
 plain_details details = record {
   id = details.id;

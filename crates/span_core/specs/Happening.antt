@@ -15,11 +15,11 @@ use Rattle.span_stack.specs.Stack.{walk}
 use Rattle.span_core.specs.World.{World, stack_of}
 use Rattle.span_outlet.specs.Request.{Request, new_span, enter, exit, try_close, record_fields, event, Answer, made, exited, released}
 
--- the admission set of an open span, and its fields as they stand
+-- the admission set of an open span; 0 where there is none
 abbrev pub bits_in : Spans → ℕ → ℕ
 bits_in spans id = option_map_or (λ node. node.bits) (find spans id) 0
 
--- the fields of a span; those of no span where there is none
+-- the fields of an open span as they stand; none where there is no such span
 abbrev pub fields_in : Spans → ℕ → List KeyValue
 fields_in spans id = option_map_or (λ node. node.fields) (find spans id) []
 
@@ -82,7 +82,7 @@ happenings rules old (event worker meta message fields) answer new =
     event_told rules old worker meta message fields ∷ []
 happenings rules old _ _ new = []
 
--- the layers that are told of a happening, ascending: those that admit it and want notes of its kind
+-- the layer is told of the happening: it is one of those that admit it, and wants notes of that kind
 abbrev pub is_told : List Filter → Happening → ℕ → Bool
 is_told rules what layer = has_bit what.admitted layer && layer_wants rules layer what.kind
 

@@ -29,7 +29,7 @@ use Rattle.span_ffi.specs.Data.{IsSpan, IsEvent, AreFields, said_meta, said_fiel
 abbrev pub HasWorker : CoreView → ℕ → Type 0
 HasWorker core worker = worker < core.limits.workers
 
--- and where it has none, nothing changes
+-- the registry has no worker of this number, and nothing changes
 abbrev pub LacksWorker : CoreView → ℕ → CoreView → Type 0
 LacksWorker old worker new = (old.limits.workers ≤ worker) × (new ≡ old)
 
@@ -100,7 +100,7 @@ IsMade request id old new =
     (id ≡ 0 → IsNotWanted old request new)
     × (id ≢ 0 → IsAccepted old request (made id) new × (id_after old ≡ Some id))
 
--- that, or the registry refused it
+-- the call ended as `IsMade` says, or the registry refused it with this fault
 abbrev pub IsMadeOrRefused : Request → ℕ → CoreView → Status → CoreView → Type 0
 IsMadeOrRefused request id old Done new = IsMade request id old new
 IsMadeOrRefused request id old (Refused fault) new = IsRefused old request fault new
@@ -166,6 +166,7 @@ counts_of core = record {
   workers = core.limits.workers;
 }
 
+-- the registry's counts are told, and nothing changes
 abbrev pub Counts : SpanCounts → CoreView → Status → CoreView → Type 0
 Counts counts old Done new = (counts ≡ counts_of old) × (new ≡ old)
 Counts counts old _ new = ⊥

@@ -29,6 +29,7 @@ pub record IsMeta (meta : SpanMeta) (bytes : List ℕ) : Type 0 where
   pub name : BeginsWithText meta.name_len bytes
   pub target : BeginsWithText meta.target_len (drop meta.name_len bytes)
 
+-- the meta that is said: the bytes begin with its name and then its target, and a number says its level
 abbrev pub said_meta : SpanMeta → List ℕ → PlainMeta
 said_meta meta bytes = record {
   name = take meta.name_len bytes;
@@ -51,6 +52,7 @@ AreFields (field ∷ fields) bytes =
     BeginsWithText field.key_len bytes × BeginsWithText field.value_len (drop field.key_len bytes)
     × AreFields fields (behind_field field bytes)
 
+-- the fields that are said: in the bytes stand the key and the value of each, one after another
 abbrev pub said_fields : List SpanField → List ℕ → List KeyValue
 said_fields [] bytes = []
 said_fields (field ∷ fields) bytes =

@@ -20,7 +20,8 @@ abbrev pub TellsAll : {X : Type 0} → List X → List X → List X → ℕ → 
 TellsAll things into into' len old (Refused Memory) new = new ≡ old
 TellsAll things into into' len old status new = WritesAll things into status into' len × (new ≡ old)
 
--- the same of a span, where it is open
+-- Things that are known of an open span go into a buffer, or memory is refused; a span that isn't open is unknown.
+-- Nothing changes.
 abbrev pub TellsOf : {X : Type 0} → ℕ → List X → List X → List X → ℕ → CoreView → Status → CoreView → Type 0
 TellsOf id things into into' len old (Refused Unknown) new = (find old.world.spans id ≡ None) × (new ≡ old)
 TellsOf id things into into' len old status new =

@@ -18,6 +18,7 @@ use Rattle.span_ffi.specs.declared.status.Status.TheVariants.{Done, Refused, Bad
 use Rattle.span_ffi.specs.Data.{BeginsWithText, said_level}
 use Rattle.span_ffi.specs.Registry.{RegistryView}
 
+-- the limits that the numbers say
 abbrev pub said_limits : SpanLimits → Limits
 said_limits limits = record {
   slots = limits.slots;
@@ -33,6 +34,7 @@ AreRules [] bytes = Unit {0}
 AreRules (rule ∷ rules) bytes =
     (rule.level ≤ 4) × BeginsWithText rule.prefix_len bytes × AreRules rules (drop rule.prefix_len bytes)
 
+-- the pair that each rule says: its prefix, which stands in the bytes behind those before it, and its number's level
 abbrev pub said_pairs : List SpanRule → List ℕ → List Pair
 said_pairs [] bytes = []
 said_pairs (rule ∷ rules) bytes =
@@ -56,6 +58,7 @@ AreLayers [] rules bytes = (rules ≡ []) × (bytes ≡ [])
 AreLayers (layer ∷ layers) rules bytes =
     IsLayer layer rules bytes × AreLayers layers (drop layer.rules rules) (behind_rules (take layer.rules rules) bytes)
 
+-- the filter of each layer: the pairs of its own rules, and the kinds of notes that it wants
 abbrev pub said_filters : List SpanLayer → List SpanRule → List ℕ → List Filter
 said_filters [] rules bytes = []
 said_filters (layer ∷ layers) rules bytes =
@@ -66,6 +69,7 @@ said_filters (layer ∷ layers) rules bytes =
 abbrev pub said_form : ℕ → Form
 said_form number = if number == 0 then Compact else Json
 
+-- the form of each layer, in order
 abbrev pub said_forms : List SpanLayer → List Form
 said_forms layers = map (λ layer. said_form layer.form) layers
 

@@ -7,13 +7,16 @@ use Rattle.span_forest.specs.Spans.{Spans, find}
 abbrev pub holders : Node → ℕ
 holders node = node.handles + node.entries
 
+-- some handle or entry holds the span
 abbrev pub is_held : Node → Bool
 is_held node = nat_lt 0 (holders node)
 
+-- how many handles and entries hold a span; 0 where there is no span
 abbrev pub holders_in : Option Node → ℕ
 holders_in None = 0
 holders_in (Some node) = holders node
 
+-- there is an id, and it is this one
 abbrev pub is_some_id : Option ℕ → ℕ → Bool
 is_some_id None id = false
 is_some_id (Some parent) id = parent == id

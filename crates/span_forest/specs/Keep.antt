@@ -8,6 +8,7 @@ use Rattle.span_forest.specs.Spans.{Spans, with_change}
 use Rattle.span_forest.specs.Count.{reference_count}
 use Rattle.span_forest.specs.Holders.{IsHeld, with_more}
 
+-- the spans, where the one of this id has one holder of this kind more
 abbrev pub with_holder : Spans → ℕ → Holder → Spans
 with_holder spans id holder = with_change (with_more holder) spans id
 

@@ -16,7 +16,7 @@ pub record Node : Type 0 where
   pub handles : ℕ
   pub entries : ℕ
 
--- what the code's span stands for
+-- a span as plain values. Its count is not among them: what holds the span tells it.
 abbrev pub node_of : Span → Node
 node_of span = record {
   name = span.meta.name;

@@ -6,6 +6,7 @@ use Rattle.span_id.specs.declared.fault.Fault.TheVariants.{Unknown, Memory}
 use Rattle.span_forest.specs.declared.span.Span.{Span}
 use Rattle.span_forest.specs.Node.{Node, node_of}
 
+-- pairs of an id and its span
 abbrev pub Spans : Type 0
 Spans = List (ℕ × Node)
 
@@ -27,6 +28,7 @@ abbrev pub AreApart : Spans → Type 0
 AreApart [] = Unit {0}
 AreApart (e ∷ es) = (find es e.0 ≡ None) × AreApart es
 
+-- the parent, where there is a span and it has one
 abbrev pub parent_in : Option Node → Option ℕ
 parent_in None = None
 parent_in (Some node) = node.parent
@@ -45,7 +47,7 @@ with_node (e ∷ es) id node =
 abbrev pub with_change : (Node → Node) → Spans → ℕ → Spans
 with_change f spans id = map (λ e. (e.0, cond (e.0 == id) (f e.1) e.1)) spans
 
--- what the code's table of spans stands for
+-- each id with its span as plain values
 abbrev pub nodes_of : List (ℕ × Span) → Spans
 nodes_of entries = map (λ e. (e.0, node_of e.1)) entries
 

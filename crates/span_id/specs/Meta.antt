@@ -13,6 +13,7 @@ pub record PlainMeta : Type 0 where
   pub target : List ℕ
   pub level : Level
 
+-- a meta with its name and its target as bytes
 abbrev pub plain_meta : Meta → PlainMeta
 plain_meta meta = record { name = string_bytes meta.name; target = string_bytes meta.target; level = meta.level }
 
@@ -20,9 +21,11 @@ plain_meta meta = record { name = string_bytes meta.name; target = string_bytes 
 abbrev pub KeyValue : Type 0
 KeyValue = List ℕ × List ℕ
 
+-- the key and the value of a field, as bytes
 abbrev pub key_value : Field → KeyValue
 key_value field = (string_bytes field.key, string_bytes field.value)
 
+-- the key and the value of each field, in order
 abbrev pub plain_fields : List Field → List KeyValue
 plain_fields fields = map key_value fields
 

@@ -28,6 +28,7 @@ view_step (Value-F.Text s) = string s.now
 view_step (Value-F.List v) = array (items_of v.items)
 view_step (Value-F.Object v) = object (put_all v.items no_members)
 
+-- what a value stands for
 abbrev pub view : Value → Data
 view = fold-Value Data view_step
 
@@ -35,9 +36,11 @@ view = fold-Value Data view_step
 abbrev pub items_view : List Value → Items
 items_view values = items_of (map view values)
 
+-- a value over borrowed text
 abbrev pub Given : Type 0
 Given = Value
 
+-- a member of an object: its key and its value
 abbrev pub Member : Type 0
 Member = Bor (List ℕ) × Value
 

@@ -10,6 +10,7 @@ pub record PlainBatch : Type 0 where
   pub answer : Answer
   pub notes : List PlainNote
 
+-- a batch with its texts as bytes
 abbrev pub plain_batch : Batch → PlainBatch
 plain_batch batch =
     record { request = request_of batch.call; answer = answer_of batch.reply; notes = map plain_note batch.notes.items }

@@ -15,7 +15,7 @@ pub record PlainLine : Type 0 where
   pub layer : ℕ
   pub text : List ℕ
 
--- what the code's line stands for
+-- a line with its text as bytes
 abbrev pub plain_line : Line → PlainLine
 plain_line line = record { batch = line.batch; place = line.place; layer = line.layer; text = line.text.items }
 

@@ -7,8 +7,8 @@ use denote.RawPtr.{Ptr}
 abbrev pub one_more : ℕ → ℕ
 one_more times = cond (times == 2 ^ 64 - 1) times (times + 1)
 
--- The name of a ring is what its two ends have in common: where it stands in memory, its capacity with the names of
--- what each end has seen, and the heap that it came from.
+-- The name of a ring. Two ends belong to one ring where their names are the same. A name also tells how many places its
+-- ring has (`places_of`); contracts read nothing else of it.
 pub record RingName : Type 0 where
   pub words : Ptr
   pub slots : Ptr

@@ -8,15 +8,17 @@ use Rattle.span_outlet.specs.Batch.{PlainBatch}
 use Rattle.span_outlet.specs.KnownEvent.{request_of_known}
 use Rattle.span_outlet.specs.Request.{Request, Answer, request_of, answer_of, told}
 
--- the call, and what it answered
+-- the call that is known
 abbrev pub request_said : Said → Request
 request_said (Call call reply) = request_of call.value
 request_said (Event known) = request_of_known known
 
+-- the answer to the call; to an event it is `told`
 abbrev pub answer_said : Said → Answer
 answer_said (Call call reply) = answer_of reply.value
 answer_said (Event known) = told
 
+-- the batch: the call, its answer, and the notes with their texts as bytes
 abbrev pub plain_posted : Posted → PlainBatch
 plain_posted posted =
     record { request = request_said posted.said; answer = answer_said posted.said; notes = map plain_note posted.notes.items }

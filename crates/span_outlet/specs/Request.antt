@@ -27,7 +27,7 @@ pub data Answer : Type 0 where
   recorded : Answer
   told : Answer
 
--- what the code's call and reply stand for
+-- a call with its texts as bytes
 abbrev pub request_of : Call → Request
 request_of (NewSpan worker meta fields parent) = new_span worker meta fields parent
 request_of (CloneSpan worker id) = clone_span worker id
@@ -37,6 +37,7 @@ request_of (TryClose worker id) = try_close worker id
 request_of (RecordFields worker id fields) = record_fields worker id fields
 request_of (Event worker meta message fields) = event worker meta (arc_str_bytes message) fields
 
+-- a reply, with the closed spans as a list of ids
 abbrev pub answer_of : Reply → Answer
 answer_of (Made id) = made id
 answer_of Cloned = cloned

@@ -12,6 +12,7 @@ span_text name parent handles entries count =
     codes "= " ++ (name ++ (codes " parent " ++ (decimal parent ++ (codes " handles " ++ (decimal handles
     ++ (codes " entries " ++ (decimal entries ++ (codes " count " ++ (decimal count ++ codes "\n")))))))))
 
+-- the line of what was found
 abbrev pub found_text : found.Found → List ℕ
 found_text found = span_text found.name.now found.parent found.handles found.entries found.count
 

@@ -76,6 +76,7 @@ reached_after number reached label state = record {
 abbrev pub exits_of : World → ℕ → ℕ → ℕ
 exits_of world id worker = count_by (λ entry. entry == id) (stack_of world worker)
 
+-- a worker, with how many exits it needs to leave a span
 abbrev pub inside_of : World → ℕ → ℕ → Inside
 inside_of world id worker = record { worker = worker; exits = exits_of world id worker }
 
@@ -84,6 +85,7 @@ abbrev pub inside_in : CoreView → PlainDetails → List Inside
 inside_in core details =
     map (inside_of core.world details.id) (filter (λ worker. nat_lt worker core.limits.workers) details.workers)
 
+-- an open span, with the workers inside it, and the number of the line that last made a span in its slot
 abbrev pub open_span_of : Reached → PlainDetails → PlainOpenSpan
 open_span_of reached details = record {
   details = details;

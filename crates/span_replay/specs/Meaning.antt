@@ -97,13 +97,14 @@ made_turn state label request = record {
 
 -- ---- one line
 
--- what an operation does, or which fault of the script it is
+-- a new span: the script is at fault where its parent's label isn't bound, or where its own label is taken
 unfoldable pub new_turn : State → NewSpan → Result Turn Reason
 new_turn state new = do
   parent ← parent_of_key state.labels (stack.current (stack_of state.core.world new.worker)) new.parent
   _ ← free_label state.core.world.spans state.labels new.label
   Ok (made_turn state new.label (request_of_new new parent))
 
+-- what an operation does, or which fault of the script it is
 abbrev pub turn_of : ℕ → State → Operation → Result Turn Reason
 turn_of hooks state (set_limits limits) = Ok (limits_turn state limits)
 turn_of hooks state (add_layer layer) = Ok (layer_turn hooks state layer)
@@ -122,6 +123,7 @@ stage_after (set_limits limits) = in_setup
 stage_after (add_layer layer) = in_setup
 stage_after _ = running
 
+-- a turn that leaves the script at this stage; a fault stays one
 abbrev pub at_stage : Stage → Result Turn Reason → Result Turn Reason
 at_stage stage turn = turn >>= λ t. Ok (record { text = t.text; state = record t.state { stage = stage } })
 
@@ -158,11 +160,11 @@ pub record Transcript : Type 0 where
 abbrev pub after : List ℕ → Transcript → Transcript
 after text transcript = record { text = text ++ transcript.text; ending = transcript.ending }
 
--- the tidying: all workers leave what they have entered, by ascending number; then what the labels name is
--- closed, in the order of the labels' bytes
+-- the tidying: all workers leave what they have entered, by ascending number
 abbrev pub left_by_workers : State → Written
 left_by_workers state = each_written exits state.core (range_with_len 0 state.core.limits.workers)
 
+-- the rest of the tidying: what the labels name is closed, in the order of the labels' bytes
 abbrev pub closed_by_labels : State → Written
 closed_by_labels state = each_written closes (left_by_workers state).core (map (λ entry. entry.1) state.labels)
 

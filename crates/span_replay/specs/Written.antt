@@ -60,12 +60,14 @@ pub record Written : Type 0 where
   pub text : List ℕ
   pub core : CoreView
 
+-- what is written for a call, and the core after it
 abbrev pub call_written : CoreView → call.Request → Written
 call_written core request = record {
   text = outcome_text core request (outcome core request);
   core = core_left core (outcome core request);
 }
 
+-- what is written for calls, behind a text that was written before
 abbrev pub written_after : List ℕ → Written → Written
 written_after text written = record { text = text ++ written.text; core = written.core }
 
@@ -83,6 +85,7 @@ node_text core id None = answer_text (Refused Unknown)
 node_text core id (Some node) =
     span_text node.name (id_at node.parent) node.handles node.entries (reference_count core.world.spans id)
 
+-- the line of the open span with this id; where there is none, the line of a call that is refused as unknown
 abbrev pub find_text : CoreView → ℕ → List ℕ
 find_text core id = node_text core id (find core.world.spans id)
 

@@ -34,6 +34,7 @@ pub data Parent : Type 0 where
   root : Parent
   named : SpanKey → Parent
 
+-- a new span: its meta, what it is to stand under, its fields, the label that names it, and the worker that makes it
 pub record NewSpan : Type 0 where
   pub name : List ℕ
   pub target : List ℕ
@@ -49,6 +50,7 @@ pub record NewLayer : Type 0 where
   pub spans : ℕ
   pub rule : List Pair
 
+-- an event: its meta, its message, its fields, and the worker that tells it
 pub record NewEvent : Type 0 where
   pub name : List ℕ
   pub target : List ℕ
@@ -57,6 +59,7 @@ pub record NewEvent : Type 0 where
   pub fields : List (List ℕ × List ℕ)
   pub worker : ℕ
 
+-- what is asked for: limits, a layer, a new span, a call on a span, further fields of one, an event, or a look-up
 pub data Operation : Type 0 where
   set_limits : Limits → Operation
   add_layer : NewLayer → Operation
@@ -68,6 +71,7 @@ pub data Operation : Type 0 where
 
 -- ---- a line as JSON: it has to be UTF-8
 
+-- the line's JSON value; the line is at fault where it isn't UTF-8 or isn't JSON
 unfoldable pub json_of : List ℕ → Result Data Reason
 json_of line = if is_utf8 line then or_fault (read line) NotJson else Err NotJson
 
@@ -92,10 +96,11 @@ optional k reading default line = given_or k reading default (get (key_text k) l
 abbrev pub whole_number : Data → Option ℕ
 whole_number value = option_and_then as_u64 (as_number value)
 
--- numbers within a bound
+-- the number, if it is at most this bound
 abbrev pub at_most : ℕ → ℕ → Option ℕ
 at_most most n = if nat_le n most then Some n else None
 
+-- the number, if it is below this bound
 abbrev pub below : ℕ → ℕ → Option ℕ
 below bound n = if nat_lt n bound then Some n else None
 
@@ -116,6 +121,7 @@ level_named text =
     (if bytes_eq text (codes "DEBUG") then Some Debug else
     (if bytes_eq text (codes "TRACE") then Some Trace else None))))
 
+-- a level is written as a text, its name
 abbrev pub level_in : Data → Option Level
 level_in value = option_and_then level_named (as_str value)
 
@@ -146,6 +152,7 @@ abbrev pub old_id_numbered : ℕ → Option SpanKey
 old_id_numbered n =
     if nat_lt 0 n && nat_le n (2 ^ 32) then Some (by_id (id_of (old_slot_of n) (old_generation_of n))) else None
 
+-- an id of the older layout is written as a whole number
 abbrev pub old_id_in : Data → Option SpanKey
 old_id_in value = option_and_then old_id_numbered (whole_number value)
 
@@ -173,6 +180,7 @@ onto (Some a) (Some more) = Some (a ∷ more)
 onto (Some a) None = None
 onto None more = None
 
+-- the values of a list, in their order, where each is of the type
 unfoldable pub all_of : {A : Type 0} → (Data → Option A) → Items → Option (List A)
 all_of reading no_items = Some []
 all_of reading (item value items) = onto (reading value) (all_of reading items)
@@ -185,14 +193,17 @@ list_of reading value = option_and_then (all_of reading) (as_array value)
 abbrev pub field_in : Data → Option (List ℕ × List ℕ)
 field_in value = pair_of as_str as_str value
 
+-- fields are a list of pairs of texts
 abbrev pub fields_in : Data → Option (List (List ℕ × List ℕ))
 fields_in value = list_of field_in value
 
+-- a form by its name
 abbrev pub form_named : List ℕ → Option Form
 form_named text =
     if bytes_eq text (codes "compact") then Some Compact else
     (if bytes_eq text (codes "json") then Some Json else None)
 
+-- a form is written as a text, its name
 abbrev pub form_in : Data → Option Form
 form_in value = option_and_then form_named (as_str value)
 
@@ -200,10 +211,11 @@ form_in value = option_and_then form_named (as_str value)
 abbrev pub kinds_in : Data → Option ℕ
 kinds_in value = option_and_then (at_most 15) (whole_number value)
 
--- a rule is a list of pairs of a prefix and the greatest level that it lets in
+-- a pair of a prefix and the greatest level that it lets in
 abbrev pub prefix_in : Data → Option Pair
 prefix_in value = pair_of as_str level_in value
 
+-- a rule is a list of pairs of a prefix and a level
 abbrev pub rule_in : Data → Option (List Pair)
 rule_in value = list_of prefix_in value
 
@@ -213,6 +225,7 @@ all_targets = ([], Trace) ∷ []
 
 -- ---- an operation's keys, in the order in which they are looked at
 
+-- limits: one that is missing has its default, and a ring always has 1024 places
 unfoldable pub limits_of : Data → Result Operation Reason
 limits_of line = do
   slots ← optional key.Slots limit_in 1024 line
@@ -227,6 +240,7 @@ limits_of line = do
     ring = 1024;
   }))
 
+-- a layer: by default its form is compact, and it wants notes of all four kinds and admits all targets at all levels
 unfoldable pub layer_of : Data → Result Operation Reason
 layer_of line = do
   form ← optional key.Form form_in Compact line
@@ -234,6 +248,8 @@ layer_of line = do
   rule ← optional key.Rule rule_in all_targets line
   Ok (add_layer (record { form = form; spans = spans; rule = rule }))
 
+-- a new span has a name; by default its target is `app`, its level INFO, its parent the worker's current span, and its
+-- label its name, it has no fields, and worker 0 makes it
 unfoldable pub new_of : ℕ → Data → Result Operation Reason
 new_of workers line = do
   name ← required key.Name as_str line
@@ -253,12 +269,14 @@ new_of workers line = do
     worker = worker;
   }))
 
+-- a call on a span, by default one of worker 0
 unfoldable pub on_span_of : ℕ → SpanCall → Data → Result Operation Reason
 on_span_of workers call line = do
   span ← required key.Span span_key_in line
   worker ← optional key.Worker (worker_in workers) 0 line
   Ok (on_span call span worker)
 
+-- further fields of a span: by default there are none, and worker 0 records them
 unfoldable pub record_of : ℕ → Data → Result Operation Reason
 record_of workers line = do
   span ← required key.Span span_key_in line
@@ -292,7 +310,7 @@ find_by_span line (Some old) = do
   _ ← required key.Span span_key_in line
   Err (BadKey key.Old)
 
--- or by its id of the older layout
+-- a span is looked up by its id of the older layout
 abbrev pub find_old_of : Data → Result Operation Reason
 find_old_of value = do
   span ← or_fault (old_id_in value) (BadKey key.Old)
@@ -304,11 +322,13 @@ find_by line None (Some old) = find_old_of old
 find_by line None None = find_by_span line None
 find_by line (Some span) old = find_by_span line old
 
+-- a span is looked up by the key `span` or `old` of the line, as `find_by` says
 unfoldable pub find_of : Data → Result Operation Reason
 find_of line = find_by line (get (key_text key.Span) line) (get (key_text key.Old) line)
 
 -- ---- a line's operation
 
+-- what a line's key `op` may name; the calls on a span are four
 pub data Op : Type 0 where
   limits_op : Op
   layer_op : Op
@@ -318,6 +338,7 @@ pub data Op : Type 0 where
   event_op : Op
   find_op : Op
 
+-- an op by its name
 abbrev pub op_named : List ℕ → Option Op
 op_named text =
     if bytes_eq text (codes "limits") then Some limits_op else
@@ -331,12 +352,15 @@ op_named text =
     (if bytes_eq text (codes "event") then Some event_op else
     (if bytes_eq text (codes "find") then Some find_op else None)))))))))
 
+-- an op is written as a text, its name
 abbrev pub op_in : Data → Option Op
 op_in value = option_and_then op_named (as_str value)
 
+-- the line's op, where its key `op` names one
 abbrev pub op_at : Data → Option Op
 op_at line = option_and_then op_in (get (codes "op") line)
 
+-- the line's op; the line is at fault where it names none
 unfoldable pub op_of : Data → Result Op Reason
 op_of line = or_fault (op_at line) NoSuchOp
 

@@ -1,4 +1,4 @@
--- The code's operations, as the definitions see them.
+-- Operations, as the definitions see them.
 use Rattle.std.specs.Prelude.{ℕ, ◌<◌}
 use Rattle.std.specs.Arc.{arc_str_bytes}
 use Rattle.span_layers.specs.FmtSpan.{bits_of}
@@ -18,15 +18,18 @@ use Rattle.span_script.specs.declared.reading.Op.TheVariants as ops
 use Rattle.span_script.specs.declared.reading.Stage.{Stage}
 use Rattle.span_script.specs.declared.reading.Stage.TheVariants.{AtStart, InSetup, Running}
 
+-- how a line names a span, with a label as bytes
 abbrev pub key_seen : SpanKey → meant.SpanKey
 key_seen (Label text) = meant.by_label text.now
 key_seen (Id id) = meant.by_id id
 
+-- what a new span is to stand under, with a label as bytes
 abbrev pub parent_seen : Parent → meant.Parent
 parent_seen Current = meant.current
 parent_seen Root = meant.root
 parent_seen (Named key) = meant.named (key_seen key)
 
+-- a new span, with its texts as bytes
 abbrev pub new_seen : NewSpan → meant.NewSpan
 new_seen new = record {
   name = new.meta.name;
@@ -38,9 +41,11 @@ new_seen new = record {
   worker = new.worker;
 }
 
+-- a layer: its form, the kinds that it wants, as a number, and its rule's pairs
 abbrev pub layer_seen : NewLayer → meant.NewLayer
 layer_seen layer = record { form = layer.style.form; spans = bits_of layer.style.spans; rule = pairs_of layer.rule }
 
+-- an event, with its texts as bytes
 abbrev pub event_seen : NewEvent → meant.NewEvent
 event_seen event = record {
   name = event.meta.name;
@@ -51,6 +56,7 @@ event_seen event = record {
   worker = event.worker;
 }
 
+-- an operation, with its parts as the definitions see them
 abbrev pub operation_seen : Operation → meant.Operation
 operation_seen (Limits limits) = meant.set_limits limits
 operation_seen (Layer layer) = meant.add_layer (layer_seen layer)
@@ -60,6 +66,7 @@ operation_seen (Record span fields worker) = meant.record_fields (key_seen span)
 operation_seen (Event event) = meant.tell (event_seen event)
 operation_seen (Find span) = meant.find (key_seen span)
 
+-- an op, as the definitions name it
 abbrev pub op_seen : op.Op → meant.Op
 op_seen ops.Limits = meant.limits_op
 op_seen ops.Layer = meant.layer_op
@@ -69,6 +76,7 @@ op_seen ops.Record = meant.record_op
 op_seen ops.Event = meant.event_op
 op_seen ops.Find = meant.find_op
 
+-- a stage, as the definitions name it
 abbrev pub stage_seen : Stage → meant.Stage
 stage_seen AtStart = meant.at_start
 stage_seen InSetup = meant.in_setup

@@ -17,7 +17,7 @@ pub record Table (T : Type 0) : Type 0 where
   pub given : List ℕ
   pub freed : List ℕ
 
--- a table is stored as the tuple of its fields
+-- a table is coded as the tuple of its fields
 abbrev pub table_code : {T : Type 0} → Coded T → Coded (Table T)
 table_code {T} code =
     code_by
@@ -74,7 +74,7 @@ module _ {T : Type 0} where
   abbrev pub IsIssued : Table T → ℕ → Type 0
   IsIssued t id = generation_of id < slice_index t.given (slot_of id)
 
-  -- the same as a test
+  -- the id was issued, as a test
   abbrev pub is_issued : Table T → ℕ → Bool
   is_issued t id = nat_lt (generation_of id) (slice_index t.given (slot_of id))
 

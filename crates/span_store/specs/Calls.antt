@@ -23,6 +23,7 @@ no_more store id =
     (cond (nat_lt (count store.table.entries id) store.max_count) None (Some CountFull))
     (Some Unknown)
 
+-- why a new span is refused for its parent, as `no_more` says of the parent; a root never is
 abbrev pub no_child : StoreView → Option ℕ → Option Fault
 no_child store None = None
 no_child store (Some parent) = no_more store parent
@@ -89,19 +90,22 @@ abbrev pub times_told : ℕ → StoreView → List Call → ℕ
 times_told id store [] = 0
 times_told id store (call ∷ calls) = cond (is_some_id (told store call) id) 1 0 + times_told id (after store call) calls
 
--- which call it is
+-- the call adds a span
 abbrev pub is_add : Call → Bool
 is_add (Add parent bits word) = true
 is_add _ = false
 
+-- the call makes one more handle of a span
 abbrev pub is_keep : Call → Bool
 is_keep (Keep id) = true
 is_keep _ = false
 
+-- the call gives a handle back
 abbrev pub is_release : Call → Bool
 is_release (Release id) = true
 is_release _ = false
 
+-- the call ends a span
 abbrev pub is_ended : Call → Bool
 is_ended (Ended id) = true
 is_ended _ = false
@@ -112,13 +116,14 @@ times_accepted is_such store [] = 0
 times_accepted is_such store (call ∷ calls) =
     cond (is_none (refusal store call) && is_such call) 1 0 + times_accepted is_such (after store call) calls
 
--- how many handles there are after a call that is accepted, and how many spans
+-- how many handles there are after a call that is accepted, where there were so many before
 abbrev pub handles_then : ℕ → Call → ℕ
 handles_then handles (Add parent bits word) = handles + 1
 handles_then handles (Keep id) = handles + 1
 handles_then handles (Release id) = handles - 1
 handles_then handles (Ended id) = handles
 
+-- how many spans there are after a call that is accepted, where there were so many before
 abbrev pub spans_then : ℕ → Call → ℕ
 spans_then spans (Add parent bits word) = spans + 1
 spans_then spans (Ended id) = spans - 1

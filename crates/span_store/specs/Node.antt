@@ -9,7 +9,7 @@ pub record Node : Type 0 where
   pub bits : ℕ
   pub word : ℕ
 
--- what the code's entry stands for: how many children it has is counted in the code alone
+-- a span as plain values. How many children it has is not among them: the parents of the other spans tell that.
 abbrev pub node_of : Entry → Node
 node_of entry = record { parent = entry.parent; handles = entry.handles; bits = entry.bits.0; word = entry.word }
 

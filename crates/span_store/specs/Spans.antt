@@ -3,6 +3,7 @@ use Rattle.std.specs.Prelude.{ℕ, ◌+◌, ◌==◌, ◌&&◌, Bool, false, con
 use Rattle.span_slots.specs.Table.{value_at}
 use Rattle.span_store.specs.Node.{Node}
 
+-- pairs of an id and its span
 abbrev pub Spans : Type 0
 Spans = List (ℕ × Node)
 
@@ -10,6 +11,7 @@ Spans = List (ℕ × Node)
 abbrev pub IsThere : Spans → ℕ → Type 0
 IsThere spans id = IsSome (value_at spans id)
 
+-- the parent, where there is a span and it has one
 abbrev pub parent_in : Option Node → Option ℕ
 parent_in None = None
 parent_in (Some node) = node.parent
@@ -18,6 +20,7 @@ parent_in (Some node) = node.parent
 abbrev pub parent_of : Spans → ℕ → Option ℕ
 parent_of spans id = parent_in (value_at spans id)
 
+-- how many handles a span has; 0 where there is no span
 abbrev pub handles_in : Option Node → ℕ
 handles_in None = 0
 handles_in (Some node) = node.handles
@@ -26,6 +29,7 @@ handles_in (Some node) = node.handles
 abbrev pub handles_of : Spans → ℕ → ℕ
 handles_of spans id = handles_in (value_at spans id)
 
+-- there is an id, and it is this one
 abbrev pub is_some_id : Option ℕ → ℕ → Bool
 is_some_id None id = false
 is_some_id (Some parent) id = parent == id
@@ -47,9 +51,11 @@ is_open spans id = is_some (value_at spans id) && nat_lt 0 (count spans id)
 abbrev pub is_closing : Spans → ℕ → Bool
 is_closing spans id = is_some (value_at spans id) && count spans id == 0
 
+-- a span is open where it is there and something holds it
 abbrev pub IsOpen : Spans → ℕ → Type 0
 IsOpen spans id = IsTrue (is_open spans id)
 
+-- a span is closing where it is there and nothing holds it any longer
 abbrev pub IsClosing : Spans → ℕ → Type 0
 IsClosing spans id = IsTrue (is_closing spans id)
 

@@ -64,6 +64,7 @@ found_there store id node = record {
   children = children store.table.entries id;
 }
 
+-- what is told of a span where it is there, and else that it is unknown; nothing changes
 abbrev pub TellsSpan : ℕ → SpanStoreFound → StoreView → Status → StoreView → Type 0
 TellsSpan id found old Done new =
     IsSomeAnd (value_at old.table.entries id) (λ node. found ≡ found_there old id node) × (new ≡ old)

@@ -14,7 +14,7 @@ pub record PlainOpenSpan : Type 0 where
   pub inside : List Inside
   pub line : ℕ
 
--- what the code's value stands for
+-- an open span as plain values
 abbrev pub plain_open_span : OpenSpan → PlainOpenSpan
 plain_open_span span =
     record { details = plain_details span.details; inside = span.inside.items; line = span.line }
@@ -57,6 +57,7 @@ abbrev pub exits_text : ℕ → List ℕ
 exits_text exits =
     if needs_more_exits exits then codes " (one entry, " ++ (decimal exits ++ codes " exits)") else []
 
+-- ` w<worker>`, and how many exits it needs, where they are more than one
 abbrev pub worker_text : Inside → List ℕ
 worker_text inside = codes " w" ++ (decimal inside.worker ++ exits_text inside.exits)
 
@@ -76,6 +77,7 @@ abbrev pub origin_text : PlainOpenSpan → List ℕ
 origin_text span =
     codes " line " ++ (decimal span.line ++ (codes " target " ++ (escaped span.details.meta.target ++ codes "\n")))
 
+-- the line of a span that stands so deep
 abbrev pub span_line : ℕ → PlainOpenSpan → List ℕ
 span_line depth span = indent depth ++ (about_text span.details ++ (inside_text span.inside ++ origin_text span))
 
@@ -106,6 +108,7 @@ all_trees spans = flat_map (whole_tree spans) (roots spans)
 abbrev pub lines_with : ℕ → List TreeLine → ℕ
 lines_with id lines = count_by (λ line. line.span.details.id == id) lines
 
+-- the text of a line: that of its span at its depth
 abbrev pub line_text : TreeLine → List ℕ
 line_text line = span_line line.depth line.span
 

@@ -1,0 +1,90 @@
+#!/usr/bin/env python3
+"""Counts by valgrind, whose counts no other work changes, what calls take: instructions of the store's calls in C
+(store.c), and instructions and allocations of a round of the Rust package (rust/examples/rounds.rs).
+
+usage: instructions.py [--store FILE] [--library FILE] [--figures]
+
+FILE are the libraries that `rt lib` leaves in crates/span_store_ffi and crates/span_ffi. With --figures the counts go
+to bench/figures/store-calls.json and package-round.json, from where tests/figures.py takes them to the pages.
+"""
+import argparse
+import os
+import re
+import subprocess
+import sys
+import tempfile
+from pathlib import Path
+
+HERE = Path(__file__).resolve().parent
+TOP = HERE.parent
+sys.path.insert(0, str(TOP / "tests"))
+
+import c_interface  # noqa: E402
+import figures  # noqa: E402
+
+SPANS = 10_000  # of store.c
+# Of each figure the words of store.c, and the functions whose instructions count.
+CALLS = {
+    "add": ([], ["add"]), "find": ([], ["find"]), "release": ([], ["release"]), "ended": ([], ["ended"]),
+    "keep": (["kept"], ["keep", "release"]),
+}
+KINDS = {"callsite": "", "ids": "by_ids_", "span": "span_"}  # of rounds, and what their figures' names begin with
+FEW, MANY = 1_000, 3_000  # rounds: what the start takes is in both
+
+
+def counted(tool, pattern, words):
+    """What valgrind counted in a run of a program."""
+    done = subprocess.run(["valgrind", *tool, *words], capture_output=True, text=True, check=True)
+    return int(re.search(pattern, done.stderr)[1].replace(",", ""))
+
+
+def instructions(words, functions=()):
+    """Those that a program takes, or that functions of it take."""
+    tool = ["--tool=callgrind", "--callgrind-out-file=/dev/null", *(f"--toggle-collect={name}" for name in functions)]
+    return counted(tool, r"Collected : (\d+)", words)
+
+
+def allocations(words):
+    return counted(["--tool=memcheck"], r"total heap usage: ([\d,]+) allocs", words)
+
+
+def store_calls(library, folder):
+    """The instructions of each call of the store."""
+    program = c_interface.built(library, HERE / "store.c", folder / "store", ["-O2"])
+    if program is None:
+        sys.exit("instructions.py: store.c was not built")
+    return {name: instructions([program, *words], [f"span_store_{it}" for it in functions]) / SPANS
+            for name, (words, functions) in CALLS.items()}
+
+
+def package_rounds(library, folder):
+    """The instructions and allocations of a round of each kind."""
+    places = {**os.environ, "SPAN_REGISTRY_LIB": str(library.resolve().parent), "CARGO_TARGET_DIR": str(folder)}
+    words = ["cargo", "build", "--quiet", "--release", "--offline", "--example", "rounds"]
+    subprocess.run(words, cwd=TOP / "rust", env=places, check=True)
+    found = {}
+    for kind, begins in KINDS.items():
+        runs = [[folder / "release/examples/rounds", kind, str(rounds)] for rounds in (FEW, MANY)]
+        for count in (instructions, allocations):
+            few, many = map(count, runs)
+            found[begins + count.__name__] = (many - few) / (MANY - FEW)
+    return found
+
+
+def main():
+    parser = argparse.ArgumentParser(description=__doc__, formatter_class=argparse.RawDescriptionHelpFormatter)
+    parser.add_argument("--store", type=Path, default=TOP / "crates/span_store_ffi/out/libspan_store_ffi.a")
+    parser.add_argument("--library", type=Path, default=TOP / "crates/span_ffi/out/libspan_ffi.a")
+    parser.add_argument("--figures", action="store_true", help="they go to bench/figures")
+    asked = parser.parse_args()
+    with tempfile.TemporaryDirectory() as folder:
+        found = {"store-calls": store_calls(asked.store, Path(folder)),
+                 "package-round": package_rounds(asked.library, Path(folder))}
+    for name, values in found.items():
+        print(name, *(f"{it} {value:,.2f}" for it, value in values.items()), sep="\n  ")
+        if asked.figures:
+            figures.record(name, values=values)
+
+
+if __name__ == "__main__":
+    main()
