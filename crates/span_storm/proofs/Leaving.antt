@@ -115,7 +115,7 @@ last_of_rounds worker calls before batch is (more {before = earlier} last rounds
     }
 
 -- a worker stands where its calls have brought it
-pub stands_in_history : (rules : List Filter) (workers worker : ℕ) (history : List PlainBatch) (world : World)
+stands_in_history : (rules : List Filter) (workers worker : ℕ) (history : List PlainBatch) (world : World)
     → worker < workers → IsLegal rules workers history world → AreOfRounds worker (own worker history)
     → Stands (length (own worker history)) (length (stack_of world worker))
 stands_in_history rules workers worker [] world low no_call rounds = nobody _ (ap length (get_or-replicate workers worker [] [] low))
@@ -143,7 +143,7 @@ all_empty (stack ∷ stacks) each =
     ap (λ (s : List ℕ). s ∷ stacks) (each 0 (omega arith)) ∙ ap (λ (s : List (List ℕ)). [] ∷ s) (all_empty stacks (λ worker low. each (suc worker) (omega (arith, low))))
 
 -- where each worker has made whole rounds, none is inside a span
-pub nobody_inside : (rules : List Filter) (workers rounds : ℕ) (history : List PlainBatch) (world : World) → IsLegal rules workers history world
+nobody_inside : (rules : List Filter) (workers rounds : ℕ) (history : List PlainBatch) (world : World) → IsLegal rules workers history world
     → ((worker : ℕ) → worker < workers → length (own worker history) ≡ 9 * rounds) → ((worker : ℕ) → worker < workers → AreOfRounds worker (own worker history))
     → world.stacks ≡ (empty_world workers).stacks
 nobody_inside rules workers rounds history world legal each are =

@@ -22,10 +22,10 @@ use std::thread::Threads;
 /// in a thread of its own, while a drain in another writes the lines. Answers how the registry ended.
 ///
 /// In a round a worker makes a root span `job`, clones it, enters it, tells the event `tick`, makes a span `step`
-/// inside, closes that, leaves `job`, and closes both its handles, so that in the end nothing is open. All are of target `app` and level INFO, without
-/// fields; one of the layers has to admit that, if there are any. The limits are the default ones, with these workers
-/// and a ring of 65536. Before each of its calls worker `i` asks `gate.before(i, k)`, where `k` counts its calls from
-/// 1, and the drain asks `gate.before(workers, 1)` before its first step.
+/// inside, closes that, leaves `job`, and closes both its handles: so in the end nothing is open. All are of target
+/// `app` and level INFO, without fields; one of the layers has to admit that, if there are any. The limits are the
+/// default ones, with these workers and a ring of 65536. Before each of its calls worker `i` asks `gate.before(i, k)`,
+/// where `k` counts its calls from 1, and the drain asks `gate.before(workers, 1)` before its first step.
 ///
 /// `Refused` where a call of a worker was refused, for want of memory too; `Held` where the gate answered false;
 /// `Memory` where a thread can't be made, or memory was refused outside the workers' calls. All threads end first; of
