@@ -2,10 +2,10 @@
 """Counts by valgrind, whose counts no other work changes, what calls take: instructions of the store's calls in C
 (store.c), and instructions and allocations of a round of the Rust package (rust/examples/rounds.rs).
 
-usage: instructions.py [--store FILE] [--library FILE] [--figures]
+usage: instructions.py [--store FILE] [--library FILE] [--figures] [store-calls] [package-round]
 
-FILE are the libraries that `rt lib` leaves in crates/span_store_ffi and crates/span_ffi. With --figures the counts go
-to bench/figures/store-calls.json and package-round.json, from where tests/figures.py takes them to the pages.
+With no name both are counted. FILE are the libraries that `rt lib` leaves in crates/span_store_ffi and crates/span_ffi.
+With --figures the counts go to bench/figures/NAME.json, from where tests/figures.py takes them to the pages.
 """
 import argparse
 import os
@@ -73,14 +73,18 @@ def package_rounds(library, folder):
 
 def main():
     parser = argparse.ArgumentParser(description=__doc__, formatter_class=argparse.RawDescriptionHelpFormatter)
+    parser.add_argument("names", nargs="*", metavar="NAME", help="store-calls, package-round; none means both")
     parser.add_argument("--store", type=Path, default=TOP / "crates/span_store_ffi/out/libspan_store_ffi.a")
     parser.add_argument("--library", type=Path, default=TOP / "crates/span_ffi/out/libspan_ffi.a")
     parser.add_argument("--figures", action="store_true", help="they go to bench/figures")
     asked = parser.parse_args()
-    with tempfile.TemporaryDirectory() as folder:
-        found = {"store-calls": store_calls(asked.store, Path(folder)),
-                 "package-round": package_rounds(asked.library, Path(folder))}
-    for name, values in found.items():
+    counts = {"store-calls": (store_calls, asked.store), "package-round": (package_rounds, asked.library)}
+    if not counts.keys() >= set(asked.names):
+        parser.error(f"there are {' and '.join(counts)}")
+    for name in asked.names or counts:
+        count, library = counts[name]
+        with tempfile.TemporaryDirectory() as folder:
+            values = count(library, Path(folder))
         print(name, *(f"{it} {value:,.2f}" for it, value in values.items()), sep="\n  ")
         if asked.figures:
             figures.record(name, values=values)

@@ -1,6 +1,7 @@
 """Measures tracing-subscriber over the proved store beside the original: bench/tracing, built with each.
 
     bench/tracing.py instructions   of a round, by callgrind: the difference of two runs, which no load changes
+    bench/tracing.py proved         instructions of a span on the proved registry of rust/tracing, by callgrind
     bench/tracing.py allocations    of a round
     bench/tracing.py clock          nanoseconds of a round by 1, 2, 4 and 8 threads at once, of the clock from the first
                                     thread's start to the last one's end, and of the processor, the two by turns, the
@@ -9,9 +10,9 @@
                                     clock, as above
 
 Each line ends in ours over the original's; of the clock it has the calls a second of all threads, too. With --figures
-instructions are counted on the proved registry of rust/tracing, too, and the clock is looked at for what pages tell
-alone; both go to bench/figures (tracing.json, tracing-clock.json), from where tests/figures.py takes them to the pages.
-What is needed is what tests/tracing.py needs.
+the clock is looked at for what pages tell alone, and the first two and the clock go to bench/figures (tracing.json,
+tracing-registry.json, tracing-clock.json), from where tests/figures.py takes them to the pages. What is needed is what
+tests/tracing.py needs.
 """
 
 import argparse
@@ -147,12 +148,11 @@ def clock(programs, timed, threads, turns, rounds):
     return found
 
 
-def record_instructions(found, proved):
-    """What pages tell of all rounds, and of a span on the proved registry."""
+def record_instructions(found):
+    """What pages tell of all rounds."""
     rows = [{"name": name, "there": found[words][0], "ours": found[words][1]} for name, words in TOLD.items()]
     more = sum(original < ours for original, ours in found.values())
-    values = {"span_there": found[SPAN][0], "span": found[SPAN][1], "proved": instructions_of_round(proved, SPAN),
-              "rounds": len(found), "more": str(more or "none")}
+    values = {"span_there": found[SPAN][0], "span": found[SPAN][1], "rounds": len(found), "more": str(more or "none")}
     figures.record("tracing", rows, values)
 
 
@@ -198,8 +198,19 @@ def benches(sides, turns):
             line((bench,), figure, least[1][bench], "ns")
 
 
+def on_proved(yard, keeps):
+    """A span on the proved registry."""
+    count = instructions_of_round(built(yard, "proved"), SPAN)
+    print(f"{' '.join(map(str, SPAN)):44} {count:12.1f} instructions")
+    if keeps:
+        figures.record("tracing-registry", values={"registry": count})
+
+
 def measured(asked, yard):
     """Does what is asked for, and keeps what pages tell of it."""
+    if asked.what == "proved":
+        on_proved(yard, asked.figures)
+        return
     build = benches_of if asked.what == "benches" else built
     programs = [build(yard, name) for name in SIDES]
     print(f"{'':44} {'original':>12} {'ours':>12}")
@@ -210,7 +221,7 @@ def measured(asked, yard):
     elif asked.what == "instructions":
         found = instructions(programs)
         if asked.figures:
-            record_instructions(found, built(yard, "proved"))
+            record_instructions(found)
     else:
         timed = [*TOLD.values(), SHARED] if asked.figures else TIMED
         found = clock(programs, timed, asked.threads, asked.turns, asked.rounds)
@@ -220,7 +231,7 @@ def measured(asked, yard):
 
 def main():
     parser = argparse.ArgumentParser(description=__doc__, formatter_class=argparse.RawDescriptionHelpFormatter)
-    parser.add_argument("what", choices=["instructions", "allocations", "clock", "benches"])
+    parser.add_argument("what", choices=["instructions", "proved", "allocations", "clock", "benches"])
     parser.add_argument("--library", type=Path, help="libspan_store_ffi.a; without it, that of rt lib")
     parser.add_argument("--registry-library", type=Path, default=TOP / "crates/span_ffi/out/libspan_ffi.a",
                         help="libspan_ffi.a, on which rust/tracing stands")
@@ -233,10 +244,10 @@ def main():
     asked = parser.parse_args()
     if lack := tracing.missing():
         sys.exit(f"not run: {lack}")
-    library = asked.library.resolve() if asked.library else tracing.current_library()
+    library = None if asked.what == "proved" else asked.library or tracing.current_library()
     os.environ["SPAN_REGISTRY_LIB"] = str(asked.registry_library.resolve().parent)
     with tempfile.TemporaryDirectory() as made:
-        measured(asked, tracing.Yard((asked.folder or Path(made)).resolve(), library, asked.jobs))
+        measured(asked, tracing.Yard((asked.folder or Path(made)).resolve(), library and library.resolve(), asked.jobs))
 
 
 if __name__ == "__main__":
