@@ -4,8 +4,8 @@
 usage: figures.py [--write]
 
 bench/figures/NAME.json says when something was measured, where, on which commit, by what command and who says so, and
-what came out: records in `rows`, or numbers by their names in `values`. What isn't known of it is `not known`; a
-figure that is taken from a page has the toolchain that README named with it.
+what came out: records in `rows`, or numbers by their names in `values`. What isn't known of it is `not known`, but for
+the commit; a figure that is taken from a page has that of the page, and the toolchain that README named with it.
 - `table` has the columns of a table of the rows: of each its head (a blank after it makes it another one), and its
   cells as Python's `format` writes them. A cell whose value a row hasn't is empty. The table stands in a page between
   `<!-- figures NAME -->` and `<!-- end -->`, with a line that says where it comes from.
@@ -140,6 +140,7 @@ def sources(figures, pages):
     for name in sorted(used | {*figures}):
         data = figures.get(name, {})
         yield all(data.get(it) for it in SOURCE), f"bench/figures/{name}.json doesn't say each of {', '.join(SOURCE)}"
+        yield data.get("commit") != "not known", f"bench/figures/{name}.json doesn't say of which commit"
         told = {it for texts in data.get("says", {}).values() for text in texts for it in names_in(text)}
         told |= {it for text in data.get("table", {}).values() for it in names_in(text)}
         had = {*data.get("values", {})}.union(*data.get("rows", []))
