@@ -9,8 +9,10 @@ pub loop-line-preserved : goal.loop-line-preserved
 loop-line-preserved g c =
     let before = c.loop-line.invariant in
     let next = c.in-Some.ensures in
+    let mid = c.loop-line.reader in
+    let new = c.next.new.self in
     record {
-      same = still _ _ _ before.same next.rest;
-      read = moved_out _ _ _ next.some next.given ∙ before.read;
-      lines = gives_one _ _ _ _ _ _ before.lines next.given (search rules);
+      same = still c.args.reader.now mid new before.same next.rest;
+      read = moved_out mid new _ next.some next.given ∙ before.read;
+      lines = gives_one _ mid new _ _ _ before.lines next.given (search rules);
     }
