@@ -35,6 +35,14 @@ more_taken old new nothing takes some =
     let longer : length new.taken ≡ length old.taken + length takes.batches = ap length takes.taken ∙ length-append old.taken takes.batches in
     omega (arith, longer, batches)
 
+-- where batches are left in the ring and no line waits, a fill takes some
+pub gets_on : (old full : LineReaderView) (sent : List PlainBatch) (left : ℕ) (waiting : List PlainLine) → waiting ≡ full.waiting → old.waiting ≡ []
+    → TakesBatches old full → (full.waiting ≡ [] → full.taken ≡ sent) → length old.taken + left ≡ length sent → 0 < left → length old.taken < length full.taken
+gets_on old full sent left [] waits nothing takes all long some =
+    let same : length full.taken ≡ length sent = ap length (all (sym waits)) in omega (arith, same, long, some)
+gets_on old full sent left (line ∷ lines) waits nothing takes all long some =
+    more_taken old full nothing takes (let many : length full.waiting ≡ length (line ∷ lines) = ap length (sym waits) in omega (arith, many))
+
 -- where nothing is left in the ring, all was taken
 pub all_read : {X : Type 0} (taken sent : List X) (left : ℕ) → taken ≡ take (length taken) sent → length taken + left ≡ length sent → left ≡ 0 → taken ≡ sent
 all_read taken sent left first long empty =

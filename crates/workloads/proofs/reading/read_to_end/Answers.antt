@@ -1,7 +1,7 @@
-use Rattle.std.proofs.Common.{rules, ap, ◌∙◌}
+use Rattle.std.proofs.Common.{◌≡◌, ◌<◌, length, rules, refl, ap, ◌∙◌}
 use Rattle.span_outlet.proofs.Reading.{all_given, all_whole}
 use Rattle.span_outlet.specs.LineReader.{LineReaderView}
-use Rattle.workloads.proofs.ReadToEnd.{all_read, filled, filled_and_read, same_end, waiting_read}
+use Rattle.workloads.proofs.ReadToEnd.{all_read, filled, filled_and_read, gets_on, same_end, waiting_read}
 use Rattle.workloads.proofs.reading.read_to_end.Goals as goal
 
 pub loop-reader-init : goal.loop-reader-init
@@ -30,6 +30,19 @@ loop-reader-preserved g c =
       sent = search rules;
     }
 
+pub loop-reader-smaller : goal.loop-reader-smaller
+loop-reader-smaller g c =
+    let behind = c.behind.ensures in
+    let fill = c.fill_beside.ensures in
+    let old = c.behind.new.self in
+    let full = c.fill_beside.new.self in
+    let nothing = ap (λ (reader : LineReaderView). reader.waiting) behind.same ∙ c.loop-reader.invariant.waiting in
+    let more : length old.taken < length full.taken =
+    gets_on old full c.behind.new.ring.sent c.behind.result full.waiting refl nothing fill.taken fill.sent (search rules) (search rules) in
+    let read = ap (λ (reader : LineReaderView). length reader.taken) c.read_waiting.ensures.read in
+    let same = ap (λ (reader : LineReaderView). length reader.taken) behind.same in
+    search (rules, more, read, same)
+
 pub returns-clause-taken : goal.returns-clause-taken
 returns-clause-taken g c =
     let behind = c.behind.ensures in
@@ -44,7 +57,7 @@ returns-clause-given g c =
 pub returns-clause-lines : goal.returns-clause-lines
 returns-clause-lines g c =
     let same = c.behind.ensures.same in
-    filled _ _ _ _ c.loop-reader.invariant.lines (ap (λ (reader : LineReaderView). reader.name) same) (ap (λ (reader : LineReaderView). reader.forms) same)
+    filled c.args.reader.now c.loop-reader.reader c.behind.new.self _ c.loop-reader.invariant.lines (ap (λ (reader : LineReaderView). reader.name) same) (ap (λ (reader : LineReaderView). reader.forms) same)
     (ap (λ (reader : LineReaderView). reader.given) same)
 
 pub returns-clause-whole : goal.returns-clause-whole

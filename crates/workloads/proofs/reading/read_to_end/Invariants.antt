@@ -8,7 +8,7 @@ abbrev pub invariant-loop-reader : goal.invariant-loop-reader
 invariant-loop-reader g l = record {
   waiting : l.reader.waiting ≡ [];
   left : AreLeft l.reader;
-  lines : HasReadOn l.initial.reader l.reader l.lines;
+  lines : HasReadOn l.fn.reader l.reader l.lines;
   pair : l.ring.name ≡ l.reader.name;
   sent : l.ring.sent ≡ l.initial.ring.sent;
 }
