@@ -122,18 +122,18 @@ stands_in_history rules workers worker [] world low no_call rounds = nobody _ (a
 stands_in_history rules workers worker history new low (one_call {before} {old} batch legal did sent) rounds =
     elim (eqb_tells (worker_of batch.request) worker) [
       | inl mine ↦
-        (let own_are : own worker history ≡ own worker before ++ batch ∷ [] = ap (own worker) sent ∙ one_more_own worker before batch mine.1 in
-        let next = last_of_rounds worker (own worker history) (own worker before) batch own_are rounds in
-        let stood = stands_in_history rules workers worker before old low legal next.first in
-        let stood_so = subst (λ n. Stands (length (own worker before)) (length (stack_of old n))) (sym mine.1) stood in
-        let stands = stands_next rules (issued before) old new worker (length (own worker before)) batch.request batch.answer did.within next.call did.changes stood_so in
-        subst (λ n. Stands n (length (stack_of new worker))) (sym (ap length own_are ∙ length-append (own worker before) (batch ∷ [])))
-        (subst (λ n. Stands (length (own worker before) + 1) (length (stack_of new n))) mine.1 stands))
+          (let own_are : own worker history ≡ own worker before ++ batch ∷ [] = ap (own worker) sent ∙ one_more_own worker before batch mine.1 in
+          let next = last_of_rounds worker (own worker history) (own worker before) batch own_are rounds in
+          let stood = stands_in_history rules workers worker before old low legal next.first in
+          let stood_so = subst (λ n. Stands (length (own worker before)) (length (stack_of old n))) (sym mine.1) stood in
+          let stands = stands_next rules (issued before) old new worker (length (own worker before)) batch.request batch.answer did.within next.call did.changes stood_so in
+          subst (λ n. Stands n (length (stack_of new worker))) (sym (ap length own_are ∙ length-append (own worker before) (batch ∷ [])))
+          (subst (λ n. Stands (length (own worker before) + 1) (length (stack_of new n))) mine.1 stands))
       | inr other ↦
-        (let own_are : own worker history ≡ own worker before = ap (own worker) sent ∙ (one_call_more (worker_of batch.request) before batch refl).others worker (λ e. other.1 (sym e)) in
-        let stood = stands_in_history rules workers worker before old low legal (subst (AreOfRounds worker) own_are rounds) in
-        let same = stack_stays rules (issued before) old new worker batch.request batch.answer (λ e. other.1 (sym e)) did.changes in
-        subst (λ (l : List PlainBatch). Stands (length l) (length (stack_of new worker))) (sym own_are) (subst (λ (s : List ℕ). Stands (length (own worker before)) (length s)) (sym same) stood))
+          (let own_are : own worker history ≡ own worker before = ap (own worker) sent ∙ (one_call_more (worker_of batch.request) before batch refl).others worker (λ e. other.1 (sym e)) in
+          let stood = stands_in_history rules workers worker before old low legal (subst (AreOfRounds worker) own_are rounds) in
+          let same = stack_stays rules (issued before) old new worker batch.request batch.answer (λ e. other.1 (sym e)) did.changes in
+          subst (λ (l : List PlainBatch). Stands (length l) (length (stack_of new worker))) (sym own_are) (subst (λ (s : List ℕ). Stands (length (own worker before)) (length s)) (sym same) stood))
     ]
 
 -- stacks without an entry are those of the empty world
