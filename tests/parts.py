@@ -66,6 +66,7 @@ PARTS = [
          "python3 tests/random_scripts.py --program {tracerun} --seed 1 --seconds 30"),
     Part("storms of 16 workers", "tracerun", "python3 tests/storms.py --program {tracerun}"),
     Part("devices that fail", "tracerun", "python3 tests/failing_devices.py --program {tracerun}"),
+    Part("memory given back", "tracerun", "python3 tests/given_back.py --program {tracerun}"),
     Part("the pictures of scripts", "tracerun", "python3 tests/view.py --program {tracerun}"),
     Part("a script of 16 MiB against the model", "tracerun",
          "python3 tests/long_script.py --program {tracerun} --made {room}/long"),
