@@ -37,13 +37,15 @@ def commands_of(text):
 
 
 def steps(command):
-    """The simple commands of a line, each as its words: without what stands in $(..), and what its output goes to."""
+    """The simple commands of a line, each as its words, and whether it ends what began with '(': without what stands in
+    $(..), and what its output goes to."""
     command = re.sub(r"\$\([^()]*(?:\([^()]*\))*[^()]*\)", "$", command)
     for part in re.split(r"&&|;| \| ", command):
+        ends = part.strip().endswith(")")
         part = re.sub(r">>? *\S+", "", part.strip().strip("()")).replace("< ", "")
         words = [word for word in part.split() if not re.match(r"[A-Z_]+=|\[", word)]
         if words:
-            yield words
+            yield words, ends
 
 
 def is_there(name, places):
@@ -123,15 +125,17 @@ def faults_of_step(words, places):
 
 
 def faults(command, places):
-    for words in steps(command):
+    at = places
+    for words, ends in steps(command):
         if words[0] == "cd":
-            places = [place / words[1] for place in places if (place / words[1]).is_dir()] or (
-                places if PLACEHOLDER.search(words[1]) else [])
-            if not places:
+            at = [place / words[1] for place in at if (place / words[1]).is_dir()] or (
+                at if PLACEHOLDER.search(words[1]) else [])
+            if not at:
                 yield f"there is no folder {words[1]}"
                 return
         else:
-            yield from faults_of_step(words, places)
+            yield from faults_of_step(words, at)
+        at = places if ends else at
 
 
 def main():
