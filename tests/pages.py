@@ -4,11 +4,12 @@
 usage: pages.py [--words]
 
 A page may have as many words as MOST says, blocks of code and measured tables (tests/figures.py) aside; one that a
-script makes from what stands elsewhere (MADE) as many as come out. A link names a file, and where it goes on with '#' a
-heading of it. No sentence of more than eight words stands in two pages, and none of README.md has more than thirty.
-Code and quoted lines are not looked at.
-CHANGELOG.md and the packages in Rust have the version of the command line. With --words it prints what each page has
-and may have. The last line is 'N passed, M failed'.
+script makes from what stands elsewhere (MADE) as many as come out. A link names a file of the repository, and where it
+goes on with '#' a heading of it. No sentence of more than eight words stands in two pages, quoted lines aside, and none
+of README.md has more than thirty. Code is not looked at.
+The table of docs/LAYERS.md has each crate of crates.txt, and all on which it stands. CHANGELOG.md and the packages in
+Rust have the version of the command line. With --words it prints what each page has and may have. The last line is
+'N passed, M failed'.
 """
 import re
 import sys
@@ -19,6 +20,7 @@ PAGES = ("*.md", "docs/*.md", "crates/*/*.md", "rust/*.md", "rust/*/*.md", "benc
 FIGURES = re.compile(r"<!-- figures ([\w-]+) -->\n.*?<!-- end -->", flags=re.S)
 WORDS_OF_A_SENTENCE = 8
 WORDS_OF_A_SENTENCE_IN_README = 30
+PARTS_OF_STD = {"core", "std_alloc", "std_heap"}
 
 # The most words that all pages may have together, and that each of them may.
 ALL = 23_000
@@ -41,7 +43,7 @@ MOST = {
     "crates/tracerun/README.md": 75,
     "crates/tracerun_command_line/README.md": 70, "crates/two_workers/README.md": 115,
     "crates/workloads/README.md": 220, "docs/BENCHMARKS.md": 1500, "docs/CONTRIBUTING.md": 1800,
-    "docs/DECISIONS.md": 3000, "docs/FORMATS.md": 2000, "docs/FROM_TRACING.md": 1340,
+    "docs/DECISIONS.md": 3000, "docs/FORMATS.md": 2000, "docs/FROM_TRACING.md": 1300,
     "docs/LAYERS.md": 1000,
     "docs/PRIVATE_CONTRACTS.md": 415, "docs/PROMISES.md": 1025, "docs/PROOFS.md": 1800,
     "docs/THEOREM.md": 550,
@@ -87,8 +89,6 @@ def anchors(text):
 def links(pages):
     for name, text in pages.items():
         for target in re.findall(r"\]\(([^)\s]+)\)", prose(text)):
-            if re.match(r"[a-z]+:", target):
-                continue
             path, _, anchor = target.partition("#")
             to = (TOP / name).parent.joinpath(path).resolve() if path else TOP / name
             is_there = TOP in (to, *to.parents) and to.exists()
@@ -117,9 +117,27 @@ def repeated(pages):
 
 
 def long_sentences(pages):
-    for sentence in sentences(pages["README.md"]):
-        is_short = len(sentence.split()) <= WORDS_OF_A_SENTENCE_IN_README
-        yield is_short, f"README.md has a sentence of over {WORDS_OF_A_SENTENCE_IN_README} words: {sentence}"
+    text = re.sub(r"\]\([^)]*\)", "]", prose(pages["README.md"]))
+    for part in (cell for line in text.splitlines() for cell in line.split("|")):
+        for sentence in re.split(r"(?<=[.?!])\s+", part):
+            is_short = len(re.findall(r"[\w'`._/:-]+", sentence)) <= WORDS_OF_A_SENTENCE_IN_README
+            yield is_short, f"README.md has a sentence of over {WORDS_OF_A_SENTENCE_IN_README} words: {sentence}"
+
+
+def all_below(graph, name):
+    return set(graph.get(name, ())).union(*(all_below(graph, it) for it in graph.get(name, ())))
+
+
+def crates(pages):
+    """What a crate stands on in the table is what it stands on by crates.txt, with what that stands on."""
+    lines = TOP.joinpath("crates.txt").read_text(encoding="utf-8").splitlines()
+    named = [line.split("#")[0].partition(":") for line in lines if line.split("#")[0].strip()]
+    true = {words.split()[0]: set(below.split()) - PARTS_OF_STD for words, _, below in named}
+    rows = re.findall(r"^\| \[`(\w+)`\].*\| (.*) \|$", pages["docs/LAYERS.md"], flags=re.M)
+    said = {name: set(re.findall(r"`(\w+)`", below)) for name, below in rows}
+    for name in sorted({*true, *said}):
+        is_so = name in said and name in true and all_below(said, name) == all_below(true, name)
+        yield is_so, f"docs/LAYERS.md: {name} doesn't stand as in crates.txt"
 
 
 def versions(pages):
@@ -147,7 +165,7 @@ def main():
     if sys.argv[1:] not in ([], ["--words"]):
         sys.exit(__doc__)
     pages, passed, failed = read_pages(), 0, 0
-    for is_good, said in (it for look in (lengths, links, repeated, long_sentences, versions) for it in look(pages)):
+    for is_good, said in (it for look in (lengths, links, repeated, long_sentences, crates, versions) for it in look(pages)):
         passed, failed = passed + is_good, failed + (not is_good)
         if not is_good:
             print(f"FAILED {said}")
