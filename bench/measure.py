@@ -12,8 +12,9 @@ BLOCK = 1024 * 1024
 PR_SET_CHILD_SUBREAPER = 36
 
 # The shell starts the program, tells its number and ends; then the program is a child of this process. One that this
-# process started itself would begin with Python's memory as its peak.
-START = 'exec 3<&0; "$@" <&3 3<&- & echo $! >&2'
+# process started itself would begin with Python's memory as its peak. It begins when it is told to, since a shell takes
+# in a child that ends before it does.
+START = 'exec 3<&0; { read -r go <&3; exec "$@" 3<&- < "$0"; } & echo $! >&2'
 
 # What one run took: `user`, `cpu` (user and system) and `clock` in seconds, `peak` in bytes, page `faults`. What it
 # wrote: `size` in bytes, a check `sum`, and the `last` bytes.
@@ -44,16 +45,14 @@ class Reading(threading.Thread):
 
 def run_once(words, path=os.devnull):
     """One run of a command, with the file as its standard input. What it writes is thrown away."""
-    with open(path, "rb") as script:
-        begun = time.monotonic()
-        shell = subprocess.Popen(
-            ["sh", "-c", START, "sh", *words], stdin=script, stdout=subprocess.PIPE, stderr=subprocess.PIPE, bufsize=0
-        )
-    with shell:
+    pipes = {"stdin": subprocess.PIPE, "stdout": subprocess.PIPE, "stderr": subprocess.PIPE, "bufsize": 0}
+    with subprocess.Popen(["sh", "-c", START, path, *words], **pipes) as shell:
         reading = Reading(shell.stdout)
         told = shell.stderr.read(16)
         number, _, error = told.partition(b"\n")
         shell.wait()
+        begun = time.monotonic()
+        shell.stdin.write(b"go\n")
         _, status, used = os.wait4(int(number), 0)
         clock = time.monotonic() - begun
         reading.join()

@@ -5,8 +5,8 @@ Standard output, standard error and the status have to be the same, of `replay` 
 one. A script on which they differ is made as small as it can be and shown with both. The scripts are the same for the
 same seed.
 
-usage: random_scripts.py [--program FILE] [--seed N] [--scripts N] [--seconds N]
-The last line is 'N passed, M failed': the scripts that agreed and those that differed. The status is 0 where none
+usage: random_scripts.py [--program FILE] [--seed N] [--scripts N] [--seconds N] [--replay]
+With --replay nothing is asked of `why`. The last line is 'N passed, M failed': the scripts that agreed and those that differed. The status is 0 where none
 differed.
 """
 import argparse
@@ -82,6 +82,7 @@ def options():
     parser.add_argument("--seed", type=int, default=1)
     parser.add_argument("--scripts", type=int, help="1000 where no --seconds are given, else no bound")
     parser.add_argument("--seconds", type=float, help="no script is begun after so many")
+    parser.add_argument("--replay", action="store_true", help="replay alone, of a program that is no more")
     given = parser.parse_args()
     if given.scripts is None and given.seconds is None:
         given.scripts = 1000
@@ -99,7 +100,7 @@ def main():
     while passed + failed != given.scripts and (end is None or time.monotonic() < end):
         number = passed + failed
         script = script_maker.make(given.seed, number, model.OPS)
-        wrong = [order for order in ORDERS if differs(given.program, script, order)]
+        wrong = [order for order in (ORDERS[:1] if given.replay else ORDERS) if differs(given.program, script, order)]
         if not wrong:
             passed += 1
             continue

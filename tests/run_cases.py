@@ -8,7 +8,7 @@ by tests/fault_cases.py.
 The cases that tests/to_come.txt names wait for an operation that the program doesn't have yet. They are run
 too, and one that already passes is a failure: its line has to go.
 
-usage: run_cases.py [--program FILE] [NAME..]
+usage: run_cases.py [--program FILE] [--replay] [NAME..]
 The last line is 'N passed, M failed'; the status is 0 where nothing failed.
 """
 import argparse
@@ -77,6 +77,7 @@ def waiting_names():
 def main():
     parser = argparse.ArgumentParser(description="Runs the worked cases against the built program.")
     parser.add_argument("--program", default="", type=current_program)
+    parser.add_argument("--replay", action="store_true", help="those of replay alone, for a program that is no more")
     parser.add_argument("names", nargs="*")
     given = parser.parse_args()
 
@@ -90,7 +91,7 @@ def main():
     seen = set()
     for case in [*file_cases(os.path.join(HERE, "cases")), *large_cases.cases(), *fault_cases.cases()]:
         seen.add(case.name)
-        if given.names and case.name not in given.names:
+        if given.names and case.name not in given.names or given.replay and case.words != ["replay"]:
             continue
         found = difference(given.program, case)
         if case.name in waiting:
