@@ -111,10 +111,10 @@ def instructions_of_round(program, words):
     return (instructions_of(program, words, 3 * few) - instructions_of(program, words, few)) / (2 * few)
 
 
-def instructions(programs):
+def instructions(programs, rounds):
     """Of each round those of the original and ours."""
     found = {}
-    for words in ROUNDS:
+    for words in rounds:
         found[words] = [instructions_of_round(program, words) for program in programs]
         line(words, *found[words], "instructions")
     return found
@@ -127,8 +127,8 @@ def figures_of(program, words, threads, rounds, turns):
     return tuple(float(word) for word in re.findall(r"[\d.]+", done.stdout))
 
 
-def allocations(programs):
-    for words in ROUNDS:
+def allocations(programs, rounds):
+    for words in rounds:
         line(words, *(figures_of(program, words, 1, 2000, 3)[2] for program in programs), "allocations")
 
 
@@ -218,13 +218,13 @@ def measured(asked, yard):
     if asked.what == "benches":
         benches(programs, asked.turns)
     elif asked.what == "allocations":
-        allocations(programs)
+        allocations(programs, ROUNDS[:asked.first])
     elif asked.what == "instructions":
-        found = instructions(programs)
+        found = instructions(programs, ROUNDS[:asked.first])
         if asked.figures:
             record_instructions(found)
     else:
-        timed = [*TOLD.values(), SHARED] if asked.figures else TIMED
+        timed = [*TOLD.values(), SHARED] if asked.figures else TIMED[:asked.first]
         found = clock(programs, timed, asked.threads, asked.turns, asked.rounds)
         if asked.figures:
             record_clock(found, asked.threads)
@@ -241,8 +241,11 @@ def main():
     parser.add_argument("--threads", type=int, nargs="+", default=[1, 2, 4, 8])
     parser.add_argument("--turns", type=int, default=5)
     parser.add_argument("--rounds", type=int, default=50_000)
+    parser.add_argument("--first", type=int, metavar="N", help="so many rounds alone")
     parser.add_argument("--figures", action="store_true", help="what pages tell goes to bench/figures")
     asked = parser.parse_args()
+    if asked.figures and asked.first:
+        parser.error("pages tell of all rounds")
     if lack := tracing.missing():
         sys.exit(f"not run: {lack}")
     library = None if asked.what == "proved" else asked.library or tracing.current_library()

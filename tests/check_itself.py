@@ -14,9 +14,10 @@ import tempfile
 
 from parts import LIBRARIES, PARTS, QUICK, TOP
 
-CRATES = "low: # the lowest\ntracerun may_wait=2: low\nhostile_use may_wait=29: low\n" + "".join(
-    f"{name} staticlib: low\n" for name in LIBRARIES)
-LISTED = {"low": 0, "tracerun": 2, "hostile_use": 29, **dict.fromkeys(LIBRARIES, 0)}
+WAITS = {"tracerun": 2, "hostile_use": 29, "workloads": 42, "span_benchmark": 36}
+CRATES = "low: # the lowest\n" + "".join([*(f"{name} may_wait={number}: low\n" for name, number in WAITS.items()),
+                                         *(f"{name} staticlib: low\n" for name in LIBRARIES)])
+LISTED = {"low": 0, **WAITS, **dict.fromkeys(LIBRARIES, 0)}
 # What it prints as rt ci is in a file; the programs that it makes are in the variable MAKES.
 FAKE_RT = """#!/bin/sh
 echo "$1 in ${PWD##*/}" >> "$FAKE/calls"
@@ -29,7 +30,7 @@ case $1 in
 esac
 """
 PASSES = "print('3 passed, 1 failed')\nprint('4 passed, 0 failed')\n"
-ALL = "tracerun hostile_use"
+ALL = " ".join(WAITS)
 
 
 def ci(waits=(), kept=(), more="", last="5 passed, 0 failed"):

@@ -6,8 +6,8 @@ usage: page_commands.py [--list]
 A command is a line of a block of `sh` or of an indented block, or code in a line, that begins as BEGINS says. It is
 looked at from the top of the repository and from its page's folder, and after `cd` from there. A file that it makes
 needs a folder. An option, and a word in small letters after a program of the repository, have to stand in the source of
-what they are passed to. Scripts have to compile. Nothing is run: the other parts of `./check` do that. With --list it
-prints each command. The last line is 'N passed, M failed'.
+what they are passed to. Scripts have to compile. Nothing is run: run_commands.py does that. With --list it prints each
+command. The last line is 'N passed, M failed'.
 """
 import re
 import subprocess
