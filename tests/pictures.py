@@ -94,8 +94,8 @@ CRATES = {
     "span_store": ("closes in two steps", 6.5), "span_run": ("devices, faults", 0.5),
     "span_history": ("what a worker saw", 2.7), "span_core": ("a call, a lawful step", 4.2),
     "span_store_ffi": ("the store for C", 7.3), "span_replay": ("a script run", 1.55),
-    "span_why": ("why spans are open", 2.25),
-    "span_registry": ("the lock, handles", 3.3), "span_ffi": ("the core for C", 6.2),
+    "span_why": ("why spans are open", 2.47),
+    "span_registry": ("the lock, handles", 3.45), "span_ffi": ("the core for C", 6.2),
     "span_storm": ("many workers, a drain", 2.6), "tracerun_command_line": ("words to an order", 0.25),
     "tracerun": ("the program", 1.8),
 }
