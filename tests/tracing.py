@@ -348,6 +348,9 @@ def run_example(yard, count):
     done = yard.cargo("run", folder, "--quiet", "--bin", "leak")
     listed = [line for line in done.stdout.splitlines() if "handles" in line]
     count.check(done.returncode == 0 and listed == LEAK, f"the example of a leak: {done.stdout[-3000:]}")
+    words = ["cargo", "update", "--offline", "-p", "tracing-subscriber", "--precise", "0.3.16"]
+    done = subprocess.run(words, cwd=folder, stdin=subprocess.DEVNULL, capture_output=True, text=True)
+    count.check(done.returncode == 0, f"the version that the page asks for: {done.stderr}")
 
 
 def run_tests(yard, count, folder, *words):
