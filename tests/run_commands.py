@@ -84,7 +84,8 @@ PROGRAMS = {
     "tests/figures.py --write": Run("python3 tests/figures.py --write", GOOD),
     "tests/theorem.py --write": Run("python3 tests/theorem.py --write", GOOD),
     "tests/model_page.py --write": Run("python3 tests/model_page.py --write", GOOD),
-    "python3 tests/refused_at.py EDIT..": Run("python3 tests/refused_at.py crates/span_known/must-fail/*.edit", GOOD),
+    "python3 tests/refused_at.py EDIT..": Run(
+        "python3 tests/refused_at.py crates/span_id/must-fail/pack_forgets_to_add_one.edit", "1 passed, 0 failed\n"),
 }
 LIBRARIES = {
     "./rust/build": Run(needs="cargo"),
@@ -148,16 +149,11 @@ def listed():
         yield part in named, f"./check has no part {part}, of {command}"
 
 
-def copied(folder):
-    """A copy of what git knows or would take, and of what was built."""
-    said = subprocess.run(["git", "ls-files", "-co", "--exclude-standard"], cwd=TOP, capture_output=True, text=True)
-    for name in said.stdout.splitlines():
-        if (TOP / name).is_file():
-            (folder / name).parent.mkdir(parents=True, exist_ok=True)
-            shutil.copy2(TOP / name, folder / name)
+def copy_sources(folder):
+    """A copy of the sources, in which what was built of the crates is seen."""
+    shutil.copytree(TOP, folder, ignore=shutil.ignore_patterns(".git", "out", "target", "laid", "__pycache__"))
     for built in TOP.glob("crates/*/out"):
         (folder / built.relative_to(TOP)).symlink_to(built)
-    return folder
 
 
 def lacks(run):
@@ -173,6 +169,7 @@ def lacks(run):
 def fault_of(command, how, room):
     """What is wrong with how a command ends; none where all is well."""
     places = {**os.environ, "ROOM": str(room), "COPY": str(room / "copy")}
+    places.pop("CARGO_TARGET_DIR", None)  # (the peer is looked for where cargo puts it by itself)
     try:
         done = subprocess.run(["bash", "-c", how.line or command], cwd=room / "copy", env=places, timeout=SECONDS,
                               stdin=subprocess.DEVNULL, capture_output=True, text=True, errors="replace")
@@ -186,7 +183,7 @@ def fault_of(command, how, room):
 def all_run(rows, only):
     with tempfile.TemporaryDirectory(prefix="commands-") as made:
         room = Path(made)
-        copied(room / "copy")
+        copy_sources(room / "copy")
         for command, how in rows.items():
             if only not in command:
                 continue
