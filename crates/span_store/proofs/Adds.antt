@@ -7,15 +7,15 @@ use Rattle.span_slots.specs.Change.{Insert, Write, after}
 use Rattle.span_slots.proofs.Issued.{IsKept, IsKept-after}
 use Rattle.span_slots.proofs.Entries.{value_at-with_entry_same, value_at-with_entry_other, value_at-with_value_same, value_at-with_value_other}
 use Rattle.span_store.specs.declared.entry.Entry.{Entry}
-use Rattle.span_store.specs.Node.{node_of}
-use Rattle.span_store.specs.Spans.{IsThere, children, total_handles}
-use Rattle.span_store.specs.inside.Invariant.{nodes_of, node_table, AreApart, AreCounted, AreBounded, IsForest, IsConsistent}
+use Rattle.span_store.specs.StoredSpan.{plain_entry}
+use Rattle.span_store.specs.StoredSpans.{IsThere, children_there, all_handles}
+use Rattle.span_store.specs.inside.Invariant.{spans_of, span_table, AreApart, AreCounted, AreBounded, IsForest, IsConsistent}
 use Rattle.span_store.specs.inside.Adding.{child_at, child_in}
 use Rattle.span_store.specs.inside.Reading.{HasRoom, HasRoomAbove}
 use Rattle.span_store.proofs.Maps.{apart-with_entry, apart-with_value, some_same, there_is, two_ids}
-use Rattle.span_store.proofs.Counts.{children-with_entry, total-with_entry, weight, weight_root, weight_same, weight_other}
+use Rattle.span_store.proofs.Counts.{children_there-with_entry, total-with_entry, weight, weight_root, weight_same, weight_other}
 use Rattle.span_store.proofs.Forests.{forest-with_entry, no_children}
-use Rattle.span_store.proofs.Nodes.{node_at, no_node_at, nodes-with_entry, nodes_same, apart-nodes, nodes-inserted}
+use Rattle.span_store.proofs.Plain.{span_at, no_span_at, spans-with_entry, spans_same, apart-spans, spans-inserted}
 
 -- the entry of which something is known
 pub some_and : (P : Entry → Type 0) (o : Option Entry) → IsSomeAnd o P → (entry : Entry) × (o ≡ Some entry) × P entry
@@ -36,36 +36,36 @@ pub record Added (t new : Table Entry) (max_count id : ℕ) (entry : Entry) : Ty
   pub apart : AreApart new.entries
   pub counted : AreCounted new.entries
   pub bounded : AreBounded new.entries max_count
-  pub nodes : nodes_of new.entries ≡ with_entry (nodes_of t.entries) id (node_of entry)
-  pub table : node_table new ≡ after (node_table t) (Insert (node_of entry))
+  pub spans : spans_of new.entries ≡ with_entry (spans_of t.entries) id (plain_entry entry)
+  pub table : span_table new ≡ after (span_table t) (Insert (plain_entry entry))
 
 module _ (t : Table Entry) (max_count handles id : ℕ) (entry : Entry)
     (w : IsConsistent t max_count handles) (next : next_id t ≡ Some id) (vacant : value_at t.entries id ≡ None)
     (one : entry.handles ≡ 1) (zero_children : entry.children ≡ 0) where
   -- the new entry has no child, and each other one as many as before and this one, if it is the parent's
-  new_children : (j : ℕ) → children (with_entry (nodes_of t.entries) id (node_of entry)) j ≡ children (nodes_of t.entries) j + weight entry.parent j
-  new_children j = children-with_entry (nodes_of t.entries) id j (node_of entry)
+  new_children : (j : ℕ) → children_there (with_entry (spans_of t.entries) id (plain_entry entry)) j ≡ children_there (spans_of t.entries) j + weight entry.parent j
+  new_children j = children_there-with_entry (spans_of t.entries) id j (plain_entry entry)
 
-  none_of_new : children (nodes_of t.entries) id ≡ 0
-  none_of_new = no_children (nodes_of t.entries) id (apart-nodes t.entries w.apart) w.forest (no_node_at t.entries id vacant)
+  none_of_new : children_there (spans_of t.entries) id ≡ 0
+  none_of_new = no_children (spans_of t.entries) id (apart-spans t.entries w.apart) w.forest (no_span_at t.entries id vacant)
 
   pub added_root : (new : Table Entry) → entry.parent ≡ None → new ≡ after t (Insert entry) → Added t new max_count id entry
   added_root new root e =
       let es : new.entries ≡ with_entry t.entries id entry = ap (λ (x : Table Entry). x.entries) e ∙ inserted_entries t id entry next in
-      let nodes : nodes_of new.entries ≡ with_entry (nodes_of t.entries) id (node_of entry) = ap nodes_of es ∙ nodes-with_entry t.entries id entry in
+      let spans : spans_of new.entries ≡ with_entry (spans_of t.entries) id (plain_entry entry) = ap spans_of es ∙ spans-with_entry t.entries id entry in
       let none : (j : ℕ) → weight entry.parent j ≡ 0 = λ j. weight_root entry.parent j root in
       record {
         kept = subst IsKept (sym e) (IsKept-after t (Insert entry) w.kept);
         apart = subst AreApart (sym es) (apart-with_entry t.entries id entry vacant w.apart);
         counted = λ j x f. (
             let g : value_at (with_entry t.entries id entry) j ≡ Some x = rw es at f in
-            let k = ap (λ s. children s j) nodes in
+            let k = ap (λ s. children_there s j) spans in
             let k2 = new_children j in
             let k3 = none j in
             elim (eqb_tells j id) [
               | inl q ↦ (let same = some_same (value_at (with_entry t.entries id entry) j) x entry g (rw q.1 (value_at-with_entry_same t.entries id entry vacant)) in
                   let c = ap (λ (z : Entry). z.children) same in
-                  let here = ap (children (nodes_of t.entries)) q.1 in
+                  let here = ap (children_there (spans_of t.entries)) q.1 in
                   omega (arith, k, k2, k3, c, zero_children, none_of_new, here))
               | inr q ↦ (let c = w.counted j x (sym (value_at-with_entry_other t.entries id j entry (λ z. q.1 (sym z))) ∙ g) in
                   omega (arith, k, k2, k3, c))
@@ -80,8 +80,8 @@ module _ (t : Table Entry) (max_count handles id : ℕ) (entry : Entry)
                   omega (arith, c, d, low, one, zero_children))
               | inr q ↦ w.bounded j x (sym (value_at-with_entry_other t.entries id j entry (λ z. q.1 (sym z))) ∙ g)
             ]);
-        nodes = nodes;
-        table = ap node_table e ∙ nodes-inserted t entry;
+        spans = spans;
+        table = ap span_table e ∙ spans-inserted t entry;
       }
 
   pub added_child : (new : Table Entry) (p : ℕ) (above : Entry) → entry.parent ≡ Some p → value_at t.entries p ≡ Some above → above.handles + above.children < max_count → new ≡ child_in (after t (Insert entry)) (Some p) → Added t new max_count id entry
@@ -94,21 +94,21 @@ module _ (t : Table Entry) (max_count handles id : ℕ) (entry : Entry)
       let e2 : new ≡ after mid (Write p up) = e ∙ ap (child_at mid p) at in
       let news : new.entries ≡ with_value mid.entries p up = ap (λ (x : Table Entry). x.entries) e2 in
       let apart : AreApart mid.entries = subst AreApart (sym es) (apart-with_entry t.entries id entry vacant w.apart) in
-      let same_nodes : nodes_of (with_value mid.entries p up) ≡ nodes_of mid.entries = nodes_same mid.entries p above up apart at refl in
-      let nodes : nodes_of new.entries ≡ with_entry (nodes_of t.entries) id (node_of entry) = ap nodes_of news ∙ (same_nodes ∙ (ap nodes_of es ∙ nodes-with_entry t.entries id entry)) in
+      let same_spans : spans_of (with_value mid.entries p up) ≡ spans_of mid.entries = spans_same mid.entries p above up apart at refl in
+      let spans : spans_of new.entries ≡ with_entry (spans_of t.entries) id (plain_entry entry) = ap spans_of news ∙ (same_spans ∙ (ap spans_of es ∙ spans-with_entry t.entries id entry)) in
       let kept_mid = IsKept-after t (Insert entry) w.kept in
-      let tables : node_table new ≡ node_table mid = ap node_table e2 ∙ ap (λ s. record (node_table mid) { entries = s }) same_nodes in
+      let tables : span_table new ≡ span_table mid = ap span_table e2 ∙ ap (λ s. record (span_table mid) { entries = s }) same_spans in
       record {
         kept = subst IsKept (sym e2) (IsKept-after mid (Write p up) kept_mid);
         apart = subst AreApart (sym news) (apart-with_value mid.entries p up apart);
         counted = λ j x f. (
             let g : value_at (with_value mid.entries p up) j ≡ Some x = rw news at f in
-            let k = ap (λ s. children s j) nodes in
+            let k = ap (λ s. children_there s j) spans in
             let k2 = new_children j in
             elim (eqb_tells j p) [
               | inl q ↦ (let same = some_same (value_at (with_value mid.entries p up) j) x up g (rw q.1 (value_at-with_value_same mid.entries p up (there_is (value_at mid.entries p) above at))) in
                   let c = ap (λ (z : Entry). z.children) same in
-                  let here = ap (children (nodes_of t.entries)) q.1 in
+                  let here = ap (children_there (spans_of t.entries)) q.1 in
                   let before = w.counted p above there in
                   let one_more = weight_same entry.parent p j parent q.1 in
                   omega (arith, k, k2, c, here, before, one_more))
@@ -117,7 +117,7 @@ module _ (t : Table Entry) (max_count handles id : ℕ) (entry : Entry)
                   elim (eqb_tells j id) [
                     | inl r ↦ (let same = some_same (value_at (with_entry t.entries id entry) j) x entry g2 (rw r.1 (value_at-with_entry_same t.entries id entry vacant)) in
                         let c = ap (λ (z : Entry). z.children) same in
-                        let here = ap (children (nodes_of t.entries)) r.1 in
+                        let here = ap (children_there (spans_of t.entries)) r.1 in
                         omega (arith, k, k2, none, c, zero_children, none_of_new, here))
                     | inr r ↦ (let c = w.counted j x (sym (value_at-with_entry_other t.entries id j entry (λ z. r.1 (sym z))) ∙ g2) in
                         omega (arith, k, k2, none, c))
@@ -140,17 +140,17 @@ module _ (t : Table Entry) (max_count handles id : ℕ) (entry : Entry)
                     | inr r ↦ w.bounded j x (sym (value_at-with_entry_other t.entries id j entry (λ z. r.1 (sym z))) ∙ g2)
                   ])
             ]);
-        nodes = nodes;
-        table = tables ∙ nodes-inserted t entry;
+        spans = spans;
+        table = tables ∙ spans-inserted t entry;
       }
 
   -- the span above, if there is one, is there
-  above_there : (o : Option ℕ) → entry.parent ≡ o → HasRoomAbove max_count t.entries o → (p : ℕ) → entry.parent ≡ Some p → IsThere (nodes_of t.entries) p
+  above_there : (o : Option ℕ) → entry.parent ≡ o → HasRoomAbove max_count t.entries o → (p : ℕ) → entry.parent ≡ Some p → IsThere (spans_of t.entries) p
   above_there None e room p h = (let bad : None ≡ Some p = sym e ∙ h in cc)
   above_there (Some q) e room p h =
       let up = some_and (λ above. (0 < above.handles + above.children) × (above.handles + above.children < max_count)) (value_at t.entries q) room in
       let same : q ≡ p = (let k : Some q ≡ Some p = sym e ∙ h in cc) in
-      subst (IsThere (nodes_of t.entries)) same (there_is (value_at (nodes_of t.entries) q) (node_of up.0) (node_at t.entries q up.0 up.1))
+      subst (IsThere (spans_of t.entries)) same (there_is (value_at (spans_of t.entries) q) (plain_entry up.0) (span_at t.entries q up.0 up.1))
 
   pub added : (new : Table Entry) → HasRoomAbove max_count t.entries entry.parent → new ≡ child_in (after t (Insert entry)) entry.parent → Added t new max_count id entry
   added new room e = go entry.parent refl
@@ -170,9 +170,9 @@ module _ (t : Table Entry) (max_count handles id : ℕ) (entry : Entry)
         apart = a.apart;
         counted = a.counted;
         bounded = a.bounded;
-        forest = subst IsForest (sym a.nodes) (forest-with_entry (nodes_of t.entries) id (node_of entry) (no_node_at t.entries id vacant) (above_there entry.parent refl room) w.forest);
-        handles_is = (let v = total-with_entry (nodes_of t.entries) id (node_of entry) in
-            let k = ap total_handles a.nodes in
+        forest = subst IsForest (sym a.spans) (forest-with_entry (spans_of t.entries) id (plain_entry entry) (no_span_at t.entries id vacant) (above_there entry.parent refl room) w.forest);
+        handles_is = (let v = total-with_entry (spans_of t.entries) id (plain_entry entry) in
+            let k = ap all_handles a.spans in
             let u = w.handles_is in
             omega (arith, v, k, u, one));
         few = few;

@@ -7,13 +7,13 @@ use Rattle.span_slots.specs.Change.{Remove, Write, after}
 use Rattle.span_slots.proofs.Issued.{IsKept, IsKept-after}
 use Rattle.span_slots.proofs.Entries.{value_at-without_entry_same, value_at-without_entry_other, value_at-with_value_same, value_at-with_value_other}
 use Rattle.span_store.specs.declared.entry.Entry.{Entry}
-use Rattle.span_store.specs.Node.{node_of}
-use Rattle.span_store.specs.Spans.{children, total_handles, parent_of, parent_in, is_closing}
-use Rattle.span_store.specs.inside.Invariant.{nodes_of, node_table, AreApart, IsForest, IsConsistent}
+use Rattle.span_store.specs.StoredSpan.{plain_entry}
+use Rattle.span_store.specs.StoredSpans.{children_there, all_handles, parent_there, parent_if_there, is_closing}
+use Rattle.span_store.specs.inside.Invariant.{spans_of, span_table, AreApart, IsForest, IsConsistent}
 use Rattle.span_store.proofs.Maps.{apart-without_entry, apart-with_value, some_same, not_none, there_is}
-use Rattle.span_store.proofs.Counts.{children-without_entry, total-without_entry, weight, weight_root, weight_same, weight_other, some_child, no_child}
+use Rattle.span_store.proofs.Counts.{children_there-without_entry, total-without_entry, weight, weight_root, weight_same, weight_other, some_child, no_child}
 use Rattle.span_store.proofs.Forests.{forest-without_entry}
-use Rattle.span_store.proofs.Nodes.{node_at, entry_at, nodes-without_entry, nodes_same, apart-nodes, nodes-removed}
+use Rattle.span_store.proofs.Plain.{span_at, entry_at, spans-without_entry, spans_same, apart-spans, spans-removed}
 use Rattle.span_store.proofs.Upheld.{length-without_entry, length-with_value}
 use Rattle.span_store.proofs.Views.{is_closing-at}
 
@@ -23,7 +23,7 @@ removed_is t id entry h = rw h refl
 -- what an end leaves
 pub record HasEnded (t new : Table Entry) (max_count handles id : ℕ) : Type 0 where
   pub consistent : IsConsistent new max_count handles
-  pub table : node_table new ≡ after (node_table t) (Remove id)
+  pub table : span_table new ≡ after (span_table t) (Remove id)
 
 module _ (t less : Table Entry) (max_count handles id : ℕ) (entry : Entry)
     (w : IsConsistent t max_count handles) (found : value_at t.entries id ≡ Some entry)
@@ -31,20 +31,20 @@ module _ (t less : Table Entry) (max_count handles id : ℕ) (entry : Entry)
   left : less.entries ≡ without_entry t.entries id
   left = ap (λ (x : Table Entry). x.entries) (e ∙ removed_is t id entry found)
 
-  left_nodes : nodes_of less.entries ≡ without_entry (nodes_of t.entries) id
-  left_nodes = ap nodes_of left ∙ nodes-without_entry t.entries id
+  left_spans : spans_of less.entries ≡ without_entry (spans_of t.entries) id
+  left_spans = ap spans_of left ∙ spans-without_entry t.entries id
 
-  childless : children (nodes_of t.entries) id ≡ 0
+  childless : children_there (spans_of t.entries) id ≡ 0
   childless = let c = w.counted id entry found in omega (arith, c, none_holds)
 
-  left_children : (j : ℕ) → children (without_entry (nodes_of t.entries) id) j + weight entry.parent j ≡ children (nodes_of t.entries) j
-  left_children j = children-without_entry (nodes_of t.entries) id j (node_of entry) (apart-nodes t.entries w.apart) (node_at t.entries id entry found)
+  left_children : (j : ℕ) → children_there (without_entry (spans_of t.entries) id) j + weight entry.parent j ≡ children_there (spans_of t.entries) j
+  left_children j = children_there-without_entry (spans_of t.entries) id j (plain_entry entry) (apart-spans t.entries w.apart) (span_at t.entries id entry found)
 
-  left_total : total_handles (without_entry (nodes_of t.entries) id) + entry.handles ≡ total_handles (nodes_of t.entries)
-  left_total = total-without_entry (nodes_of t.entries) id (node_of entry) (apart-nodes t.entries w.apart) (node_at t.entries id entry found)
+  left_total : all_handles (without_entry (spans_of t.entries) id) + entry.handles ≡ all_handles (spans_of t.entries)
+  left_total = total-without_entry (spans_of t.entries) id (plain_entry entry) (apart-spans t.entries w.apart) (span_at t.entries id entry found)
 
-  left_forest : IsForest (without_entry (nodes_of t.entries) id)
-  left_forest = forest-without_entry (nodes_of t.entries) id childless w.forest
+  left_forest : IsForest (without_entry (spans_of t.entries) id)
+  left_forest = forest-without_entry (spans_of t.entries) id childless w.forest
 
   left_apart : AreApart less.entries
   left_apart = subst AreApart (sym left) (apart-without_entry t.entries id w.apart)
@@ -70,31 +70,31 @@ module _ (t less : Table Entry) (max_count handles id : ℕ) (entry : Entry)
       counted = λ j x f. (
           let b = before j x f in
           let c = w.counted j x b.1 in
-          let k = ap (λ s. children s j) left_nodes in
+          let k = ap (λ s. children_there s j) left_spans in
           let k2 = left_children j in
           let none = weight_root entry.parent j root in
           omega (arith, c, k, k2, none));
       bounded = λ j x f. w.bounded j x (before j x f).1;
-      forest = subst IsForest (sym left_nodes) left_forest;
-      handles_is = (let a = ap total_handles left_nodes in let u = w.handles_is in omega (arith, a, left_total, u, none_holds));
+      forest = subst IsForest (sym left_spans) left_forest;
+      handles_is = (let a = ap all_handles left_spans in let u = w.handles_is in omega (arith, a, left_total, u, none_holds));
       few = left_few;
       max_low = w.max_low;
       max_high = w.max_high;
     };
-    table = ap node_table e ∙ nodes-removed t id;
+    table = ap span_table e ∙ spans-removed t id;
   }
 
   module _ (p : ℕ) (parent : entry.parent ≡ Some p) where
-    parent_is : parent_of (nodes_of t.entries) id ≡ Some p
-    parent_is = ap parent_in (node_at t.entries id entry found) ∙ parent
+    parent_is : parent_there (spans_of t.entries) id ≡ Some p
+    parent_is = ap parent_if_there (span_at t.entries id entry found) ∙ parent
 
     -- the parent is there, and counts the child
     pub parent_counts : (above : Entry) × (value_at less.entries p ≡ Some above) × (0 < above.children)
     parent_counts =
-        let ne : id ≢ p = λ q. no_child (nodes_of t.entries) id id childless (parent_is ∙ ap (λ x. Some x) (sym q)) in
+        let ne : id ≢ p = λ q. no_child (spans_of t.entries) id id childless (parent_is ∙ ap (λ x. Some x) (sym q)) in
         let up = entry_at t.entries p (w.forest.parents_there id p parent_is) in
         let c = w.counted p up.0 up.1 in
-        let some = some_child (nodes_of t.entries) p id parent_is in
+        let some = some_child (spans_of t.entries) p id parent_is in
         let at : value_at less.entries p ≡ Some up.0 = ap (λ s. value_at s p) left ∙ (value_at-without_entry_other t.entries id p ne ∙ up.1) in
         (up.0, at, omega (arith, c, some))
 
@@ -102,8 +102,8 @@ module _ (t less : Table Entry) (max_count handles id : ℕ) (entry : Entry)
     ended_child new above at some n =
         let up : Entry = record above { children = above.children - 1 } in
         let news : new.entries ≡ with_value less.entries p up = ap (λ (x : Table Entry). x.entries) n in
-        let same_nodes : nodes_of (with_value less.entries p up) ≡ nodes_of less.entries = nodes_same less.entries p above up left_apart at refl in
-        let nodes : nodes_of new.entries ≡ without_entry (nodes_of t.entries) id = ap nodes_of news ∙ (same_nodes ∙ left_nodes) in
+        let same_spans : spans_of (with_value less.entries p up) ≡ spans_of less.entries = spans_same less.entries p above up left_apart at refl in
+        let spans : spans_of new.entries ≡ without_entry (spans_of t.entries) id = ap spans_of news ∙ (same_spans ∙ left_spans) in
         let there = there_is (value_at less.entries p) above at in
         record {
           consistent = record {
@@ -111,12 +111,12 @@ module _ (t less : Table Entry) (max_count handles id : ℕ) (entry : Entry)
             apart = subst AreApart (sym news) (apart-with_value less.entries p up left_apart);
             counted = λ j x f. (
                 let g : value_at (with_value less.entries p up) j ≡ Some x = rw news at f in
-                let k = ap (λ s. children s j) nodes in
+                let k = ap (λ s. children_there s j) spans in
                 let k2 = left_children j in
                 elim (eqb_tells j p) [
                   | inl q ↦ (let same = some_same (value_at (with_value less.entries p up) j) x up g (rw q.1 (value_at-with_value_same less.entries p up there)) in
                       let c = ap (λ (z : Entry). z.children) same in
-                      let here = ap (children (nodes_of t.entries)) q.1 in
+                      let here = ap (children_there (spans_of t.entries)) q.1 in
                       let was = w.counted p above (before p above at).1 in
                       let one = weight_same entry.parent p j parent q.1 in
                       omega (arith, k, k2, c, here, was, one, some))
@@ -136,17 +136,17 @@ module _ (t less : Table Entry) (max_count handles id : ℕ) (entry : Entry)
                   | inr q ↦ (let b = before j x (sym (value_at-with_value_other less.entries p j up (λ z. q.1 (sym z))) ∙ g) in
                       w.bounded j x b.1)
                 ]);
-            forest = subst IsForest (sym nodes) left_forest;
-            handles_is = (let a = ap total_handles nodes in let u = w.handles_is in omega (arith, a, left_total, u, none_holds));
+            forest = subst IsForest (sym spans) left_forest;
+            handles_is = (let a = ap all_handles spans in let u = w.handles_is in omega (arith, a, left_total, u, none_holds));
             few = (let a = ap length news in let b = length-with_value less.entries p up in let f = left_few in omega (arith, a, b, f));
             max_low = w.max_low;
             max_high = w.max_high;
           };
-          table = ap node_table n ∙ (ap (λ s. record (node_table less) { entries = s }) same_nodes ∙ (ap node_table e ∙ nodes-removed t id));
+          table = ap span_table n ∙ (ap (λ s. record (span_table less) { entries = s }) same_spans ∙ (ap span_table e ∙ spans-removed t id));
         }
 
     -- whether the parent is closing now
-    pub closing_above : (new : Table Entry) (above : Entry) → value_at less.entries p ≡ Some above → 0 < above.children → new ≡ record less { entries = with_value less.entries p (record above { children = above.children - 1 }) } → is_closing (nodes_of new.entries) p ≡ eqb (above.handles + (above.children - 1)) 0
+    pub closing_above : (new : Table Entry) (above : Entry) → value_at less.entries p ≡ Some above → 0 < above.children → new ≡ record less { entries = with_value less.entries p (record above { children = above.children - 1 }) } → is_closing (spans_of new.entries) p ≡ eqb (above.handles + (above.children - 1)) 0
     closing_above new above at some n =
         let up : Entry = record above { children = above.children - 1 } in
         let news : new.entries ≡ with_value less.entries p up = ap (λ (x : Table Entry). x.entries) n in

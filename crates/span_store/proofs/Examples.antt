@@ -3,10 +3,10 @@ use Rattle.std.proofs.Common.{◌≡◌, ℕ, Bool, true, false, [], ◌∷◌, 
 use Rattle.span_id.specs.declared.fault.Fault.TheVariants.{Unknown, CountFull, Full}
 use Rattle.span_slots.specs.Table.{next_id}
 use Rattle.span_store.specs.declared.details.SpanDetails.{SpanDetails}
-use Rattle.span_store.specs.Node.{Node}
+use Rattle.span_store.specs.StoredSpan.{StoredSpan}
 use Rattle.span_store.specs.Store.{StoreView}
 use Rattle.span_store.specs.Details.{all_details}
-use Rattle.span_store.specs.Calls.{Add, Keep, Release, Ended, refusal, after, told, after_all, times_told}
+use Rattle.span_store.specs.Calls.{Add, Keep, Release, Ended, refusal, store_after, told, store_after_all, times_told}
 
 -- two slots, each with two ids, and two holders at most
 abbrev empty : StoreView
@@ -17,12 +17,12 @@ empty = record {
 
 -- a root, 1, and a child of it, 2
 abbrev two : StoreView
-two = after_all empty (Add None 5 11 ∷ Add (Some 1) 6 22 ∷ [])
+two = store_after_all empty (Add None 5 11 ∷ Add (Some 1) 6 22 ∷ [])
 
-abbrev root : ℕ → Node
+abbrev root : ℕ → StoredSpan
 root handles = record { parent = None; handles = handles; bits = 5; word = 11 }
 
-abbrev child : ℕ → Node
+abbrev child : ℕ → StoredSpan
 child handles = record { parent = Some 1; handles = handles; bits = 6; word = 22 }
 
 two_entries : two.table.entries ≡ (1, root 1) ∷ (2, child 1) ∷ []
@@ -42,7 +42,7 @@ child_is_closing_at_once = refl
 
 -- both handles are given back: the child is closing, the root isn't yet
 abbrev released : StoreView
-released = after_all two (Release 1 ∷ Release 2 ∷ [])
+released = store_after_all two (Release 1 ∷ Release 2 ∷ [])
 
 both_are_there : released.table.entries ≡ (1, root 0) ∷ (2, child 0) ∷ []
 both_are_there = refl
@@ -65,12 +65,12 @@ closing_slot_is_taken = refl
 end_tells_the_root : told released (Ended 2) ≡ Some 1
 end_tells_the_root = refl
 
-end_tells_no_root_that_is_kept : told (after released (Keep 1)) (Ended 2) ≡ None
+end_tells_no_root_that_is_kept : told (store_after released (Keep 1)) (Ended 2) ≡ None
 end_tells_no_root_that_is_kept = refl
 
 -- the child ended: its slot gives its next id
 abbrev root_alone : StoreView
-root_alone = after released (Ended 2)
+root_alone = store_after released (Ended 2)
 
 child_is_gone : root_alone.table.entries ≡ (1, root 0) ∷ []
 child_is_gone = refl
@@ -81,7 +81,7 @@ next_is_another_id = refl
 none_under_a_closing_root : refusal root_alone (Add (Some 1) 0 0) ≡ Some Unknown
 none_under_a_closing_root = refl
 
-nothing_is_left : (after root_alone (Ended 1)).table.entries ≡ []
+nothing_is_left : (store_after root_alone (Ended 1)).table.entries ≡ []
 nothing_is_left = refl
 
 told_once_each : times_told 1 two (Release 1 ∷ Release 2 ∷ Ended 2 ∷ Ended 1 ∷ []) ≡ 1

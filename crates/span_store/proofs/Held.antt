@@ -5,13 +5,12 @@ use Rattle.span_slots.specs.Table.{Table, value_at, with_value}
 use Rattle.span_slots.specs.Change.{Write, after}
 use Rattle.span_slots.proofs.Entries.{value_at-with_value_same}
 use Rattle.span_store.specs.declared.entry.Entry.{Entry}
-use Rattle.span_store.specs.Spans.{is_closing}
-use Rattle.span_store.specs.Calls.{Keep, Release, refusal, done, handles_set}
-use Rattle.span_store.specs.Calls as calls
-use Rattle.span_store.specs.inside.Invariant.{nodes_of, IsConsistent}
+use Rattle.span_store.specs.StoredSpans.{is_closing}
+use Rattle.span_store.specs.Calls.{Keep, Release, refusal, store_then, store_after}
+use Rattle.span_store.specs.inside.Invariant.{spans_of, IsConsistent}
 use Rattle.span_store.specs.inside.Reading.{HasRoom}
 use Rattle.span_store.proofs.Maps.{there_is}
-use Rattle.span_store.proofs.Nodes.{node_at, nodes-written}
+use Rattle.span_store.proofs.Plain.{span_at, spans-written}
 use Rattle.span_store.proofs.Adds.{some_and}
 use Rattle.span_store.proofs.Upheld.{IsConsistent-handles, handles_enough}
 use Rattle.span_store.proofs.Views.{view_of, no_more-room, after_accepted, release_at, is_closing-at}
@@ -48,12 +47,12 @@ module _ (t new : Table Entry) (max_count handles id : ℕ) (w : IsConsistent t 
       let more : Entry = record r.0 { handles = r.0.handles + 1 } in
       subst (λ (x : Table Entry). IsConsistent x max_count (handles + 1)) (sym (written r.0 r.1)) (IsConsistent-handles t id r.0 more max_count handles (handles + 1) w r.1 refl refl (omega (arith, r.2.1)) (omega arith))
 
-  pub kept_view : HasRoom max_count (value_at t.entries id) → ((entry : Entry) → value_at t.entries id ≡ Some entry → new ≡ record t { entries = with_value t.entries id (record entry { handles = entry.handles + 1 }) }) → view_of new max_count ≡ calls.after (view_of t max_count) (Keep id)
+  pub kept_view : HasRoom max_count (value_at t.entries id) → ((entry : Entry) → value_at t.entries id ≡ Some entry → new ≡ record t { entries = with_value t.entries id (record entry { handles = entry.handles + 1 }) }) → view_of new max_count ≡ store_after (view_of t max_count) (Keep id)
   kept_view room written =
       let r = room_at max_count (value_at t.entries id) room in
       let more : Entry = record r.0 { handles = r.0.handles + 1 } in
       let is : view_of new max_count ≡ view_of (after t (Write id more)) max_count = ap (λ (x : Table Entry). view_of x max_count) (written r.0 r.1) in
-      let step : view_of (after t (Write id more)) max_count ≡ done (view_of t max_count) (Keep id) = rw (node_at t.entries id r.0 r.1) (ap (λ x. record (view_of t max_count) { table = x }) (nodes-written t id more)) in
+      let step : view_of (after t (Write id more)) max_count ≡ store_then (view_of t max_count) (Keep id) = rw (span_at t.entries id r.0 r.1) (ap (λ x. record (view_of t max_count) { table = x }) (spans-written t id more)) in
       is ∙ (step ∙ sym (after_accepted (view_of t max_count) (Keep id) (kept_accepted t max_count handles id w room)))
 
   pub released_consistent : IsSomeAnd (value_at t.entries id) (λ entry. 0 < entry.handles) → ((entry : Entry) → value_at t.entries id ≡ Some entry → new ≡ record t { entries = with_value t.entries id (record entry { handles = entry.handles - 1 }) }) → IsConsistent new max_count (handles - 1)
@@ -64,16 +63,16 @@ module _ (t new : Table Entry) (max_count handles id : ℕ) (w : IsConsistent t 
       let high = w.bounded id r.0 r.1 in
       subst (λ (x : Table Entry). IsConsistent x max_count (handles - 1)) (sym (written r.0 r.1)) (IsConsistent-handles t id r.0 less max_count handles (handles - 1) w r.1 refl refl (omega (arith, high)) (omega (arith, n, r.2)))
 
-  pub released_view : IsSomeAnd (value_at t.entries id) (λ entry. 0 < entry.handles) → ((entry : Entry) → value_at t.entries id ≡ Some entry → new ≡ record t { entries = with_value t.entries id (record entry { handles = entry.handles - 1 }) }) → view_of new max_count ≡ calls.after (view_of t max_count) (Release id)
+  pub released_view : IsSomeAnd (value_at t.entries id) (λ entry. 0 < entry.handles) → ((entry : Entry) → value_at t.entries id ≡ Some entry → new ≡ record t { entries = with_value t.entries id (record entry { handles = entry.handles - 1 }) }) → view_of new max_count ≡ store_after (view_of t max_count) (Release id)
   released_view held written =
       let r = some_and (λ entry. 0 < entry.handles) (value_at t.entries id) held in
       let less : Entry = record r.0 { handles = r.0.handles - 1 } in
       let is : view_of new max_count ≡ view_of (after t (Write id less)) max_count = ap (λ (x : Table Entry). view_of x max_count) (written r.0 r.1) in
-      let step : view_of (after t (Write id less)) max_count ≡ done (view_of t max_count) (Release id) = rw (node_at t.entries id r.0 r.1) (ap (λ x. record (view_of t max_count) { table = x }) (nodes-written t id less)) in
+      let step : view_of (after t (Write id less)) max_count ≡ store_then (view_of t max_count) (Release id) = rw (span_at t.entries id r.0 r.1) (ap (λ x. record (view_of t max_count) { table = x }) (spans-written t id less)) in
       is ∙ (step ∙ sym (after_accepted (view_of t max_count) (Release id) (released_accepted t max_count handles id w held)))
 
   -- whether the span is closing now
-  pub released_closing : IsSomeAnd (value_at t.entries id) (λ entry. 0 < entry.handles) → ((entry : Entry) → value_at t.entries id ≡ Some entry → new ≡ record t { entries = with_value t.entries id (record entry { handles = entry.handles - 1 }) }) → (closing : Bool) → ((entry : Entry) → value_at t.entries id ≡ Some entry → closing ≡ eqb (entry.handles - 1 + entry.children) 0) → is_closing (nodes_of new.entries) id ≡ closing
+  pub released_closing : IsSomeAnd (value_at t.entries id) (λ entry. 0 < entry.handles) → ((entry : Entry) → value_at t.entries id ≡ Some entry → new ≡ record t { entries = with_value t.entries id (record entry { handles = entry.handles - 1 }) }) → (closing : Bool) → ((entry : Entry) → value_at t.entries id ≡ Some entry → closing ≡ eqb (entry.handles - 1 + entry.children) 0) → is_closing (spans_of new.entries) id ≡ closing
   released_closing held written closing last =
       let r = some_and (λ entry. 0 < entry.handles) (value_at t.entries id) held in
       let less : Entry = record r.0 { handles = r.0.handles - 1 } in

@@ -1,7 +1,7 @@
 pub mod Maps
 pub mod Counts
 pub mod Forests
-pub mod Nodes
+pub mod Plain
 pub mod Views
 pub mod Upheld
 pub mod Adds

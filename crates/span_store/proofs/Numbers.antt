@@ -6,73 +6,73 @@ use Rattle.span_id.specs.Id.{slot_of}
 use Rattle.span_id.specs.declared.fault.Fault.{Fault}
 use Rattle.span_slots.specs.Table.{Table, value_at, with_entry, without_entry}
 use Rattle.span_store.specs.declared.entry.Entry.{Entry}
-use Rattle.span_store.specs.Node.{Node, new_node, with_handles}
-use Rattle.span_store.specs.Spans.{Spans, children, count, handles_in, IsClosing, IsOpen, parent_of, total_handles}
+use Rattle.span_store.specs.StoredSpan.{StoredSpan, added_span, with_handles}
+use Rattle.span_store.specs.StoredSpans.{StoredSpans, children_there, count, handles_if_there, IsClosing, IsStillHeld, parent_there, all_handles}
 use Rattle.span_store.specs.Store.{StoreView}
-use Rattle.span_store.specs.Calls.{Call, Add, Keep, Release, Ended, refusal, done, after, after_all, handles_then, spans_then}
-use Rattle.span_store.specs.inside.Invariant.{nodes_of, AreApart, IsConsistent}
+use Rattle.span_store.specs.Calls.{Call, Add, Keep, Release, Ended, refusal, store_then, store_after, store_after_all, handles_then, spans_then}
+use Rattle.span_store.specs.inside.Invariant.{spans_of, AreApart, IsConsistent}
 use Rattle.span_store.proofs.Maps.{without_absent}
 use Rattle.span_store.proofs.Counts.{total-with_entry, total-without_entry, total-with_value, some_child, no_child}
 use Rattle.span_store.proofs.Forests.{none_has_a_child_each, no_children}
-use Rattle.span_store.proofs.Nodes.{apart-nodes, no_node_at}
+use Rattle.span_store.proofs.Plain.{apart-spans, no_span_at}
 use Rattle.span_store.proofs.Views.{after_accepted, after_refused, count_at}
 use Rattle.span_store.proofs.Upheld.{length-with_value}
-use Rattle.span_store.proofs.Steps.{IsStore, IsStore-after, adds, keeps, releases, takes, closing_parts, closing_from, found}
+use Rattle.span_store.proofs.Steps.{IsStore, IsStore-store_after, adds, keeps, releases, takes, closing_parts, closing_from, found}
 use Rattle.std.proofs.Common.{Bool, cond, ◌&&◌, is_none}
 use Rattle.span_store.specs.Calls.{times_accepted, is_add, is_keep, is_release, is_ended}
 
-pub no_child_of_closing : (s : StoreView) (j child : ℕ) → IsClosing s.table.entries j → parent_of s.table.entries child ≢ Some j
+pub no_child_of_closing : (s : StoreView) (j child : ℕ) → IsClosing s.table.entries j → parent_there s.table.entries child ≢ Some j
 no_child_of_closing s j child closing e = let c = closing_parts s.table.entries j closing in no_child s.table.entries j child c.3 e
 
-pub parent_open : (s : StoreView) (id parent : ℕ) → IsStore s → parent_of s.table.entries id ≡ Some parent → IsOpen s.table.entries parent
+pub parent_open : (s : StoreView) (id parent : ℕ) → IsStore s → parent_there s.table.entries id ≡ Some parent → IsStillHeld s.table.entries parent
 parent_open s id parent w e =
     let f = found s.table.entries parent (w.forest.parents_there id parent e) in
     let some = some_child s.table.entries parent id e in
     open_from s.table.entries parent f.0 f.1.found (omega (arith, some))
   where
-    open_from : (spans : Spans) (j : ℕ) (node : Node) → value_at spans j ≡ Some node → 0 < node.handles + children spans j → IsOpen spans j
-    open_from spans j node h low =
-        let c : 0 < count spans j = (let a = ap handles_in h in omega (arith, a, low)) in
-        rw h (lt-ltb 0 (node.handles + children spans j) (rw h at c))
+    open_from : (spans : StoredSpans) (j : ℕ) (span : StoredSpan) → value_at spans j ≡ Some span → 0 < span.handles + children_there spans j → IsStillHeld spans j
+    open_from spans j span h low =
+        let c : 0 < count spans j = (let a = ap handles_if_there h in omega (arith, a, low)) in
+        rw h (lt-ltb 0 (span.handles + children_there spans j) (rw h at c))
 
-handles_le_all : (spans : Spans) (id : ℕ) (node : Node) → value_at spans id ≡ Some node → node.handles ≤ total_handles spans
-handles_le_all [] id node h = cc
-handles_le_all (e ∷ es) id node h =
+handles_le_all : (spans : StoredSpans) (id : ℕ) (span : StoredSpan) → value_at spans id ≡ Some span → span.handles ≤ all_handles spans
+handles_le_all [] id span h = cc
+handles_le_all (e ∷ es) id span h =
     elim (eqb_tells e.0 id) [
       | inl q ↦ (let k = rw q.0 at h in
-          let same : e.1 ≡ node = cc in
-          let held = ap (λ (n : Node). n.handles) same in
+          let same : e.1 ≡ span = cc in
+          let held = ap (λ (n : StoredSpan). n.handles) same in
           omega (arith, held))
-      | inr q ↦ (let r = handles_le_all es id node (rw q.0 at h) in omega arith)
+      | inr q ↦ (let r = handles_le_all es id span (rw q.0 at h) in omega arith)
     ]
 
-pub empty : (s : StoreView) → IsStore s → total_handles s.table.entries ≡ 0 → ((id : ℕ) → IsClosing s.table.entries id → ⊥) → s.table.entries ≡ []
+pub empty : (s : StoreView) → IsStore s → all_handles s.table.entries ≡ 0 → ((id : ℕ) → IsClosing s.table.entries id → ⊥) → s.table.entries ≡ []
 empty s w none never = none_has_a_child_each s.table.entries w.apart w.forest (λ id there. (
     let f = found s.table.entries id there in
     let le = handles_le_all s.table.entries id f.0 f.1.found in
-    elim (cases_lt 0 (children s.table.entries id)) [
+    elim (cases_lt 0 (children_there s.table.entries id)) [
       | inl some ↦ some
       | inr zero ↦ absurd (never id (closing_from s.table.entries id f.0 f.1.found (omega (arith, le, none)) (omega (arith, zero))))
     ]))
 
-length-with_entry : (spans : Spans) (id : ℕ) (node : Node) → length (with_entry spans id node) ≡ length spans + 1
-length-with_entry [] id node = omega arith
-length-with_entry (e ∷ es) id node =
-    let r = length-with_entry es id node in
+length-with_entry : (spans : StoredSpans) (id : ℕ) (span : StoredSpan) → length (with_entry spans id span) ≡ length spans + 1
+length-with_entry [] id span = omega arith
+length-with_entry (e ∷ es) id span =
+    let r = length-with_entry es id span in
     elim (cases_Bool (ltb (slot_of id) (slot_of e.0))) [ inl t ↦ rw t (omega arith) | inr t ↦ rw t (omega arith) ]
 
-length-taken : (spans : Spans) (id : ℕ) (node : Node) → AreApart spans → value_at spans id ≡ Some node → length (without_entry spans id) + 1 ≡ length spans
-length-taken [] id node a h = cc
-length-taken (e ∷ es) id node a h =
+length-taken : (spans : StoredSpans) (id : ℕ) (span : StoredSpan) → AreApart spans → value_at spans id ≡ Some span → length (without_entry spans id) + 1 ≡ length spans
+length-taken [] id span a h = cc
+length-taken (e ∷ es) id span a h =
     elim (eqb_tells e.0 id) [
       | inl t ↦ (let k : value_at es id ≡ None = rw t.1 at a.0 in rw (t.0, without_absent es id k) (omega arith))
-      | inr t ↦ (let r = length-taken es id node a.1 (rw t.0 at h) in rw t.0 (omega arith))
+      | inr t ↦ (let r = length-taken es id span a.1 (rw t.0 at h) in rw t.0 (omega arith))
     ]
 
-pub numbers_done : (s : StoreView) (call : Call) → IsStore s → refusal s call ≡ None → (total_handles (done s call).table.entries ≡ handles_then (total_handles s.table.entries) call) × (length (done s call).table.entries ≡ spans_then (length s.table.entries) call)
+pub numbers_done : (s : StoreView) (call : Call) → IsStore s → refusal s call ≡ None → (all_handles (store_then s call).table.entries ≡ handles_then (all_handles s.table.entries) call) × (length (store_then s call).table.entries ≡ spans_then (length s.table.entries) call)
 numbers_done s (Add parent bits word) w h =
     let a = adds s parent bits word w h in
-    (rw a.1.entries (total-with_entry s.table.entries a.0 (new_node parent bits word)), rw a.1.entries (length-with_entry s.table.entries a.0 (new_node parent bits word)))
+    (rw a.1.entries (total-with_entry s.table.entries a.0 (added_span parent bits word)), rw a.1.entries (length-with_entry s.table.entries a.0 (added_span parent bits word)))
 numbers_done s (Keep id) w h =
     let a = keeps s id h in
     let changed = with_handles (a.0.handles + 1) a.0 in
@@ -90,16 +90,16 @@ numbers_done s (Ended id) w h =
     let l = length-taken s.table.entries id a.0 w.apart a.1.found in
     (rw a.1.entries (omega (arith, v, a.1.handles)), rw a.1.entries (omega (arith, l)))
 
-pub numbers : (s : StoreView) (call : Call) → IsStore s → refusal s call ≡ None → (total_handles (after s call).table.entries ≡ handles_then (total_handles s.table.entries) call) × (length (after s call).table.entries ≡ spans_then (length s.table.entries) call)
+pub numbers : (s : StoreView) (call : Call) → IsStore s → refusal s call ≡ None → (all_handles (store_after s call).table.entries ≡ handles_then (all_handles s.table.entries) call) × (length (store_after s call).table.entries ≡ spans_then (length s.table.entries) call)
 numbers s call w h = rw (after_accepted s call h) (numbers_done s call w h)
 
-pub bounded : (t : Table Entry) (max_count handles id : ℕ) → IsConsistent t max_count handles → count (nodes_of t.entries) id ≤ max_count
+pub bounded : (t : Table Entry) (max_count handles id : ℕ) → IsConsistent t max_count handles → count (spans_of t.entries) id ≤ max_count
 bounded t max_count handles id w = go (value_at t.entries id) refl
   where
-    go : (o : Option Entry) → value_at t.entries id ≡ o → count (nodes_of t.entries) id ≤ max_count
+    go : (o : Option Entry) → value_at t.entries id ≡ o → count (spans_of t.entries) id ≤ max_count
     go None e =
-        let a = ap handles_in (no_node_at t.entries id e) in
-        let z = no_children (nodes_of t.entries) id (apart-nodes t.entries w.apart) w.forest (no_node_at t.entries id e) in
+        let a = ap handles_if_there (no_span_at t.entries id e) in
+        let z = no_children (spans_of t.entries) id (apart-spans t.entries w.apart) w.forest (no_span_at t.entries id e) in
         omega (arith, a, z)
     go (Some entry) e =
         let n = count_at t.entries id entry w.counted e in
@@ -116,7 +116,7 @@ one_accepted s call is_such h = rw h refl
 one_refused : (s : StoreView) (call : Call) (is_such : Call → Bool) (fault : Fault) → refusal s call ≡ Some fault → one_of is_such s call ≡ 0
 one_refused s call is_such fault h = rw h refl
 
-counted_done : (s : StoreView) (call : Call) → IsStore s → refusal s call ≡ None → (length (done s call).table.entries + cond (is_ended call) 1 0 ≡ length s.table.entries + cond (is_add call) 1 0) × (total_handles (done s call).table.entries + cond (is_release call) 1 0 ≡ total_handles s.table.entries + (cond (is_add call) 1 0 + cond (is_keep call) 1 0))
+counted_done : (s : StoreView) (call : Call) → IsStore s → refusal s call ≡ None → (length (store_then s call).table.entries + cond (is_ended call) 1 0 ≡ length s.table.entries + cond (is_add call) 1 0) × (all_handles (store_then s call).table.entries + cond (is_release call) 1 0 ≡ all_handles s.table.entries + (cond (is_add call) 1 0 + cond (is_keep call) 1 0))
 counted_done s (Add parent bits word) w h = let n = numbers_done s (Add parent bits word) w h in (omega (arith, n.1), omega (arith, n.0))
 counted_done s (Keep id) w h = let n = numbers_done s (Keep id) w h in (omega (arith, n.1), omega (arith, n.0))
 counted_done s (Release id) w h =
@@ -130,26 +130,26 @@ counted_done s (Ended id) w h =
     let l = length-taken s.table.entries id a.0 w.apart a.1.found in
     (omega (arith, n.1, l), omega (arith, n.0))
 
-counted_after : (s : StoreView) (call : Call) → IsStore s → (length (after s call).table.entries + one_of is_ended s call ≡ length s.table.entries + one_of is_add s call) × (total_handles (after s call).table.entries + one_of is_release s call ≡ total_handles s.table.entries + (one_of is_add s call + one_of is_keep s call))
+counted_after : (s : StoreView) (call : Call) → IsStore s → (length (store_after s call).table.entries + one_of is_ended s call ≡ length s.table.entries + one_of is_add s call) × (all_handles (store_after s call).table.entries + one_of is_release s call ≡ all_handles s.table.entries + (one_of is_add s call + one_of is_keep s call))
 counted_after s call w = go (refusal s call) refl
   where
-    go : (o : Option Fault) → refusal s call ≡ o → (length (after s call).table.entries + one_of is_ended s call ≡ length s.table.entries + one_of is_add s call) × (total_handles (after s call).table.entries + one_of is_release s call ≡ total_handles s.table.entries + (one_of is_add s call + one_of is_keep s call))
+    go : (o : Option Fault) → refusal s call ≡ o → (length (store_after s call).table.entries + one_of is_ended s call ≡ length s.table.entries + one_of is_add s call) × (all_handles (store_after s call).table.entries + one_of is_release s call ≡ all_handles s.table.entries + (one_of is_add s call + one_of is_keep s call))
     go None e =
         let n = counted_done s call w e in
         rw (after_accepted s call e, one_accepted s call is_ended e, one_accepted s call is_add e, one_accepted s call is_release e, one_accepted s call is_keep e) n
     go (Some fault) e =
         rw (after_refused s call fault e, one_refused s call is_ended fault e, one_refused s call is_add fault e, one_refused s call is_release fault e, one_refused s call is_keep fault e) (refl, omega arith)
 
-pub counted_spans : (s : StoreView) (calls : List Call) → IsStore s → length (after_all s calls).table.entries + times_accepted is_ended s calls ≡ length s.table.entries + times_accepted is_add s calls
+pub counted_spans : (s : StoreView) (calls : List Call) → IsStore s → length (store_after_all s calls).table.entries + times_accepted is_ended s calls ≡ length s.table.entries + times_accepted is_add s calls
 counted_spans s [] w = refl
 counted_spans s (call ∷ calls) w =
     let here = (counted_after s call w).0 in
-    let rest = counted_spans (after s call) calls (IsStore-after s call w) in
+    let rest = counted_spans (store_after s call) calls (IsStore-store_after s call w) in
     omega (arith, here, rest)
 
-pub counted_handles : (s : StoreView) (calls : List Call) → IsStore s → total_handles (after_all s calls).table.entries + times_accepted is_release s calls ≡ total_handles s.table.entries + (times_accepted is_add s calls + times_accepted is_keep s calls)
+pub counted_handles : (s : StoreView) (calls : List Call) → IsStore s → all_handles (store_after_all s calls).table.entries + times_accepted is_release s calls ≡ all_handles s.table.entries + (times_accepted is_add s calls + times_accepted is_keep s calls)
 counted_handles s [] w = omega arith
 counted_handles s (call ∷ calls) w =
     let here = (counted_after s call w).1 in
-    let rest = counted_handles (after s call) calls (IsStore-after s call w) in
+    let rest = counted_handles (store_after s call) calls (IsStore-store_after s call w) in
     omega (arith, here, rest)

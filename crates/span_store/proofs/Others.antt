@@ -4,90 +4,90 @@ use Rattle.span_id.specs.declared.fault.Fault.{Fault}
 use Rattle.span_slots.specs.Table.{Table, value_at, next_id}
 use Rattle.span_slots.proofs.Entries.{value_at-with_entry_same, value_at-with_entry_other, value_at-without_entry_same, value_at-without_entry_other, value_at-with_value_same, value_at-with_value_other}
 use Rattle.span_store.specs.declared.entry.Entry.{Entry}
-use Rattle.span_store.specs.Node.{Node, new_node, with_handles}
-use Rattle.span_store.specs.Spans.{children}
+use Rattle.span_store.specs.StoredSpan.{StoredSpan, added_span, with_handles}
+use Rattle.span_store.specs.StoredSpans.{children_there}
 use Rattle.span_store.specs.Store.{StoreView}
-use Rattle.span_store.specs.Calls.{Add, Keep, Release, Ended, refusal, done, after}
+use Rattle.span_store.specs.Calls.{Add, Keep, Release, Ended, refusal, store_then, store_after}
 use Rattle.span_store.specs.inside.Invariant.{IsConsistent}
 use Rattle.span_store.proofs.Maps.{there_is}
-use Rattle.span_store.proofs.Counts.{children-with_entry, children-without_entry, children-with_value, weight}
-use Rattle.span_store.proofs.Nodes.{apart-nodes, kept-nodes}
+use Rattle.span_store.proofs.Counts.{children_there-with_entry, children_there-without_entry, children_there-with_value, weight}
+use Rattle.span_store.proofs.Plain.{apart-spans, kept-spans}
 use Rattle.span_store.proofs.Views.{view_of, after_accepted, after_refused}
 use Rattle.span_store.proofs.Steps.{IsStore, Adds, Writes, Takes, adds, keeps, releases, takes}
 
 -- what the code keeps, as contracts see it
 pub is_store : (t : Table Entry) (max_count handles : ℕ) → IsConsistent t max_count handles → IsStore (view_of t max_count)
 is_store t max_count handles w = record {
-  kept = kept-nodes t w.kept;
-  apart = apart-nodes t.entries w.apart;
+  kept = kept-spans t w.kept;
+  apart = apart-spans t.entries w.apart;
   forest = w.forest;
 }
 
-pub added_other : (s new : StoreView) (parent : Option ℕ) (node : Node) (id j : ℕ) → Adds s new parent node id → j ≢ id → value_at new.table.entries j ≡ value_at s.table.entries j
-added_other s new parent node id j a ne = rw a.entries (value_at-with_entry_other s.table.entries id j node (λ q. ne (sym q)))
+pub added_other : (s new : StoreView) (parent : Option ℕ) (span : StoredSpan) (id j : ℕ) → Adds s new parent span id → j ≢ id → value_at new.table.entries j ≡ value_at s.table.entries j
+added_other s new parent span id j a ne = rw a.entries (value_at-with_entry_other s.table.entries id j span (λ q. ne (sym q)))
 
-pub added_same : (s new : StoreView) (parent : Option ℕ) (node : Node) (id : ℕ) → Adds s new parent node id → value_at new.table.entries id ≡ Some node
-added_same s new parent node id a = rw a.entries (value_at-with_entry_same s.table.entries id node a.vacant)
+pub added_same : (s new : StoreView) (parent : Option ℕ) (span : StoredSpan) (id : ℕ) → Adds s new parent span id → value_at new.table.entries id ≡ Some span
+added_same s new parent span id a = rw a.entries (value_at-with_entry_same s.table.entries id span a.vacant)
 
-pub added_children : (s new : StoreView) (parent : Option ℕ) (node : Node) (id j : ℕ) → Adds s new parent node id → children new.table.entries j ≡ children s.table.entries j + weight node.parent j
-added_children s new parent node id j a = rw a.entries (children-with_entry s.table.entries id j node)
+pub added_children : (s new : StoreView) (parent : Option ℕ) (span : StoredSpan) (id j : ℕ) → Adds s new parent span id → children_there new.table.entries j ≡ children_there s.table.entries j + weight span.parent j
+added_children s new parent span id j a = rw a.entries (children_there-with_entry s.table.entries id j span)
 
-pub written_other : (s new : StoreView) (id j : ℕ) (node changed : Node) → Writes s new id node changed → j ≢ id → value_at new.table.entries j ≡ value_at s.table.entries j
-written_other s new id j node changed a ne = rw a.entries (value_at-with_value_other s.table.entries id j changed (λ q. ne (sym q)))
+pub written_other : (s new : StoreView) (id j : ℕ) (span changed : StoredSpan) → Writes s new id span changed → j ≢ id → value_at new.table.entries j ≡ value_at s.table.entries j
+written_other s new id j span changed a ne = rw a.entries (value_at-with_value_other s.table.entries id j changed (λ q. ne (sym q)))
 
-pub written_same : (s new : StoreView) (id : ℕ) (node changed : Node) → Writes s new id node changed → value_at new.table.entries id ≡ Some changed
-written_same s new id node changed a = rw a.entries (value_at-with_value_same s.table.entries id changed (there_is (value_at s.table.entries id) node a.found))
+pub written_same : (s new : StoreView) (id : ℕ) (span changed : StoredSpan) → Writes s new id span changed → value_at new.table.entries id ≡ Some changed
+written_same s new id span changed a = rw a.entries (value_at-with_value_same s.table.entries id changed (there_is (value_at s.table.entries id) span a.found))
 
-pub written_children : (s new : StoreView) (id j : ℕ) (node changed : Node) → IsStore s → Writes s new id node changed → children new.table.entries j ≡ children s.table.entries j
-written_children s new id j node changed w a = rw a.entries (children-with_value s.table.entries id j node changed w.apart a.found a.parent)
+pub written_children : (s new : StoreView) (id j : ℕ) (span changed : StoredSpan) → IsStore s → Writes s new id span changed → children_there new.table.entries j ≡ children_there s.table.entries j
+written_children s new id j span changed w a = rw a.entries (children_there-with_value s.table.entries id j span changed w.apart a.found a.parent)
 
-pub taken_other : (s new : StoreView) (id j : ℕ) (node : Node) → Takes s new id node → j ≢ id → value_at new.table.entries j ≡ value_at s.table.entries j
-taken_other s new id j node a ne = rw a.entries (value_at-without_entry_other s.table.entries id j (λ q. ne (sym q)))
+pub taken_other : (s new : StoreView) (id j : ℕ) (span : StoredSpan) → Takes s new id span → j ≢ id → value_at new.table.entries j ≡ value_at s.table.entries j
+taken_other s new id j span a ne = rw a.entries (value_at-without_entry_other s.table.entries id j (λ q. ne (sym q)))
 
-pub taken_same : (s new : StoreView) (id : ℕ) (node : Node) → Takes s new id node → value_at new.table.entries id ≡ None
-taken_same s new id node a = rw a.entries (value_at-without_entry_same s.table.entries id)
+pub taken_same : (s new : StoreView) (id : ℕ) (span : StoredSpan) → Takes s new id span → value_at new.table.entries id ≡ None
+taken_same s new id span a = rw a.entries (value_at-without_entry_same s.table.entries id)
 
-pub taken_children : (s new : StoreView) (id j : ℕ) (node : Node) → IsStore s → Takes s new id node → children new.table.entries j + weight node.parent j ≡ children s.table.entries j
-taken_children s new id j node w a = rw a.entries (children-without_entry s.table.entries id j node w.apart a.found)
+pub taken_children : (s new : StoreView) (id j : ℕ) (span : StoredSpan) → IsStore s → Takes s new id span → children_there new.table.entries j + weight span.parent j ≡ children_there s.table.entries j
+taken_children s new id j span w a = rw a.entries (children_there-without_entry s.table.entries id j span w.apart a.found)
 
-pub new_found : (s : StoreView) (parent : Option ℕ) (bits word id : ℕ) → IsStore s → refusal s (Add parent bits word) ≡ None → next_id s.table ≡ Some id → value_at (after s (Add parent bits word)).table.entries id ≡ Some (new_node parent bits word)
+pub new_found : (s : StoreView) (parent : Option ℕ) (bits word id : ℕ) → IsStore s → refusal s (Add parent bits word) ≡ None → next_id s.table ≡ Some id → value_at (store_after s (Add parent bits word)).table.entries id ≡ Some (added_span parent bits word)
 new_found s parent bits word id w h e =
     let a = adds s parent bits word w h in
     let same : a.0 ≡ id = (let k : Some a.0 ≡ Some id = sym a.1.next ∙ e in cc) in
-    rw (after_accepted s (Add parent bits word) h, ← same) (added_same s (done s (Add parent bits word)) parent (new_node parent bits word) a.0 a.1)
+    rw (after_accepted s (Add parent bits word) h, ← same) (added_same s (store_then s (Add parent bits word)) parent (added_span parent bits word) a.0 a.1)
 
-pub others_found : (s : StoreView) (parent : Option ℕ) (bits word other : ℕ) → IsStore s → next_id s.table ≢ Some other → value_at (after s (Add parent bits word)).table.entries other ≡ value_at s.table.entries other
+pub others_found : (s : StoreView) (parent : Option ℕ) (bits word other : ℕ) → IsStore s → next_id s.table ≢ Some other → value_at (store_after s (Add parent bits word)).table.entries other ≡ value_at s.table.entries other
 others_found s parent bits word other w ne = go (refusal s (Add parent bits word)) refl
   where
-    go : (o : Option Fault) → refusal s (Add parent bits word) ≡ o → value_at (after s (Add parent bits word)).table.entries other ≡ value_at s.table.entries other
+    go : (o : Option Fault) → refusal s (Add parent bits word) ≡ o → value_at (store_after s (Add parent bits word)).table.entries other ≡ value_at s.table.entries other
     go None h =
         let a = adds s parent bits word w h in
-        rw (after_accepted s (Add parent bits word) h) (added_other s (done s (Add parent bits word)) parent (new_node parent bits word) a.0 other a.1 (λ q. ne (a.1.next ∙ ap (λ x. Some x) (sym q))))
+        rw (after_accepted s (Add parent bits word) h) (added_other s (store_then s (Add parent bits word)) parent (added_span parent bits word) a.0 other a.1 (λ q. ne (a.1.next ∙ ap (λ x. Some x) (sym q))))
     go (Some fault) h = rw (after_refused s (Add parent bits word) fault h) refl
 
-pub others_kept : (s : StoreView) (id other : ℕ) → other ≢ id → value_at (after s (Keep id)).table.entries other ≡ value_at s.table.entries other
+pub others_kept : (s : StoreView) (id other : ℕ) → other ≢ id → value_at (store_after s (Keep id)).table.entries other ≡ value_at s.table.entries other
 others_kept s id other ne = go (refusal s (Keep id)) refl
   where
-    go : (o : Option Fault) → refusal s (Keep id) ≡ o → value_at (after s (Keep id)).table.entries other ≡ value_at s.table.entries other
+    go : (o : Option Fault) → refusal s (Keep id) ≡ o → value_at (store_after s (Keep id)).table.entries other ≡ value_at s.table.entries other
     go None h =
         let a = keeps s id h in
-        rw (after_accepted s (Keep id) h) (written_other s (done s (Keep id)) id other a.0 (with_handles (a.0.handles + 1) a.0) a.1 ne)
+        rw (after_accepted s (Keep id) h) (written_other s (store_then s (Keep id)) id other a.0 (with_handles (a.0.handles + 1) a.0) a.1 ne)
     go (Some fault) h = rw (after_refused s (Keep id) fault h) refl
 
-pub others_released : (s : StoreView) (id other : ℕ) → other ≢ id → value_at (after s (Release id)).table.entries other ≡ value_at s.table.entries other
+pub others_released : (s : StoreView) (id other : ℕ) → other ≢ id → value_at (store_after s (Release id)).table.entries other ≡ value_at s.table.entries other
 others_released s id other ne = go (refusal s (Release id)) refl
   where
-    go : (o : Option Fault) → refusal s (Release id) ≡ o → value_at (after s (Release id)).table.entries other ≡ value_at s.table.entries other
+    go : (o : Option Fault) → refusal s (Release id) ≡ o → value_at (store_after s (Release id)).table.entries other ≡ value_at s.table.entries other
     go None h =
         let a = releases s id h in
-        rw (after_accepted s (Release id) h) (written_other s (done s (Release id)) id other a.0 (with_handles (a.0.handles - 1) a.0) a.1 ne)
+        rw (after_accepted s (Release id) h) (written_other s (store_then s (Release id)) id other a.0 (with_handles (a.0.handles - 1) a.0) a.1 ne)
     go (Some fault) h = rw (after_refused s (Release id) fault h) refl
 
-pub others_ended : (s : StoreView) (id other : ℕ) → other ≢ id → value_at (after s (Ended id)).table.entries other ≡ value_at s.table.entries other
+pub others_ended : (s : StoreView) (id other : ℕ) → other ≢ id → value_at (store_after s (Ended id)).table.entries other ≡ value_at s.table.entries other
 others_ended s id other ne = go (refusal s (Ended id)) refl
   where
-    go : (o : Option Fault) → refusal s (Ended id) ≡ o → value_at (after s (Ended id)).table.entries other ≡ value_at s.table.entries other
+    go : (o : Option Fault) → refusal s (Ended id) ≡ o → value_at (store_after s (Ended id)).table.entries other ≡ value_at s.table.entries other
     go None h =
         let a = takes s id h in
-        rw (after_accepted s (Ended id) h) (taken_other s (done s (Ended id)) id other a.0 a.1 ne)
+        rw (after_accepted s (Ended id) h) (taken_other s (store_then s (Ended id)) id other a.0 a.1 ne)
     go (Some fault) h = rw (after_refused s (Ended id) fault h) refl

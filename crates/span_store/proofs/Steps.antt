@@ -5,14 +5,13 @@ use borrow.Author.Tests.{ltb-true}
 use Rattle.span_id.specs.declared.fault.Fault.{Fault}
 use Rattle.span_id.specs.declared.fault.Fault.TheVariants.{Unknown, CountFull, Full}
 use Rattle.span_slots.specs.Table.{Table, value_at, with_entry, without_entry, with_value, next_id, next_slot, id_at, table_removed}
-use Rattle.span_slots.specs.Change.{Insert, Remove, Write}
-use Rattle.span_slots.specs.Change as table
+use Rattle.span_slots.specs.Change.{Insert, Remove, Write, after}
 use Rattle.span_slots.proofs.Issued.{IsKept, IsKept-after}
 use Rattle.span_slots.proofs.Promises.{next_absent}
-use Rattle.span_store.specs.Node.{Node, new_node, with_handles}
-use Rattle.span_store.specs.Spans.{Spans, children, count, handles_in, handles_of, is_open, is_closing, IsClosing, IsOpen}
+use Rattle.span_store.specs.StoredSpan.{StoredSpan, added_span, with_handles}
+use Rattle.span_store.specs.StoredSpans.{StoredSpans, children_there, count, handles_if_there, handles_of, is_still_held, is_closing, IsClosing, IsStillHeld}
 use Rattle.span_store.specs.Store.{StoreView}
-use Rattle.span_store.specs.Calls.{Call, Add, Keep, Release, Ended, refusal, no_more, no_child, done, after, handles_set}
+use Rattle.span_store.specs.Calls.{Call, Add, Keep, Release, Ended, refusal, no_more, no_child, store_then, store_after, handles_set}
 use Rattle.span_store.specs.inside.Invariant.{AreApart, IsForest}
 use Rattle.span_store.proofs.Maps.{apart-with_entry, apart-without_entry, apart-with_value, is_there, there_is}
 use Rattle.span_store.proofs.Forests.{forest-with_entry, forest-without_entry, forest-with_value}
@@ -29,16 +28,16 @@ both true b h = (refl, h)
 both false b h = absurd (false≢true h)
 
 -- an open span and a closing one, taken apart
-pub record IsFound (spans : Spans) (id : ℕ) (node : Node) : Type 0 where
-  pub found : value_at spans id ≡ Some node
-  pub is_count : count spans id ≡ node.handles + children spans id
+pub record IsFound (spans : StoredSpans) (id : ℕ) (span : StoredSpan) : Type 0 where
+  pub found : value_at spans id ≡ Some span
+  pub is_count : count spans id ≡ span.handles + children_there spans id
 
-pub found : (spans : Spans) (id : ℕ) → IsSome (value_at spans id) → (node : Node) × IsFound spans id node
+pub found : (spans : StoredSpans) (id : ℕ) → IsSome (value_at spans id) → (span : StoredSpan) × IsFound spans id span
 found spans id h =
     let s = is_there (value_at spans id) h in
-    (s.0, record { found = s.1; is_count = ap (λ o. handles_in o + children spans id) s.1 })
+    (s.0, record { found = s.1; is_count = ap (λ o. handles_if_there o + children_there spans id) s.1 })
 
-pub closing_parts : (spans : Spans) (id : ℕ) → IsClosing spans id → (node : Node) × (value_at spans id ≡ Some node) × (node.handles ≡ 0) × (children spans id ≡ 0)
+pub closing_parts : (spans : StoredSpans) (id : ℕ) → IsClosing spans id → (span : StoredSpan) × (value_at spans id ≡ Some span) × (span.handles ≡ 0) × (children_there spans id ≡ 0)
 closing_parts spans id h =
     let b = both (is_some (value_at spans id)) (eqb (count spans id) 0) h in
     let s = found spans id b.0 in
@@ -46,12 +45,12 @@ closing_parts spans id h =
     let c = s.1.is_count in
     (s.0, s.1.found, omega (arith, z, c), omega (arith, z, c))
 
-pub closing_from : (spans : Spans) (id : ℕ) (node : Node) → value_at spans id ≡ Some node → node.handles ≡ 0 → children spans id ≡ 0 → IsClosing spans id
-closing_from spans id node h z k =
-    let c : count spans id ≡ 0 = (let a = ap handles_in h in omega (arith, a, z, k)) in
+pub closing_from : (spans : StoredSpans) (id : ℕ) (span : StoredSpan) → value_at spans id ≡ Some span → span.handles ≡ 0 → children_there spans id ≡ 0 → IsClosing spans id
+closing_from spans id span h z k =
+    let c : count spans id ≡ 0 = (let a = ap handles_if_there h in omega (arith, a, z, k)) in
     rw (h, (rw h at c)) refl
 
-pub open_parts : (spans : Spans) (id : ℕ) → IsOpen spans id → (node : Node) × (value_at spans id ≡ Some node) × (0 < node.handles + children spans id)
+pub open_parts : (spans : StoredSpans) (id : ℕ) → IsStillHeld spans id → (span : StoredSpan) × (value_at spans id ≡ Some span) × (0 < span.handles + children_there spans id)
 open_parts spans id h =
     let b = both (is_some (value_at spans id)) (ltb 0 (count spans id)) h in
     let s = found spans id b.0 in
@@ -60,10 +59,10 @@ open_parts spans id h =
     (s.0, s.1.found, omega (arith, low, c))
 
 -- what it says that a call is accepted
-pub may_be_held : (s : StoreView) (id : ℕ) → no_more s id ≡ None → IsOpen s.table.entries id × (count s.table.entries id < s.max_count)
-may_be_held s id h = go (is_open s.table.entries id) (ltb (count s.table.entries id) s.max_count) refl refl
+pub may_be_held : (s : StoreView) (id : ℕ) → no_more s id ≡ None → IsStillHeld s.table.entries id × (count s.table.entries id < s.max_count)
+may_be_held s id h = go (is_still_held s.table.entries id) (ltb (count s.table.entries id) s.max_count) refl refl
   where
-    go : (a b : Bool) → is_open s.table.entries id ≡ a → ltb (count s.table.entries id) s.max_count ≡ b → IsOpen s.table.entries id × (count s.table.entries id < s.max_count)
+    go : (a b : Bool) → is_still_held s.table.entries id ≡ a → ltb (count s.table.entries id) s.max_count ≡ b → IsStillHeld s.table.entries id × (count s.table.entries id < s.max_count)
     go true true e k = (e, ltb-true (count s.table.entries id) s.max_count k)
     go true false e k = absurd (let bad : Some CountFull ≡ None = rw (e, k) at h in cc)
     go false b e k = absurd (let bad : Some Unknown ≡ None = rw e at h in cc)
@@ -91,45 +90,45 @@ may_end s id h =
     ]
 
 -- `add`: one span more, under an id that wasn't there
-pub record Adds (s new : StoreView) (parent : Option ℕ) (node : Node) (id : ℕ) : Type 0 where
+pub record Adds (s new : StoreView) (parent : Option ℕ) (span : StoredSpan) (id : ℕ) : Type 0 where
   pub next : next_id s.table ≡ Some id
   pub vacant : value_at s.table.entries id ≡ None
-  pub entries : new.table.entries ≡ with_entry s.table.entries id node
-  pub above : (p : ℕ) → parent ≡ Some p → IsOpen s.table.entries p
+  pub entries : new.table.entries ≡ with_entry s.table.entries id span
+  pub above : (p : ℕ) → parent ≡ Some p → IsStillHeld s.table.entries p
 
 -- `keep` and `release`: one span has other handles
-pub record Writes (s new : StoreView) (id : ℕ) (node changed : Node) : Type 0 where
-  pub found : value_at s.table.entries id ≡ Some node
+pub record Writes (s new : StoreView) (id : ℕ) (span changed : StoredSpan) : Type 0 where
+  pub found : value_at s.table.entries id ≡ Some span
   pub entries : new.table.entries ≡ with_value s.table.entries id changed
-  pub parent : changed.parent ≡ node.parent
-  pub bits : changed.bits ≡ node.bits
-  pub word : changed.word ≡ node.word
+  pub parent : changed.parent ≡ span.parent
+  pub bits : changed.bits ≡ span.bits
+  pub word : changed.word ≡ span.word
 
 -- `ended`: a span that nothing holds is taken out
-pub record Takes (s new : StoreView) (id : ℕ) (node : Node) : Type 0 where
-  pub found : value_at s.table.entries id ≡ Some node
-  pub handles : node.handles ≡ 0
-  pub children : children s.table.entries id ≡ 0
+pub record Takes (s new : StoreView) (id : ℕ) (span : StoredSpan) : Type 0 where
+  pub found : value_at s.table.entries id ≡ Some span
+  pub handles : span.handles ≡ 0
+  pub children : children_there s.table.entries id ≡ 0
   pub entries : new.table.entries ≡ without_entry s.table.entries id
 
 module _ {T : Type 0} where
-  pub entries-inserted : (t : Table T) (id : ℕ) (v : T) → next_id t ≡ Some id → (table.after t (Insert v)).entries ≡ with_entry t.entries id v
+  pub entries-inserted : (t : Table T) (id : ℕ) (v : T) → next_id t ≡ Some id → (after t (Insert v)).entries ≡ with_entry t.entries id v
   entries-inserted t id v h = go (next_slot t) refl
     where
-      go : (o : Option ℕ) → next_slot t ≡ o → (table.after t (Insert v)).entries ≡ with_entry t.entries id v
+      go : (o : Option ℕ) → next_slot t ≡ o → (after t (Insert v)).entries ≡ with_entry t.entries id v
       go None e = (let none : None ≡ Some id = rw e at h in cc)
       go (Some k) e = (let same = rw e at h in rw e (ap (λ x. with_entry t.entries x v) (let q : id_at t k ≡ id = cc in q)))
 
   entries-removed : (t : Table T) (id : ℕ) (v : T) → value_at t.entries id ≡ Some v → (table_removed t id).entries ≡ without_entry t.entries id
   entries-removed t id v h = rw h refl
 
-above_open : (s : StoreView) (parent : Option ℕ) → no_child s parent ≡ None → (p : ℕ) → parent ≡ Some p → IsOpen s.table.entries p
+above_open : (s : StoreView) (parent : Option ℕ) → no_child s parent ≡ None → (p : ℕ) → parent ≡ Some p → IsStillHeld s.table.entries p
 above_open s None h p e = (let bad : None ≡ Some p = e in cc)
 above_open s (Some q) h p e =
     let same : q ≡ p = cc in
-    subst (IsOpen s.table.entries) same (may_be_held s q h).0
+    subst (IsStillHeld s.table.entries) same (may_be_held s q h).0
 
-pub adds : (s : StoreView) (parent : Option ℕ) (bits word : ℕ) → IsStore s → refusal s (Add parent bits word) ≡ None → (id : ℕ) × Adds s (done s (Add parent bits word)) parent (new_node parent bits word) id
+pub adds : (s : StoreView) (parent : Option ℕ) (bits word : ℕ) → IsStore s → refusal s (Add parent bits word) ≡ None → (id : ℕ) × Adds s (store_then s (Add parent bits word)) parent (added_span parent bits word) id
 adds s parent bits word w h =
     let m = may_be_added s parent bits word h in
     let id = m.1.0 in (
@@ -137,97 +136,97 @@ adds s parent bits word w h =
       record {
         next = m.1.1;
         vacant = rw m.1.1 at (next_absent s.table w.kept);
-        entries = entries-inserted s.table id (new_node parent bits word) m.1.1;
+        entries = entries-inserted s.table id (added_span parent bits word) m.1.1;
         above = above_open s parent m.0;
       },
     )
 
 module _ (s : StoreView) (id : ℕ) (change : ℕ → ℕ) where
-  handles_set_is : (node : Node) → value_at s.table.entries id ≡ Some node → handles_set s id change (value_at s.table.entries id) ≡ record s { table = table.after s.table (Write id (with_handles (change node.handles) node)) }
-  handles_set_is node h = rw h refl
+  handles_set_is : (span : StoredSpan) → value_at s.table.entries id ≡ Some span → handles_set s id change (value_at s.table.entries id) ≡ record s { table = after s.table (Write id (with_handles (change span.handles) span)) }
+  handles_set_is span h = rw h refl
 
-  writes : (node : Node) → value_at s.table.entries id ≡ Some node → Writes s (handles_set s id change (value_at s.table.entries id)) id node (with_handles (change node.handles) node)
-  writes node h = record {
+  writes : (span : StoredSpan) → value_at s.table.entries id ≡ Some span → Writes s (handles_set s id change (value_at s.table.entries id)) id span (with_handles (change span.handles) span)
+  writes span h = record {
     found = h;
-    entries = ap (λ (x : StoreView). x.table.entries) (handles_set_is node h);
+    entries = ap (λ (x : StoreView). x.table.entries) (handles_set_is span h);
     parent = refl;
     bits = refl;
     word = refl;
   }
 
-pub keeps : (s : StoreView) (id : ℕ) → refusal s (Keep id) ≡ None → (node : Node) × Writes s (done s (Keep id)) id node (with_handles (node.handles + 1) node) × (0 < node.handles + children s.table.entries id)
+pub keeps : (s : StoreView) (id : ℕ) → refusal s (Keep id) ≡ None → (span : StoredSpan) × Writes s (store_then s (Keep id)) id span (with_handles (span.handles + 1) span) × (0 < span.handles + children_there s.table.entries id)
 keeps s id h =
     let m = may_be_held s id h in
     let o = open_parts s.table.entries id m.0 in
     (o.0, writes s id (λ handles. handles + 1) o.0 o.1, o.2)
 
-held_there : (o : Option Node) → 0 < handles_in o → (node : Node) × (o ≡ Some node) × (0 < node.handles)
+held_there : (o : Option StoredSpan) → 0 < handles_if_there o → (span : StoredSpan) × (o ≡ Some span) × (0 < span.handles)
 held_there None h = absurd (omega arith)
-held_there (Some node) h = (node, refl, h)
+held_there (Some span) h = (span, refl, h)
 
-pub releases : (s : StoreView) (id : ℕ) → refusal s (Release id) ≡ None → (node : Node) × Writes s (done s (Release id)) id node (with_handles (node.handles - 1) node) × (0 < node.handles)
+pub releases : (s : StoreView) (id : ℕ) → refusal s (Release id) ≡ None → (span : StoredSpan) × Writes s (store_then s (Release id)) id span (with_handles (span.handles - 1) span) × (0 < span.handles)
 releases s id h =
     let o = held_there (value_at s.table.entries id) (may_be_released s id h) in
     (o.0, writes s id (λ handles. handles - 1) o.0 o.1, o.2)
 
-pub takes : (s : StoreView) (id : ℕ) → refusal s (Ended id) ≡ None → (node : Node) × Takes s (done s (Ended id)) id node
+pub takes : (s : StoreView) (id : ℕ) → refusal s (Ended id) ≡ None → (span : StoredSpan) × Takes s (store_then s (Ended id)) id span
 takes s id h =
     let c = closing_parts s.table.entries id (may_end s id h) in
     (c.0, record { found = c.1; handles = c.2; children = c.3; entries = entries-removed s.table id c.0 c.1 })
 
 -- every call leaves a store
-kept-done : (s : StoreView) (call : Call) → IsKept s.table → IsKept (done s call).table
-kept-done s (Add parent bits word) k = IsKept-after s.table (Insert (new_node parent bits word)) k
-kept-done s (Keep id) k = go (value_at s.table.entries id)
+kept-store_then : (s : StoreView) (call : Call) → IsKept s.table → IsKept (store_then s call).table
+kept-store_then s (Add parent bits word) k = IsKept-after s.table (Insert (added_span parent bits word)) k
+kept-store_then s (Keep id) k = go (value_at s.table.entries id)
   where
-    go : (o : Option Node) → IsKept (handles_set s id (λ handles. handles + 1) o).table
+    go : (o : Option StoredSpan) → IsKept (handles_set s id (λ handles. handles + 1) o).table
     go None = k
-    go (Some node) = IsKept-after s.table (Write id (with_handles (node.handles + 1) node)) k
-kept-done s (Release id) k = go (value_at s.table.entries id)
+    go (Some span) = IsKept-after s.table (Write id (with_handles (span.handles + 1) span)) k
+kept-store_then s (Release id) k = go (value_at s.table.entries id)
   where
-    go : (o : Option Node) → IsKept (handles_set s id (λ handles. handles - 1) o).table
+    go : (o : Option StoredSpan) → IsKept (handles_set s id (λ handles. handles - 1) o).table
     go None = k
-    go (Some node) = IsKept-after s.table (Write id (with_handles (node.handles - 1) node)) k
-kept-done s (Ended id) k = IsKept-after s.table (Remove id) k
+    go (Some span) = IsKept-after s.table (Write id (with_handles (span.handles - 1) span)) k
+kept-store_then s (Ended id) k = IsKept-after s.table (Remove id) k
 
-store-added : (s new : StoreView) (parent : Option ℕ) (node : Node) (id : ℕ) → IsStore s → IsKept new.table → node.parent ≡ parent → Adds s new parent node id → IsStore new
-store-added s new parent node id w k e a = record {
+store-added : (s new : StoreView) (parent : Option ℕ) (span : StoredSpan) (id : ℕ) → IsStore s → IsKept new.table → span.parent ≡ parent → Adds s new parent span id → IsStore new
+store-added s new parent span id w k e a = record {
   kept = k;
-  apart = subst AreApart (sym a.entries) (apart-with_entry s.table.entries id node a.vacant w.apart);
-  forest = subst IsForest (sym a.entries) (forest-with_entry s.table.entries id node a.vacant (λ p h. (let o = open_parts s.table.entries p (a.above p (sym e ∙ h)) in there_is (value_at s.table.entries p) o.0 o.1)) w.forest);
+  apart = subst AreApart (sym a.entries) (apart-with_entry s.table.entries id span a.vacant w.apart);
+  forest = subst IsForest (sym a.entries) (forest-with_entry s.table.entries id span a.vacant (λ p h. (let o = open_parts s.table.entries p (a.above p (sym e ∙ h)) in there_is (value_at s.table.entries p) o.0 o.1)) w.forest);
 }
 
-store-written : (s new : StoreView) (id : ℕ) (node changed : Node) → IsStore s → IsKept new.table → Writes s new id node changed → IsStore new
-store-written s new id node changed w k a = record {
+store-written : (s new : StoreView) (id : ℕ) (span changed : StoredSpan) → IsStore s → IsKept new.table → Writes s new id span changed → IsStore new
+store-written s new id span changed w k a = record {
   kept = k;
   apart = subst AreApart (sym a.entries) (apart-with_value s.table.entries id changed w.apart);
-  forest = subst IsForest (sym a.entries) (forest-with_value s.table.entries id node changed a.found a.parent w.forest);
+  forest = subst IsForest (sym a.entries) (forest-with_value s.table.entries id span changed a.found a.parent w.forest);
 }
 
-store-taken : (s new : StoreView) (id : ℕ) (node : Node) → IsStore s → IsKept new.table → Takes s new id node → IsStore new
-store-taken s new id node w k a = record {
+store-taken : (s new : StoreView) (id : ℕ) (span : StoredSpan) → IsStore s → IsKept new.table → Takes s new id span → IsStore new
+store-taken s new id span w k a = record {
   kept = k;
   apart = subst AreApart (sym a.entries) (apart-without_entry s.table.entries id w.apart);
   forest = subst IsForest (sym a.entries) (forest-without_entry s.table.entries id a.children w.forest);
 }
 
-IsStore-done : (s : StoreView) (call : Call) → IsStore s → refusal s call ≡ None → IsStore (done s call)
-IsStore-done s (Add parent bits word) w h =
+IsStore-store_then : (s : StoreView) (call : Call) → IsStore s → refusal s call ≡ None → IsStore (store_then s call)
+IsStore-store_then s (Add parent bits word) w h =
     let a = adds s parent bits word w h in
-    store-added s (done s (Add parent bits word)) parent (new_node parent bits word) a.0 w (kept-done s (Add parent bits word) w.kept) refl a.1
-IsStore-done s (Keep id) w h =
+    store-added s (store_then s (Add parent bits word)) parent (added_span parent bits word) a.0 w (kept-store_then s (Add parent bits word) w.kept) refl a.1
+IsStore-store_then s (Keep id) w h =
     let a = keeps s id h in
-    store-written s (done s (Keep id)) id a.0 (with_handles (a.0.handles + 1) a.0) w (kept-done s (Keep id) w.kept) a.1
-IsStore-done s (Release id) w h =
+    store-written s (store_then s (Keep id)) id a.0 (with_handles (a.0.handles + 1) a.0) w (kept-store_then s (Keep id) w.kept) a.1
+IsStore-store_then s (Release id) w h =
     let a = releases s id h in
-    store-written s (done s (Release id)) id a.0 (with_handles (a.0.handles - 1) a.0) w (kept-done s (Release id) w.kept) a.1
-IsStore-done s (Ended id) w h =
+    store-written s (store_then s (Release id)) id a.0 (with_handles (a.0.handles - 1) a.0) w (kept-store_then s (Release id) w.kept) a.1
+IsStore-store_then s (Ended id) w h =
     let a = takes s id h in
-    store-taken s (done s (Ended id)) id a.0 w (kept-done s (Ended id) w.kept) a.1
+    store-taken s (store_then s (Ended id)) id a.0 w (kept-store_then s (Ended id) w.kept) a.1
 
-pub IsStore-after : (s : StoreView) (call : Call) → IsStore s → IsStore (after s call)
-IsStore-after s call w = go (refusal s call) refl
+pub IsStore-store_after : (s : StoreView) (call : Call) → IsStore s → IsStore (store_after s call)
+IsStore-store_after s call w = go (refusal s call) refl
   where
-    go : (o : Option Fault) → refusal s call ≡ o → IsStore (after s call)
-    go None e = subst IsStore (sym (after_accepted s call e)) (IsStore-done s call w e)
+    go : (o : Option Fault) → refusal s call ≡ o → IsStore (store_after s call)
+    go None e = subst IsStore (sym (after_accepted s call e)) (IsStore-store_then s call w e)
     go (Some fault) e = subst IsStore (sym (after_refused s call fault e)) w

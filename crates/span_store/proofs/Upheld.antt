@@ -7,13 +7,13 @@ use Rattle.span_slots.specs.Change.{Write, after}
 use Rattle.span_slots.proofs.Issued.{IsKept-after}
 use Rattle.span_slots.proofs.Entries.{value_at-with_value_same, value_at-with_value_other}
 use Rattle.span_store.specs.declared.entry.Entry.{Entry}
-use Rattle.span_store.specs.Node.{Node, node_of}
-use Rattle.span_store.specs.Spans.{Spans, children, total_handles}
-use Rattle.span_store.specs.inside.Invariant.{nodes_of, AreApart, AreBounded, IsConsistent}
+use Rattle.span_store.specs.StoredSpan.{StoredSpan, plain_entry}
+use Rattle.span_store.specs.StoredSpans.{StoredSpans, children_there, all_handles}
+use Rattle.span_store.specs.inside.Invariant.{spans_of, AreApart, AreBounded, IsConsistent}
 use Rattle.span_store.proofs.Maps.{apart-with_value, some_same, not_none, there_is}
-use Rattle.span_store.proofs.Counts.{children-with_value, total-with_value}
+use Rattle.span_store.proofs.Counts.{children_there-with_value, total-with_value}
 use Rattle.span_store.proofs.Forests.{forest-with_value}
-use Rattle.span_store.proofs.Nodes.{node_at, nodes-with_value, apart-nodes}
+use Rattle.span_store.proofs.Plain.{span_at, spans-with_value, apart-spans}
 
 -- an empty store
 pub IsConsistent-empty : (t : Table Entry) (max_count : ℕ) → t.entries ≡ [] → t.given ≡ [] → t.freed ≡ [] → t.slots ≤ 16777216 → 1 ≤ max_count → max_count ≤ 4294967295 → IsConsistent t max_count 0
@@ -48,11 +48,11 @@ length-without_entry (e ∷ es) id =
 module _ (t : Table Entry) (id : ℕ) (entry new : Entry) where
   pub IsConsistent-handles : (max_count handles handles2 : ℕ) → IsConsistent t max_count handles → value_at t.entries id ≡ Some entry → new.parent ≡ entry.parent → new.children ≡ entry.children → new.handles + new.children ≤ max_count → handles2 + entry.handles ≡ handles + new.handles → IsConsistent (after t (Write id new)) max_count handles2
   IsConsistent-handles max_count handles handles2 w h p k high total =
-      let nodes = nodes-with_value t.entries id new in
-      let node = node_at t.entries id entry h in
-      let apart = apart-nodes t.entries w.apart in
+      let spans = spans-with_value t.entries id new in
+      let span = span_at t.entries id entry h in
+      let apart = apart-spans t.entries w.apart in
       let there = there_is (value_at t.entries id) entry h in
-      let kids : (j : ℕ) → children (nodes_of (with_value t.entries id new)) j ≡ children (nodes_of t.entries) j = λ j. rw nodes (children-with_value (nodes_of t.entries) id j (node_of entry) (node_of new) apart node p) in
+      let kids : (j : ℕ) → children_there (spans_of (with_value t.entries id new)) j ≡ children_there (spans_of t.entries) j = λ j. rw spans (children_there-with_value (spans_of t.entries) id j (plain_entry entry) (plain_entry new) apart span p) in
       record {
         kept = IsKept-after t (Write id new) w.kept;
         apart = apart-with_value t.entries id new w.apart;
@@ -60,7 +60,7 @@ module _ (t : Table Entry) (id : ℕ) (entry new : Entry) where
           | inl q ↦ (let same = some_same (value_at (with_value t.entries id new) j) x new f (rw q.1 (value_at-with_value_same t.entries id new there)) in
               let c = w.counted id entry h in
               let mine : x.children ≡ new.children = ap (λ (z : Entry). z.children) same in
-              let here : children (nodes_of t.entries) j ≡ children (nodes_of t.entries) id = ap (children (nodes_of t.entries)) q.1 in
+              let here : children_there (spans_of t.entries) j ≡ children_there (spans_of t.entries) id = ap (children_there (spans_of t.entries)) q.1 in
               omega (arith, kids j, c, mine, here, k))
           | inr q ↦ (let c = w.counted j x (sym (value_at-with_value_other t.entries id j new (λ z. q.1 (sym z))) ∙ f) in
               omega (arith, kids j, c))
@@ -72,17 +72,17 @@ module _ (t : Table Entry) (id : ℕ) (entry new : Entry) where
               omega (arith, mine, held, high))
           | inr q ↦ w.bounded j x (sym (value_at-with_value_other t.entries id j new (λ z. q.1 (sym z))) ∙ f)
         ]);
-        forest = rw nodes (forest-with_value (nodes_of t.entries) id (node_of entry) (node_of new) node p w.forest);
-        handles_is = (let v = total-with_value (nodes_of t.entries) id (node_of entry) (node_of new) apart node in
+        forest = rw spans (forest-with_value (spans_of t.entries) id (plain_entry entry) (plain_entry new) span p w.forest);
+        handles_is = (let v = total-with_value (spans_of t.entries) id (plain_entry entry) (plain_entry new) apart span in
             let u = w.handles_is in
-            rw nodes (omega (arith, v, u, total)));
+            rw spans (omega (arith, v, u, total)));
         few = (let l = length-with_value t.entries id new in let m = w.few in omega (arith, l, m));
         max_low = w.max_low;
         max_high = w.max_high;
       }
 
 -- how many handles there can be
-total_le : (es : List (ℕ × Entry)) (max_count : ℕ) → AreApart es → AreBounded es max_count → max_count ≤ 4294967295 → total_handles (nodes_of es) ≤ length es * 4294967295
+total_le : (es : List (ℕ × Entry)) (max_count : ℕ) → AreApart es → AreBounded es max_count → max_count ≤ 4294967295 → all_handles (spans_of es) ≤ length es * 4294967295
 total_le [] max_count a b m = omega arith
 total_le (e ∷ es) max_count a b m =
     let first = b e.0 e.1 (rw (eq-eqb e.0 e.0 refl) refl) in
@@ -98,19 +98,19 @@ handles_fit t max_count handles w =
     let is = w.handles_is in
     omega arith
 
-handles_le_total : (spans : Spans) (id : ℕ) (node : Node) → value_at spans id ≡ Some node → node.handles ≤ total_handles spans
-handles_le_total [] id node h = cc
-handles_le_total (e ∷ es) id node h =
+handles_le_total : (spans : StoredSpans) (id : ℕ) (span : StoredSpan) → value_at spans id ≡ Some span → span.handles ≤ all_handles spans
+handles_le_total [] id span h = cc
+handles_le_total (e ∷ es) id span h =
     elim (eqb_tells e.0 id) [
       | inl q ↦ (let k = rw q.0 at h in
-          let same : e.1 ≡ node = cc in
-          let held = ap (λ (n : Node). n.handles) same in
+          let same : e.1 ≡ span = cc in
+          let held = ap (λ (n : StoredSpan). n.handles) same in
           omega (arith, held))
-      | inr q ↦ (let r = handles_le_total es id node (rw q.0 at h) in omega arith)
+      | inr q ↦ (let r = handles_le_total es id span (rw q.0 at h) in omega arith)
     ]
 
 pub handles_enough : (t : Table Entry) (max_count handles id : ℕ) (entry : Entry) → IsConsistent t max_count handles → value_at t.entries id ≡ Some entry → entry.handles ≤ handles
 handles_enough t max_count handles id entry w h =
-    let le = handles_le_total (nodes_of t.entries) id (node_of entry) (node_at t.entries id entry h) in
+    let le = handles_le_total (spans_of t.entries) id (plain_entry entry) (span_at t.entries id entry h) in
     let is = w.handles_is in
     omega (arith, le, is)

@@ -1,5 +1,5 @@
-pub mod Node
-pub mod Spans
+pub mod StoredSpan
+pub mod StoredSpans
 pub mod Store
 pub mod Calls
 pub mod Details

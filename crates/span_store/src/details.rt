@@ -1,7 +1,7 @@
 ghost use Rattle.std.specs.Prelude.{◌≡◌, ◌++◌, [], ◌∷◌, IsSome, IsSomeAnd, IfOk, IfErr, OnOk};
 ghost use Rattle.span_slots.specs.Table.{value_at};
-ghost use Rattle.span_store.specs.Details.{details_of, all_details};
-ghost use Rattle.span_store.specs.inside.Invariant.{nodes_of, AreApart, AreCounted};
+ghost use Rattle.span_store.specs.Details.{details_there, all_details};
+ghost use Rattle.span_store.specs.inside.Invariant.{spans_of, AreApart, AreCounted};
 
 use crate::entry::Entry;
 use span_id::{Fault, Id};
@@ -29,7 +29,7 @@ pub struct SpanDetails {
 pub(crate) fn all_details(slots: &Slots<Entry>) -> Result<Vec<SpanDetails>, Fault>
     requires apart { AreApart slots.now.entries }
     requires counted { AreCounted slots.now.entries }
-    ensures list { IfOk result (λ list. list.items ≡ all_details (nodes_of slots.now.entries)) }
+    ensures list { IfOk result (λ list. list.items ≡ all_details (spans_of slots.now.entries)) }
     ensures memory { IfErr result (λ fault. fault ≡ Fault.Memory) }
 {
     let ids = slots.ids()?;
@@ -44,8 +44,8 @@ pub(crate) fn all_details(slots: &Slots<Entry>) -> Result<Vec<SpanDetails>, Faul
 fn push_details(list: &mut Vec<SpanDetails>, slots: &Slots<Entry>, id: Id) -> Result<(), AllocError>
     requires there { IsSome (value_at slots.now.entries id) }
     requires counted { AreCounted slots.now.entries }
-    ensures { OnOk result (IsSomeAnd (value_at (nodes_of slots.now.entries) id) (λ node.
-        list.new.items ≡ list.old.items ++ details_of (nodes_of slots.now.entries) (id, node) ∷ [])) }
+    ensures { OnOk result (IsSomeAnd (value_at (spans_of slots.now.entries) id) (λ span.
+        list.new.items ≡ list.old.items ++ details_there (spans_of slots.now.entries) (id, span) ∷ [])) }
 {
     let Some(entry) = slots.get(id) else {
         unreachable!()

@@ -1,10 +1,10 @@
 ghost use Rattle.std.specs.Prelude.{◌≡◌, ℕ, ◌↔◌, ◌⊎◌, Some, None, IfSome, IfNone, IfOk, IfErr, OnOk, OnErr, IsTrue, length, []};
 ghost use Rattle.span_id.specs.Id.{IsId};
 ghost use Rattle.span_slots.specs.Table.{value_at, id_from, next_id, IsIssued};
-ghost use Rattle.span_store.specs.Node.{node_of};
-ghost use Rattle.span_store.specs.Spans.{IsClosing, children, total_handles};
+ghost use Rattle.span_store.specs.StoredSpan.{plain_entry};
+ghost use Rattle.span_store.specs.StoredSpans.{IsClosing, children_there, all_handles};
 ghost use Rattle.span_store.specs.Details.{all_details};
-ghost use Rattle.span_store.specs.Calls.{Add, Keep, Release, Ended, refusal, after, told};
+ghost use Rattle.span_store.specs.Calls.{Add, Keep, Release, Ended, refusal, store_after, told};
 
 pub mod laws;
 
@@ -36,9 +36,9 @@ impl Model for Store {
 
     ghost Value = { StoreView };
 
-    ghost use Rattle.span_store.specs.inside.Invariant.{node_table, IsConsistent};
+    ghost use Rattle.span_store.specs.inside.Invariant.{span_table, IsConsistent};
 
-    ghost view = { λ s. record { table = node_table s.slots; max_count = s.max_count } };
+    ghost view = { λ s. record { table = span_table s.slots; max_count = s.max_count } };
 
     ghost invariant = { λ s. IsConsistent s.slots s.max_count s.handles };
 }
@@ -70,8 +70,8 @@ impl Store {
     /// The span of an id, if it is there: closing spans are, until their end was told.
     pub fn find(&self, id: Id) -> Option<&Entry>
         ensures absent { IfNone result (value_at self.now.table.entries id ≡ None) }
-        ensures found { IfSome result (λ entry. value_at self.now.table.entries id ≡ Some (node_of entry.now)) }
-        ensures children { IfSome result (λ entry. entry.now.children ≡ children self.now.table.entries id) }
+        ensures found { IfSome result (λ entry. value_at self.now.table.entries id ≡ Some (plain_entry entry.now)) }
+        ensures children { IfSome result (λ entry. entry.now.children ≡ children_there self.now.table.entries id) }
     {
         // Looked at, the store shows what it keeps: here that the child counts are right.
         let _opened = &self.max_count;
@@ -115,7 +115,7 @@ impl Store {
 
     /// How many handles all spans have.
     pub fn handles(&self) -> u64
-        ensures { result ≡ total_handles self.now.table.entries }
+        ensures { result ≡ all_handles self.now.table.entries }
     {
         self.handles
     }
@@ -127,7 +127,7 @@ impl Store {
     pub fn add(&mut self, parent: Option<Id>, bits: Bits, word: u64) -> Result<Id, Fault>
         ensures accepted { OnOk result (refusal self.old (Add parent bits.0 word) ≡ None) }
         ensures refused { IfErr result (λ fault. refusal self.old (Add parent bits.0 word) ≡ Some fault) }
-        ensures change { self.new ≡ after self.old (Add parent bits.0 word) }
+        ensures change { self.new ≡ store_after self.old (Add parent bits.0 word) }
         ensures id { IfOk result (λ id. next_id self.old.table ≡ Some id) }
 
         // The id was never issued before, and is the only one that this call issues.
@@ -155,7 +155,7 @@ impl Store {
     pub fn keep(&mut self, id: Id) -> Result<(), Fault>
         ensures accepted { OnOk result (refusal self.old (Keep id) ≡ None) }
         ensures refused { IfErr result (λ fault. refusal self.old (Keep id) ≡ Some fault) }
-        ensures change { self.new ≡ after self.old (Keep id) }
+        ensures change { self.new ≡ store_after self.old (Keep id) }
     {
         may_be_held(&self.slots, self.max_count, id)?;
         add_handle(&mut self.slots, id);
@@ -170,7 +170,7 @@ impl Store {
     pub fn release(&mut self, id: Id) -> Result<bool, Fault>
         ensures accepted { OnOk result (refusal self.old (Release id) ≡ None) }
         ensures refused { IfErr result (λ fault. refusal self.old (Release id) ≡ Some fault) }
-        ensures change { self.new ≡ after self.old (Release id) }
+        ensures change { self.new ≡ store_after self.old (Release id) }
         ensures closing { IfOk result (λ closing. IsTrue closing ↔ IsClosing self.new.table.entries id) }
     {
         if !is_held(&self.slots, id) {
@@ -188,7 +188,7 @@ impl Store {
     pub fn ended(&mut self, id: Id) -> Result<Option<Id>, Fault>
         ensures accepted { OnOk result (refusal self.old (Ended id) ≡ None) }
         ensures refused { IfErr result (λ fault. refusal self.old (Ended id) ≡ Some fault) }
-        ensures change { self.new ≡ after self.old (Ended id) }
+        ensures change { self.new ≡ store_after self.old (Ended id) }
         ensures parent { IfOk result (λ parent. parent ≡ told self.old (Ended id)) }
     {
         if !is_closing(&self.slots, id) {

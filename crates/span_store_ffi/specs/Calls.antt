@@ -6,10 +6,10 @@ use Rattle.span_id.specs.declared.fault.Fault.TheVariants.{Unknown, BadLimits, M
 use Rattle.span_id.specs.declared.limits.Limits.{Limits}
 use Rattle.span_id.specs.Limits.{AreInRange}
 use Rattle.span_slots.specs.Table.{value_at, id_from, next_id}
-use Rattle.span_store.specs.Node.{Node}
-use Rattle.span_store.specs.Spans.{children, is_closing, total_handles}
+use Rattle.span_store.specs.StoredSpan.{StoredSpan}
+use Rattle.span_store.specs.StoredSpans.{children_there, is_closing, all_handles}
 use Rattle.span_store.specs.Store.{StoreView}
-use Rattle.span_store.specs.Calls.{Call, Add, Keep, Release, Ended, refusal, after, told}
+use Rattle.span_store.specs.Calls.{Call, Add, Keep, Release, Ended, refusal, store_after, told}
 use Rattle.span_border.specs.declared.status.Status.{Status}
 use Rattle.span_border.specs.declared.status.Status.TheVariants.{Done, Refused, HandleInUse}
 use Rattle.span_border.specs.Ends.{IfDone}
@@ -23,7 +23,7 @@ store_abi_version = 2
 
 -- A call was accepted, and the store is as it is after it; or it was refused with this fault, and nothing changed.
 abbrev pub Makes : Call → StoreView → Status → StoreView → Type 0
-Makes call old Done new = (refusal old call ≡ None) × (new ≡ after old call)
+Makes call old Done new = (refusal old call ≡ None) × (new ≡ store_after old call)
 Makes call old (Refused fault) new = (refusal old call ≡ Some fault) × (new ≡ old)
 Makes call old _ new = ⊥
 
@@ -51,19 +51,19 @@ EndsSpan id parent old status new =
     Makes (Ended id) old status new × IfDone status (parent ≡ id_number (told old (Ended id)))
 
 -- what is told of a span that is there
-abbrev pub found_there : StoreView → ℕ → Node → SpanStoreFound
-found_there store id node = record {
-  parent = id_number node.parent;
-  bits = node.bits;
-  word = node.word;
-  handles = node.handles;
-  children = children store.table.entries id;
+abbrev pub found_there : StoreView → ℕ → StoredSpan → SpanStoreFound
+found_there store id span = record {
+  parent = id_number span.parent;
+  bits = span.bits;
+  word = span.word;
+  handles = span.handles;
+  children = children_there store.table.entries id;
 }
 
 -- what is told of a span where it is there, and else that it is unknown; nothing changes
 abbrev pub TellsSpan : ℕ → SpanStoreFound → StoreView → Status → StoreView → Type 0
 TellsSpan id found old Done new =
-    IsSomeAnd (value_at old.table.entries id) (λ node. found ≡ found_there old id node) × (new ≡ old)
+    IsSomeAnd (value_at old.table.entries id) (λ span. found ≡ found_there old id span) × (new ≡ old)
 TellsSpan id found old (Refused Unknown) new = (value_at old.table.entries id ≡ None) × (new ≡ old)
 TellsSpan id found old _ new = ⊥
 
@@ -81,7 +81,7 @@ TellsNext previous id old _ new = ⊥
 -- how many handles and how many spans there are
 abbrev pub TellsCounts : SpanStoreCounts → StoreView → Status → StoreView → Type 0
 TellsCounts counts old Done new =
-    (counts ≡ record { handles = total_handles old.table.entries; spans = length old.table.entries }) × (new ≡ old)
+    (counts ≡ record { handles = all_handles old.table.entries; spans = length old.table.entries }) × (new ≡ old)
 TellsCounts counts old _ new = ⊥
 
 -- the limits of a store

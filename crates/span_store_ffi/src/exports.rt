@@ -1,7 +1,7 @@
 //! What C calls. Each function takes whatever C passes, tests it, and answers the number of a status.
 ghost use Rattle.std.specs.Prelude.{◌≡◌, Some, None, Option, is_some, if◌then◌else◌, IfSome, IfNone, IfOk, IfErr};
 ghost use Rattle.span_slots.specs.Table.{value_at};
-ghost use Rattle.span_store.specs.Spans.{is_closing};
+ghost use Rattle.span_store.specs.StoredSpans.{is_closing};
 ghost use Rattle.span_border.specs.Status.{meant};
 ghost use Rattle.span_border.specs.Ends.{OnHeld, Keeps};
 ghost use Rattle.span_store_ffi.specs.Calls.{Adds, KeepsSpan, ReleasesSpan, EndsSpan, TellsSpan, TellsNext, TellsCounts, OpensStore, parent_numbered, store_limits, empty_store, WhyNotOpened, store_abi_version};

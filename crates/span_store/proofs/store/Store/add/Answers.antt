@@ -8,7 +8,7 @@ use Rattle.span_store.proofs.Adds.{IsConsistent-added, added}
 use Rattle.span_store.proofs.Upheld.{handles_fit}
 use Rattle.span_store.proofs.Views.{view_of, no_child-at, no_child-room, after_refused, add_refused_above, add_refused_full, add_accepted, added_view, no_next}
 use Rattle.span_slots.specs.Table.{next_id}
-use Rattle.span_store.specs.Node.{node_of, new_node}
+use Rattle.span_store.specs.StoredSpan.{plain_entry, added_span}
 use Rattle.span_store.proofs.store.Store.add.Goals as goal
 
 -- the new entry
@@ -56,5 +56,5 @@ returns-clause-change c =
     let i = c.self.inside in
     let room : HasRoomAbove i.max_count i.slots.entries c.in_ok-parent.parent = rw c.in_ok-parent.ensures.same c.in_ok-parent.ensures.accepted in
     let a = added i.slots i.max_count i.handles c.in_ok-id.id (made c.in_ok-parent.parent c.args.bits c.args.word) c.self.invariant c.in_ok-id.ensures.id c.in_ok-id.ensures.vacant refl refl c.place.new.slots room c.in_ok-id.ensures.table in
-    let node : node_of (made c.in_ok-parent.parent c.args.bits c.args.word) ≡ new_node c.args.parent c.args.bits.0 c.args.word = ap (λ p. new_node p c.args.bits.0 c.args.word) c.in_ok-parent.ensures.same in
-    rw (← c.self.view_is) (added_view i.slots c.place.new.slots i.max_count c.args.parent c.args.bits.0 c.args.word c.in_ok-id.id (node_of (made c.in_ok-parent.parent c.args.bits c.args.word)) a.table node (add_accepted (view_of i.slots i.max_count) c.args.parent c.args.bits.0 c.args.word c.in_ok-id.id (no_child-room i.slots i.max_count c.args.parent c.self.invariant.counted c.in_ok-parent.ensures.accepted) c.in_ok-id.ensures.id))
+    let span : plain_entry (made c.in_ok-parent.parent c.args.bits c.args.word) ≡ added_span c.args.parent c.args.bits.0 c.args.word = ap (λ p. added_span p c.args.bits.0 c.args.word) c.in_ok-parent.ensures.same in
+    rw (← c.self.view_is) (added_view i.slots c.place.new.slots i.max_count c.args.parent c.args.bits.0 c.args.word c.in_ok-id.id (plain_entry (made c.in_ok-parent.parent c.args.bits c.args.word)) a.table span (add_accepted (view_of i.slots i.max_count) c.args.parent c.args.bits.0 c.args.word c.in_ok-id.id (no_child-room i.slots i.max_count c.args.parent c.self.invariant.counted c.in_ok-parent.ensures.accepted) c.in_ok-id.ensures.id))

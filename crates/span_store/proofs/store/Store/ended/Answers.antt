@@ -3,7 +3,7 @@ use Rattle.std.proofs.lemmas.Bool.{false≢true}
 use Rattle.span_id.specs.declared.fault.Fault.TheVariants.{Unknown}
 use Rattle.span_store.specs.Calls.{Ended}
 use Rattle.span_store.proofs.Views.{view_of, after_refused, ended_refused}
-use Rattle.span_store.proofs.Ended.{IsEnding, ending, parent_there, root_consistent, root_view, root_told, child_consistent, child_view, child_told, ending_accepted}
+use Rattle.span_store.proofs.Ended.{IsEnding, ending, parent_counted, root_consistent, root_view, root_told, child_consistent, child_view, child_told, ending_accepted}
 use Rattle.span_store.proofs.store.Store.ended.Goals as goal
 use Rattle.span_store.proofs.store.Store.ended.Goals.{In-Some}
 
@@ -24,7 +24,7 @@ out c = ending c.self.inside.slots c.remove.new.self c.args.id c.in-Some.entry c
 pub drop_child-requires : goal.drop_child-requires
 drop_child-requires c =
     let i = c.self.inside in
-    parent_there i.slots c.remove.new.self i.max_count i.handles c.args.id c.in-Some.entry c.self.invariant (out (goal.at.drop_child-requires c).In-Some) c.in-Some-parent.parent c.in-Some-parent.is
+    parent_counted i.slots c.remove.new.self i.max_count i.handles c.args.id c.in-Some.entry c.self.invariant (out (goal.at.drop_child-requires c).In-Some) c.in-Some-parent.parent c.in-Some-parent.is
 
 pub invariant_of-self : goal.invariant_of-self
 invariant_of-self c =

@@ -1,5 +1,5 @@
 use Rattle.span_store.proofs.Maps.{there_is}
-use Rattle.span_store.proofs.Nodes.{entry_at}
+use Rattle.span_store.proofs.Plain.{entry_at}
 use Rattle.span_slots.specs.Table.{value_at}
 use Rattle.span_store.proofs.store.laws.each_slot_has_one_id_there.Goals as goal
 
