@@ -7,7 +7,7 @@ use Rattle.span_registry.proofs.with_seats.spans.event.Goals as goal
 
 pub returns-clause-seated : goal.returns-clause-seated
 returns-clause-seated g c =
-    seated_done c.event-done.result c.args.core.now c.event-done.new.self _ (λ _. told) _ (λ _ accepted a. seated_told _ _ _ _ _ _ _ accepted a) c.event-done.ensures.accepted c.event-done.ensures.refused c.requires.seated
+    seated_done c.event-done.result c.args.core.now c.event-done.new.self _ (λ _. told) _ (λ _ accepted a. seated_told _ _ _ _ _ _ _ _ accepted a) c.event-done.ensures.accepted c.event-done.ensures.refused c.requires.seated
 
 pub returns-clause-accepted : goal.returns-clause-accepted
 returns-clause-accepted g c =
