@@ -23,17 +23,17 @@ module _ (worker : ℕ) (meta : PlainMeta) (message : List ℕ) (fields : List K
   closed_alike Says a b closed closed' NoSuchWorker is = is
   closed_alike Says a b closed closed' BadData is = is
   closed_alike Says a b closed closed' (Refused Memory) is = is
-  closed_alike Says a b closed closed' (Refused Unknown) (says, within, is) =
-      (says, within, record { why = (is.why.0, is.why.1, closed'); unchanged = is.unchanged })
-  closed_alike Says a b closed closed' (Refused BadName) (says, within, is) =
-      (says, within, record { why = is.why; unchanged = is.unchanged })
-  closed_alike Says a b closed closed' (Refused CountFull) (says, within, is) = absurd (true≢false (sym is.why.2 ∙ closed))
-  closed_alike Says a b closed closed' (Refused Full) (says, within, is) = absurd (true≢false (sym is.why.2 ∙ closed))
-  closed_alike Says a b closed closed' (Refused NotEntered) (says, within, is) = absurd (true≢false (sym is.why.1 ∙ closed))
-  closed_alike Says a b closed closed' (Refused TooManyLayers) (says, within, is) = absurd is.why
-  closed_alike Says a b closed closed' (Refused Backlog) (says, within, is) = absurd (true≢false (sym is.why.known ∙ closed))
-  closed_alike Says a b closed closed' (Refused BadLimits) (says, within, is) = absurd is.why
-  closed_alike Says a b closed closed' Done (says, within, is) = absurd (true≢false (sym is.due.known ∙ closed))
+  closed_alike Says a b closed closed' (Refused Unknown) (says, (within, is)) =
+      (says, (within, record { why = (is.why.0, is.why.1, closed'); unchanged = is.unchanged }))
+  closed_alike Says a b closed closed' (Refused BadName) (says, (within, is)) =
+      (says, (within, record { why = is.why; unchanged = is.unchanged }))
+  closed_alike Says a b closed closed' (Refused CountFull) (says, (within, is)) = absurd (true≢false (sym is.why.2 ∙ closed))
+  closed_alike Says a b closed closed' (Refused Full) (says, (within, is)) = absurd (true≢false (sym is.why.2 ∙ closed))
+  closed_alike Says a b closed closed' (Refused NotEntered) (says, (within, is)) = absurd (true≢false (sym is.why.1 ∙ closed))
+  closed_alike Says a b closed closed' (Refused TooManyLayers) (says, (within, is)) = absurd is.why
+  closed_alike Says a b closed closed' (Refused Backlog) (says, (within, is)) = absurd (true≢false (sym is.why.known ∙ closed))
+  closed_alike Says a b closed closed' (Refused BadLimits) (says, (within, is)) = absurd is.why
+  closed_alike Says a b closed closed' Done (says, (within, is)) = absurd (true≢false (sym is.due.known ∙ closed))
   closed_alike Says a b closed closed' EmptyHandle (says, is) = absurd is
   closed_alike Says a b closed closed' HandleInUse (says, is) = absurd is
   closed_alike Says a b closed closed' NoLine (says, is) = absurd is
