@@ -120,8 +120,8 @@ uint32_t span_registry_new(SpanRegistry *registry, SpanDrain *drain, const SpanL
 /* Gives the memory back, and the handle is empty. The drain may still be read. */
 uint32_t span_registry_free(SpanRegistry *registry);
 
-/* What a new span has for a parent: none, the worker's current span (none where it has none), or the span that is
- * named. Only then is `parent` looked at. */
+/* What a new span or an event has for a parent: none, the worker's current span (none where it has none), or the span
+ * that is named. Only then is `parent` looked at. */
 enum { SPAN_ROOT = 0, SPAN_CURRENT = 1, SPAN_UNDER = 2 };
 
 /* A span with one handle. texts: name, target, then each key and its value. id: 0
@@ -146,9 +146,16 @@ uint32_t span_registry_try_close(SpanRegistry *registry, uint32_t worker, uint64
 uint32_t span_registry_record(SpanRegistry *registry, uint32_t worker, uint64_t id,
     const SpanField *fields, size_t fields_len, const uint8_t *texts, size_t texts_len);
 
-/* texts: name, target, message, then each key and its value. */
+/* texts: name, target, message, then each key and its value. Each layer sees it in the topmost span, of those that the
+ * worker is inside, that it admits. */
 uint32_t span_registry_event(SpanRegistry *registry, uint32_t worker, const SpanMeta *meta, uint32_t message_len,
     const SpanField *fields, size_t fields_len, const uint8_t *texts, size_t texts_len);
+
+/* The same under a parent, which isn't held for it: a layer that doesn't admit the span that is named sees the event in
+ * no span. SPAN_UNKNOWN where that isn't open. With SPAN_CURRENT it is span_registry_event. */
+uint32_t span_registry_event_in(SpanRegistry *registry, uint32_t worker, uint32_t parent_kind, uint64_t parent,
+    const SpanMeta *meta, uint32_t message_len, const SpanField *fields, size_t fields_len,
+    const uint8_t *texts, size_t texts_len);
 
 /* Adds a callsite: a place of a program that makes spans or tells events again and again. Its level, name and target
  * are read, tested and kept here once. texts: name, target. number: how many callsites there were before. The number is
@@ -167,6 +174,11 @@ uint32_t span_registry_new_span_at(SpanRegistry *registry, uint32_t worker, uint
  * value. */
 uint32_t span_registry_event_at(SpanRegistry *registry, uint32_t worker, uint32_t callsite, uint32_t message_len,
     const SpanField *fields, size_t fields_len, const uint8_t *texts, size_t texts_len);
+
+/* The same under a parent, as of span_registry_event_in. */
+uint32_t span_registry_event_in_at(SpanRegistry *registry, uint32_t worker, uint32_t parent_kind, uint64_t parent,
+    uint32_t callsite, uint32_t message_len, const SpanField *fields, size_t fields_len,
+    const uint8_t *texts, size_t texts_len);
 
 /* wanted: 1 where some layer's rule admits what has this target and level, else 0, also where there is no layer. Rules
  * never change, so the answer may be kept. SPAN_BAD_DATA where the target is no UTF-8 or the level isn't there. */

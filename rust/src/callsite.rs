@@ -136,20 +136,41 @@ impl Registry {
     /// Those of [`event`](Registry::event) but for the name, and [`OtherRegistry`](Error::OtherRegistry) for the
     /// callsite.
     pub fn event_at(&self, callsite: &Callsite, message: &str, fields: Fields<'_>) -> Result<(), Error> {
-        self.event_at_number(callsite.number_in(self)?, message, fields.into())
+        self.event_in_at(callsite, Parent::Current, message, fields)
     }
 
-    pub(crate) fn event_at_number(&self, number: u32, message: &str, fields: Given<'_>) -> Result<(), Error> {
-        let at = self.parts().inside();
+    /// [`event_in`](Registry::event_in) with the meta of a callsite.
+    ///
+    /// # Errors
+    /// Those of [`event_in`](Registry::event_in) but for the name, and [`OtherRegistry`](Error::OtherRegistry) for the
+    /// callsite.
+    pub fn event_in_at(
+        &self,
+        callsite: &Callsite,
+        parent: Parent,
+        message: &str,
+        fields: Fields<'_>,
+    ) -> Result<(), Error> {
+        self.event_at_number(callsite.number_in(self)?, parent, message, fields.into())
+    }
+
+    pub(crate) fn event_at_number(
+        &self,
+        number: u32,
+        parent: Parent,
+        message: &str,
+        fields: Given<'_>,
+    ) -> Result<(), Error> {
+        let (at, parent) = self.own_parent(parent)?;
         let given = &fields;
         let told = if are_marked(NO_NAME, fields.fields) {
             Err(Refusal::BAD_NAME)
         } else {
-            at.call(move |state, worker| state.event_at(worker, number, message, given))
+            at.call(move |state, worker| state.event_at(worker, number, parent, message, given))
         };
         told.or_else(move |refusal| {
             with_written(refusal, NO_NAME, fields, move |_, given| {
-                at.call(|state, worker| state.event_at(worker, number, message, &given))
+                at.call(|state, worker| state.event_at(worker, number, parent, message, &given))
             })
         })
     }

@@ -206,13 +206,12 @@ macro_rules! __field {
     };
 }
 
-/// An event: `registry, [target: "..",] Level::.., [fields,] ["message", ..]`. Fields are those of
+/// An event: `registry, [target: "..",] [parent: ..,] Level::.., [fields,] ["message", ..]`. Fields are those of
 /// [`span!`](crate::span), and may stand in braces; the message comes last, with what it formats. The target is the
 /// module's path, unless it is given. Target and level are constants. Where no layer wants it, it costs what a span
 /// does.
 ///
-/// It is told in the span that the thread is inside of, and can't be given a parent: the proved registry has no call
-/// for that.
+/// It is told in the span that the thread is inside of, unless a parent is given; `parent: None` tells it in none.
 ///
 /// It answers no error: where it is refused, [`Registry::lost`](crate::Registry::lost) counts it.
 /// [`try_event!`](crate::try_event) answers why.
@@ -225,8 +224,11 @@ macro_rules! __field {
 /// let rows = 3;
 /// event!(registry, Level::Info, "started");
 /// event!(registry, target: "app::db", Level::Debug, { rows = rows, cached = false }, "read {rows} of {}", 7);
+/// # let request = span_registry::span!(registry, Level::Info, "request");
+/// event!(registry, parent: &request, Level::Info, "queued");
 /// # let lines: Vec<String> = drain.lines().map(|line| line.text).collect();
-/// # assert_eq!(lines, ["event 0 w0 - INFO started", "event 0 w0 - DEBUG read 3 of 7 rows=3 cached=false"]);
+/// # assert_eq!(lines[..2], ["event 0 w0 - INFO started", "event 0 w0 - DEBUG read 3 of 7 rows=3 cached=false"]);
+/// # assert_eq!(lines[3], "event 1 w0 request INFO queued");
 /// # Ok(())
 /// # }
 /// ```
@@ -260,13 +262,14 @@ macro_rules! try_event {
 #[doc(hidden)]
 #[macro_export]
 macro_rules! __event {
-    (@told $call:ident, $none:expr, $registry:expr, $target:expr, $level:expr,
+    (@told $call:ident, $none:expr, $registry:expr, $target:expr, $parent:expr, $level:expr,
         [$(($form:ident $key:expr, $value:expr))*] [$($message:tt)*]) => {{
         static SITE: $crate::__private::Site =
             $crate::__private::Site::event($level, $target, ::core::file!(), ::core::line!());
         // As of a span.
         let told = match SITE.wanted_by(&$registry) {
             ::core::option::Option::Some(wanted) => wanted.$call(
+                $crate::Parent::from($parent),
                 &$crate::__message!($($message)*),
                 [$($crate::__field!($form $key, $value)),*],
             ),
@@ -282,7 +285,7 @@ macro_rules! __event {
     };
     (@of $($other:tt)*) => {
         ::core::compile_error!(
-            "an event is: registry, [target: \"..\",] Level::.., [key = value,]* \"message\" [, argument]*"
+            "an event is: registry, [target: \"..\",] [parent: ..,] Level::.., [key = value,]* \"message\" [, argument]*"
         )
     };
     ($call:ident, $none:expr, Level::$level:ident $($rest:tt)*) => {
@@ -291,16 +294,23 @@ macro_rules! __event {
     ($call:ident, $none:expr, target: $($rest:tt)*) => {
         ::core::compile_error!("the registry comes first: registry, target: \"..\", Level::.., \"message\"")
     };
-    ($call:ident, $none:expr, $registry:expr, $(target: $target:expr,)? parent: $($rest:tt)*) => {
-        ::core::compile_error!(
-            "an event can't be given a parent: it is told in the span that the thread is inside of; enter the span"
-        )
+    ($call:ident, $none:expr, parent: $($rest:tt)*) => {
+        ::core::compile_error!("the registry comes first: registry, parent: .., Level::.., \"message\"")
+    };
+    ($call:ident, $none:expr, $registry:expr, target: $target:expr, parent: $parent:expr, $($rest:tt)*) => {
+        $crate::__event!(@of [$call, $none, $registry, $target, $parent] $($rest)*)
+    };
+    ($call:ident, $none:expr, $registry:expr, parent: $parent:expr, target: $($rest:tt)*) => {
+        ::core::compile_error!("`target:` comes before `parent:`: registry, target: \"..\", parent: .., Level::..")
     };
     ($call:ident, $none:expr, $registry:expr, target: $target:expr, $($rest:tt)*) => {
-        $crate::__event!(@of [$call, $none, $registry, $target] $($rest)*)
+        $crate::__event!(@of [$call, $none, $registry, $target, $crate::Parent::Current] $($rest)*)
+    };
+    ($call:ident, $none:expr, $registry:expr, parent: $parent:expr, $($rest:tt)*) => {
+        $crate::__event!(@of [$call, $none, $registry, ::core::module_path!(), $parent] $($rest)*)
     };
     ($call:ident, $none:expr, $registry:expr, $($rest:tt)*) => {
-        $crate::__event!(@of [$call, $none, $registry, ::core::module_path!()] $($rest)*)
+        $crate::__event!(@of [$call, $none, $registry, ::core::module_path!(), $crate::Parent::Current] $($rest)*)
     };
     ($($other:tt)*) => {
         $crate::__event!(@of $($other)*)

@@ -183,12 +183,13 @@ impl Given<'_> {
     }
 }
 
-/// The parent of a new span.
+/// The parent of a new span or an event.
 #[derive(Clone, Copy, Debug, PartialEq, Eq)]
 pub enum Parent {
     /// None.
     Root,
-    /// The thread's current span; none where it isn't inside any.
+    /// The thread's current span; none where it isn't inside any. An event's is, to each layer, the innermost that the
+    /// layer admits.
     Current,
     /// This one, of the same registry.
     Of(Id),
@@ -208,14 +209,14 @@ impl From<Id> for Parent {
     }
 }
 
-/// `None` is no parent: the new span is a root.
+/// `None` is no parent: a new span is a root.
 impl From<Option<Id>> for Parent {
     fn from(id: Option<Id>) -> Parent {
         id.map_or(Parent::Root, Parent::Of)
     }
 }
 
-/// A disabled span is no parent: the new one is a root.
+/// A disabled span is no parent: a new one is a root.
 impl From<&Span> for Parent {
     fn from(span: &Span) -> Parent {
         span.id().map_or(Parent::Root, Parent::Of)

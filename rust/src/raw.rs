@@ -170,9 +170,23 @@ unsafe extern "C" {
         texts: *const u8,
         texts_len: usize,
     ) -> u32;
+    // The same as the next one with CURRENT, which is called in its place.
+    #[allow(dead_code)]
     fn span_registry_event(
         registry: *mut SpanRegistry,
         worker: u32,
+        meta: *const SpanMeta,
+        message_len: u32,
+        fields: *const SpanField,
+        fields_len: usize,
+        texts: *const u8,
+        texts_len: usize,
+    ) -> u32;
+    fn span_registry_event_in(
+        registry: *mut SpanRegistry,
+        worker: u32,
+        parent_kind: u32,
+        parent: u64,
         meta: *const SpanMeta,
         message_len: u32,
         fields: *const SpanField,
@@ -199,9 +213,22 @@ unsafe extern "C" {
         texts_len: usize,
         id: *mut u64,
     ) -> u32;
+    #[allow(dead_code)]
     fn span_registry_event_at(
         registry: *mut SpanRegistry,
         worker: u32,
+        callsite: u32,
+        message_len: u32,
+        fields: *const SpanField,
+        fields_len: usize,
+        texts: *const u8,
+        texts_len: usize,
+    ) -> u32;
+    fn span_registry_event_in_at(
+        registry: *mut SpanRegistry,
+        worker: u32,
+        parent_kind: u32,
+        parent: u64,
         callsite: u32,
         message_len: u32,
         fields: *const SpanField,

@@ -125,7 +125,7 @@ impl Registry {
         Ok((self.parts().at(place), raw))
     }
 
-    /// The part of a new span with this parent.
+    /// The part of a new span or an event with this parent.
     #[inline(always)]
     pub(crate) fn own_parent(&self, parent: Parent) -> Result<(At<'_>, RawParent), Error> {
         Ok(match parent {
@@ -237,16 +237,46 @@ impl Registry {
     /// [`BadName`](Error::BadName) for the name or a key, [`Backlog`](Error::Backlog),
     /// [`OutOfMemory`](Error::OutOfMemory), [`BadData`](Error::BadData).
     pub fn event(&self, meta: &Meta<'_>, message: &str, fields: Fields<'_>) -> Result<(), Error> {
-        let at = self.parts().inside();
+        self.event_in(meta, Parent::Current, message, fields)
+    }
+
+    /// Tells an event under a parent of its own, which isn't held for it: each layer that admits the event sees it in
+    /// that span, or, where the layer doesn't admit the span or there is none, in no span. With
+    /// [`Current`](Parent::Current) it is [`event`](Registry::event).
+    ///
+    /// # Errors
+    /// Those of [`event`](Registry::event), and of the parent [`OtherRegistry`](Error::OtherRegistry) and
+    /// [`Unknown`](Error::Unknown).
+    ///
+    /// ```
+    /// # fn main() -> Result<(), span_registry::Error> {
+    /// # let (registry, mut drain) = span_registry::Registry::builder()
+    /// #     .layer(span_registry::Layer::compact()).build()?;
+    /// use span_registry::{Level, Meta, Parent};
+    /// let request = registry.span(&Meta::new(Level::Info, "app", "request"), Parent::Root, &[])?;
+    /// registry.event_in(&Meta::event(Level::Info, "app"), Parent::from(&request), "queued", &[])?;
+    /// # let lines: Vec<String> = drain.lines().map(|line| line.text).collect();
+    /// # assert_eq!(lines, ["new 1 w0 request", "event 1 w0 request INFO queued"]);
+    /// # Ok(())
+    /// # }
+    /// ```
+    pub fn event_in(
+        &self,
+        meta: &Meta<'_>,
+        parent: Parent,
+        message: &str,
+        fields: Fields<'_>,
+    ) -> Result<(), Error> {
+        let (at, parent) = self.own_parent(parent)?;
         let told = if are_marked(meta.name, fields) {
             Err(Refusal::BAD_NAME)
         } else {
-            at.call(move |state, worker| state.event(worker, meta, message, fields.into()))
+            at.call(move |state, worker| state.event(worker, meta, parent, message, fields.into()))
         };
         told.or_else(move |refusal| {
             with_written(refusal, meta.name, fields.into(), move |name, given| {
                 let meta = Meta { name, ..*meta };
-                at.call(|state, worker| state.event(worker, &meta, message, given))
+                at.call(|state, worker| state.event(worker, &meta, parent, message, given))
             })
         })
     }

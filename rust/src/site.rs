@@ -156,13 +156,15 @@ impl Wanted<'_> {
     }
 
     /// For `try_event!`.
-    pub fn try_event<const N: usize>(&self, message: &str, fields: [Field; N]) -> Result<(), Error> {
+    pub fn try_event<const N: usize>(&self, parent: Parent, message: &str, fields: [Field; N]) -> Result<(), Error> {
         let callsite = self.callsite?;
-        Self::given(fields, |given| self.registry.event_at_number(callsite, message, given))
+        Self::given(fields, |given| {
+            self.registry.event_at_number(callsite, parent, message, given)
+        })
     }
 
     /// For `event!`.
-    pub fn event<const N: usize>(&self, message: &str, fields: [Field; N]) {
-        self.registry.or_lost(self.try_event(message, fields));
+    pub fn event<const N: usize>(&self, parent: Parent, message: &str, fields: [Field; N]) {
+        self.registry.or_lost(self.try_event(parent, message, fields));
     }
 }

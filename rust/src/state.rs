@@ -349,13 +349,14 @@ impl State {
         &mut self,
         worker: u32,
         meta: &Meta<'_>,
+        parent: RawParent,
         message: &str,
         given: Given<'_>,
     ) -> Result<(), Refusal> {
         self.packed.pack(&[meta.name, meta.target, message], given.fields)?;
         self.placed(
             move |_| Ok(What::Made(known_as_written(meta, given)?)),
-            move |core, packed| core.event(worker, meta, message, packed),
+            move |core, packed| core.event(worker, parent, meta, message, packed),
         )
     }
 
@@ -363,13 +364,14 @@ impl State {
         &mut self,
         worker: u32,
         callsite: u32,
+        parent: RawParent,
         message: &str,
         given: &Given<'_>,
     ) -> Result<(), Refusal> {
         self.packed.pack(&[message], given.fields)?;
         self.placed(
             move |origins| Ok(What::Made(origins.known(callsite, *given)?)),
-            move |core, packed| core.event_at(worker, callsite, message, packed),
+            move |core, packed| core.event_at(worker, parent, callsite, message, packed),
         )
     }
 
@@ -380,7 +382,7 @@ impl State {
         let outsider = self.seats.outsider();
         self.sent(
             |_| Ok(What::Made(known_as_written(&meta, fields.into())?)),
-            |core, packed| core.event(outsider, &meta, message, packed),
+            |core, packed| core.event(outsider, RawParent::Root, &meta, message, packed),
         )
     }
 

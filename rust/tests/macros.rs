@@ -2,7 +2,9 @@
 mod common;
 
 use common::{compact, texts};
-use span_registry::{event, span, try_event, try_span, Drain, Error, Id, Kind, Layer, Level, Registry};
+use span_registry::{
+    event, span, try_event, try_span, Drain, Error, FmtSpan, Id, Kind, Layer, Level, Parent, Registry,
+};
 
 const VARIABLES: &str = "user=7 name.first=Ada";
 
@@ -122,6 +124,61 @@ fn a_parent_is_a_span_an_id_or_none() -> Result<(), Error> {
     ];
     assert!(others.iter().all(|child| parent(child).is_none()));
     assert!(texts(&mut drain).len() > 6);
+    Ok(())
+}
+
+#[test]
+fn an_event_is_told_under_a_parent_of_its_own() -> Result<(), Error> {
+    let targets = ["trace", "app=trace"].map(|targets| targets.parse().expect("targets"));
+    let builder = targets.into_iter().fold(Registry::builder().workers(1), |builder, targets| {
+        builder.layer(Layer::compact().with_targets(targets).with_span_events(FmtSpan::NONE))
+    });
+    let (registry, mut drain) = builder.build()?;
+    let a = span!(registry, target: "app", Level::Info, "a");
+    let other = span!(registry, target: "other", parent: &a, Level::Info, "other");
+    let b = span!(registry, target: "app", parent: &other, Level::Info, "b");
+    let id = b.id().expect("it is wanted");
+    let before = registry.counts();
+    let inside = a.enter();
+    event!(registry, target: "app", parent: &b, Level::Info, k = 1, "1");
+    event!(registry, target: "app", parent: &other, Level::Info, "2");
+    event!(registry, target: "app", parent: None, Level::Info, "3");
+    event!(registry, target: "app", parent: Some(id), Level::Info, { k = 4 });
+    try_event!(registry, target: "app", parent: Parent::Current, Level::Info, "5")?;
+    event!(registry, parent: id, Level::Info, "6");
+    drop(inside);
+    let lines: Vec<_> = drain.lines().map(|line| (line.layer, line.text)).collect();
+    let told = |layer| {
+        let lines = lines.iter().filter(move |line| line.0 == layer);
+        lines.map(|line| line.1.as_str()).collect::<Vec<_>>()
+    };
+    let wanted = [
+        "event 3 w0 a:other:b INFO 1 k=1",
+        "event 2 w0 a:other INFO 2",
+        "event 0 w0 - INFO 3",
+        "event 3 w0 a:other:b INFO  k=4",
+        "event 1 w0 a INFO 5",
+        "event 3 w0 a:other:b INFO 6",
+    ];
+    assert_eq!(told(0), wanted);
+    // What it doesn't admit is no parent to it.
+    let wanted = [
+        "event 3 w0 a:b INFO 1 k=1",
+        "event 0 w0 - INFO 2",
+        "event 0 w0 - INFO 3",
+        "event 3 w0 a:b INFO  k=4",
+        "event 1 w0 a INFO 5",
+    ];
+    assert_eq!(told(1), wanted);
+    // Nothing holds the parent for it.
+    assert_eq!(registry.counts().held, before.held);
+    drop(b);
+    assert_eq!(
+        try_event!(registry, target: "app", parent: id, Level::Info, "7"),
+        Err(Error::Unknown)
+    );
+    event!(registry, target: "app", parent: id, Level::Info, "8");
+    assert_eq!(registry.lost().by(Error::Unknown), 1);
     Ok(())
 }
 

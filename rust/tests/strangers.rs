@@ -2,7 +2,7 @@
 mod common;
 
 use common::{assert_empty, compact, id, info, span, texts};
-use span_registry::{try_span, Drain, Error, Id, Level, Parent, Registry, Span};
+use span_registry::{try_event, try_span, Drain, Error, Id, Level, Meta, Parent, Registry, Span};
 
 /// A registry with an open span, whose number is 1.
 fn with_a_span() -> Result<(Registry, Drain, Span), Error> {
@@ -72,6 +72,27 @@ fn each_new_span_refuses_a_parent_of_another_registry() -> Result<(), Error> {
     let child = try_span!(registry.clone(), parent: &a, Level::Info, "b")?;
     assert_eq!(registry.find(child.id().expect("wanted")).expect("open").parent, a.id());
     assert_eq!(texts(&mut drain), ["new 1 w0 a", "new 2 w0 a:b"]);
+    Ok(())
+}
+
+#[test]
+fn each_event_refuses_a_parent_of_another_registry() -> Result<(), Error> {
+    let (there, strangers) = strangers()?;
+    let of_there = span(&there, "a");
+    let (registry, mut drain, a) = with_a_span()?;
+    let (meta, place) = (Meta::event(Level::Info, "app"), registry.callsite(&info("b"))?);
+    let parents = strangers.into_iter().map(Parent::Of).chain([Parent::from(&of_there)]);
+    for parent in parents {
+        assert_refused(registry.event_in(&meta, parent, "m", &[]));
+        assert_refused(registry.event_in(&meta, parent, "m", &[("no key", "v")]));
+        assert_refused(registry.event_in_at(&place, parent, "m", &[]));
+        assert_refused(try_event!(registry, parent: parent, Level::Info, "m"));
+    }
+    assert_eq!(registry.counts().calls, 1);
+    registry.event_in(&meta, Parent::from(&a), "m", &[])?;
+    registry.event_in_at(&place, Parent::from(&a), "n", &[])?;
+    let wanted = ["new 1 w0 a", "event 1 w0 a INFO m", "event 1 w0 a INFO n"];
+    assert_eq!(texts(&mut drain), wanted);
     Ok(())
 }
 

@@ -24,8 +24,8 @@ const PROGRAMS: [(&str, &str); 20] = [
     (r#"span!(r, Level::Info, "x", http.method = "GET");"#, ""),
     (r#"span!(r, Level::Info, "x", s = ?S);"#, ""),
     (
-        r#"event!(r, parent: None, Level::Info, "x");"#,
-        "an event can't be given a parent",
+        r#"event!(parent: None, Level::Info, "x");"#,
+        "the registry comes first: registry, parent:",
     ),
     (
         r#"span!(r, parent: Parent::Root, target: "t", Level::Info, "x");"#,
@@ -40,8 +40,8 @@ const PROGRAMS: [(&str, &str); 20] = [
         "the registry comes first: registry, Level::..",
     ),
     (
-        r#"event!(r, target: "t", parent: None, Level::Info, "x");"#,
-        "an event can't be given a parent",
+        r#"event!(r, parent: None, target: "t", Level::Info, "x");"#,
+        "`target:` comes before `parent:`",
     ),
     (r#"span!(r, Level::Info);"#, "a span has a name, behind the level"),
     (

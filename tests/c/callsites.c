@@ -130,7 +130,7 @@ static int same_line(void) {
     return 1;
 }
 
-/* a span and an event of a place in both registries, with the same answers */
+/* a span and two events of a place in both registries, with the same answers */
 static void check_same_calls(uint32_t place, uint32_t kind, uint64_t parent, const SpanField *fields, size_t fields_len,
     const char *texts) {
     const SpanMeta *meta = &places[place].meta;
@@ -151,6 +151,9 @@ static void check_same_calls(uint32_t place, uint32_t kind, uint64_t parent, con
     len = with_place(place, (const char *)message, 2 + texts_len, all);
     status = span_registry_event(&by_meta, 1, meta, 2, fields, fields_len, all, len);
     CHECK(span_registry_event_at(&registry, 1, place, 2, fields, fields_len, message, 2 + texts_len) == status);
+    status = span_registry_event_in(&by_meta, 1, kind, parent, meta, 2, fields, fields_len, all, len);
+    CHECK(span_registry_event_in_at(&registry, 1, kind, parent, place, 2, fields, fields_len, message, 2 + texts_len)
+        == status);
 }
 
 static void test_same_as_by_meta(void) {
@@ -235,6 +238,11 @@ static void test_wrong_numbers(void) {
     CHECK(span_registry_event_at(&registry, 0, PLACES, 9, no_fields, 0, bytes(""), 0) == SPAN_NO_SUCH_CALLSITE);
     CHECK(span_registry_event_at(&registry, 0, 0, 9, &bad_key, 1, bytes(" "), 1) == SPAN_BAD_DATA);
     CHECK(span_registry_event_at(&registry, 0, 0, 0, &bad_key, 1, bytes(" "), 1) == SPAN_BAD_NAME);
+    CHECK(span_registry_event_in_at(&registry, 0, 3, 0, PLACES, 9, no_fields, 0, bytes(""), 0)
+        == SPAN_NO_SUCH_CALLSITE);
+    CHECK(span_registry_event_in_at(&registry, 0, 3, 0, 0, 0, &bad_key, 1, bytes(" "), 1) == SPAN_BAD_DATA);
+    CHECK(span_registry_event_in_at(&registry, 0, SPAN_UNDER, 7, 0, 0, &bad_key, 1, bytes(" "), 1) == SPAN_BAD_NAME);
+    CHECK(span_registry_event_in_at(&registry, 0, SPAN_UNDER, 7, 0, 0, no_fields, 0, bytes(""), 0) == SPAN_UNKNOWN);
     CHECK(id == 99);
     /* the ring's only place */
     CHECK(event_at(0) == SPAN_OK);

@@ -121,6 +121,55 @@ static void test_lines(void) {
     CHECK(span_drain_free(&drain) == SPAN_OK);
 }
 
+/* an event of the target `app` at WARN, told by the second worker, which is inside of no span at first */
+static uint32_t event_in(uint32_t kind, uint64_t parent) {
+    const SpanMeta meta = {1, 1, 3};
+    return span_registry_event_in(&registry, 1, kind, parent, &meta, 1, no_fields, 0, bytes("eappm"), 5);
+}
+
+static void test_events_in(void) {
+    const SpanLimits small = {16, 9, 2, 2, 64};
+    uint64_t root = 0;
+    uint32_t answer = 0;
+    SpanFound found;
+    CHECK(open_usual(small) == SPAN_OK);
+    CHECK(make_span(0, SPAN_ROOT, 0, &root) == SPAN_OK);
+    CHECK(span_registry_enter(&registry, 0, root, &answer) == SPAN_OK);
+    CHECK(event_in(SPAN_UNDER, root) == SPAN_OK);
+    CHECK(event_in(SPAN_ROOT, root) == SPAN_OK);
+    CHECK(event_in(SPAN_CURRENT, 99) == SPAN_OK);
+    /* the span is at its greatest count, and stays there */
+    CHECK(span_registry_find(&registry, root, &found) == SPAN_OK && found.count == 2);
+    CHECK(event_in(SPAN_UNDER, 0) == SPAN_UNKNOWN);
+    CHECK(event_in(SPAN_UNDER, 2) == SPAN_UNKNOWN);
+    CHECK(event_in(SPAN_UNDER, 72057594037927937u) == SPAN_UNKNOWN);
+    CHECK(event_in(SPAN_UNDER, 18446744073709551615u) == SPAN_UNKNOWN);
+    CHECK(event_in(3, root) == SPAN_BAD_DATA);
+    CHECK(span_registry_exit(&registry, 0, root, &answer) == SPAN_OK);
+    CHECK(span_registry_enter(&registry, 1, root, &answer) == SPAN_OK);
+    CHECK(event_in(SPAN_CURRENT, 0) == SPAN_OK);
+    CHECK(event_in(SPAN_ROOT, 0) == SPAN_OK);
+    CHECK(span_registry_exit(&registry, 1, root, &answer) == SPAN_OK);
+    CHECK(span_registry_try_close(&registry, 0, root, &answer) == SPAN_OK && answer == 1);
+    CHECK(event_in(SPAN_UNDER, root) == SPAN_UNKNOWN);
+    CHECK_LINE(0, "new 1 w0 a k=v");
+    CHECK_LINE(1, "{\"fields\":[[\"k\",\"v\"]],\"id\":1,\"kind\":\"new\",\"path\":\"a\",\"worker\":0}");
+    CHECK_LINE(0, "enter 1 w0 a");
+    CHECK_LINE(0, "event 1 w1 a WARN m");
+    CHECK_LINE(0, "event 0 w1 - WARN m");
+    CHECK_LINE(0, "event 0 w1 - WARN m");
+    CHECK_LINE(0, "exit 1 w0 a");
+    CHECK_LINE(0, "enter 1 w1 a");
+    CHECK_LINE(0, "event 1 w1 a WARN m");
+    CHECK_LINE(0, "event 0 w1 - WARN m");
+    CHECK_LINE(0, "exit 1 w1 a");
+    CHECK_LINE(0, "close 1 w0 a k=v");
+    CHECK_LINE(1, "{\"fields\":[[\"k\",\"v\"]],\"id\":1,\"kind\":\"close\",\"path\":\"a\",\"worker\":0}");
+    check_no_line(__LINE__);
+    close_both();
+    CHECK(event_in(SPAN_ROOT, 0) == SPAN_EMPTY_HANDLE);
+}
+
 static void test_short_buffer(void) {
     uint8_t into[14] = {7, 7};
     uint64_t id;
@@ -213,6 +262,9 @@ static void check_bad_data_of_spans(long allowed) {
     CHECK(span_registry_event(&registry, 0, &good, 3, no_fields, 0, bytes("etm"), 3) == SPAN_BAD_DATA);
     CHECK(span_registry_event(&registry, 0, &no_level, 1, no_fields, 0, bytes("etm"), 3) == SPAN_BAD_DATA);
     CHECK(span_registry_event(&registry, 0, &good, 0, no_fields, 0, bytes("etm"), 3) == SPAN_BAD_DATA);
+    CHECK(span_registry_event_in(&registry, 0, 3, 1, &good, 1, no_fields, 0, bytes("etm"), 3) == SPAN_BAD_DATA);
+    CHECK(span_registry_event_in(&registry, 0, SPAN_UNDER, 9, &good, 0, no_fields, 0, bytes("etm"), 3)
+        == SPAN_BAD_DATA);
     CHECK(span_registry_record(&registry, 0, 1, &field, 1, bytes("k"), 1) == SPAN_BAD_DATA);
     CHECK(span_registry_record(&registry, 0, 1, no_fields, 0, bytes("k"), 1) == SPAN_BAD_DATA);
     CHECK(id == 99);
@@ -315,6 +367,7 @@ static void test_workers(void) {
     CHECK(span_registry_try_close(&registry, 2, 1, &answer) == SPAN_NO_SUCH_WORKER);
     CHECK(span_registry_record(&registry, 2, 1, no_fields, 0, bytes("x"), 1) == SPAN_NO_SUCH_WORKER);
     CHECK(span_registry_event(&registry, 2, &meta, 0, no_fields, 0, bytes("ab"), 2) == SPAN_NO_SUCH_WORKER);
+    CHECK(span_registry_event_in(&registry, 2, 3, 0, &meta, 9, no_fields, 0, bytes("ab"), 2) == SPAN_NO_SUCH_WORKER);
     CHECK(span_registry_current_span(&registry, 2, &id) == SPAN_NO_SUCH_WORKER);
     CHECK(id == 99 && answer == 97);
     close_both();
@@ -460,6 +513,7 @@ int main(void) {
     test_abi();
     test_life_of_a_span();
     test_lines();
+    test_events_in();
     test_short_buffer();
     test_unwanted_span();
     test_refusals();

@@ -17,10 +17,12 @@ use Rattle.span_forest.specs.Keep.{with_holder}
 use Rattle.span_forest.specs.Release.{closing_list, spans_left, freed_after}
 use Rattle.span_stack.specs.Stack.{has, without_last}
 use Rattle.span_core.specs.World.{World, IsWorld}
+use Rattle.span_outlet.specs.declared.batch.ParentOf.{ParentOf}
 use Rattle.span_outlet.specs.Request.{Request, event, told, enter, entered, exit, exited, clone_span, cloned, record_fields, recorded, try_close, released}
 use Rattle.span_outlet.specs.Batch.{PlainBatch}
 use Rattle.span_core.specs.Happening.{notes_of_all, close_of, at_span, event_at}
-use Rattle.span_core.specs.Step.{IsStep}
+use Rattle.span_core.specs.Parent.{parent_named, spans_around}
+use Rattle.span_core.specs.Step.{IsStep, is_open_parent}
 use Rattle.span_core.specs.History.{issued}
 use Rattle.span_core.specs.NextId.{SlotsUsed, with_closed, slots_after}
 use Rattle.span_core.specs.inside.Sound.{IsSound, forest_with}
@@ -252,16 +254,17 @@ sound_exit limits rules forest new_forest stacks new_stacks calls old mid new wo
     (step_exit rules (issued old) forest.spans new_forest.spans stacks new_stacks worker id stays closed notes within stands stays_is closed_are spans_are stacks_are notes_are)
     same sent
 
-pub sound_event : (limits : Limits) (rules : List Filter) (forest : ForestView) (stacks : List (List ℕ)) (calls : ℕ) (old mid new : List PlainBatch) (worker : ℕ) (meta : PlainMeta) (message : List ℕ) (fields : List KeyValue) (written : Request) (notes : List PlainNote)
+pub sound_event : (limits : Limits) (rules : List Filter) (forest : ForestView) (stacks : List (List ℕ)) (calls : ℕ) (old mid new : List PlainBatch) (worker : ℕ) (meta : PlainMeta) (message : List ℕ) (fields : List KeyValue) (parent : ParentOf) (written : Request) (notes : List PlainNote)
     → IsSound limits forest stacks rules calls old
     → worker < length stacks
-    → notes ≡ notes_of_all rules worker (event_at forest.spans (get_or stacks worker []) (admission_set rules meta.target meta.level) meta.level message fields ∷ [])
-    → written ≡ event worker meta message fields
+    → is_open_parent forest.spans (parent_named parent) ≡ true
+    → notes ≡ notes_of_all rules worker (event_at forest.spans (spans_around (get_or stacks worker []) parent) (admission_set rules meta.target meta.level) meta.level message fields ∷ [])
+    → written ≡ event worker meta message fields parent
     → mid ≡ old → new ≡ mid ++ (record { request = written; answer = told; notes = notes }) ∷ []
     → IsSound limits forest stacks rules (calls + 1) new
-sound_event limits rules forest stacks calls old mid new worker meta message fields written notes sound within notes_are written_is same sent =
-    sound_quiet limits rules forest forest stacks stacks calls old mid new (record { request = event worker meta message fields; answer = told; notes = notes }) sound refl refl
+sound_event limits rules forest stacks calls old mid new worker meta message fields parent written notes sound within there notes_are written_is same sent =
+    sound_quiet limits rules forest forest stacks stacks calls old mid new (record { request = event worker meta message fields parent; answer = told; notes = notes }) sound refl refl
     refl refl sound.world
-    (record { within = within; changes = refl; notes_are = notes_are })
+    (record { within = within; changes = record { parent_open = there; after = refl }; notes_are = notes_are })
     same
     (sent ∙ ap (λ (request : Request). mid ++ (record { request = request; answer = told; notes = notes }) ∷ []) written_is)

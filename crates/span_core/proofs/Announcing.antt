@@ -201,5 +201,5 @@ call_counted rules ids worker layer id old (enter w i) (entered first) new h = q
 call_counted rules ids worker layer id old (exit w i) (exited closed) new h = quiet_first rules worker layer id (at_span old.spans OnExit i []) (closes rules worker old.spans closed) refl
 call_counted rules ids worker layer id old (try_close w i) (released closed) new h = refl
 call_counted rules ids worker layer id old (record_fields w i fields) recorded new h = quiet_first rules worker layer id (at_span old.spans OnRecord i fields) [] refl
-call_counted rules ids worker layer id old (event w meta message fields) told new h = quiet_first rules worker layer id (event_told rules old w meta message fields) [] refl
+call_counted rules ids worker layer id old (event w meta message fields parent) told new h = quiet_first rules worker layer id (event_told rules old w meta message fields parent) [] refl
 call_counted rules ids worker layer id old _ _ new h = absurd h

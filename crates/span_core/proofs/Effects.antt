@@ -141,6 +141,6 @@ effect rules ids old (try_close worker id) (released closed) new h =
     })
 effect rules ids old (record_fields worker id fields) recorded new h =
     changes (with_fields fields) id (fields_more fields) refl (ap (λ (w : World). w.spans) h.after) (record { closed = refl; left = refl; issued = refl })
-effect rules ids old (event worker meta message fields) told new h =
-    stays (ap (λ (w : World). w.spans) h) (record { closed = refl; left = refl; issued = refl })
+effect rules ids old (event worker meta message fields parent) told new h =
+    stays (ap (λ (w : World). w.spans) h.after) (record { closed = refl; left = refl; issued = refl })
 effect rules ids old _ _ new h = absurd h

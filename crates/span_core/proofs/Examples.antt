@@ -17,7 +17,9 @@ use Rattle.span_forest.specs.Release.{closing_list}
 use Rattle.span_stack.specs.Stack.{current}
 use Rattle.span_core.specs.World.{World, empty_world, stack_of, workers_inside, entries_in}
 use Rattle.span_id.specs.Meta.{PlainMeta}
-use Rattle.span_outlet.specs.Request.{Request, new_span, exit, try_close, Answer, made, exited, released, enter, entered}
+use Rattle.span_outlet.specs.declared.batch.ParentOf.{ParentOf}
+use Rattle.span_outlet.specs.declared.batch.ParentOf.TheVariants.{Root, Current, Of}
+use Rattle.span_outlet.specs.Request.{Request, new_span, exit, try_close, event, Answer, made, exited, released, told, enter, entered}
 use Rattle.span_outlet.specs.Batch.{PlainBatch}
 use Rattle.span_core.specs.Happening.{contextual_span, event_told, happenings, notes_of_all}
 use Rattle.span_core.specs.Step.{is_wanted, closed_by_exit}
@@ -63,11 +65,31 @@ nothing_entered = refl
 abbrev noted : ℕ → ℕ → List ℕ → PlainNote
 noted layer id path = record { layer = layer; kind = OnEvent; worker = 0; id = id; path = path; fields = (codes "k", codes "v") ∷ []; tail = Some (Info, codes "hi") }
 
-event_of_two_layers :
-    notes_of_all (everything ∷ only_app ∷ []) 0 (event_told (everything ∷ only_app ∷ []) inside 0 (meta (codes "event") (codes "app")) (codes "hi") ((codes "k", codes "v") ∷ []) ∷ [])
-    ≡ noted 0 2 (codes "a:q") ∷ noted 1 1 (codes "a") ∷ []
+abbrev told_in : ParentOf → List PlainNote
+told_in parent =
+    notes_of_all (everything ∷ only_app ∷ []) 0 (event_told (everything ∷ only_app ∷ []) inside 0 (meta (codes "event") (codes "app")) (codes "hi") ((codes "k", codes "v") ∷ []) parent ∷ [])
+
+event_of_two_layers : told_in Current ≡ noted 0 2 (codes "a:q") ∷ noted 1 1 (codes "a") ∷ []
 unfolding is_admitted
 event_of_two_layers =
+    refl
+
+-- under `q` the first layer sees it there, and the second, which doesn't admit `q`, in no span
+event_under_q : told_in (Of 2) ≡ noted 0 2 (codes "a:q") ∷ noted 1 0 (codes "-") ∷ []
+unfolding is_admitted
+event_under_q =
+    refl
+
+-- under `c`, which no worker has entered, both see it there; the second leaves `q` out of the path
+event_under_c : told_in (Of 3) ≡ noted 0 3 (codes "a:q:c") ∷ noted 1 3 (codes "a:c") ∷ []
+unfolding is_admitted
+event_under_c =
+    refl
+
+-- under no parent both see it in no span, wherever the worker is
+event_under_none : told_in Root ≡ noted 0 0 (codes "-") ∷ noted 1 0 (codes "-") ∷ []
+unfolding is_admitted
+event_under_none =
     refl
 
 -- a span that no layer admits isn't wanted; without layers all spans are
@@ -281,6 +303,25 @@ made_under_b :
     (record { request = new_span 0 (meta (codes "x") (codes "app")) [] (Some 2); answer = made 3; notes = new_of_x ∷ [] }))
 unfolding is_admitted new_of_x
 made_under_b = refl
+
+-- an event whose parent isn't open is refused, unless its name is refused already
+closed_parent_of_event : outcome (core_of used_up) (event 0 (meta (codes "x") (codes "app")) [] [] (Of 9)) ≡ refused Unknown
+closed_parent_of_event = refl
+
+bad_name_of_event : outcome (core_of used_up) (event 0 (meta (codes "") (codes "app")) [] [] (Of 9)) ≡ refused BadName
+bad_name_of_event = refl
+
+-- under a span that is at its greatest count it is told, and the count stays
+note_of_x : PlainNote
+note_of_x = record { layer = 0; kind = OnEvent; worker = 1; id = 1; path = codes "a"; fields = []; tail = Some (Info, codes "hi") }
+
+told_under_a :
+    outcome (core_of used_up) (event 1 (meta (codes "x") (codes "app")) (codes "hi") [] (Of 1))
+    ≡ accepted told (note_of_x ∷ [])
+    (one_more (core_of used_up) parent_and_child ((1 ∷ 2 ∷ 1 ∷ []) ∷ [] ∷ [])
+    (record { request = event 1 (meta (codes "x") (codes "app")) (codes "hi") [] (Of 1); answer = told; notes = note_of_x ∷ [] }))
+unfolding is_admitted note_of_x
+told_under_a = refl
 
 -- a span without a handle can't be entered, also by the worker that is inside it
 no_handle : outcome (core_of used_up) (enter 0 2) ≡ refused Unknown

@@ -49,8 +49,8 @@ handles_step rules ids old (record_fields worker id fields) recorded new h fores
     let is = ap (λ (w : World). total_handles w.spans) h.after in
     let same = handles-fields fields old.spans id in
     omega (arith, is, same)
-handles_step rules ids old (event worker meta message fields) told new h forest =
-    let is = ap (λ (w : World). total_handles w.spans) h in
+handles_step rules ids old (event worker meta message fields parent) told new h forest =
+    let is = ap (λ (w : World). total_handles w.spans) h.after in
     omega (arith, is)
 handles_step rules ids old _ _ new h forest = absurd h
 

@@ -225,7 +225,7 @@ stack_step rules ids old (exit worker id) (exited closed) new h w j there =
     ]
 stack_step rules ids old (try_close worker id) (released closed) new h w j there = inl (ap (λ (v : World). has (stack_of v w) j) (sym h.after) ∙ there)
 stack_step rules ids old (record_fields worker id fields) recorded new h w j there = inl (ap (λ (v : World). has (stack_of v w) j) (sym h.after) ∙ there)
-stack_step rules ids old (event worker meta message fields) told new h w j there = inl (ap (λ (v : World). has (stack_of v w) j) (sym h) ∙ there)
+stack_step rules ids old (event worker meta message fields parent) told new h w j there = inl (ap (λ (v : World). has (stack_of v w) j) (sym h.after) ∙ there)
 stack_step rules ids old _ _ new h w j there = absurd h
 
 -- ---- a history

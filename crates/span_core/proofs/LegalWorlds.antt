@@ -30,7 +30,7 @@ stacks_stay rules ids old (enter worker id) (entered first) new h = ap (λ (w : 
 stacks_stay rules ids old (exit worker id) (exited closed) new h = ap (λ (w : World). length w.stacks) h.after ∙ length-set old.stacks worker _
 stacks_stay rules ids old (try_close worker id) (released closed) new h = ap (λ (w : World). length w.stacks) h.after
 stacks_stay rules ids old (record_fields worker id fields) recorded new h = ap (λ (w : World). length w.stacks) h.after
-stacks_stay rules ids old (event worker meta message fields) told new h = ap (λ (w : World). length w.stacks) h
+stacks_stay rules ids old (event worker meta message fields parent) told new h = ap (λ (w : World). length w.stacks) h.after
 stacks_stay rules ids old _ _ new h = absurd h
 
 -- each worker has a stack
@@ -59,7 +59,7 @@ world_step rules ids closed old (try_close worker id) (released gone) new within
     subst (λ (v : World). IsWorld v) (sym h.after) (world_released_handle old.spans id old.stacks before)
 world_step rules ids closed old (record_fields worker id fields) recorded new within h w before =
     subst (λ (v : World). IsWorld v) (sym h.after) (world_changed (with_fields fields) (λ node. refl) old.spans id old.stacks before)
-world_step rules ids closed old (event worker meta message fields) told new within h w before = subst (λ (v : World). IsWorld v) (sym h) before
+world_step rules ids closed old (event worker meta message fields parent) told new within h w before = subst (λ (v : World). IsWorld v) (sym h.after) before
 world_step rules ids closed old _ _ new within h w before = absurd h
 
 -- the entries of each span are the workers inside it, each counted once

@@ -65,7 +65,7 @@ by_holder P old (new_span worker meta fields parent) same less = same
 by_holder P old (clone_span worker id) same less = same
 by_holder P old (enter worker id) same less = same
 by_holder P old (record_fields worker id fields) same less = same
-by_holder P old (event worker meta message fields) same less = same
+by_holder P old (event worker meta message fields parent) same less = same
 
 pub one_release : (old : CoreView) → IsForest old.world.spans → (request : Request) (new other : CoreView) → ClosesWhatNothingHolds old request new → ClosesWhatNothingHolds old request other
     → (id : ℕ) → find new.world.spans id ≡ find other.world.spans id

@@ -90,7 +90,7 @@ step_answer rules ids old (enter worker id) (entered first) new h = ap entered h
 step_answer rules ids old (exit worker id) (exited closed) new h = ap exited h.closed_are
 step_answer rules ids old (try_close worker id) (released closed) new h = ap released h.closed_are
 step_answer rules ids old (record_fields worker id fields) recorded new h = refl
-step_answer rules ids old (event worker meta message fields) told new h = refl
+step_answer rules ids old (event worker meta message fields parent) told new h = refl
 step_answer rules ids old _ _ new h = absurd h
 
 step_world : (rules : List Filter) (ids : List ℕ) (old : World) (request : Request) (answer : Answer) (new : World) → Changes rules ids old request answer new → new ≡ world_after rules old request answer
@@ -100,7 +100,7 @@ step_world rules ids old (enter worker id) (entered first) new h = h.after
 step_world rules ids old (exit worker id) (exited closed) new h = h.after
 step_world rules ids old (try_close worker id) (released closed) new h = h.after
 step_world rules ids old (record_fields worker id fields) recorded new h = h.after
-step_world rules ids old (event worker meta message fields) told new h = h
+step_world rules ids old (event worker meta message fields parent) told new h = h.after
 step_world rules ids old _ _ new h = absurd h
 
 -- two steps from one world for one request have the same answer, notes and next world, if new spans have the same id
@@ -135,7 +135,7 @@ next_id_in core rules ids (enter worker id) answer new h next = refl
 next_id_in core rules ids (exit worker id) answer new h next = refl
 next_id_in core rules ids (try_close worker id) answer new h next = refl
 next_id_in core rules ids (record_fields worker id fields) answer new h next = refl
-next_id_in core rules ids (event worker meta message fields) answer new h next = refl
+next_id_in core rules ids (event worker meta message fields parent) answer new h next = refl
 next_id_in core rules ids _ _ new h next = absurd h
 
 -- an accepted call is the outcome: its answer, its notes and the core that it leaves
@@ -229,7 +229,7 @@ done_changes core (enter worker id) due new = record { held = held_from core.wor
 done_changes core (exit worker id) due new = record { inside = due.inside; closed_are = refl; after = refl }
 done_changes core (try_close worker id) due new = record { held = held_from core.world.spans id due.known; closed_are = refl; after = refl }
 done_changes core (record_fields worker id fields) due new = record { held = held_from core.world.spans id due.known; after = refl }
-done_changes core (event worker meta message fields) due new = refl
+done_changes core (event worker meta message fields parent) due new = record { parent_open = due.known; after = refl }
 
 done_takes : (core : CoreView) (request : Request) → IsDue core request → TakesNextId core (answer_to core.world (id_at (id_after core)) request)
 done_takes core (new_span worker meta fields parent) due = is_at_some (id_after core) due.slot
@@ -238,7 +238,7 @@ done_takes core (enter worker id) due = tt
 done_takes core (exit worker id) due = tt
 done_takes core (try_close worker id) due = tt
 done_takes core (record_fields worker id fields) due = tt
-done_takes core (event worker meta message fields) due = tt
+done_takes core (event worker meta message fields parent) due = tt
 
 done_allowed : (core : CoreView) (request : Request) → worker_of request < length core.world.stacks → IsDue core request → IsNextIdNew core → IsAllowed core request (done core request)
 done_allowed core request within due new = (

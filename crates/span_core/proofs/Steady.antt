@@ -169,5 +169,5 @@ steady_then core (record_fields worker id fields) notes steady low due =
     (world_changed (with_fields fields) (λ node. refl) spans id core.world.stacks steady.world)
     steady.stacks
     (agrees_fewer core.limits.slots spans (with_change (with_fields fields) spans id) (used_in core) (λ j there. IsOpen-changed _ spans id j there) steady.slots)
-steady_then core (event worker meta message fields) notes steady low due =
-    then_steady core (event worker meta message fields) notes steady.upheld steady.world steady.stacks steady.slots
+steady_then core (event worker meta message fields parent) notes steady low due =
+    then_steady core (event worker meta message fields parent) notes steady.upheld steady.world steady.stacks steady.slots

@@ -102,8 +102,8 @@ weight_then core (try_close worker id) notes steady low due =
     sent_more core (try_close worker id) notes 0 (let less = total-released core.world.spans id Handle steady.upheld.forest.ids_apart (held_from core.world.spans id due.known) in omega (arith, less))
 weight_then core (record_fields worker id fields) notes steady low due =
     sent_more core (record_fields worker id fields) notes 3 (let same = total-same (with_fields fields) (λ node. refl) core.world.spans id in omega (arith, same))
-weight_then core (event worker meta message fields) notes steady low due =
-    sent_more core (event worker meta message fields) notes 3 (omega arith)
+weight_then core (event worker meta message fields parent) notes steady low due =
+    sent_more core (event worker meta message fields parent) notes 3 (omega arith)
 
 -- a span that has a handle after a call had one before it, or was made by the call
 pub handle_before : (core : CoreView) (request : Request) → IsDue core request → (j : ℕ) → IsHeld (world_then core request).spans j Handle → IsHeld core.world.spans j Handle ⊎ (answer_in core request ≡ made j)
@@ -129,4 +129,4 @@ handle_before core (exit worker id) due j held = inl (let same = handles_if (sta
     handles_if false = handles-left core.world.spans id j
 handle_before core (try_close worker id) due j held = inl (let fewer = handles-released core.world.spans id j in omega (arith, held, fewer))
 handle_before core (record_fields worker id fields) due j held = inl (let same = held-changed Handle (with_fields fields) (λ node. refl) core.world.spans id j in omega (arith, held, same))
-handle_before core (event worker meta message fields) due j held = inl held
+handle_before core (event worker meta message fields parent) due j held = inl held

@@ -16,6 +16,7 @@ use Rattle.span_forest.specs.Count.{reference_count}
 use Rattle.span_forest.specs.Holders.{held_in}
 use Rattle.span_stack.specs.Stack.{has}
 use Rattle.span_core.specs.World.{World, stack_of}
+use Rattle.span_core.specs.Parent.{parent_named}
 use Rattle.span_outlet.specs.Request.{Request, new_span, clone_span, enter, exit, try_close, record_fields, event, Answer}
 use Rattle.span_outlet.specs.Batch.{PlainBatch}
 use Rattle.span_outlet.specs.Outlet.{RingName, one_more}
@@ -45,7 +46,7 @@ are_keys fields = list_all (λ field. is_name field.0) fields
 abbrev pub is_named : Request → Bool
 is_named (new_span worker meta fields parent) = is_name meta.name && are_keys fields
 is_named (record_fields worker id fields) = are_keys fields
-is_named (event worker meta message fields) = is_name meta.name && are_keys fields
+is_named (event worker meta message fields parent) = is_name meta.name && are_keys fields
 is_named _ = true
 
 -- a new span is wanted
@@ -65,7 +66,7 @@ is_known core (enter worker id) = has_handle core.world.spans id
 is_known core (exit worker id) = is_open core.world.spans id
 is_known core (try_close worker id) = has_handle core.world.spans id
 is_known core (record_fields worker id fields) = has_handle core.world.spans id
-is_known core (event worker meta message fields) = true
+is_known core (event worker meta message fields parent) = is_open_parent core.world.spans (parent_named parent)
 
 -- the count of a span is below its greatest value
 abbrev pub is_below_max : ℕ → Spans → ℕ → Bool

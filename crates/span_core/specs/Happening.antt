@@ -12,7 +12,9 @@ use Rattle.span_layers.specs.Filter.{Filter, layer_wants, admission_set}
 use Rattle.span_forest.specs.Spans.{Spans, find}
 use Rattle.span_forest.specs.Path.{path, path_text}
 use Rattle.span_stack.specs.Stack.{walk}
+use Rattle.span_outlet.specs.declared.batch.ParentOf.{ParentOf}
 use Rattle.span_core.specs.World.{World, stack_of}
+use Rattle.span_core.specs.Parent.{spans_around}
 use Rattle.span_outlet.specs.Request.{Request, new_span, enter, exit, try_close, record_fields, event, Answer, made, exited, released}
 
 -- the admission set of an open span; 0 where there is none
@@ -49,11 +51,11 @@ at_span spans kind id fields = record {
 abbrev pub close_of : Spans → ℕ → Happening
 close_of spans id = at_span spans OnClose id (fields_in spans id)
 
--- where a layer sees an event: at the topmost entry of the caller's stack, duplicates skipped, that the layer admits
+-- where a layer sees an event: at the topmost of these spans, duplicates skipped, that the layer admits
 abbrev pub contextual_span : Spans → List ℕ → ℕ → Option ℕ
 contextual_span spans stack layer = first_that (λ id. has_bit (bits_in spans id) layer) (walk stack)
 
--- an event that these layers admit, told by a worker with this stack
+-- an event that these layers admit, told among these spans
 abbrev pub event_at : Spans → List ℕ → ℕ → Level → List ℕ → List KeyValue → Happening
 event_at spans stack admitted level message fields = record {
   kind = OnEvent;
@@ -64,10 +66,12 @@ event_at spans stack admitted level message fields = record {
   spans = spans;
 }
 
--- an event is told; the filters are evaluated for the event itself
-abbrev pub event_told : List Filter → World → ℕ → PlainMeta → List ℕ → List KeyValue → Happening
-event_told rules world worker meta message fields =
-    event_at world.spans (stack_of world worker) (admission_set rules meta.target meta.level) meta.level message fields
+-- An event is told; the filters are evaluated for the event itself. With a parent of its own it is told as by a worker
+-- that is inside that span alone: a layer that doesn't admit the parent sees the event in no span.
+abbrev pub event_told : List Filter → World → ℕ → PlainMeta → List ℕ → List KeyValue → ParentOf → Happening
+event_told rules world worker meta message fields parent =
+    event_at world.spans (spans_around (stack_of world worker) parent) (admission_set rules meta.target meta.level)
+    meta.level message fields
 
 -- The happenings of a call, in order. A new span is seen in the world after the call, all else in the
 -- world before it; an exit comes before the closes that it causes, and closes come child first.
@@ -78,8 +82,8 @@ happenings rules old (exit worker id) (exited closed) new =
     at_span old.spans OnExit id [] ∷ map (close_of old.spans) closed
 happenings rules old (try_close worker id) (released closed) new = map (close_of old.spans) closed
 happenings rules old (record_fields worker id fields) answer new = at_span old.spans OnRecord id fields ∷ []
-happenings rules old (event worker meta message fields) answer new =
-    event_told rules old worker meta message fields ∷ []
+happenings rules old (event worker meta message fields parent) answer new =
+    event_told rules old worker meta message fields parent ∷ []
 happenings rules old _ _ new = []
 
 -- the layer is told of the happening: it is one of those that admit it, and wants notes of that kind

@@ -33,7 +33,7 @@ answer_to old id (enter worker held) = entered (not (has (stack_of old worker) h
 answer_to old id (exit worker left) = exited (closed_by_exit old worker left)
 answer_to old id (try_close worker held) = released (closing_list old.spans held Handle)
 answer_to old id (record_fields worker held fields) = recorded
-answer_to old id (event worker meta message fields) = told
+answer_to old id (event worker meta message fields parent) = told
 
 -- the world after a call with this answer
 abbrev pub world_after : List Filter → World → Request → Answer → World

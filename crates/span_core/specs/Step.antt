@@ -12,7 +12,9 @@ use Rattle.span_forest.specs.Holders.{IsHeld}
 use Rattle.span_forest.specs.Keep.{with_holder}
 use Rattle.span_forest.specs.Release.{spans_left, closing_list}
 use Rattle.span_stack.specs.Stack.{has, without_last}
+use Rattle.span_outlet.specs.declared.batch.ParentOf.{ParentOf}
 use Rattle.span_core.specs.World.{World, stack_of, with_stack}
+use Rattle.span_core.specs.Parent.{parent_named}
 use Rattle.span_outlet.specs.Request.{Request, new_span, clone_span, enter, exit, try_close, record_fields, event, Answer, made, cloned, entered, exited, released, recorded, told, worker_of}
 use Rattle.span_core.specs.Happening.{happenings, notes_of_all}
 
@@ -125,6 +127,11 @@ pub record RecordsFields (old : World) (id : ℕ) (fields : List KeyValue) (new 
   pub held : IsHeld old.spans id Handle
   pub after : new ≡ world_recorded old id fields
 
+-- an event is told: a parent that is named is open, and the world stays as it is
+pub record TellsUnder (old : World) (parent : ParentOf) (new : World) : Type 0 where
+  pub parent_open : is_open_parent old.spans (parent_named parent) ≡ true
+  pub after : new ≡ old
+
 -- what a call with this answer does to the world; no other pairs of call and answer are given
 abbrev pub Changes : List Filter → List ℕ → World → Request → Answer → World → Type 0
 Changes rules issued old (new_span worker meta fields parent) (made id) new =
@@ -134,7 +141,7 @@ Changes rules issued old (enter worker id) (entered first) new = EntersSpan old 
 Changes rules issued old (exit worker id) (exited closed) new = ExitsSpan old worker id closed new
 Changes rules issued old (try_close worker id) (released closed) new = ReleasesHandle old id closed new
 Changes rules issued old (record_fields worker id fields) recorded new = RecordsFields old id fields new
-Changes rules issued old (event worker meta message fields) told new = new ≡ old
+Changes rules issued old (event worker meta message fields parent) told new = TellsUnder old parent new
 Changes rules issued old _ _ new = ⊥
 
 -- one accepted call: the caller is one of the workers, the world changes as the call says, and the notes are

@@ -6,6 +6,7 @@ ghost use Rattle.span_core.specs.inside.Given.{meta_given, fields_given, text_gi
 
 use crate::recent::Recent;
 use span_id::{Fault, Field, Fields, Meta, SharedMeta};
+use span_outlet::ParentOf;
 use span_recent::RecentMetas;
 use std::alloc::Global;
 use std::sync::ArcStr;
@@ -38,12 +39,13 @@ pub(crate) struct KeptEvent {
     pub(crate) fields: Fields,
 }
 
-/// An event as a caller gives it: lent or shared.
+/// An event as a caller gives it, lent or shared, and the parent that it asks for.
 #[derive(Clone, Copy)]
 pub(crate) struct GivenEvent<'a> {
     pub(crate) meta: GivenMeta<'a>,
     pub(crate) message: GivenText<'a>,
     pub(crate) fields: GivenFields<'a>,
+    pub(crate) parent: ParentOf,
 }
 
 impl<'a> GivenMeta<'a> {

@@ -18,14 +18,13 @@ pub(crate) mod paths;
 
 use crate::recent::{Recent, empty_list};
 use closing::{closes_count, push_closes};
-use events::contextual_span;
+use events::{Around, span_seen};
 use layers::{is_told_to_none, told_layers};
 use paths::{ToldPaths, new_text, seen_text};
 use span_forest::Forest;
 use span_id::{Bits, Fault, Fields, Id, Level};
 use span_layers::{Kind, Note, Rules};
 use span_outlet::Call;
-use span_stack::SpanStack;
 use std::sync::ArcStr;
 
 /// What happened to a span: which worker caused it, its kind, the span, and the layers that admit the span.
@@ -65,10 +64,9 @@ pub(crate) enum Subject<'a> {
         parent: Option<Id>,
         name: &'a str,
     },
-    /// An event, told by a worker with this stack, which these blocks summarise.
+    /// An event.
     Event {
-        stack: &'a SpanStack,
-        blocks: &'a [Bits],
+        around: Around<'a>,
         level: Level,
         message: &'a ArcStr,
     },
@@ -82,9 +80,7 @@ fn place_of(forest: &Forest, subject: &Subject<'_>, layer: u32, in_vain: &mut u6
     match subject {
         Subject::Span(id) => Some(*id),
         Subject::NewSpan { parent, .. } => *parent,
-        Subject::Event { stack, blocks, .. } => contextual_span(
-            forest, stack, blocks, layer, in_vain,
-        ),
+        Subject::Event { around, .. } => span_seen(forest, around, layer, in_vain),
     }
 }
 

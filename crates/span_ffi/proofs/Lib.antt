@@ -2,5 +2,6 @@ pub mod Alike
 pub mod Found
 pub mod Given
 pub mod Read
+pub mod Told
 mod Examples
 mod DataExamples

@@ -83,12 +83,13 @@ abbrev pub Records : ℕ → ℕ → List SpanField → List ℕ → CoreView �
 Records worker id fields bytes =
     AnswersData worker (AreFields fields bytes) (record_fields worker id (said_fields fields bytes)) recorded
 
--- an event is told
-abbrev pub TellsEvent : ℕ → SpanMeta → ℕ → List SpanField → List ℕ → CoreView → Status → CoreView → Type 0
-TellsEvent worker meta message_len fields bytes =
+-- an event is told under the parent that is said
+abbrev pub TellsEvent : ℕ → ℕ → ℕ → SpanMeta → ℕ → List SpanField → List ℕ → CoreView → Status → CoreView → Type 0
+TellsEvent worker kind parent meta message_len fields bytes =
     let behind = behind_meta meta bytes in
-    AnswersData worker (IsEvent meta message_len fields bytes)
-    (event worker (said_meta meta bytes) (take message_len behind) (said_fields fields (drop message_len behind))) told
+    AnswersData worker ((kind ≤ 2) × IsEvent meta message_len fields bytes)
+    (event worker (said_meta meta bytes) (take message_len behind) (said_fields fields (drop message_len behind))
+    (said_parent kind parent)) told
 
 -- a span with this meta and these fields, under the parent that is meant
 abbrev pub span_asked : ℕ → ℕ → ℕ → PlainMeta → List KeyValue → CoreView → Request

@@ -9,7 +9,7 @@ use Rattle.span_ffi.specs.declared.data.SpanMeta.{SpanMeta}
 use Rattle.span_ffi.specs.declared.data.SpanField.{SpanField}
 use Rattle.span_border.specs.declared.status.Status.{Status}
 use Rattle.span_border.specs.declared.status.Status.TheVariants.{Done, Refused, BadData, NoSuchWorker, NoSuchCallsite}
-use Rattle.span_ffi.specs.Data.{IsCallsite, IsSpanAt, IsEventAt, said_meta, said_fields}
+use Rattle.span_ffi.specs.Data.{IsCallsite, IsSpanAt, IsEventAt, said_meta, said_fields, said_parent}
 use Rattle.span_ffi.specs.Calls.{HasWorker, LacksWorker, AnswersData, MakesAsked, span_asked}
 
 -- A callsite is added: it has the meta that the data say, and the next number is told. It is refused, and nothing
@@ -44,8 +44,10 @@ MakesSpanAt worker kind parent callsite fields bytes id callsites =
     id old)
 
 -- an event is told with the meta of a callsite, as `TellsEvent` says of a meta
-abbrev pub TellsAt : ℕ → ℕ → ℕ → List SpanField → List ℕ → List PlainMeta → CoreView → Status → CoreView → Type 0
-TellsAt worker callsite message_len fields bytes callsites =
+abbrev pub TellsAt : ℕ → ℕ → ℕ → ℕ → ℕ → List SpanField → List ℕ
+    → List PlainMeta → CoreView → Status → CoreView → Type 0
+TellsAt worker kind parent callsite message_len fields bytes callsites =
     AtCallsite worker (slice_get callsites callsite) (λ meta.
-    AnswersData worker (IsEventAt message_len fields bytes)
-    (event worker meta (take message_len bytes) (said_fields fields (drop message_len bytes))) told)
+    AnswersData worker ((kind ≤ 2) × IsEventAt message_len fields bytes)
+    (event worker meta (take message_len bytes) (said_fields fields (drop message_len bytes)) (said_parent kind parent))
+    told)

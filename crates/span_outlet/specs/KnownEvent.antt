@@ -9,7 +9,8 @@ use Rattle.span_outlet.specs.Batch.{PlainBatch}
 
 -- the call that told it
 abbrev pub request_of_known : KnownEvent → Request
-request_of_known known = event known.worker (plain_meta known.meta.value) known.message.items (plain_fields known.fields.items)
+request_of_known known =
+    event known.worker (plain_meta known.meta.value) known.message.items (plain_fields known.fields.items) known.parent
 
 -- what it puts out where these are its notes
 abbrev pub batch_of_known : KnownEvent → List Note → PlainBatch

@@ -39,12 +39,13 @@ pub enum Call {
         id: Id,
         fields: Fields,
     },
-    /// An event was told.
+    /// An event was told, under the parent that was asked for.
     Event {
         worker: u32,
         meta: SharedMeta,
         message: ArcStr,
         fields: Fields,
+        parent: ParentOf,
     },
 }
 
@@ -72,7 +73,7 @@ pub struct Batch {
     pub notes: Vec<Note>,
 }
 
-/// Which parent a new span gets.
+/// Which parent a new span or an event gets.
 #[derive(Clone, Copy, Debug, PartialEq, Eq)]
 pub enum ParentOf {
     /// None.

@@ -11,6 +11,7 @@ use Rattle.span_forest.specs.Spans.{Spans, find, IsOpen, with_change}
 use Rattle.span_forest.specs.Holders.{held_in, with_more}
 use Rattle.span_forest.specs.Keep.{with_holder}
 use Rattle.span_forest.specs.Release.{closing_list, spans_left}
+use Rattle.span_outlet.specs.declared.batch.ParentOf.{ParentOf}
 use Rattle.span_outlet.specs.Request.{Request, Answer, clone_span, cloned, try_close, released, enter, entered, exit, exited, record_fields, recorded, event, told}
 use Rattle.span_core.specs.World.{World}
 use Rattle.span_core.specs.Step.{closed_by_exit, stays_inside, is_open}
@@ -101,9 +102,9 @@ seated_recorded core new worker id fields r accepted a =
     seated_slots core new r accepted.limits
     (agree_same r core.limits.slots _ _ (λ x. ap (λ (s : Spans). is_open s x) after ∙ open-changed (with_fields fields) core.world.spans id x) (λ x. ap (λ (s : Spans). held_in Handle (find s x)) after ∙ held-changed Handle (with_fields fields) (λ node. refl) core.world.spans id x) a)
 
-pub seated_told : (core new : CoreView) (worker : ℕ) (meta : PlainMeta) (message : List ℕ) (fields : List KeyValue) (r : RootView) → IsAccepted core (event worker meta message fields) told new → AreSeated r core → AreSeated r new
-seated_told core new worker meta message fields r accepted a =
-    seated_slots core new r accepted.limits (subst (λ (v : World). Agree r core.limits.slots (spans_seen v.spans)) (sym accepted.step.changes) a)
+pub seated_told : (core new : CoreView) (worker : ℕ) (meta : PlainMeta) (message : List ℕ) (fields : List KeyValue) (parent : ParentOf) (r : RootView) → IsAccepted core (event worker meta message fields parent) told new → AreSeated r core → AreSeated r new
+seated_told core new worker meta message fields parent r accepted a =
+    seated_slots core new r accepted.limits (subst (λ (v : World). Agree r core.limits.slots (spans_seen v.spans)) (sym accepted.step.changes.after) a)
 
 -- what the root is after it was shown a closing list
 pub shown_handles : (lent left r r₁ : RootView) → lent ≡ r → left ≡ r₁ → left.handles ≡ lent.handles → r₁.handles ≡ r.handles

@@ -67,9 +67,9 @@ pub same_new : (world : World) (worker number : ℕ) (meta : PlainMeta) (fields 
 same_new world worker number meta fields parent result same is =
     λ i. call.new_span (sym same i) meta fields (found_parent world worker parent result is i)
 
-pub same_event : (worker number : ℕ) (meta : PlainMeta) (message : List ℕ) (fields : List KeyValue) → number ≡ worker
-    → call.event worker meta message fields ≡ call.event number meta message fields
-same_event worker number meta message fields same = λ i. call.event (sym same i) meta message fields
+pub same_event : (worker number : ℕ) (meta : PlainMeta) (message : List ℕ) (fields : List KeyValue) (parent : ParentOf) → number ≡ worker
+    → call.event worker meta message fields parent ≡ call.event number meta message fields parent
+same_event worker number meta message fields parent same = λ i. call.event (sym same i) meta message fields parent
 
 pub made_some : (result : Option ℕ) (id : ℕ) (old : CoreView) (request : call.Request) (new : CoreView) → result ≡ Some id
     → IfSome result (λ id. IsAccepted old request (call.made id) new) → IfSome result (λ id. TakesNextId old (call.made id))

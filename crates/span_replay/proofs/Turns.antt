@@ -103,7 +103,7 @@ few_more (call.enter worker id) = omega arith
 few_more (call.exit worker id) = omega arith
 few_more (call.try_close worker id) = omega arith
 few_more (call.record_fields worker id fields) = omega arith
-few_more (call.event worker meta message fields) = omega arith
+few_more (call.event worker meta message fields parent) = omega arith
 
 call_follows : (state : State) (request : call.Request) → IsGood state → call.worker_of request < state.core.limits.workers → MakesNone state.core request → Follows state (call_turn state request).state
 call_follows state request good low none =

@@ -83,8 +83,8 @@ stands_next rules ids old new worker calls (exit who id) (exited closed) within 
     leaving calls _ _ (ap (λ n. n + 1) here ∙ length-without_last (stack_of old who) id h.inside) call.1 stands
 stands_next rules ids old new worker calls (try_close who id) (released closed) within call h stands =
     let place = closed_elsewhere (calls % 9) call.1 in still calls _ _ (ap (λ (w : World). length (stack_of w who)) h.after) place.0 place.1 stands
-stands_next rules ids old new worker calls (event who meta message fields) told within call h stands =
-    still calls _ _ (ap (λ (w : World). length (stack_of w who)) h) (λ e. omega (arith, e, call.1)) (λ e. omega (arith, e, call.1)) stands
+stands_next rules ids old new worker calls (event who meta message fields parent) told within call h stands =
+    still calls _ _ (ap (λ (w : World). length (stack_of w who)) h.after) (λ e. omega (arith, e, call.1)) (λ e. omega (arith, e, call.1)) stands
 stands_next rules ids old new worker calls (record_fields who id fields) answer within call h stands = absurd call
 stands_next rules ids old new worker calls _ _ within call h stands = absurd h
 
@@ -97,7 +97,7 @@ stack_stays rules ids old new worker (enter who id) (entered first) other h = ap
 stack_stays rules ids old new worker (exit who id) (exited closed) other h = ap (λ (w : World). stack_of w worker) h.after ∙ get_or-set_other old.stacks who worker _ [] other
 stack_stays rules ids old new worker (try_close who id) (released closed) other h = ap (λ (w : World). stack_of w worker) h.after
 stack_stays rules ids old new worker (record_fields who id fields) recorded other h = ap (λ (w : World). stack_of w worker) h.after
-stack_stays rules ids old new worker (event who meta message fields) told other h = ap (λ (w : World). stack_of w worker) h
+stack_stays rules ids old new worker (event who meta message fields parent) told other h = ap (λ (w : World). stack_of w worker) h.after
 stack_stays rules ids old new worker _ _ other h = absurd h
 
 -- where the calls of a worker are of its rounds, the last one is the next after those before it

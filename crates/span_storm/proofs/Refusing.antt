@@ -33,7 +33,7 @@ named worker place (enter caller id) call = refl
 named worker place (exit caller id) call = refl
 named worker place (try_close caller id) call = refl
 named worker place (record_fields caller id fields) call = absurd call
-named worker place (event caller meta message fields) call = ap (λ (m : PlainMeta). is_name m.name && are_keys fields) call.2 ∙ ap are_keys call.4
+named worker place (event caller meta message fields parent) call = ap (λ (m : PlainMeta). is_name m.name && are_keys fields) call.2 ∙ ap are_keys call.4
 
 pub may_come : (core : CoreView) (worker place : ℕ) (request : Request) (fault : Fault) → IsCallOfRound worker place request → WhyRefused core request fault → MayCome fault
 may_come core worker place request BadName call why = absurd (false≢true (sym why ∙ named worker place request call))
@@ -53,7 +53,7 @@ caller worker place (enter who id) call = call.0
 caller worker place (exit who id) call = call.0
 caller worker place (try_close who id) call = call.0
 caller worker place (record_fields who id fields) call = absurd call
-caller worker place (event who meta message fields) call = call.0
+caller worker place (event who meta message fields parent) call = call.0
 
 -- one more call was sent, which is the worker's at this place of a round
 pub record IsSent (worker place : ℕ) (old new : CoreView) : Type 0 where

@@ -7,6 +7,7 @@ use Rattle.span_id.specs.declared.level.Level.TheVariants.{Info}
 use Rattle.span_id.specs.Meta.{PlainMeta}
 use Rattle.span_layers.specs.Filter.{Filter}
 use Rattle.span_layers.specs.declared.form.Form.{Form}
+use Rattle.span_outlet.specs.declared.batch.ParentOf.TheVariants.{Current}
 use Rattle.span_outlet.specs.Request.{Request, new_span, clone_span, enter, exit, try_close, record_fields, event}
 use Rattle.span_outlet.specs.Batch.{PlainBatch}
 use Rattle.span_outlet.specs.Ring.{places_of}
@@ -59,8 +60,9 @@ IsCallOfRound worker place (enter caller id) = (caller ≡ worker) × (place ≡
 IsCallOfRound worker place (exit caller id) = (caller ≡ worker) × (place ≡ 6)
 IsCallOfRound worker place (try_close caller id) = (caller ≡ worker) × IsPlaceOfClose place
 IsCallOfRound worker place (record_fields caller id fields) = ⊥
-IsCallOfRound worker place (event caller meta message fields) =
+IsCallOfRound worker place (event caller meta message fields parent) =
     (caller ≡ worker) × (place ≡ 3) × (meta ≡ app_meta (codes "event")) × (message ≡ codes "tick") × (fields ≡ [])
+    × (parent ≡ Current)
 
 -- These calls of a worker are the first of its rounds, in their order: a round has nine.
 pub data AreOfRounds (worker : ℕ) : List PlainBatch → Type 0 where

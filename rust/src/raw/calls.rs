@@ -1,7 +1,7 @@
 //! The owner of a registry's handle.
 use super::{
     abi, span_registry_add_callsite, span_registry_clone_span, span_registry_counts, span_registry_current_span,
-    span_registry_enter, span_registry_event, span_registry_event_at, span_registry_exit, span_registry_find,
+    span_registry_enter, span_registry_event_in, span_registry_event_in_at, span_registry_exit, span_registry_find,
     span_registry_free, span_registry_new, span_registry_new_span, span_registry_new_span_at, span_registry_record,
     span_registry_try_close, Lines, SpanCounts, SpanDrain, SpanFound, SpanLayer, SpanLimits, SpanMeta, SpanRegistry,
     SpanRule, CURRENT, ROOT, UNDER,
@@ -176,19 +176,23 @@ impl Core {
     pub(crate) fn event(
         &mut self,
         worker: u32,
+        parent: RawParent,
         meta: &Meta<'_>,
         message: &str,
         packed: &Packed,
     ) -> Result<(), Refusal> {
         let meta = raw_meta(meta)?;
+        let (kind, parent) = raw_parent(parent);
         let message_len = length(message)?;
         let (fields, texts) = (packed.fields(), packed.texts());
         // SAFETY: the handle is full and lent to this call alone, and each pointer is of a value or of a slice with
         // its length.
         Refusal::of_status(unsafe {
-            span_registry_event(
+            span_registry_event_in(
                 &mut self.handle,
                 worker,
+                kind,
+                parent,
                 &meta,
                 message_len,
                 fields.as_ptr(),
@@ -202,17 +206,21 @@ impl Core {
     pub(crate) fn event_at(
         &mut self,
         worker: u32,
+        parent: RawParent,
         callsite: u32,
         message: &str,
         packed: &Packed,
     ) -> Result<(), Refusal> {
         let message_len = length(message)?;
+        let (kind, parent) = raw_parent(parent);
         let (fields, texts) = (packed.fields(), packed.texts());
         // SAFETY: the handle is full and lent to this call alone, and each pointer is of a slice with its length.
         Refusal::of_status(unsafe {
-            span_registry_event_at(
+            span_registry_event_in_at(
                 &mut self.handle,
                 worker,
+                kind,
+                parent,
                 callsite,
                 message_len,
                 fields.as_ptr(),

@@ -239,6 +239,30 @@ fn an_event_is_told_in_the_spans_of_one_part() -> Result<(), Error> {
 }
 
 #[test]
+fn an_event_goes_to_the_part_of_its_parent() -> Result<(), Error> {
+    const PARTS: u32 = 4;
+    let (registry, mut drain) = compact(PARTS).build()?;
+    let roots = roots(&registry, PARTS);
+    drain.lines().for_each(drop);
+    let _inside = roots[1].enter();
+    drain.lines().for_each(drop);
+    for (part, root) in (0..PARTS).zip(&roots) {
+        assert_eq!(id(root).part(), part);
+        event!(registry, parent: root, Level::Info, "m");
+        let wanted = format!("event {} w{} root{part} INFO m", id(root), part * WORKERS);
+        assert_eq!(texts(&mut drain), [wanted]);
+    }
+    let meta = Meta::event(Level::Info, "app");
+    for part in 0..PARTS {
+        let told = at_home(&registry, part, || registry.event_in(&meta, Parent::Root, "r", &[]));
+        assert_eq!(told, Ok(()));
+        let line = drain.lines().next().expect("it is told").text;
+        assert!(line.ends_with(" - INFO r"), "{line}");
+    }
+    Ok(())
+}
+
+#[test]
 fn a_callsite_has_one_number_in_all_parts() -> Result<(), Error> {
     const PARTS: u32 = 4;
     let (registry, mut drain) = compact(PARTS).build()?;

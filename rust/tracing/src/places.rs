@@ -79,7 +79,7 @@ impl Place {
     /// Tells an event. The registry counts what is refused.
     pub(crate) fn event(&'static self, registry: &Registry, message: &str, given: Vec<Given>) {
         if let Some(wanted) = self.site.wanted_by(registry) {
-            as_array!(given, |fields| wanted.event(message, fields));
+            as_array!(given, |fields| wanted.event(Parent::Current, message, fields));
         }
     }
 

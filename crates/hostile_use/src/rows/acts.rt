@@ -16,8 +16,9 @@ pub(crate) enum Act {
     Close(Named),
     /// With the fields of `Names`.
     Record(Named),
-    /// With `MESSAGE`.
+    /// With `MESSAGE`, and the same under a span.
     Event,
+    EventIn(Named),
     Find(Named),
     OpenSpans,
     HeldSpans,

@@ -51,7 +51,10 @@ impl<H: Ledger, C: Ledger, S: Setup> Caller<H, C, S> {
             }
             Act::Exit(named) => self.exit(rt, registry, named.id()),
             Act::Close(named) => self.try_close(rt, registry, named.id()),
-            Act::Event => self.event(rt, registry, &names.event, MESSAGE),
+            Act::Event => self.event(rt, registry, &names.event, ParentOf::Current),
+            Act::EventIn(named) => {
+                self.event(rt, registry, &names.event, ParentOf::Of(named.id()))
+            }
             Act::Find(named) => find(rt, alloc, registry, &mut self.worker, named.id()),
             Act::OpenSpans => spans(registry.open_spans(rt, &mut self.worker)),
             Act::HeldSpans => holders(registry.held_spans(rt, &mut self.worker)),
@@ -141,9 +144,9 @@ impl<H: Ledger, C: Ledger, S: Setup> Caller<H, C, S> {
         rt: &R,
         registry: &Registry<H, C, S, O, A>,
         meta: &Meta,
-        message: &str,
+        parent: ParentOf,
     ) -> Result<Answer, Fault> {
-        done(registry.event(rt, &mut self.worker, meta, message, &[]))
+        done(registry.event_in(rt, &mut self.worker, meta, MESSAGE, &[], parent))
     }
 
     // Gives a handle back. Where that is refused, the handle that comes back is kept.

@@ -31,7 +31,7 @@ enum Ask {
 }
 
 // A span inside another, and one that is entered nine times. The third span gets the slot of the first.
-static PLAN: [Planned<'static, Ask>; 35] = [
+static PLAN: [Planned<'static, Ask>; 37] = [
     ("new a", Taken, Ask::Call(Act::New(Called::A, Apart))),
     ("clone 1", Taken, Ask::Call(Act::Clone(One))),
     ("enter 1", Taken, Ask::Call(Act::Enter(One))),
@@ -42,6 +42,7 @@ static PLAN: [Planned<'static, Ask>; 35] = [
     ),
     ("record 2", Taken, Ask::Call(Act::Record(Two))),
     ("event m", Taken, Ask::Call(Act::Event)),
+    ("event in 2", Taken, Ask::Call(Act::EventIn(Two))),
     ("find 1", Untouched, Ask::Call(Act::Find(One))),
     ("find 2", Untouched, Ask::Call(Act::Find(Two))),
     ("open spans", Taken, Ask::Call(Act::OpenSpans)),
@@ -66,6 +67,7 @@ static PLAN: [Planned<'static, Ask>; 35] = [
     ("len", Untouched, Ask::Len),
     ("close 2", Taken, Ask::Call(Act::Close(Two))),
     ("len", Untouched, Ask::Len),
+    ("event in 2", Taken, Ask::Call(Act::EventIn(Two))),
     ("new a", Taken, Ask::Call(Act::New(Called::A, Apart))),
     ("enter it", Taken, Ask::Call(Act::Enter(OneAnew))),
     ("enter it, 2", Taken, Ask::Call(Act::Enter(OneAnew))),
@@ -212,6 +214,10 @@ pub(crate) fn make<O: Outlet, A: Admit>(
         Act::Close(named) => yes_or_no(core.try_close(0, named.id())),
         Act::Record(named) => done(core.record(0, named.id(), names.fields.as_slice())),
         Act::Event => done(core.event(0, &names.event, MESSAGE, &[])),
+        Act::EventIn(named) => {
+            let parent = ParentOf::Of(named.id());
+            done(core.event_in(0, &names.event, MESSAGE, &[], parent))
+        }
         Act::Find(named) => Ok(held(core.find(named.id()))),
         Act::OpenSpans => spans(core.open_spans()),
         Act::HeldSpans => holders(core.held_spans()),

@@ -7,7 +7,7 @@ use crate::stop::Stop;
 use crate::texts::{meta_of, note_of, plain_tellers};
 use span_id::{Id, Level, Limits};
 use span_layers::{Kind, Note, Say, Tellers};
-use span_outlet::{Batch, Call, Kept, KnownEvent, Latest, Outlet, Reply, Ring};
+use span_outlet::{Batch, Call, Kept, KnownEvent, Latest, Outlet, ParentOf, Reply, Ring};
 use std::alloc::{AllocError, Global};
 
 /// How many batches were sent to a `Latest`, and how many notes were missed.
@@ -117,7 +117,7 @@ fn put_event<V: Say, R: Print>(
     let meta = meta_of(alloc, "event", Level::Warn)?;
     let notes = notes(alloc, Kind::OnEvent)?;
     stage.begin(Memory::Taken);
-    let event = KnownEvent::new(0, &meta, "x\ny", &[]);
+    let event = KnownEvent::new(0, &meta, "x\ny", &[], ParentOf::Current);
     let put = latest.put_event(event, notes);
     stage.over();
     match put {

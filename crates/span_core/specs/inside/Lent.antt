@@ -9,6 +9,7 @@ use Rattle.span_core.specs.declared.notes.new_spans.NewSpan.{NewSpan}
 use Rattle.span_core.specs.inside.Sound.{first_note}
 use Rattle.span_core.specs.inside.Given.{meta_given, fields_given, text_given}
 use Rattle.span_outlet.specs.Request.{Request, new_span, event}
+use Rattle.span_core.specs.Parent.{spans_around}
 use Rattle.span_core.specs.Happening.{Happening, event_at}
 
 -- the call that makes a span
@@ -22,7 +23,8 @@ first_note_of spans new layer =
 
 -- the call that tells what this worker gave
 abbrev pub given_event : ℕ → GivenEvent → Request
-given_event worker given = event worker (meta_given given.meta) (text_given given.message) (fields_given given.fields)
+given_event worker given =
+    event worker (meta_given given.meta) (text_given given.message) (fields_given given.fields) given.parent
 
 -- the call that tells an event
 abbrev pub event_request : Event → Request
@@ -31,4 +33,5 @@ event_request told = given_event told.worker told.given.now
 -- an event that is told by a worker with this stack, as the layers see it
 abbrev pub event_seen : Spans → List ℕ → Event → Happening
 event_seen spans stack told =
-    event_at spans stack told.bits.0 (meta_given told.given.now.meta).level (text_given told.given.now.message) (fields_given told.given.now.fields)
+    event_at spans (spans_around stack told.given.now.parent) told.bits.0 (meta_given told.given.now.meta).level
+    (text_given told.given.now.message) (fields_given told.given.now.fields)

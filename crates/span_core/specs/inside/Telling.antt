@@ -13,33 +13,46 @@ use Rattle.span_core.specs.declared.notes.paths.ToldPath.{ToldPath}
 use Rattle.span_core.specs.declared.notes.paths.ToldPaths.{ToldPaths}
 use Rattle.span_core.specs.declared.notes.Subject.{Subject}
 use Rattle.span_core.specs.declared.notes.Subject.TheVariants.{Span, NewSpan, Event}
+use Rattle.span_core.specs.declared.notes.events.Around.{Around}
+use Rattle.span_core.specs.declared.notes.events.Around.TheVariants.{Stack, Parent, Nothing}
 use Rattle.span_core.specs.inside.Sound.{hears}
 use Rattle.span_core.specs.inside.Summary.{Summarises}
 use Rattle.span_core.specs.Happening.{contextual_span, id_at, path_at}
 
--- of an event, the blocks summarise the stack
+-- the spans among which layers look for that of an event
+abbrev pub ids_around : Around → List ℕ
+ids_around (Stack stack blocks) = stack.now.ids
+ids_around (Parent id) = id ∷ []
+ids_around Nothing = []
+
+-- the blocks summarise the stack, where it is a stack
+abbrev pub AreSummarised : Spans → Around → Type 0
+AreSummarised spans (Stack stack blocks) = Summarises spans stack.now.ids blocks.now
+AreSummarised spans _ = Unit {0}
+
+-- the same of an event
 abbrev pub IsSummarised : Spans → Subject → Type 0
 IsSummarised spans (Span id) = Unit {0}
 IsSummarised spans (NewSpan id parent name) = Unit {0}
-IsSummarised spans (Event stack blocks level message) = Summarises spans stack.now.ids blocks.now
+IsSummarised spans (Event around level message) = AreSummarised spans around
 
 -- where the path of a layer is read: that of a new span at its parent
 abbrev pub place_told : Spans → Subject → ℕ → Option ℕ
 place_told spans (Span id) layer = Some id
 place_told spans (NewSpan id parent name) layer = parent
-place_told spans (Event stack blocks level message) layer = contextual_span spans stack.now.ids layer
+place_told spans (Event around level message) layer = contextual_span spans (ids_around around) layer
 
 -- the id that a layer is told, which reads its path at this place
 abbrev pub id_told : Subject → Option ℕ → ℕ
 id_told (Span id) place = id_at place
 id_told (NewSpan id parent name) place = id
-id_told (Event stack blocks level message) place = id_at place
+id_told (Event around level message) place = id_at place
 
 -- the text of the path that it is told, which has these names where it is read; a new span has its own name too
 abbrev pub text_told : Subject → List (List ℕ) → List ℕ
 text_told (Span id) path = path_text path
 text_told (NewSpan id parent name) path = path_text (path ++ name.now ∷ [])
-text_told (Event stack blocks level message) path = path_text path
+text_told (Event around level message) path = path_text path
 
 -- what is known of a text that was told: these layers read it at its place
 abbrev pub KnowsPath : (List (List ℕ) → List ℕ) → Spans → ToldPath → Type 0
@@ -53,7 +66,7 @@ pub record Knows (told : List (List ℕ) → List ℕ) (spans : Spans) (paths : 
 
 -- the level and the message that it is told
 abbrev pub tail_told : Subject → Option Told
-tail_told (Event stack blocks level message) = Some (level, arc_str_bytes message.now)
+tail_told (Event around level message) = Some (level, arc_str_bytes message.now)
 tail_told _ = None
 
 -- what a layer is told

@@ -3,7 +3,10 @@ ghost use Rattle.std.specs.Prelude.{◌≡◌, ◌<◌, ◌-◌, ◌^◌, ◌++�
 ghost use Rattle.std.specs.Arc.{arc_str_bytes};
 ghost use Rattle.span_id.specs.Meta.{plain_meta, plain_fields};
 ghost use Rattle.span_layers.specs.Note.{plain_note};
+ghost use Rattle.span_outlet.specs.declared.batch.ParentOf.TheVariants.{Current};
 ghost use Rattle.span_outlet.specs.Request.{event, told};
+ghost use Rattle.span_core.specs.Parent.{parent_named};
+ghost use Rattle.span_core.specs.Step.{is_open_parent};
 ghost use Rattle.span_core.specs.inside.Given.{IsKept};
 ghost use Rattle.span_core.specs.inside.Lent.{given_event, event_request};
 ghost use Rattle.span_core.specs.Core.{IsDue, IsAccepted, IsRefused};
@@ -14,14 +17,16 @@ use crate::calls::room::ask;
 use crate::given::{GivenEvent, GivenFields, GivenMeta, GivenText};
 use crate::notes::events::{Event, ToldEvent, event_call, event_told};
 use crate::recent::Recent;
+use span_forest::Forest;
 use span_id::{Fault, Field, Fields, Meta, SharedMeta};
 use span_layers::Admit;
-use span_outlet::{Batch, KnownEvent, Outlet, Reply};
+use span_outlet::{Batch, KnownEvent, Outlet, ParentOf, Reply};
 use std::sync::ArcStr;
 
 impl<O: Outlet, A: Admit> Core<O, A> {
-    /// Tells an event. The number of the worker that tells it needs to be below `workers`. The world stays as it is;
-    /// an event that no layer admits is accepted and has no notes.
+    /// Tells an event under the worker's current span: each layer sees it in the topmost span, of those that the worker
+    /// is inside, that it admits. The number of the worker that tells it needs to be below `workers`. The world stays as
+    /// it is; an event that no layer admits is accepted and has no notes.
     ///
     /// Refused in this order: `BadName` where the name or a key is no name, `CountFull` where the number of accepted
     /// calls is at its greatest, `Backlog`, `Memory`.
@@ -34,14 +39,38 @@ impl<O: Outlet, A: Admit> Core<O, A> {
     ) -> Result<(), Fault>
         requires { worker < self.old.limits.workers }
         ensures accepted { OnOk result (IsAccepted self.old
-            (event worker (plain_meta meta.now) message.now (plain_fields fields.now)) told self.new) }
+            (event worker (plain_meta meta.now) message.now (plain_fields fields.now) Current) told self.new) }
         ensures refused { IfErr result (λ fault. IsRefused self.old
-            (event worker (plain_meta meta.now) message.now (plain_fields fields.now)) fault self.new) }
+            (event worker (plain_meta meta.now) message.now (plain_fields fields.now) Current) fault self.new) }
+    {
+        self.event_in(worker, meta, message, fields, ParentOf::Current)
+    }
+
+    /// Tells an event under no parent, under the worker's current span or under a named one. Under a named one each layer
+    /// that admits that span sees it there, and any other layer in no span. The event holds nothing: no count changes.
+    /// All else is as in `event`.
+    ///
+    /// Refused in this order: `BadName` where the name or a key is no name, `Unknown` where the named parent isn't open,
+    /// `CountFull` where the number of accepted calls is at its greatest, `Backlog`, `Memory`.
+    pub fn event_in(
+        &mut self,
+        worker: u32,
+        meta: &Meta,
+        message: &str,
+        fields: &[Field],
+        parent: ParentOf,
+    ) -> Result<(), Fault>
+        requires { worker < self.old.limits.workers }
+        ensures accepted { OnOk result (IsAccepted self.old
+            (event worker (plain_meta meta.now) message.now (plain_fields fields.now) parent) told self.new) }
+        ensures refused { IfErr result (λ fault. IsRefused self.old
+            (event worker (plain_meta meta.now) message.now (plain_fields fields.now) parent) fault self.new) }
     {
         let given = GivenEvent {
             meta: GivenMeta::Lent(meta),
             message: GivenText::Lent(message),
             fields: GivenFields::Lent(fields),
+            parent,
         };
         self.event_given(worker, &given)
     }
@@ -57,14 +86,33 @@ impl<O: Outlet, A: Admit> Core<O, A> {
     ) -> Result<(), Fault>
         requires { worker < self.old.limits.workers }
         ensures accepted { OnOk result (IsAccepted self.old
-            (event worker meta.now (arc_str_bytes message.now) fields.now) told self.new) }
+            (event worker meta.now (arc_str_bytes message.now) fields.now Current) told self.new) }
         ensures refused { IfErr result (λ fault. IsRefused self.old
-            (event worker meta.now (arc_str_bytes message.now) fields.now) fault self.new) }
+            (event worker meta.now (arc_str_bytes message.now) fields.now Current) fault self.new) }
+    {
+        self.event_in_shared(worker, meta, message, fields, ParentOf::Current)
+    }
+
+    /// Tells an event as `event_in` does, with the same refusals, and shares as `event_shared` does.
+    pub fn event_in_shared(
+        &mut self,
+        worker: u32,
+        meta: &SharedMeta,
+        message: &ArcStr,
+        fields: &Fields,
+        parent: ParentOf,
+    ) -> Result<(), Fault>
+        requires { worker < self.old.limits.workers }
+        ensures accepted { OnOk result (IsAccepted self.old
+            (event worker meta.now (arc_str_bytes message.now) fields.now parent) told self.new) }
+        ensures refused { IfErr result (λ fault. IsRefused self.old
+            (event worker meta.now (arc_str_bytes message.now) fields.now parent) fault self.new) }
     {
         let given = GivenEvent {
             meta: GivenMeta::Shared(meta),
             message: GivenText::Shared(message),
             fields: GivenFields::Shared(fields),
+            parent,
         };
         self.event_given(worker, &given)
     }
@@ -104,10 +152,24 @@ impl<O: Outlet, A: Admit> Core<O, A> {
         if !(given.meta.read().fit() && are_keys(given.fields.read())) {
             return Err(Fault::BadName);
         }
+        if !is_open_parent(&self.forest, &given.parent) {
+            return Err(Fault::Unknown);
+        }
         if self.calls == u64::MAX {
             return Err(Fault::CountFull);
         }
         Ok(())
+    }
+}
+
+// Whether the parent that is named, if one is, is open.
+fn is_open_parent(forest: &Forest, parent: &ParentOf) -> bool
+    ensures { result ≡ is_open_parent forest.now.spans (parent_named parent.now) }
+{
+    match parent {
+        ParentOf::Of(id) => forest.find(*id).is_some(),
+        ParentOf::Root => true,
+        ParentOf::Current => true,
     }
 }
 
@@ -140,6 +202,7 @@ fn put_told<O: Outlet>(
         given.meta.read(),
         given.message.read(),
         given.fields.read(),
+        given.parent,
     );
     if let Err(notes) = outlet.put_event(known, notes) {
         let call = event_call(recent, event, kept)?;

@@ -1,4 +1,4 @@
-//! An event's call and its notes, in the span where each layer sees the caller.
+//! An event's call and its notes, in the span where each layer sees it.
 ghost use Rattle.std.specs.Prelude.{◌≡◌, ◌<◌, [], map, length, IfOk, IfErr, IfSome, IfNone, Some, ◌≤◌, take, slice_index_or};
 ghost use Rattle.std.specs.List.{find as first_that};
 ghost use Rattle.span_id.specs.Bits.{has_bit};
@@ -6,10 +6,13 @@ ghost use Rattle.span_layers.specs.Note.{plain_note};
 ghost use Rattle.span_outlet.specs.Request.{request_of};
 ghost use Rattle.span_stack.specs.Stack.{walk, ids_of_each};
 ghost use Rattle.span_core.specs.Happening.{bits_in, contextual_span as seen_in, notes_of};
+ghost use Rattle.span_forest.specs.Spans.{Spans};
+ghost use Rattle.span_core.specs.Parent.{spans_around};
 ghost use Rattle.span_core.specs.inside.Given.{IsKept};
 ghost use Rattle.span_core.specs.inside.Lent.{event_request, event_seen};
 ghost use Rattle.span_core.specs.inside.Remembering.{Remembers};
 ghost use Rattle.span_core.specs.inside.Summary.{Summarises, IsSummary};
+ghost use Rattle.span_core.specs.inside.Telling.{ids_around, AreSummarised};
 
 use crate::given::{GivenEvent, KeptEvent};
 use crate::notes::layers::is_told_to_none;
@@ -19,7 +22,7 @@ use crate::summary::{BLOCK, NEAR, Summary};
 use span_forest::Forest;
 use span_id::{Bits, Fault, Id};
 use span_layers::{Kind, Note, Rules};
-use span_outlet::Call;
+use span_outlet::{Call, ParentOf};
 use span_stack::SpanStack;
 
 /// An event: which worker tells it, the layers that admit it, and what the caller gave.
@@ -28,6 +31,20 @@ pub(crate) struct Event<'a> {
     pub(crate) worker: u32,
     pub(crate) bits: Bits,
     pub(crate) given: &'a GivenEvent<'a>,
+}
+
+/// Where layers look for the span of an event.
+#[derive(Clone, Copy)]
+pub(crate) enum Around<'a> {
+    /// In the stack of the worker that tells it, which these blocks summarise.
+    Stack {
+        stack: &'a SpanStack,
+        blocks: &'a [Bits],
+    },
+    /// At the parent that it names alone.
+    Parent(Id),
+    /// Nowhere.
+    Nothing,
 }
 
 /// The notes of an event, and the message and the fields that they share, where some layer is told.
@@ -98,13 +115,30 @@ fn event_notes(
         bits: event.bits,
         fields: &kept.fields,
         subject: Subject::Event {
-            stack: &stacks[event.worker as usize],
-            blocks: summary.of(event.worker),
+            around: looked_around(stacks, summary, event),
             level: event.given.meta.read().level,
             message: &kept.message,
         },
     };
     told_to_some(recent, rules, forest, &what)
+}
+
+// Where layers look for the span of an event.
+fn looked_around<'a>(stacks: &'a [SpanStack], summary: &'a Summary, event: &Event<'_>) -> Around<'a>
+    requires worker { event.now.worker < length stacks.now }
+    ensures ids { ids_around result
+        ≡ spans_around (slice_index_or (ids_of_each stacks.now) event.now.worker []) event.now.given.now.parent }
+    ensures summarised { (spans : Spans) → IsSummary spans (ids_of_each stacks.now) summary.now →
+        AreSummarised spans result }
+{
+    match event.given.parent {
+        ParentOf::Current => Around::Stack {
+            stack: &stacks[event.worker as usize],
+            blocks: summary.of(event.worker),
+        },
+        ParentOf::Of(id) => Around::Parent(id),
+        ParentOf::Root => Around::Nothing,
+    }
 }
 
 // The call that tells an event: it shares the message and the fields with the notes, if these share any.
@@ -129,12 +163,36 @@ pub(crate) fn event_call(
         meta,
         message,
         fields,
+        parent: event.given.parent,
     })
 }
 
-// Where a layer sees an event: the topmost entry, duplicates skipped, that the layer admits. Blocks in which it admits
+// Where a layer sees an event.
+pub(crate) fn span_seen(
+    forest: &Forest,
+    around: &Around<'_>,
+    layer: u32,
+    in_vain: &mut u64,
+) -> Option<Id>
+    requires { AreSummarised forest.now.spans around.now }
+    ensures { result ≡ seen_in forest.now.spans (ids_around around.now) layer }
+{
+    match around {
+        Around::Stack { stack, blocks } => contextual_span(forest, stack, blocks, layer, in_vain),
+        Around::Parent(id) => {
+            if admits(forest, *id, layer) {
+                Some(*id)
+            } else {
+                None
+            }
+        }
+        Around::Nothing => None,
+    }
+}
+
+// Where a layer sees an event in a stack: the topmost entry, duplicates skipped, that the layer admits. Blocks in which it admits
 // none are skipped. The entries above the blocks at which it looked in vain are added to a count.
-pub(crate) fn contextual_span(
+fn contextual_span(
     forest: &Forest,
     stack: &SpanStack,
     blocks: &[Bits],

@@ -42,6 +42,8 @@ pub(crate) enum Act<'a> {
         message: &'a str,
         fields: Fields<'a>,
     },
+    /// An event of the target `app` at INFO with this message, under the span of this id; under 0 in none.
+    EventIn(u64, &'a str),
     Find(u64),
     /// What is counted of the core.
     Count,
@@ -169,6 +171,7 @@ fn given_by(rt: &impl Abort, alloc: Global, act: &Act) -> Parts {
             message: _,
             fields,
         } => given(rt, alloc, "event", target, *level, fields),
+        Act::EventIn(..) => given(rt, alloc, "event", "app", Level::Info, &[]),
         Act::Record(_, fields) => given(rt, alloc, "", "", Level::Info, fields),
         _ => given(rt, alloc, "", "", Level::Info, &[]),
     }
@@ -184,6 +187,25 @@ fn tell<O: Outlet>(core: &mut Core<O>, worker: u32, message: &str, given: &Parts
     requires { worker < core.old.limits.workers }
 {
     let told = core.event(worker, &given.meta, message, given.fields.as_slice());
+    accepted(told, Answer::Told)
+}
+
+fn tell_in<O: Outlet>(
+    core: &mut Core<O>,
+    worker: u32,
+    message: &str,
+    given: &Parts,
+    parent: ParentOf,
+) -> Answer
+    requires { worker < core.old.limits.workers }
+{
+    let told = core.event_in(
+        worker,
+        &given.meta,
+        message,
+        given.fields.as_slice(),
+        parent,
+    );
     accepted(told, Answer::Told)
 }
 
@@ -209,6 +231,10 @@ fn pass<O: Outlet>(
         Act::Child(_, 0) => make(core, worker, ParentOf::Root, given),
         Act::Child(_, parent) => make(core, worker, ParentOf::Of(id(rt, *parent)), given),
         Act::Event { message, .. } => tell(core, worker, message, given),
+        Act::EventIn(0, message) => tell_in(core, worker, message, given, ParentOf::Root),
+        Act::EventIn(parent, message) => {
+            tell_in(core, worker, message, given, ParentOf::Of(id(rt, *parent)))
+        }
         Act::Record(number, _) => record(core, worker, id(rt, *number), given),
         _ => Answer::NoCall,
     }

@@ -124,6 +124,59 @@ fn each_layer_has_its_own_path(rt: HostRuntime) {
     plays(&rt, rt.alloc(), &TWO_TARGETS);
 }
 
+// Under `q`, which the second layer refused, it sees an event in no span. The event under a span whose count is at its
+// greatest is told and holds nothing, and under a closed one none is told.
+const EVENTS_IN: Play<'static> = Play {
+    limits: Limits {
+        slots: 8,
+        last_generation: 1,
+        max_count: 3,
+        workers: 3,
+        ring: 1,
+    },
+    plans: &[
+        (Form::Compact, Wanted::None, "", Level::Trace),
+        (Form::Compact, Wanted::None, "app", Level::Info),
+    ],
+    acts: &[
+        (0, Act::New("a")),
+        (0, Act::Clone(1)),
+        (0, Act::Enter(1)),
+        (0, Act::EventIn(1, "full")),
+        (0, Act::Find(1)),
+        (0, Act::Exit(1)),
+        (0, Act::Child("b", 0)),
+        (0, Act::Enter(2)),
+        (
+            0,
+            Act::NewWith {
+                name: "q",
+                target: "lib",
+                level: Level::Info,
+                fields: &[],
+            },
+        ),
+        (0, Act::Exit(2)),
+        (0, Act::Enter(1)),
+        (0, Act::EventIn(3, "refused")),
+        (0, Act::EventIn(2, "beside")),
+        (1, Act::EventIn(2, "elsewhere")),
+        (0, Act::EventIn(0, "nowhere")),
+        (0, Act::Exit(1)),
+        (0, Act::Close(1)),
+        (0, Act::Close(1)),
+        (0, Act::EventIn(1, "closed")),
+        (0, Act::Close(2)),
+        (0, Act::Close(3)),
+    ],
+    expected: "= 1\n= cloned\n= entered\nL0 event 1 w0 a INFO full\nL1 event 1 w0 a INFO full\n= told\n= found 2 1 3 0\n= open\n= 2\n= entered\n= 3\n= open\n= entered\nL0 event 3 w0 b:q INFO refused\nL1 event 0 w0 - INFO refused\n= told\nL0 event 2 w0 b INFO beside\nL1 event 2 w0 b INFO beside\n= told\nL0 event 2 w1 b INFO elsewhere\nL1 event 2 w1 b INFO elsewhere\n= told\nL0 event 0 w0 - INFO nowhere\nL1 event 0 w0 - INFO nowhere\n= told\n= open\n= open\n= closed\n! unknown\n= open\n= closed\n",
+};
+
+#[test]
+fn an_event_is_told_under_its_parent(rt: HostRuntime) {
+    plays(&rt, rt.alloc(), &EVENTS_IN);
+}
+
 const UNWANTED: Play<'static> = Play {
     limits: ROOMY,
     plans: &[(Form::Compact, Wanted::All, "app", Level::Warn)],

@@ -24,10 +24,11 @@ const LIMITS: Limits = Limits {
 const OPEN: u64 = 16777218;
 
 // Every call that takes an id. Those that would show which spans close show nothing.
-fn calls_on<'a>(number: u64) -> [Act<'a>; 9] {
+fn calls_on<'a>(number: u64) -> [Act<'a>; 10] {
     [
         Act::Find(number),
         Act::Child("a", number),
+        Act::EventIn(number, "m"),
         Act::Clone(number),
         Act::Enter(number),
         Act::Exit(number),

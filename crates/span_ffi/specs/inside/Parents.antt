@@ -1,4 +1,4 @@
--- Parents that a new span may be asked for with the same outcome: no public clause cites it.
+-- Parents that a new span or an event may be asked for with the same outcome: no public clause cites it.
 use Rattle.std.specs.Prelude.{◌≡◌, true}
 use Rattle.span_outlet.specs.declared.batch.ParentOf.{ParentOf}
 use Rattle.span_outlet.specs.declared.batch.ParentOf.TheVariants.{Root, Current, Of}

@@ -13,13 +13,14 @@ ghost use Rattle.span_ffi.specs.Callsites.{TellsAt};
 
 use crate::callsites::Callsites;
 use crate::data::{SpanField, SpanMeta};
-use crate::exports::callers::{has_worker, id_of};
+use crate::exports::callers::{has_worker, id_of, read_parent};
 use crate::reading::{read_fields, read_message, read_meta, unread};
 use crate::registry::{Registry, RingCore};
 use crate::registry_handle::SpanRegistry;
 use crate::valid::{are_fields, is_event, is_told};
 use span_border::{Holds, Status};
 use span_id::{Fault, Field, Fields, SharedMeta};
+use span_outlet::ParentOf;
 use std::alloc::Global;
 use std::sync::ArcStr;
 
@@ -91,28 +92,43 @@ fn event(
     alloc: Global,
     core: &mut RingCore,
     worker: u32,
+    parent_kind: u32,
+    parent: u64,
     meta: &SpanMeta,
     message_len: u32,
     fields: &[SpanField],
     texts: &[u8],
 ) -> Status
-    ensures { TellsEvent worker meta.now message_len fields.now texts.now core.old result core.new }
+    ensures { TellsEvent worker parent_kind parent meta.now message_len fields.now texts.now core.old result core.new }
 {
     if !has_worker(core, worker) {
         return Status::NoSuchWorker;
     }
+    let Some(parent) = read_parent(core, parent_kind, parent) else {
+        return Status::BadData;
+    };
     match read_meta(alloc, meta, texts) {
-        Some((meta, rest)) => tell(alloc, core, worker, &meta, message_len, fields, rest),
+        Some((meta, rest)) => tell(
+            alloc,
+            core,
+            worker,
+            parent,
+            &meta,
+            message_len,
+            fields,
+            rest,
+        ),
         None => unread(is_event(meta, message_len, fields, texts)),
     }
 }
 
-// Tells an event of this meta; its message and its fields are read first.
+// Tells an event of this meta under this parent; its message and its fields are read first.
 #[inline]
 fn tell(
     alloc: Global,
     core: &mut RingCore,
     worker: u32,
+    parent: ParentOf,
     meta: &SharedMeta,
     message_len: u32,
     fields: &[SpanField],
@@ -120,13 +136,13 @@ fn tell(
 ) -> Status
     requires { worker < core.old.limits.workers }
     ensures told { AnswersData worker (IsEventAt message_len fields.now texts.now)
-        (event worker meta.now (take message_len texts.now) (said_fields fields.now (drop message_len texts.now))) told
-        core.old result core.new }
+        (event worker meta.now (take message_len texts.now) (said_fields fields.now (drop message_len texts.now)) parent)
+        told core.old result core.new }
 {
     let Some((message, fields)) = read_told(alloc, message_len, fields, texts) else {
         return unread(is_told(message_len, fields, texts));
     };
-    match core.event_shared(worker, meta, &message, &fields) {
+    match core.event_in_shared(worker, meta, &message, &fields, parent) {
         Ok(()) => Status::Done,
         Err(fault) => Status::Refused(fault),
     }
@@ -148,7 +164,7 @@ fn read_told(
     Some((message, fields))
 }
 
-/// Tells an event. The texts are its name, its target, the message, and the keys and values, one after another.
+/// Tells an event under the worker's current span, as `span_registry_event_in` does with 1 for the kind of parent.
 #[unsafe(no_mangle)]
 pub extern "C" fn span_registry_event(
     alloc: Global,
@@ -159,8 +175,38 @@ pub extern "C" fn span_registry_event(
     fields: &[SpanField],
     texts: &[u8],
 ) -> u32
-    ensures { OnHeld registry.old.held (OnCore (TellsEvent worker meta.now message_len fields.now texts.now))
+    ensures { OnHeld registry.old.held (OnCore (TellsEvent worker 1 0 meta.now message_len fields.now texts.now))
         (meant result) registry.new.held }
+{
+    span_registry_event_in(
+        alloc,
+        registry,
+        worker,
+        1,
+        0,
+        meta,
+        message_len,
+        fields,
+        texts,
+    )
+}
+
+/// Tells an event under a parent, as `span_registry_new_span` makes a span. The texts are its name, its target, the
+/// message, and the keys and values, one after another.
+#[unsafe(no_mangle)]
+pub extern "C" fn span_registry_event_in(
+    alloc: Global,
+    registry: &mut SpanRegistry,
+    worker: u32,
+    parent_kind: u32,
+    parent: u64,
+    meta: &SpanMeta,
+    message_len: u32,
+    fields: &[SpanField],
+    texts: &[u8],
+) -> u32
+    ensures { OnHeld registry.old.held (OnCore (TellsEvent worker parent_kind parent meta.now message_len fields.now
+        texts.now)) (meant result) registry.new.held }
 {
     let Some(mut held) = registry.take(alloc) else {
         return Status::EmptyHandle.number();
@@ -169,6 +215,8 @@ pub extern "C" fn span_registry_event(
         alloc,
         &mut held.core,
         worker,
+        parent_kind,
+        parent,
         meta,
         message_len,
         fields,
@@ -183,24 +231,38 @@ fn tell_at(
     core: &mut RingCore,
     callsites: &Callsites,
     worker: u32,
+    parent_kind: u32,
+    parent: u64,
     callsite: u32,
     message_len: u32,
     fields: &[SpanField],
     texts: &[u8],
 ) -> Status
-    ensures { TellsAt worker callsite message_len fields.now texts.now callsites.now core.old result core.new }
+    ensures { TellsAt worker parent_kind parent callsite message_len fields.now texts.now callsites.now
+        core.old result core.new }
 {
     if !has_worker(core, worker) {
         return Status::NoSuchWorker;
     }
-    match callsites.get(callsite) {
-        Some(meta) => tell(alloc, core, worker, meta, message_len, fields, texts),
-        None => Status::NoSuchCallsite,
+    let Some(meta) = callsites.get(callsite) else {
+        return Status::NoSuchCallsite;
+    };
+    match read_parent(core, parent_kind, parent) {
+        Some(parent) => tell(
+            alloc,
+            core,
+            worker,
+            parent,
+            meta,
+            message_len,
+            fields,
+            texts,
+        ),
+        None => Status::BadData,
     }
 }
 
-/// Tells an event as `span_registry_event` does, with the meta of a callsite. The texts are the message, and the keys
-/// and values, one after another.
+/// Tells an event under the worker's current span, as `span_registry_event_in_at` does with 1 for the kind of parent.
 #[unsafe(no_mangle)]
 pub extern "C" fn span_registry_event_at(
     alloc: Global,
@@ -211,8 +273,38 @@ pub extern "C" fn span_registry_event_at(
     fields: &[SpanField],
     texts: &[u8],
 ) -> u32
-    ensures { OnHeld registry.old.held (WithCallsites (TellsAt worker callsite message_len fields.now texts.now))
+    ensures { OnHeld registry.old.held (WithCallsites (TellsAt worker 1 0 callsite message_len fields.now texts.now))
         (meant result) registry.new.held }
+{
+    span_registry_event_in_at(
+        alloc,
+        registry,
+        worker,
+        1,
+        0,
+        callsite,
+        message_len,
+        fields,
+        texts,
+    )
+}
+
+/// Tells an event as `span_registry_event_in` does, with the meta of a callsite. The texts are the message, and the keys
+/// and values, one after another.
+#[unsafe(no_mangle)]
+pub extern "C" fn span_registry_event_in_at(
+    alloc: Global,
+    registry: &mut SpanRegistry,
+    worker: u32,
+    parent_kind: u32,
+    parent: u64,
+    callsite: u32,
+    message_len: u32,
+    fields: &[SpanField],
+    texts: &[u8],
+) -> u32
+    ensures { OnHeld registry.old.held (WithCallsites (TellsAt worker parent_kind parent callsite message_len fields.now
+        texts.now)) (meant result) registry.new.held }
 {
     let Some(mut held) = registry.take(alloc) else {
         return Status::EmptyHandle.number();
@@ -223,6 +315,8 @@ pub extern "C" fn span_registry_event_at(
         core,
         callsites,
         worker,
+        parent_kind,
+        parent,
         callsite,
         message_len,
         fields,

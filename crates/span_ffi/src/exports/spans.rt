@@ -1,56 +1,25 @@
 //! New spans.
-ghost use Rattle.std.specs.Prelude.{◌≡◌, ◌≤◌, ◌<◌, ◌↔◌, false, Some, IsSome, IfSome, OnSome};
+ghost use Rattle.std.specs.Prelude.{◌≡◌, ◌<◌, Some, IfSome, OnSome};
 ghost use Rattle.span_outlet.specs.Request.{new_span};
-ghost use Rattle.span_core.specs.Step.{is_open};
 ghost use Rattle.span_core.specs.Parent.{parent_found};
 ghost use Rattle.span_border.specs.Status.{meant};
 ghost use Rattle.span_ffi.specs.Registry.{OnCore, WithCallsites};
 ghost use Rattle.span_border.specs.Ends.{OnHeld, Keeps};
-ghost use Rattle.span_ffi.specs.Data.{IsMeta, AreFields, said_meta, said_fields, said_parent, behind_meta};
+ghost use Rattle.span_ffi.specs.Data.{IsMeta, AreFields, said_meta, said_fields, behind_meta};
 ghost use Rattle.span_ffi.specs.Calls.{MakesSaid, IsMadeOrRefused};
 ghost use Rattle.span_ffi.specs.Callsites.{MakesSpanAt};
-ghost use Rattle.span_ffi.specs.inside.Parents.{AreAlike};
 
 use crate::callsites::Callsites;
 use crate::data::{SpanField, SpanMeta};
-use crate::exports::callers::{has_worker, id_of};
+use crate::exports::callers::{has_worker, read_parent};
 use crate::reading::{read_fields, read_meta, unread};
 use crate::registry::{Registry, RingCore};
 use crate::registry_handle::SpanRegistry;
 use crate::valid::{are_fields, is_span};
 use span_border::{Holds, Status};
-use span_core::laws::each_slot_has_one_open_span;
-use span_id::{Fault, Fields, Id, SharedMeta};
+use span_id::{Fields, SharedMeta};
 use span_outlet::ParentOf;
 use std::alloc::Global;
-
-// An id whose span isn't open: two ids of one slot are never open together.
-fn closed_id(core: &RingCore) -> Id
-    ensures { is_open core.now.world.spans result ≡ false }
-{
-    each_slot_has_one_open_span(core);
-    let first = Id::pack(0, 0);
-    if core.find(first).is_none() {
-        return first;
-    }
-    Id::pack(0, 1)
-}
-
-// The parent that is meant. In the place of a number that is no id comes an id that isn't open: it is refused alike.
-fn read_parent(core: &RingCore, kind: u32, parent: u64) -> Option<ParentOf>
-    ensures exact { IsSome result ↔ (kind ≤ 2) }
-    ensures parent { IfSome result (λ meant. AreAlike core.now.world.spans meant (said_parent kind parent)) }
-{
-    match kind {
-        0 => Some(ParentOf::Root),
-        1 => Some(ParentOf::Current),
-        2 => match id_of(core, parent) {
-            Some(id) => Some(ParentOf::Of(id)),
-            None => Some(ParentOf::Of(closed_id(core))),
-        },
-        _ => None,
-    }
-}
 
 // The meta and the fields of a span. None: the data say nothing, or memory is refused.
 fn read_span(

@@ -16,7 +16,7 @@ use crate::with_seats;
 use crate::worker::Worker;
 use span_id::{Fault, Field, Meta};
 use span_layers::Admit;
-use span_outlet::Outlet;
+use span_outlet::{Outlet, ParentOf};
 use std::sync::ledger::Ledger;
 
 /// Appends fields to those of the span of a handle: one step.
@@ -63,9 +63,9 @@ pub fn record<H: Ledger, C: Ledger, S: Setup, O: Outlet, A>(
     Ok(())
 }
 
-/// Tells an event: one step, which leaves the world as it is.
+/// Tells an event under the parent that is meant: one step, which leaves the world as it is.
 ///
-/// Refused as `Core::event`. A refused call changes nothing but what its worker has seen and how often the outlet lacked a
+/// Refused as `Core::event_in`. A refused call changes nothing but what its worker has seen and how often the outlet lacked a
 /// place.
 pub fn event<H: Ledger, C: Ledger, S: Setup, O: Outlet, A: Admit>(
     locked: &mut Locked<H, C, S, O, A>,
@@ -73,18 +73,19 @@ pub fn event<H: Ledger, C: Ledger, S: Setup, O: Outlet, A: Admit>(
     meta: &Meta,
     message: &str,
     fields: &[Field],
+    parent: ParentOf,
 ) -> Result<(), Fault>
     ensures seen { IsPrefix worker.old.seen worker.new.seen }
     ensures own { MatchResult result (λ _. HasOneMore worker.old worker.new) (λ _. HasNoMore worker.old worker.new) }
     ensures happened { OnOk result (Happened S.limits S.rules worker.old worker.new (λ old new.
-        IsAccepted old (event worker.old.number (plain_meta meta.now) message.now (plain_fields fields.now)) told new)) }
+        IsAccepted old (event worker.old.number (plain_meta meta.now) message.now (plain_fields fields.now) parent) told new)) }
     ensures was_refused { IfErr result (λ fault. Happened S.limits S.rules worker.old worker.new (λ old new.
-        IsRefused old (event worker.old.number (plain_meta meta.now) message.now (plain_fields fields.now)) fault new)) }
+        IsRefused old (event worker.old.number (plain_meta meta.now) message.now (plain_fields fields.now) parent) fault new)) }
     ensures step { OnOk result (IsAccepted locked.old
-        (event worker.old.number (plain_meta meta.now) message.now (plain_fields fields.now)) told locked.new) }
+        (event worker.old.number (plain_meta meta.now) message.now (plain_fields fields.now) parent) told locked.new) }
     ensures worker { OnOk result (worker.new ≡ after_call worker.old worker.old.spare locked.new.sent) }
     ensures refused { IfErr result (λ fault. IsRefused locked.old
-        (event worker.old.number (plain_meta meta.now) message.now (plain_fields fields.now)) fault locked.new) }
+        (event worker.old.number (plain_meta meta.now) message.now (plain_fields fields.now) parent) fault locked.new) }
     ensures unchanged { OnErr result (worker.new ≡ record worker.old { seen = worker.new.seen }) }
 {
     let Locked {
@@ -95,7 +96,7 @@ pub fn event<H: Ledger, C: Ledger, S: Setup, O: Outlet, A: Admit>(
         calls,
         setup: _,
     } = locked;
-    match with_seats::spans::event(core, root, worker.number, meta, message, fields) {
+    match with_seats::spans::event(core, root, worker.number, meta, message, fields, parent) {
         Ok(()) => {}
         Err(fault) => {
             see(keeper, core, worker);

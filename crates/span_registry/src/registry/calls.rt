@@ -7,6 +7,7 @@ ghost use Rattle.span_core.specs.Parent.{parent_found};
 ghost use Rattle.span_core.specs.NextId.{next_id};
 ghost use Rattle.span_id.specs.declared.fault.Fault.TheVariants.{Unknown, CountFull, BadName};
 ghost use Rattle.span_id.specs.Meta.{plain_meta, plain_fields};
+ghost use Rattle.span_outlet.specs.declared.batch.ParentOf.TheVariants.{Current};
 ghost use Rattle.span_outlet.specs.Request.{event, told, record_fields, recorded, clone_span, cloned, new_span, made, enter, entered, exit, exited, try_close, released};
 ghost use Rattle.span_stack.specs.Stack.{without_last};
 ghost use Rattle.span_core.specs.World.{stack_of};
@@ -70,7 +71,8 @@ impl<H: Ledger, C: Ledger, S: Setup, O: Outlet, A: Admit> Registry<H, C, S, O, A
         laws::new_span(&mut *self.locked.lock(rt), worker, meta, fields, parent)
     }
 
-    /// Tells an event. An event that no layer admits is accepted and has no notes.
+    /// Tells an event under the worker's current span, as a core does. An event that no layer admits is accepted and has
+    /// no notes.
     ///
     /// Refused in this order: `BadName` where the name or a key is no name, `CountFull` where the number of accepted
     /// calls is at its greatest, `Backlog`, `Memory`.
@@ -85,17 +87,54 @@ impl<H: Ledger, C: Ledger, S: Setup, O: Outlet, A: Admit> Registry<H, C, S, O, A
         ensures seen { IsPrefix worker.old.seen worker.new.seen }
         ensures own { MatchResult result (λ _. HasOneMore worker.old worker.new) (λ _. HasNoMore worker.old worker.new) }
         ensures happened { OnOk result (Happened S.limits S.rules worker.old worker.new (λ old new.
-            IsAccepted old (event worker.old.number (plain_meta meta.now) message.now (plain_fields fields.now)) told new)) }
+            IsAccepted old (event worker.old.number (plain_meta meta.now) message.now (plain_fields fields.now) Current) told new)) }
         ensures was_refused { IfErr result (λ fault. Happened S.limits S.rules worker.old worker.new (λ old new.
-            IsRefused old (event worker.old.number (plain_meta meta.now) message.now (plain_fields fields.now)) fault new)) }
+            IsRefused old (event worker.old.number (plain_meta meta.now) message.now (plain_fields fields.now) Current) fault new)) }
         ensures worker { OnOk result (worker.new ≡ after_call worker.old worker.old.spare worker.new.seen) }
         ensures unchanged { OnErr result (worker.new ≡ record worker.old { seen = worker.new.seen }) }
         ensures named { OnOk result (is_named
-            (event worker.old.number (plain_meta meta.now) message.now (plain_fields fields.now)) ≡ true) }
+            (event worker.old.number (plain_meta meta.now) message.now (plain_fields fields.now) Current) ≡ true) }
         ensures bad_name { IfErr result (λ fault. fault ≡ BadName → is_named
-            (event worker.old.number (plain_meta meta.now) message.now (plain_fields fields.now)) ≡ false) }
+            (event worker.old.number (plain_meta meta.now) message.now (plain_fields fields.now) Current) ≡ false) }
     {
-        laws::event(&mut *self.locked.lock(rt), worker, meta, message, fields)
+        self.event_in(rt, worker, meta, message, fields, ParentOf::Current)
+    }
+
+    /// Tells an event under no parent, under the worker's current span or under a named one, as a core does. The named
+    /// one is held by nothing for it.
+    ///
+    /// Refused in this order: `BadName` where the name or a key is no name, `Unknown` where the named parent isn't open,
+    /// `CountFull` where the number of accepted calls is at its greatest, `Backlog`, `Memory`.
+    pub fn event_in<R: Wait>(
+        &self,
+        rt: &R,
+        worker: &mut Worker<H, C, S>,
+        meta: &Meta,
+        message: &str,
+        fields: &[Field],
+        parent: ParentOf,
+    ) -> Result<(), Fault>
+        ensures seen { IsPrefix worker.old.seen worker.new.seen }
+        ensures own { MatchResult result (λ _. HasOneMore worker.old worker.new) (λ _. HasNoMore worker.old worker.new) }
+        ensures happened { OnOk result (Happened S.limits S.rules worker.old worker.new (λ old new.
+            IsAccepted old (event worker.old.number (plain_meta meta.now) message.now (plain_fields fields.now) parent) told new)) }
+        ensures was_refused { IfErr result (λ fault. Happened S.limits S.rules worker.old worker.new (λ old new.
+            IsRefused old (event worker.old.number (plain_meta meta.now) message.now (plain_fields fields.now) parent) fault new)) }
+        ensures worker { OnOk result (worker.new ≡ after_call worker.old worker.old.spare worker.new.seen) }
+        ensures unchanged { OnErr result (worker.new ≡ record worker.old { seen = worker.new.seen }) }
+        ensures named { OnOk result (is_named
+            (event worker.old.number (plain_meta meta.now) message.now (plain_fields fields.now) parent) ≡ true) }
+        ensures bad_name { IfErr result (λ fault. fault ≡ BadName → is_named
+            (event worker.old.number (plain_meta meta.now) message.now (plain_fields fields.now) parent) ≡ false) }
+    {
+        laws::event(
+            &mut *self.locked.lock(rt),
+            worker,
+            meta,
+            message,
+            fields,
+            parent,
+        )
     }
 }
 

@@ -66,17 +66,18 @@ pub(crate) fn event<T: TableName, O: Outlet, A: Admit>(
     meta: &Meta,
     message: &str,
     fields: &[Field],
+    parent: ParentOf,
 ) -> Result<(), Fault>
     requires worker { worker < core.old.limits.workers }
     requires seated { AreSeated root.now core.old }
     ensures seated { AreSeated root.now core.new }
     ensures accepted { OnOk result (MayBeCounted core.old
-        (event worker (plain_meta meta.now) message.now (plain_fields fields.now)) told core.new) }
+        (event worker (plain_meta meta.now) message.now (plain_fields fields.now) parent) told core.new) }
     ensures refused { IfErr result (λ fault. IsRefused core.old
-        (event worker (plain_meta meta.now) message.now (plain_fields fields.now)) fault core.new) }
+        (event worker (plain_meta meta.now) message.now (plain_fields fields.now) parent) fault core.new) }
 {
     core.calls();
-    let done = core.event(worker, meta, message, fields);
+    let done = core.event_in(worker, meta, message, fields, parent);
     core.calls();
     done
 }

@@ -1,9 +1,11 @@
-use Rattle.std.proofs.Common.{◌≡◌, ◌∙◌, ◌<◌, List, [], ◌∷◌, length, get_or, sym, ap, map, refl, subst, arith}
+use Rattle.std.proofs.Common.{◌≡◌, ◌∙◌, ◌<◌, true, List, [], ◌∷◌, length, get_or, sym, ap, map, refl, subst, arith}
 use Rattle.span_id.specs.Meta.{PlainMeta}
 use Rattle.span_layers.specs.Note.{plain_note}
 use Rattle.span_layers.specs.Filter.{admission_set}
 use Rattle.span_stack.specs.Stack.{Stack, ids_of_each}
+use Rattle.span_core.specs.Parent.{parent_named, spans_around}
 use Rattle.span_core.specs.Happening.{event_told, notes_of_all}
+use Rattle.span_core.specs.Step.{is_open_parent}
 use Rattle.span_core.specs.inside.Given.{meta_given, text_given, fields_given}
 use Rattle.span_outlet.specs.Batch.{PlainBatch}
 use Rattle.span_core.specs.History.{issued}
@@ -18,10 +20,14 @@ use Rattle.span_core.proofs.Core.event_given.Given as given
 use Rattle.span_core.proofs.Core.event_given.Goals as goal
 use Rattle.span_core.proofs.Core.event_given.Goals.{After-self-1}
 
-notes_told : (g : given.Over) (c : After-self-1 g) → map plain_note c.in_ok-told.told.notes.items ≡ notes_of_all c.self.inside.rules c.args.worker (event_told c.self.inside.rules (record { spans = c.self.inside.forest.spans; stacks = ids_of_each c.self.inside.stacks.items }) c.args.worker (meta_given c.args.given.now.meta) (text_given c.args.given.now.message) (fields_given c.args.given.now.fields) ∷ [])
+notes_told : (g : given.Over) (c : After-self-1 g) → map plain_note c.in_ok-told.told.notes.items ≡ notes_of_all c.self.inside.rules c.args.worker (event_told c.self.inside.rules (record { spans = c.self.inside.forest.spans; stacks = ids_of_each c.self.inside.stacks.items }) c.args.worker (meta_given c.args.given.now.meta) (text_given c.args.given.now.message) (fields_given c.args.given.now.fields) c.args.given.now.parent ∷ [])
 notes_told g c =
     event_notes c.self.inside.rules c.args.worker c.self.inside.forest.spans _ _ _ _ (meta_given c.args.given.now.meta) (text_given c.args.given.now.message) (fields_given c.args.given.now.fields) _
-    (ap (λ (ss : List Stack). get_or (ids_of_each ss) c.args.worker []) c.as_slice-stacks.ensures.value) (c.bits.ensures.value ∙ ap (λ (meta : PlainMeta). admission_set c.self.inside.rules meta.target meta.level) c.read.ensures) c.in_ok-told.ensures.notes
+    (ap (λ (ss : List Stack). spans_around (get_or (ids_of_each ss) c.args.worker []) c.args.given.now.parent) c.as_slice-stacks.ensures.value) (c.bits.ensures.value ∙ ap (λ (meta : PlainMeta). admission_set c.self.inside.rules meta.target meta.level) c.read.ensures) c.in_ok-told.ensures.notes
+
+parent_open : (g : given.Over) (c : After-self-1 g) → is_open_parent c.self.inside.forest.spans (parent_named c.args.given.now.parent) ≡ true
+parent_open g c =
+    subst (λ (v : CoreView). is_open_parent v.world.spans (parent_named c.args.given.now.parent) ≡ true) (sym c.self.view_is) c.in_ok-telling.ensures.due.known
 
 within : (g : given.Over) (c : After-self-1 g) → c.args.worker < length (ids_of_each c.self.inside.stacks.items)
 within g c = omega (arith, c.requires, ap (λ (v : CoreView). v.limits.workers) c.self.view_is, c.self.invariant.0.stacks_are)
@@ -39,7 +45,7 @@ invariant_of-self-in_err-put_told g c =
 
 pub invariant_of-self-2 : goal.invariant_of-self-2
 invariant_of-self-2 g c = (
-  sound_event _ _ _ _ _ _ _ _ c.args.worker (meta_given c.args.given.now.meta) (text_given c.args.given.now.message) (fields_given c.args.given.now.fields) _ _ c.self.invariant.0 (within g c) (notes_told g c)
+  sound_event _ _ _ _ _ _ _ _ c.args.worker (meta_given c.args.given.now.meta) (text_given c.args.given.now.message) (fields_given c.args.given.now.fields) c.args.given.now.parent _ _ c.self.invariant.0 (within g c) (parent_open g c) (notes_told g c)
       refl c.in_ok-ask.ensures.sent c.in_ok-put_told.ensures.sent,
   none_made _ _ _ _ _ c.self.invariant.1 refl c.in_ok-ask.ensures.sent c.in_ok-put_told.ensures.sent,
   rw c.in_ok-put_told.ensures.paths c.in_ok-told.ensures.remembers,
@@ -49,5 +55,5 @@ invariant_of-self-2 g c = (
 pub returns-clause-accepted : goal.returns-clause-accepted
 returns-clause-accepted g c =
     accepted_by _ _ _ _ _ _ _ _ _ _ _ _ _ _ _ c.self.view_is c.in_ok-telling.ensures.due
-    (record { within = within g c; changes = refl; notes_are = notes_told g c })
+    (record { within = within g c; changes = record { parent_open = parent_open g c; after = refl }; notes_are = notes_told g c })
     refl c.in_ok-ask.ensures.sent c.in_ok-put_told.ensures.sent c.in_ok-ask.ensures.times_full c.in_ok-put_told.ensures.times_full c.in_ok-ask.ensures.forms c.in_ok-put_told.ensures.forms c.in_ok-ask.ensures.name c.in_ok-put_told.ensures.name

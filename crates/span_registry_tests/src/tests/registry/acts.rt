@@ -36,6 +36,8 @@ pub(crate) enum Act<'a> {
         message: &'a str,
         fields: Fields<'a>,
     },
+    /// An event with this message under the span of this id; where the number is no id, under none.
+    EventIn(u64, &'a str),
     Find(u64),
     /// What holds all spans and what holds this one.
     Ask(u64),
@@ -61,6 +63,7 @@ pub(crate) fn said_by(rt: &impl Abort, alloc: Global, act: &Act) -> Said {
             message: _,
             fields,
         } => said_of(rt, alloc, ("event", "app"), *level, fields),
+        Act::EventIn(..) => said_of(rt, alloc, ("event", "app"), Level::Info, &[]),
         Act::Record(_, fields) => said_of(rt, alloc, ("", ""), Level::Info, fields),
         Act::Clone(_)
         | Act::Enter(_)
@@ -73,10 +76,10 @@ pub(crate) fn said_by(rt: &impl Abort, alloc: Global, act: &Act) -> Said {
     }
 }
 
-/// The parent of a new span.
+/// The parent of a new span or an event.
 pub(crate) fn parent_of(act: &Act) -> ParentOf {
     match act {
-        Act::Child(_, number) => match Id::from_u64(*number) {
+        Act::Child(_, number) | Act::EventIn(number, _) => match Id::from_u64(*number) {
             Some(id) => ParentOf::Of(id),
             None => ParentOf::Root,
         },

@@ -66,6 +66,21 @@ fn tell<O: Outlet>(core: &mut Core<O>, worker: u32, message: &str, said: &Said) 
     }
 }
 
+fn tell_in<O: Outlet>(
+    core: &mut Core<O>,
+    worker: u32,
+    parent: ParentOf,
+    message: &str,
+    said: &Said,
+) -> Answer
+    requires { worker < core.old.limits.workers }
+{
+    match core.event_in(worker, &said.meta, message, said.fields.as_slice(), parent) {
+        Ok(()) => Answer::Told,
+        Err(fault) => Answer::Refused(fault),
+    }
+}
+
 fn record<O: Outlet>(core: &mut Core<O>, worker: u32, number: u64, said: &Said) -> Answer
     requires { worker < core.old.limits.workers }
 {
@@ -84,6 +99,7 @@ fn pass<O: Outlet>(core: &mut Core<O>, worker: u32, act: &Act, said: &Said) -> A
 {
     match act {
         Act::Event { message, .. } => tell(core, worker, message, said),
+        Act::EventIn(_, message) => tell_in(core, worker, parent_of(act), message, said),
         Act::Record(number, _) => record(core, worker, *number, said),
         Act::New(_) | Act::Child(..) | Act::Make { .. } => {
             make(core, worker, parent_of(act), said)
@@ -130,9 +146,12 @@ fn call<O: Outlet>(
         // A look that names no id.
         Act::Find(_) | Act::Ask(_) => Answer::Refused(Fault::Unknown),
         Act::Step | Act::Count => Answer::Stepped(None),
-        Act::New(_) | Act::Child(..) | Act::Make { .. } | Act::Record(..) | Act::Event { .. } => {
-            give(rt, alloc, core, worker, act)
-        }
+        Act::New(_)
+        | Act::Child(..)
+        | Act::Make { .. }
+        | Act::Record(..)
+        | Act::Event { .. }
+        | Act::EventIn(..) => give(rt, alloc, core, worker, act),
     }
 }
 

@@ -60,6 +60,22 @@ fn tell<H: Ledger, C: Ledger, S: Setup, O: Outlet, R: Wait>(
     }
 }
 
+// An event under this parent.
+fn tell_in<H: Ledger, C: Ledger, S: Setup, O: Outlet, R: Wait>(
+    rt: &R,
+    registry: &Registry<H, C, S, O>,
+    worker: &mut Worker<H, C, S>,
+    parent: ParentOf,
+    message: &str,
+    said: &Said,
+) -> Answer {
+    let fields = said.fields.as_slice();
+    match registry.event_in(rt, worker, &said.meta, message, fields, parent) {
+        Ok(()) => Answer::Told,
+        Err(fault) => Answer::Refused(fault),
+    }
+}
+
 // The place of a handle of this id.
 fn place_of<H: Ledger, C: Ledger, S: Setup>(held: &[Held<H, C, S>], number: u64) -> Option<usize> {
     if number == NEWEST {
@@ -206,6 +222,7 @@ fn pass<H: Ledger, C: Ledger, S: Setup, O: Outlet, R: Wait>(
 ) -> Answer {
     match act {
         Act::Event { message, .. } => tell(rt, registry, worker, message, said),
+        Act::EventIn(_, message) => tell_in(rt, registry, worker, parent_of(act), message, said),
         Act::Record(number, _) => record(rt, registry, worker, held, *number, said),
         Act::New(_) | Act::Child(..) | Act::Make { .. } => {
             make(rt, registry, worker, held, parent_of(act), said)
@@ -240,7 +257,12 @@ pub(crate) fn call<H: Ledger, C: Ledger, S: Setup, O: Outlet, R: Wait + Abort>(
         // A look that names no id.
         Act::Find(_) | Act::Ask(_) => Answer::Refused(Fault::Unknown),
         Act::Step => Answer::Stepped(None),
-        Act::New(_) | Act::Child(..) | Act::Make { .. } | Act::Record(..) | Act::Event { .. } => {
+        Act::New(_)
+        | Act::Child(..)
+        | Act::Make { .. }
+        | Act::Record(..)
+        | Act::Event { .. }
+        | Act::EventIn(..) => {
             let said = said_by(rt, alloc, act);
             pass(rt, registry, worker, held, act, &said)
         }

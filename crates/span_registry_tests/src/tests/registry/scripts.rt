@@ -213,6 +213,10 @@ const OWN_PATHS: Script = Script {
                 fields: &[("k", "v")],
             },
         ),
+        (1, Act::EventIn(3, "of c")),
+        (0, Act::EventIn(2, "of q")),
+        (0, Act::EventIn(0, "of none")),
+        (0, Act::EventIn(4, "of none that is there")),
         (0, Act::Exit(2)),
         (0, Act::Exit(1)),
         (0, Act::Close(1)),
@@ -226,6 +230,10 @@ const OWN_PATHS: Script = Script {
 = entered
 = 3
 = told
+= told
+= told
+= told
+! unknown
 = open
 = open
 = open
@@ -240,6 +248,12 @@ L0 new 3 w0 a:q:c
 L1 new 3 w0 a:c
 L0 event 2 w0 a:q INFO hi k=v
 L1 event 1 w0 a INFO hi k=v
+L0 event 3 w1 a:q:c INFO of c
+L1 event 3 w1 a:c INFO of c
+L0 event 2 w0 a:q INFO of q
+L1 event 0 w0 - INFO of q
+L0 event 0 w0 - INFO of none
+L1 event 0 w0 - INFO of none
 ",
 };
 

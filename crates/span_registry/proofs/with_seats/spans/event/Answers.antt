@@ -7,9 +7,9 @@ use Rattle.span_registry.proofs.with_seats.spans.event.Goals as goal
 
 pub returns-clause-seated : goal.returns-clause-seated
 returns-clause-seated g c =
-    seated_done c.event-done.result c.args.core.now c.event-done.new.self _ (λ _. told) _ (λ _ accepted a. seated_told _ _ _ _ _ _ _ accepted a) c.event-done.ensures.accepted c.event-done.ensures.refused c.requires.seated
+    seated_done c.event_in-done.result c.args.core.now c.event_in-done.new.self _ (λ _. told) _ (λ _ accepted a. seated_told _ _ _ _ _ _ _ _ accepted a) c.event_in-done.ensures.accepted c.event_in-done.ensures.refused c.requires.seated
 
 pub returns-clause-accepted : goal.returns-clause-accepted
 returns-clause-accepted g c =
-    let fits : length c.event-done.new.self.sent < 2 ^ 64 = search rules in
-    IfOk-weaker c.event-done.result _ _ (λ _ accepted. counted_of _ _ _ _ c.calls.ensures.legal c.calls-2.ensures.legal fits accepted) c.event-done.ensures.accepted
+    let fits : length c.event_in-done.new.self.sent < 2 ^ 64 = search rules in
+    IfOk-weaker c.event_in-done.result _ _ (λ _ accepted. counted_of _ _ _ _ c.calls.ensures.legal c.calls-2.ensures.legal fits accepted) c.event_in-done.ensures.accepted

@@ -8,14 +8,14 @@ use Rattle.span_replay.proofs.run.calls.event.Goals as goal
 pub returns-in-Ok-clause-made : goal.returns-in-Ok-clause-made
 returns-in-Ok-clause-made g c =
     subst (λ request. IsMade c.args.core.now request Told c.event_shared.new.self)
-    (same_event _ _ _ _ _ c.requires.number)
+    (same_event _ _ _ _ _ _ c.requires.number)
     (made_accepted _ _ _ _ c.in-Ok.ensures.accepted tt)
 
 pub returns-in-Err-clause-made : goal.returns-in-Err-clause-made
 returns-in-Err-clause-made g c =
     refused_answer _ _ _ _ _
     (subst (λ request. IsRefused c.args.core.now request c.in-Err.fault c.event_shared.new.self)
-    (same_event _ _ _ _ _ c.requires.number) c.in-Err.ensures.refused)
+    (same_event _ _ _ _ _ _ c.requires.number) c.in-Err.ensures.refused)
     c.refusal.ensures.judged c.refusal.ensures.answer
 
 pub refusal-requires : goal.refusal-requires
