@@ -2,7 +2,7 @@
 use Rattle.std.proofs.Common.{◌≡◌, ℕ, ◌+◌, List, [], Bool, Some, None, Result, Ok, Err, IfSome, arith, sym, subst, append-nil, inl, inr}
 use Rattle.std.specs.Io.KnownBytes.{Appends, Keeps}
 use Rattle.std.proofs.KnownBytes.{Appends-kept}
-use Rattle.span_run.specs.Counted.{one_more}
+use Rattle.span_run.specs.Counted.{next_count}
 use Rattle.span_run.specs.Device.{AppendsFront}
 use Rattle.span_run.specs.RunFault.{EndsAsCounted, FailsAsCounted}
 use Rattle.span_run.specs.declared.fault.RunFault.{RunFault}
@@ -66,7 +66,7 @@ device_fails hooks (Some bytes) a b p = whole_front a b _ p
 pub flush_fails : (hooks : ℕ) (i a b : Known) (e : RunFault) → IsWhole hooks i a b → e ≡ Device Write → IfSome i (λ bytes. Fails (meaning hooks bytes) a b e)
 flush_fails hooks i a b e p d = subst (λ fault. IfSome i (λ bytes. Fails (meaning hooks bytes) a b fault)) (sym d) (device_fails hooks i a b p)
 
-pub flush_once : {Whole : Type 0} (flushes flushes' : ℕ) (flushed : Bool) (e : RunFault) → Whole → flushes' ≡ one_more flushes → e ≡ Device Write → FlushesOnce Whole flushes flushes' flushed (Err e)
+pub flush_once : {Whole : Type 0} (flushes flushes' : ℕ) (flushed : Bool) (e : RunFault) → Whole → flushes' ≡ next_count flushes → e ≡ Device Write → FlushesOnce Whole flushes flushes' flushed (Err e)
 flush_once {Whole} flushes flushes' flushed e p once d = subst (λ fault. FlushesOnce Whole flushes flushes' flushed (Err fault)) (sym d) (inr (p, once))
 
 pub flush_read : (a b : Known) (e : RunFault) → e ≡ Device Write → KeepsUnread a b e

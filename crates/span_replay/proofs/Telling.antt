@@ -6,7 +6,7 @@ use Rattle.std.proofs.KnownBytes.{Appends-kept}
 use Rattle.std.proofs.lemmas.Bool.{lt-leb}
 use Rattle.span_run.proofs.Fronts.{Known}
 use Rattle.span_run.specs.Device.{AppendsFront, ReadFails}
-use Rattle.span_run.specs.Counted.{one_more}
+use Rattle.span_run.specs.Counted.{next_count}
 use Rattle.span_run.specs.RunFault.{EndsAsCounted}
 use Rattle.span_run.specs.declared.fault.RunFault.{RunFault}
 use Rattle.span_run.specs.declared.fault.RunFault.TheVariants.{Script, Memory, Device, Refused, Held}
@@ -125,7 +125,7 @@ unread_once Whole flushes flushed (Held party) p = absurd p
 pub front_once : (Whole : Type 0) (flushes flushes' : ℕ) (flushed : Bool) (fault : RunFault) → flushes' ≡ flushes → fault ≡ Device Write → FlushesOnce Whole flushes flushes' flushed (Err fault)
 front_once Whole flushes flushes' flushed fault same d = subst (λ f. FlushesOnce Whole flushes flushes' flushed (Err f)) (sym d) (inl same)
 
-ended_once : {Whole : Type 0} (ended : Result ℕ RunFault) (flushes flushes' : ℕ) (flushed : Bool) → HasEnd ended → Whole → flushes' ≡ one_more flushes → flushed ≡ true → FlushesOnce Whole flushes flushes' flushed ended
+ended_once : {Whole : Type 0} (ended : Result ℕ RunFault) (flushes flushes' : ℕ) (flushed : Bool) → HasEnd ended → Whole → flushes' ≡ next_count flushes → flushed ≡ true → FlushesOnce Whole flushes flushes' flushed ended
 ended_once (Ok left) flushes flushes' flushed h p once done = (p, once, done)
 ended_once (Err (Script number reason)) flushes flushes' flushed h p once done = (p, once, done)
 ended_once (Err Memory) flushes flushes' flushed h p once done = absurd h
@@ -137,14 +137,14 @@ text_kept : (e : Explained) (a b c : Known) (text : List ℕ) → text ≡ e.tex
 text_kept e a b c text same p k = Appends-kept a b c e.text.items (subst (Appends a b) same p) k
 
 -- all of it was written and flushed
-pub told_once : (e : Explained) (a b c : Known) (text : List ℕ) (flushes flushes' flushes'' : ℕ) (flushed : Bool) → HasEnd e.ended → text ≡ e.text.items → Appends a b text → Keeps b c → flushes' ≡ flushes → flushes'' ≡ one_more flushes' → flushed ≡ true
+pub told_once : (e : Explained) (a b c : Known) (text : List ℕ) (flushes flushes' flushes'' : ℕ) (flushed : Bool) → HasEnd e.ended → text ≡ e.text.items → Appends a b text → Keeps b c → flushes' ≡ flushes → flushes'' ≡ next_count flushes' → flushed ≡ true
     → FlushesOnce (Appends a c e.text.items) flushes flushes'' flushed e.ended
-told_once e a b c text flushes flushes' flushes'' flushed h is p k same once done = ended_once e.ended flushes flushes'' flushed h (text_kept e a b c text is p k) (once ∙ ap one_more same) done
+told_once e a b c text flushes flushes' flushes'' flushed h is p k same once done = ended_once e.ended flushes flushes'' flushed h (text_kept e a b c text is p k) (once ∙ ap next_count same) done
 
 -- all of it was written, and the flush failed
-pub unflushed_once : (e : Explained) (a b c : Known) (text : List ℕ) (flushes flushes' flushes'' : ℕ) (flushed : Bool) (fault : RunFault) → text ≡ e.text.items → Appends a b text → Keeps b c → flushes' ≡ flushes → flushes'' ≡ one_more flushes' → fault ≡ Device Write
+pub unflushed_once : (e : Explained) (a b c : Known) (text : List ℕ) (flushes flushes' flushes'' : ℕ) (flushed : Bool) (fault : RunFault) → text ≡ e.text.items → Appends a b text → Keeps b c → flushes' ≡ flushes → flushes'' ≡ next_count flushes' → fault ≡ Device Write
     → FlushesOnce (Appends a c e.text.items) flushes flushes'' flushed (Err fault)
-unflushed_once e a b c text flushes flushes' flushes'' flushed fault is p k same once d = flush_once flushes flushes'' flushed fault (text_kept e a b c text is p k) (once ∙ ap one_more same) d
+unflushed_once e a b c text flushes flushes' flushes'' flushed fault is p k same once d = flush_once flushes flushes'' flushed fault (text_kept e a b c text is p k) (once ∙ ap next_count same) d
 
 whole_why : (i a b : Known) (hooks : ℕ) (about : Option (List ℕ)) (e : Explained) → IfSome i (λ xs. IsExplained (why_meaning hooks about xs) e) → Appends a b e.text.items → IsWholeWhy hooks about i a b
 whole_why None a b hooks about e is p = tt
