@@ -144,8 +144,8 @@ named_unless_null value (Some _) = Some root
 named_unless_null value None = option_map named (span_key_in value)
 
 -- a parent is named as a span is, and null stands for none
-abbrev pub parent_in : Data → Option Parent
-parent_in value = named_unless_null value (as_null value)
+abbrev pub parent_key_in : Data → Option Parent
+parent_key_in value = named_unless_null value (as_null value)
 
 -- an id of the older layout: 1 to 2^32
 abbrev pub old_id_numbered : ℕ → Option SpanKey
@@ -255,7 +255,7 @@ new_of workers line = do
   name ← required key.Name as_str line
   target ← optional key.Target as_str (codes "app") line
   level ← optional key.Level level_in Info line
-  parent ← optional key.Parent parent_in current line
+  parent ← optional key.Parent parent_key_in current line
   fields ← optional key.Fields fields_in [] line
   label ← optional key.Label as_str name line
   worker ← optional key.Worker (worker_in workers) 0 line
