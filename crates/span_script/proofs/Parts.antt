@@ -6,7 +6,7 @@ use Rattle.serde_json.specs.Find.{as_str}
 use Rattle.span_id.specs.declared.level.Level.{Level}
 use Rattle.span_id.specs.declared.level.Level.TheVariants.{Info}
 use Rattle.span_id.specs.Meta.{PlainMeta}
-use Rattle.span_script.specs.Operation.{Op, Operation, make, Parent, Stage, required, optional, worker_in, level_in, parent_key_in, fields_in, current, new_of, event_of, keys_of}
+use Rattle.span_script.specs.Operation.{Op, Operation, make, Parent, Stage, required, optional, worker_in, level_in, parent_key_in, field_list_in, current, new_of, event_of, keys_of}
 use Rattle.span_script.specs.Reason.{◌>>=◌, AnswersOrStops, StopsFor}
 use Rattle.span_script.specs.Views.{operation_seen}
 use Rattle.span_script.specs.inside.Parts.{Head, head_of, label_and_worker_of, new_made, new_rest, event_rest}
@@ -20,7 +20,7 @@ abbrev Fields : Type 0
 Fields = List (List ℕ × List ℕ)
 
 abbrev given_fields : Data → Result Fields Reason
-given_fields line = optional key.Fields fields_in [] line
+given_fields line = optional key.Fields field_list_in [] line
 
 -- ---- what came of a part, and of the rest
 

@@ -194,8 +194,8 @@ abbrev pub field_in : Data → Option (List ℕ × List ℕ)
 field_in value = pair_of as_str as_str value
 
 -- fields are a list of pairs of texts
-abbrev pub fields_in : Data → Option (List (List ℕ × List ℕ))
-fields_in value = list_of field_in value
+abbrev pub field_list_in : Data → Option (List (List ℕ × List ℕ))
+field_list_in value = list_of field_in value
 
 -- a form by its name
 abbrev pub form_named : List ℕ → Option Form
@@ -256,7 +256,7 @@ new_of workers line = do
   target ← optional key.Target as_str (codes "app") line
   level ← optional key.Level level_in Info line
   parent ← optional key.Parent parent_key_in current line
-  fields ← optional key.Fields fields_in [] line
+  fields ← optional key.Fields field_list_in [] line
   label ← optional key.Label as_str name line
   worker ← optional key.Worker (worker_in workers) 0 line
   Ok (make (record {
@@ -280,7 +280,7 @@ on_span_of workers call line = do
 unfoldable pub record_of : ℕ → Data → Result Operation Reason
 record_of workers line = do
   span ← required key.Span span_key_in line
-  fields ← optional key.Fields fields_in [] line
+  fields ← optional key.Fields field_list_in [] line
   worker ← optional key.Worker (worker_in workers) 0 line
   Ok (record_fields span fields worker)
 
@@ -290,7 +290,7 @@ event_of workers line = do
   message ← required key.Message as_str line
   target ← optional key.Target as_str (codes "app") line
   level ← optional key.Level level_in Info line
-  fields ← optional key.Fields fields_in [] line
+  fields ← optional key.Fields field_list_in [] line
   worker ← optional key.Worker (worker_in workers) 0 line
   Ok (tell (record {
     name = codes "event";
