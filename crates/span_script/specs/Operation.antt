@@ -170,8 +170,8 @@ two_in (item first (item second no_items)) = Some (first, second)
 two_in (item first (item second (item third items))) = None
 
 -- a pair is a list of two values
-abbrev pub pair_of : {A B : Type 0} → (Data → Option A) → (Data → Option B) → Data → Option (A × B)
-pair_of first second value =
+abbrev pub two_of : {A B : Type 0} → (Data → Option A) → (Data → Option B) → Data → Option (A × B)
+two_of first second value =
     option_and_then (λ two. both (first two.0) (second two.1)) (option_and_then two_in (as_array value))
 
 -- a value before others, where there are all
@@ -191,7 +191,7 @@ list_of reading value = option_and_then (all_of reading) (as_array value)
 
 -- a field is a pair of texts
 abbrev pub field_in : Data → Option (List ℕ × List ℕ)
-field_in value = pair_of as_str as_str value
+field_in value = two_of as_str as_str value
 
 -- fields are a list of pairs of texts
 abbrev pub field_list_in : Data → Option (List (List ℕ × List ℕ))
@@ -213,7 +213,7 @@ kinds_in value = option_and_then (at_most 15) (whole_number value)
 
 -- a pair of a prefix and the greatest level that it lets in
 abbrev pub prefix_in : Data → Option Pair
-prefix_in value = pair_of as_str level_in value
+prefix_in value = two_of as_str level_in value
 
 -- a rule is a list of pairs of a prefix and a level
 abbrev pub rule_in : Data → Option (List Pair)
