@@ -15,7 +15,7 @@ use Rattle.span_run.specs.declared.fault.RunFault.{RunFault}
 use Rattle.span_run.proofs.Fronts.{Known}
 use Rattle.span_script.specs.Operation.{NewLayer, Operation, set_limits, add_layer, make, on_span, record_fields, tell, find, json_of, operation_of}
 use Rattle.span_script.specs.Reason.{◌>>=◌}
-use Rattle.span_script.specs.Script.{lines_of, most_bytes, is_skipped}
+use Rattle.span_script.specs.Script.{script_lines, most_bytes, is_skipped}
 use Rattle.span_script.specs.declared.reason.Reason.{Reason}
 use Rattle.span_script.specs.declared.reason.Reason.TheVariants.{TooLong}
 
@@ -76,7 +76,7 @@ run_same h k many many' (line ∷ lines) number state =
 
 pub meaning_same : (h k : ℕ) → 64 ≤ h → 64 ≤ k → (bytes : List ℕ) → meaning h bytes ≡ meaning k bytes
 meaning_same h k many many' bytes =
-    ap (λ transcript. cond (nat_le (length bytes) most_bytes) transcript (record { text = []; ending = faulty 0 TooLong })) (run_same h k many many' (lines_of bytes) 1 first_state)
+    ap (λ transcript. cond (nat_le (length bytes) most_bytes) transcript (record { text = []; ending = faulty 0 TooLong })) (run_same h k many many' (script_lines bytes) 1 first_state)
 
 -- no script has more layers than 64
 most_by : (layers n : ℕ) (b : Bool) → nat_lt layers 64 ≡ b → n ≡ min layers 64 → (bytes : List ℕ) → meaning n bytes ≡ meaning layers bytes

@@ -18,13 +18,13 @@ use Rattle.span_replay.specs.declared.run.explained.Explained.{Explained}
 use Rattle.span_replay.specs.inside.Reaching.{EndsAs, HasEnd, IsExplained, IsOfReading}
 use Rattle.span_replay.proofs.Flushes.{flush_once, once_for, whole_front}
 use Rattle.span_replay.proofs.Written.{empty_front}
-use Rattle.span_script.specs.Script.{lines_of, most_bytes}
+use Rattle.span_script.specs.Script.{script_lines, most_bytes}
 use Rattle.span_script.specs.declared.reason.Reason.{Reason}
 use Rattle.span_script.specs.declared.reason.Reason.TheVariants.{TooLong}
 
 -- ---- what was read
 
-why_short : (hooks : ℕ) (about : Option (List ℕ)) (bytes : List ℕ) → length bytes ≤ most_bytes → why_meaning hooks about bytes ≡ why_run hooks about 1 first_reached (lines_of bytes)
+why_short : (hooks : ℕ) (about : Option (List ℕ)) (bytes : List ℕ) → length bytes ≤ most_bytes → why_meaning hooks about bytes ≡ why_run hooks about 1 first_reached (script_lines bytes)
 why_short hooks about bytes h = let fits : nat_le (length bytes) most_bytes ≡ true = grind arith in rw fits refl
 
 why_long : (hooks : ℕ) (about : Option (List ℕ)) (bytes : List ℕ) → most_bytes < length bytes → why_meaning hooks about bytes ≡ record { text = []; ending = faulty 0 TooLong }
@@ -32,13 +32,13 @@ why_long hooks about bytes h = rw (lt-leb (length bytes) most_bytes h) refl
 
 -- all of the script was read
 pub read_explained : (r : Result Explained RunFault) (hooks : ℕ) (about : Option (List ℕ)) (i j : Known) (bytes shown : List ℕ) → Consumes i j bytes → IsAtEnd j → length bytes ≤ most_bytes → shown ≡ bytes
-    → IfOk r (IsExplained (why_run hooks about 1 first_reached (lines_of shown))) → IfOk r (λ e. IfSome i (λ xs. IsExplained (why_meaning hooks about xs) e))
+    → IfOk r (IsExplained (why_run hooks about 1 first_reached (script_lines shown))) → IfOk r (λ e. IfSome i (λ xs. IsExplained (why_meaning hooks about xs) e))
 read_explained (Err fault) hooks about i j bytes shown all end fits is p = tt
 read_explained (Ok e) hooks about None j bytes shown all end fits is p = tt
 read_explained (Ok e) hooks about (Some xs) None bytes shown all end fits is p = absurd all
 read_explained (Ok e) hooks about (Some xs) (Some ys) bytes shown all end fits is p =
     let same : bytes ≡ xs = sym (all ∙ ap (λ l. bytes ++ l) end ∙ append-nil bytes) in
-    let read : IsExplained (why_run hooks about 1 first_reached (lines_of bytes)) e = subst (λ l. IsExplained (why_run hooks about 1 first_reached (lines_of l)) e) is p in
+    let read : IsExplained (why_run hooks about 1 first_reached (script_lines bytes)) e = subst (λ l. IsExplained (why_run hooks about 1 first_reached (script_lines l)) e) is p in
     subst (λ l. IsExplained (why_meaning hooks about l) e) same (subst (λ meant. IsExplained meant e) (sym (why_short hooks about bytes fits)) read)
 
 -- it is too long

@@ -19,7 +19,7 @@ use Rattle.span_script.specs.Operation.{NewLayer, NewSpan, Stage, in_setup, runn
 use Rattle.span_script.specs.Reason.{◌>>=◌}
 use Rattle.span_replay.specs.Requests.{request_of_call, request_of_new, request_of_event}
 use Rattle.span_replay.specs.Written.{Written, answer_for, call_written, find_text, exits, closes, each_written}
-use Rattle.span_script.specs.Script.{lines_of, most_bytes, is_skipped}
+use Rattle.span_script.specs.Script.{script_lines, most_bytes, is_skipped}
 use Rattle.span_replay.specs.State.{State, first_state}
 use Rattle.span_replay.specs.declared.run.answer.Answer.{Answer}
 use Rattle.span_replay.specs.declared.run.answer.Answer.TheVariants as answer
@@ -190,5 +190,5 @@ run hooks number state (line ∷ lines) =
 -- a script of more than 16,777,216 bytes isn't run at all
 abbrev pub meaning : ℕ → List ℕ → Transcript
 meaning hooks bytes =
-    if nat_le (length bytes) most_bytes then run hooks 1 first_state (lines_of bytes)
+    if nat_le (length bytes) most_bytes then run hooks 1 first_state (script_lines bytes)
     else record { text = []; ending = faulty 0 TooLong }
