@@ -8,7 +8,7 @@ use Rattle.span_replay.specs.Meaning.{Turn, Transcript, after, at_stage, stage_a
 use Rattle.span_replay.specs.Explained.{Reached, first_reached, label_in, reached_after, turn_reached, why_run}
 use Rattle.span_replay.specs.inside.Reaching.{IsExplained}
 use Rattle.span_replay.specs.declared.run.explained.Explained.{Explained}
-use Rattle.span_replay.specs.Replayed.{FlushesOnce, IsReplayed, IsWhole, Runs}
+use Rattle.span_replay.specs.Replayed.{FlushesOnce, IsReplayed, IsWrittenWhole, Runs}
 use Rattle.span_replay.specs.State.{State, first_state}
 use Rattle.span_replay.proofs.Flushes.{once_for}
 use Rattle.span_run.specs.declared.fault.RunFault.{RunFault}
@@ -92,12 +92,12 @@ pub replayed_same : (layers n : ℕ) (i a b : Known) (r : Result ℕ RunFault) �
 replayed_same layers n None a b r is p = tt
 replayed_same layers n (Some bytes) a b r is p = subst (λ meant. Runs meant a b r) (most_same layers n is bytes) p
 
-whole_same : (layers n : ℕ) (i a b : Known) → n ≡ min layers 64 → IsWhole n i a b → IsWhole layers i a b
+whole_same : (layers n : ℕ) (i a b : Known) → n ≡ min layers 64 → IsWrittenWhole n i a b → IsWrittenWhole layers i a b
 whole_same layers n None a b is p = tt
 whole_same layers n (Some bytes) a b is p = subst (λ meant. Appends a b meant.text) (most_same layers n is bytes) p
 
 pub flushed_same : (layers n : ℕ) (i a b : Known) (flushes flushes' : ℕ) (flushed : Bool) (r : Result ℕ RunFault) → n ≡ min layers 64
-    → FlushesOnce (IsWhole n i a b) flushes flushes' flushed r → FlushesOnce (IsWhole layers i a b) flushes flushes' flushed r
+    → FlushesOnce (IsWrittenWhole n i a b) flushes flushes' flushed r → FlushesOnce (IsWrittenWhole layers i a b) flushes flushes' flushed r
 flushed_same layers n i a b flushes flushes' flushed r is p = once_for (whole_same layers n i a b is) flushes flushes' flushed r p
 
 -- ---- the same of what `why` tells

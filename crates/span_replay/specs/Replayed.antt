@@ -36,8 +36,8 @@ KeepsUnread old new (Refused fault) = Unit {0}
 KeepsUnread old new (Held party) = Unit {0}
 
 -- the whole text that is meant was written, where the script's bytes are known
-abbrev pub IsWhole : ℕ → Option (List ℕ) → Option (List ℕ) → Option (List ℕ) → Type 0
-IsWhole hooks script old new = IfSome script (λ bytes. Appends old new (meaning hooks bytes).text)
+abbrev pub IsWrittenWhole : ℕ → Option (List ℕ) → Option (List ℕ) → Option (List ℕ) → Type 0
+IsWrittenWhole hooks script old new = IfSome script (λ bytes. Appends old new (meaning hooks bytes).text)
 
 -- The one flush. A run flushes its writer by one call, once the whole text is written, and ends with it: well, or by
 -- the fault of the script, or because the flush fails. Where memory is refused or a device fails before, it never does.

@@ -6,7 +6,7 @@ ghost use Rattle.std.specs.Io.KnownBytes.{IsAtEnd};
 ghost use Rattle.span_json.specs.Seen.{view};
 ghost use Rattle.span_run.specs.Counted.{inner_of, calls_of, failed_of, flushes_of, flushed_of};
 ghost use Rattle.span_replay.specs.Meaning.{run};
-ghost use Rattle.span_replay.specs.Replayed.{FlushesOnce, IsReplayed, IsWhole, KeepsUnread, Runs};
+ghost use Rattle.span_replay.specs.Replayed.{FlushesOnce, IsReplayed, IsWrittenWhole, KeepsUnread, Runs};
 ghost use Rattle.span_run.specs.RunFault.{EndsAsCounted};
 ghost use Rattle.span_script.specs.Operation.{Stage, is_setup};
 ghost use Rattle.span_script.specs.Script.{script_lines, most_bytes};
@@ -51,7 +51,7 @@ pub fn replay<R: Read, W: Write>(
     ensures whole { OnOk result (IsAtEnd (R.remaining (inner_of input.new))) }
     ensures unread { IfErr result (KeepsUnread (W.contents (inner_of output.old)) (W.contents (inner_of output.new))) }
     ensures flushed { FlushesOnce
-        (IsWhole (vec_len hooks) (R.remaining (inner_of input.old))
+        (IsWrittenWhole (vec_len hooks) (R.remaining (inner_of input.old))
         (W.contents (inner_of output.old)) (W.contents (inner_of output.new)))
         (flushes_of output.old) (flushes_of output.new) (flushed_of output.new) result }
     ensures left { IfSome (R.remaining (inner_of input.old)) (λ bytes. IfOk result (λ left. left ≡ 0)) }
@@ -82,7 +82,7 @@ where
     ensures whole { OnOk result (IsAtEnd (R.remaining (inner_of input.new))) }
     ensures unread { IfErr result (KeepsUnread (W.contents (inner_of output.old)) (W.contents (inner_of output.new))) }
     ensures flushed { FlushesOnce
-        (IsWhole (vec_len hooks) (R.remaining (inner_of input.old))
+        (IsWrittenWhole (vec_len hooks) (R.remaining (inner_of input.old))
         (W.contents (inner_of output.old)) (W.contents (inner_of output.new)))
         (flushes_of output.old) (flushes_of output.new) (flushed_of output.new) result }
     ensures left { IfSome (R.remaining (inner_of input.old)) (λ bytes. IfOk result (λ left. left ≡ 0)) }
