@@ -4,7 +4,7 @@ use Rattle.std.proofs.lemmas.Bool.{ltb-true, ltb-false}
 use Rattle.std.specs.Prelude.{nat_lt, nat_le}
 use Rattle.std.specs.Io.KnownBytes.{Appends}
 use Rattle.serde_json.specs.Data.{Data}
-use Rattle.span_replay.specs.Meaning.{Turn, Transcript, after, at_stage, stage_after, layer_turn, turn_of, value_turn, read_turn, line_turn, turn_then, faulty, run, meaning}
+use Rattle.span_replay.specs.Meaning.{Turn, Transcript, transcript_after, at_stage, stage_after, layer_turn, turn_of, value_turn, read_turn, line_turn, turn_then, faulty, run, meaning}
 use Rattle.span_replay.specs.Explained.{Reached, first_reached, label_in, reached_after, turn_reached, why_run}
 use Rattle.span_replay.specs.inside.Reaching.{IsExplained}
 use Rattle.span_replay.specs.declared.run.explained.Explained.{Explained}
@@ -64,7 +64,7 @@ line_same h k many many' state line =
     ap (λ turn. cond (is_skipped line) (Ok (record { text = []; state = state })) turn) (read_same h k many many' state line)
 
 then_same : (number : ℕ) (turn : Result Turn Reason) (f g : State → Transcript) → ((state : State) → f state ≡ g state) → turn_then number turn f ≡ turn_then number turn g
-then_same number (Ok turn) f g same = ap (after turn.text) (same turn.state)
+then_same number (Ok turn) f g same = ap (transcript_after turn.text) (same turn.state)
 then_same number (Err reason) f g same = refl
 
 run_same : (h k : ℕ) → 64 ≤ h → 64 ≤ k → (lines : List (List ℕ)) (number : ℕ) (state : State) → run h number state lines ≡ run k number state lines

@@ -5,7 +5,7 @@ use Rattle.std.proofs.KnownBytes.{Appends-nil, Appends-trans, Appends-kept, Keep
 use Rattle.std.proofs.lemmas.Bool.{lt-leb}
 use Rattle.span_run.specs.Device.{AppendsFront, ReadFails}
 use Rattle.span_run.proofs.Fronts.{Known, front_none, front_after, front_more}
-use Rattle.span_replay.specs.Meaning.{Turn, Transcript, faulty, after, turn_then, run, meaning, line_turn, last_part}
+use Rattle.span_replay.specs.Meaning.{Turn, Transcript, faulty, transcript_after, turn_then, run, meaning, line_turn, last_part}
 use Rattle.span_replay.specs.Replayed.{Fails, Runs, KeepsUnread}
 use Rattle.span_script.specs.Script.{script_lines, most_bytes}
 use Rattle.span_replay.specs.State.{State}
@@ -22,11 +22,11 @@ use Rattle.span_run.specs.RunFault.{EndsAsCounted}
 pub sent_none : (a : Known) (t : Transcript) → Sent a a t t
 sent_none a t = record { text = []; taken = Appends-nil a; is = refl }
 
-pub sent_more : (a b c : Known) (whole more rest : Transcript) (text : List ℕ) → Sent a b whole more → more ≡ after text rest → Appends b c text → Sent a c whole rest
+pub sent_more : (a b c : Known) (whole more rest : Transcript) (text : List ℕ) → Sent a b whole more → more ≡ transcript_after text rest → Appends b c text → Sent a c whole rest
 sent_more a b c whole more rest text s e p = record {
   text = s.text ++ text;
   taken = Appends-trans a b c s.text text s.taken p;
-  is = s.is ∙ ap (after s.text) e ∙ ap (λ x. record { text = x; ending = rest.ending }) (sym (append_assoc s.text text rest.text));
+  is = s.is ∙ ap (transcript_after s.text) e ∙ ap (λ x. record { text = x; ending = rest.ending }) (sym (append_assoc s.text text rest.text));
 }
 
 pub sent_trans : (a b c : Known) (whole more rest : Transcript) → Sent a b whole more → Sent b c more rest → Sent a c whole rest

@@ -157,8 +157,8 @@ pub record Transcript : Type 0 where
   pub ending : Ending
 
 -- a text was written before
-abbrev pub after : List ℕ → Transcript → Transcript
-after text transcript = record { text = text ++ transcript.text; ending = transcript.ending }
+abbrev pub transcript_after : List ℕ → Transcript → Transcript
+transcript_after text transcript = record { text = text ++ transcript.text; ending = transcript.ending }
 
 -- the tidying: all workers leave what they have entered, by ascending number
 abbrev pub left_by_workers : State → Written
@@ -178,7 +178,7 @@ last_part state = record {
 
 -- what a line wrote, before what the further lines write; a fault ends the script
 abbrev pub turn_then : ℕ → Result Turn Reason → (State → Transcript) → Transcript
-turn_then number (Ok turn) more = after turn.text (more turn.state)
+turn_then number (Ok turn) more = transcript_after turn.text (more turn.state)
 turn_then number (Err reason) more = record { text = []; ending = faulty number reason }
 
 -- the lines from this number on

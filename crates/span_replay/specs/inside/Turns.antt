@@ -8,7 +8,7 @@ use Rattle.span_layers.specs.declared.form.Form.{Form}
 use Rattle.span_core.specs.Core.{CoreView}
 use Rattle.span_core.specs.World.{empty_world}
 use Rattle.span_run.specs.Device.{AppendsFront}
-use Rattle.span_replay.specs.Meaning.{Turn, Transcript, after, value_turn, turn_then, run}
+use Rattle.span_replay.specs.Meaning.{Turn, Transcript, transcript_after, value_turn, turn_then, run}
 use Rattle.span_script.specs.Operation.{Operation, Stage, set_limits, add_layer}
 use Rattle.span_script.specs.Script.{script_lines}
 use Rattle.span_replay.specs.State.{State}
@@ -69,7 +69,7 @@ TurnFails meant number old new (Held party) = ⊥
 pub record Sent (old new : Option (List ℕ)) (whole more : Transcript) : Type 0 where
   pub text : List ℕ
   pub taken : Appends old new text
-  pub is : whole ≡ after text more
+  pub is : whole ≡ transcript_after text more
 
 -- calls were made, which leave this core, and their text was written
 pub record AreMade (written : Written) (core : CoreView) (old new : Option (List ℕ)) : Type 0 where
