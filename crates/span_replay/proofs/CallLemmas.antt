@@ -15,13 +15,13 @@ use Rattle.span_core.specs.Core.{IsLate}
 use Rattle.span_core.specs.Outcome.{TakesNextId}
 use Rattle.span_core.proofs.Outcomes.{accepted_outcome, refused_outcome, not_wanted_outcome}
 use Rattle.span_replay.specs.inside.Calls.{IsMade}
-use Rattle.span_replay.specs.Written.{answer_for, answer_of, core_left}
+use Rattle.span_replay.specs.Written.{answer_for, answer_written, core_left}
 use Rattle.span_replay.specs.declared.run.answer.Answer.{Answer}
 use Rattle.span_replay.specs.declared.run.answer.Answer.TheVariants.{Made, NotWanted, Refused}
 use Rattle.span_script.specs.declared.stop.Stop.{Stop}
 
 pub made_accepted : (old : CoreView) (request : call.Request) (answer : call.Answer) (new : CoreView) → IsAccepted old request answer new → TakesNextId old answer
-    → IsMade old request (answer_of answer) new
+    → IsMade old request (answer_written answer) new
 made_accepted old request answer new made next =
     let is = accepted_outcome old request answer new made next in
     record { answer_is = sym (ap answer_for is); core_is = sym (ap (core_left old) is) }

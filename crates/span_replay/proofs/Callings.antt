@@ -6,7 +6,7 @@ use Rattle.serde_json.specs.Find.{get, as_object, as_str}
 use Rattle.span_id.specs.declared.level.Level.TheVariants.{Info}
 use Rattle.span_script.specs.Key.{key_text}
 use Rattle.span_replay.specs.Meaning.{at_stage, stage_after, turn_of, value_turn}
-use Rattle.span_script.specs.Operation.{Operation, set_limits, add_layer, make, on_span, record_fields, tell, find, running, Op, limits_op, layer_op, new_op, span_op, record_op, event_op, find_op, required, optional, worker_in, level_in, parent_in, fields_in, span_key_in, old_id_in, op_of, current, new_of, on_span_of, record_of, event_of, find_by_span, find_by, find_of, keys_of, operation_of}
+use Rattle.span_script.specs.Operation.{Operation, set_limits, add_layer, make, on_span, record_fields, tell, find, running, Op, limits_op, layer_op, new_op, span_op, record_op, event_op, find_op, required, optional, worker_in, level_in, parent_key_in, field_list_in, span_key_in, old_id_in, op_of, current, new_of, on_span_of, record_of, event_of, find_by_span, find_by, find_of, keys_of, operation_of}
 use Rattle.span_script.specs.Reason.{StopsFor, or_fault}
 use Rattle.span_replay.specs.inside.Running.{IsTurn, StopsAs, RunsAs}
 use Rattle.span_replay.specs.State.{State}
@@ -32,8 +32,8 @@ new_calls workers line =
     then_ok (required key.Name as_str line) _ (λ name.
     then_ok (optional key.Target as_str (codes "app") line) _ (λ target.
     then_ok (optional key.Level level_in Info line) _ (λ level.
-    then_ok (optional key.Parent parent_in current line) _ (λ parent.
-    then_ok (optional key.Fields fields_in [] line) _ (λ fields.
+    then_ok (optional key.Parent parent_key_in current line) _ (λ parent.
+    then_ok (optional key.Fields field_list_in [] line) _ (λ fields.
     then_ok (optional key.Label as_str name line) _ (λ label.
     then_ok (optional key.Worker (worker_in workers) 0 line) _ (λ worker. record { is = tt })))))))
 
@@ -47,7 +47,7 @@ record_calls : (workers : ℕ) (line : Data) → WhereOk (record_of workers line
 unfolding record_of
 record_calls workers line =
     then_ok (required key.Span span_key_in line) _ (λ span.
-    then_ok (optional key.Fields fields_in [] line) _ (λ fields.
+    then_ok (optional key.Fields field_list_in [] line) _ (λ fields.
     then_ok (optional key.Worker (worker_in workers) 0 line) _ (λ worker. record { is = tt })))
 
 event_calls : (workers : ℕ) (line : Data) → WhereOk (event_of workers line) Calls
@@ -56,7 +56,7 @@ event_calls workers line =
     then_ok (required key.Message as_str line) _ (λ message.
     then_ok (optional key.Target as_str (codes "app") line) _ (λ target.
     then_ok (optional key.Level level_in Info line) _ (λ level.
-    then_ok (optional key.Fields fields_in [] line) _ (λ fields.
+    then_ok (optional key.Fields field_list_in [] line) _ (λ fields.
     then_ok (optional key.Worker (worker_in workers) 0 line) _ (λ worker. record { is = tt })))))
 
 by_span_calls : (line : Data) (old : Option Data) → WhereOk (find_by_span line old) Calls

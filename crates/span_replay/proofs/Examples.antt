@@ -2,7 +2,7 @@
 use Rattle.std.proofs.Common.{◌≡◌, [], codes, false, refl}
 use Rattle.std.specs.Fmt.{digits}
 use Rattle.span_id.specs.declared.fault.Fault.TheVariants.{CountFull}
-use Rattle.span_script.specs.Script.{lines_of}
+use Rattle.span_script.specs.Script.{script_lines}
 use Rattle.span_replay.specs.Answer.{answer_text, left_text}
 use Rattle.span_replay.specs.Meaning.{meaning, finished, run}
 use Rattle.span_replay.specs.Written.{calls_written, each_written}
@@ -11,11 +11,11 @@ use Rattle.span_replay.specs.declared.run.answer.Answer.TheVariants.{Made, Close
 -- ---- whole scripts
 
 an_empty_script_leaves_nothing : meaning 64 [] ≡ record { text = codes "left 0\n"; ending = finished 0 }
-unfolding lines_of run each_written calls_written digits
+unfolding script_lines run each_written calls_written digits
 an_empty_script_leaves_nothing = refl
 
 a_skipped_line_has_no_answer : meaning 64 (codes " \t\r\n\n") ≡ record { text = codes "left 0\n"; ending = finished 0 }
-unfolding lines_of run each_written calls_written digits
+unfolding script_lines run each_written calls_written digits
 a_skipped_line_has_no_answer = refl
 
 -- ---- answers

@@ -22,7 +22,7 @@ use Rattle.span_run.specs.declared.fault.RunFault.TheVariants.{Script}
 use Rattle.span_replay.proofs.LineTurns.{read_line}
 use Rattle.span_script.specs.Operation.{Stage, running, is_setup, json_of}
 use Rattle.span_script.specs.Reason.{StopsFor}
-use Rattle.span_script.specs.Script.{is_skipped, lines_of}
+use Rattle.span_script.specs.Script.{is_skipped, script_lines}
 use Rattle.span_script.specs.declared.reason.Reason.{Reason}
 use Rattle.span_script.specs.declared.stop.Stop.{Stop}
 use Rattle.span_script.specs.declared.stop.Stop.TheVariants.{Refused}
@@ -83,7 +83,7 @@ same_told (Some name) number a b state lines label (Err reason) more = refl
 pub resumed_same : (hooks number : ℕ) (about : Option (List ℕ)) (a b : Stage) (state : State) (lines : List ℕ) (value : Data) (rest : List ℕ) → is_setup value ≡ false
     → resumed_why hooks about number (at_lines (staged state a) lines) value rest ≡ resumed_why hooks about number (at_lines (staged state b) lines) value rest
 resumed_same hooks number about a b state lines value rest call =
-    let more : Reached → Transcript = λ new. why_run hooks about (number + 1) new (lines_of rest) in
+    let more : Reached → Transcript = λ new. why_run hooks about (number + 1) new (script_lines rest) in
     same_told about number a b state lines (label_by (staged state a) value) (value_turn hooks (staged state a) value) more
     ∙ ap (λ label. turn_reached about number (at_lines (staged state b) lines) label (value_turn hooks (staged state a) value) more) (same_label a b state value call)
     ∙ ap (λ meant. turn_reached about number (at_lines (staged state b) lines) (label_by (staged state b) value) meant more) (value_same hooks state a b value call)
@@ -135,8 +135,8 @@ no_made None = refl
 no_made (Some label) = refl
 
 -- a line before the first call makes no span
-pub set_up_more : (hooks hooks' number : ℕ) (about : Option (List ℕ)) (whole : Transcript) (old new : State) (rest line tail : List ℕ) → old.labels ≡ [] → new.labels ≡ [] → hooks' ≡ hooks → whole ≡ why_run hooks about number (at_lines old []) (lines_of rest)
-    → lines_of rest ≡ line ∷ lines_of tail → SetsTo (line_turn hooks' old line) new → whole ≡ why_run hooks about (number + 1) (at_lines new []) (lines_of tail)
+pub set_up_more : (hooks hooks' number : ℕ) (about : Option (List ℕ)) (whole : Transcript) (old new : State) (rest line tail : List ℕ) → old.labels ≡ [] → new.labels ≡ [] → hooks' ≡ hooks → whole ≡ why_run hooks about number (at_lines old []) (script_lines rest)
+    → script_lines rest ≡ line ∷ script_lines tail → SetsTo (line_turn hooks' old line) new → whole ≡ why_run hooks about (number + 1) (at_lines new []) (script_lines tail)
 set_up_more hooks hooks' number about whole old new rest line tail o n same is cut p =
     why_more hooks number about whole (at_lines old []) (at_lines new []) rest line tail is cut (record {
       turn = record { text = p.text; state = new };
@@ -145,39 +145,39 @@ set_up_more hooks hooks' number about whole old new rest line tail o n same is c
     })
 
 -- the first call's line was read, and it is still to be run
-pub set_up_called : (r : Result Explained RunFault) (hooks hooks' number : ℕ) (about : Option (List ℕ)) (whole : Transcript) (old new : State) (rest line tail : List ℕ) (value : Data) → hooks' ≡ hooks → new ≡ old → whole ≡ why_run hooks about number (at_lines old []) (lines_of rest)
-    → lines_of rest ≡ line ∷ lines_of tail → line_turn hooks' old line ≡ value_turn hooks' old value → label_in old line ≡ label_by old value
+pub set_up_called : (r : Result Explained RunFault) (hooks hooks' number : ℕ) (about : Option (List ℕ)) (whole : Transcript) (old new : State) (rest line tail : List ℕ) (value : Data) → hooks' ≡ hooks → new ≡ old → whole ≡ why_run hooks about number (at_lines old []) (script_lines rest)
+    → script_lines rest ≡ line ∷ script_lines tail → line_turn hooks' old line ≡ value_turn hooks' old value → label_in old line ≡ label_by old value
     → IfOk r (λ e. (h : ℕ) → IsExplained (resumed_why h about number (at_lines new []) value tail) e) → IfOk r (IsExplained whole)
 unfolding why_run
 set_up_called (Ok e) hooks hooks' number about whole old new rest line tail value same stays is cut turn label p =
     subst (λ meant. IsExplained meant e)
     (ap (λ s. resumed_why hooks about number (at_lines s []) value tail) stays
     ∙ sym (is ∙ ap (why_run hooks about number (at_lines old [])) cut
-    ∙ ap (λ l. turn_reached about number (at_lines old []) l (line_turn hooks old line) (λ after. why_run hooks about (number + 1) after (lines_of tail))) label
-    ∙ ap (λ meant. turn_reached about number (at_lines old []) (label_by old value) meant (λ after. why_run hooks about (number + 1) after (lines_of tail))) (ap (λ h. line_turn h old line) (sym same) ∙ turn ∙ ap (λ h. value_turn h old value) same)))
+    ∙ ap (λ l. turn_reached about number (at_lines old []) l (line_turn hooks old line) (λ after. why_run hooks about (number + 1) after (script_lines tail))) label
+    ∙ ap (λ meant. turn_reached about number (at_lines old []) (label_by old value) meant (λ after. why_run hooks about (number + 1) after (script_lines tail))) (ap (λ h. line_turn h old line) (sym same) ∙ turn ∙ ap (λ h. value_turn h old value) same)))
     (p hooks)
 set_up_called (Err fault) hooks hooks' number about whole old new rest line tail value same stays is cut turn label p = tt
 
 -- a line is at fault, before the first call
 pub set_up_fault : {told : RunFault} (r : Result Explained RunFault) (hooks hooks' number : ℕ) (about : Option (List ℕ)) (whole : Transcript) (core : CoreView) (stage : Stage) (rest line tail : List ℕ) (reason : Reason) → core.world.spans ≡ [] → hooks' ≡ hooks
-    → whole ≡ why_run hooks about number (at_lines (record { core = core; labels = []; stage = stage }) []) (lines_of rest) → lines_of rest ≡ line ∷ lines_of tail → line_turn hooks' (record { core = core; labels = []; stage = stage }) line ≡ Err reason
+    → whole ≡ why_run hooks about number (at_lines (record { core = core; labels = []; stage = stage }) []) (script_lines rest) → script_lines rest ≡ line ∷ script_lines tail → line_turn hooks' (record { core = core; labels = []; stage = stage }) line ≡ Err reason
     → told ≡ Script number reason → IfOk r (λ e. e.text.items ≡ text_of [] about None) → IfOk r (λ e. e.ended ≡ Err told) → IfOk r (IsExplained whole)
 unfolding why_run
 set_up_fault (Ok e) hooks hooks' number about whole core stage rest line tail reason none same is cut fault told_as text ended =
     let here : Reached = at_lines (record { core = core; labels = []; stage = stage }) [] in
     explained_fault whole about here e number reason
     (is ∙ ap (why_run hooks about number here) cut
-    ∙ ap (λ meant. turn_reached about number here (label_in here.state line) meant (λ after. why_run hooks about (number + 1) after (lines_of tail))) (ap (λ h. line_turn h here.state line) (sym same) ∙ fault))
+    ∙ ap (λ meant. turn_reached about number here (label_in here.state line) meant (λ after. why_run hooks about (number + 1) after (script_lines tail))) (ap (λ h. line_turn h here.state line) (sym same) ∙ fault))
     (text ∙ nothing_text core stage [] about none) (ended ∙ ap (λ f. Err f) told_as)
 set_up_fault (Err other) hooks hooks' number about whole core stage rest line tail reason none same is cut fault told_as text ended = tt
 
 -- no call came
-pub set_up_ends : (r : Result Explained RunFault) (hooks number : ℕ) (about : Option (List ℕ)) (whole : Transcript) (core : CoreView) (stage : Stage) (rest : List ℕ) → core.world.spans ≡ [] → whole ≡ why_run hooks about number (at_lines (record { core = core; labels = []; stage = stage }) []) (lines_of rest) → rest ≡ []
+pub set_up_ends : (r : Result Explained RunFault) (hooks number : ℕ) (about : Option (List ℕ)) (whole : Transcript) (core : CoreView) (stage : Stage) (rest : List ℕ) → core.world.spans ≡ [] → whole ≡ why_run hooks about number (at_lines (record { core = core; labels = []; stage = stage }) []) (script_lines rest) → rest ≡ []
     → IfOk r (λ e. e.text.items ≡ text_of [] about None) → IfOk r (λ e. e.ended ≡ Ok 0) → IfOk r (IsExplained whole)
-unfolding why_run lines_of
+unfolding why_run script_lines
 set_up_ends (Ok e) hooks number about whole core stage rest none is empty text ended =
     let here : Reached = at_lines (record { core = core; labels = []; stage = stage }) [] in
-    explained_all whole about here e 0 (is ∙ ap (λ r. why_run hooks about number here (lines_of r)) empty) (sym (ap length none)) (text ∙ nothing_text core stage [] about none) ended
+    explained_all whole about here e 0 (is ∙ ap (λ r. why_run hooks about number here (script_lines r)) empty) (sym (ap length none)) (text ∙ nothing_text core stage [] about none) ended
 set_up_ends (Err other) hooks number about whole core stage rest none is empty text ended = tt
 
 pub skipped_set_up : (hooks : ℕ) (state : State) (line : List ℕ) → is_skipped line ≡ true → SetsTo (line_turn hooks state line) state

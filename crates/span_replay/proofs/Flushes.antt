@@ -2,7 +2,7 @@
 use Rattle.std.proofs.Common.{◌≡◌, ℕ, ◌+◌, List, [], Bool, Some, None, Result, Ok, Err, IfSome, arith, sym, subst, append-nil, inl, inr}
 use Rattle.std.specs.Io.KnownBytes.{Appends, Keeps}
 use Rattle.std.proofs.KnownBytes.{Appends-kept}
-use Rattle.span_run.specs.Counted.{one_more}
+use Rattle.span_run.specs.Counted.{next_count}
 use Rattle.span_run.specs.Device.{AppendsFront}
 use Rattle.span_run.specs.RunFault.{EndsAsCounted, FailsAsCounted}
 use Rattle.span_run.specs.declared.fault.RunFault.{RunFault}
@@ -10,12 +10,12 @@ use Rattle.span_run.specs.declared.fault.RunFault.TheVariants.{Script, Memory, D
 use Rattle.span_run.specs.declared.fault.Side.TheVariants.{Read, Write}
 use Rattle.span_run.proofs.Fronts.{Known}
 use Rattle.span_replay.specs.Meaning.{meaning}
-use Rattle.span_replay.specs.Replayed.{Fails, FlushesOnce, IsWhole, KeepsUnread, Runs}
+use Rattle.span_replay.specs.Replayed.{Fails, FlushesOnce, IsWrittenWhole, KeepsUnread, Runs}
 use Rattle.span_script.specs.declared.reason.Reason.{Reason}
 
 -- ---- a run that ended well, or at a fault of the script, has written the whole text
 
-pub whole_ok : (hooks : ℕ) (i a b : Known) (left : ℕ) → IfSome i (λ bytes. Runs (meaning hooks bytes) a b (Ok left)) → IsWhole hooks i a b
+pub whole_ok : (hooks : ℕ) (i a b : Known) (left : ℕ) → IfSome i (λ bytes. Runs (meaning hooks bytes) a b (Ok left)) → IsWrittenWhole hooks i a b
 whole_ok hooks None a b left p = tt
 whole_ok hooks (Some bytes) a b left p = p.1
 
@@ -24,14 +24,14 @@ at_script : (hooks : ℕ) (i a b : Known) (e : RunFault) (number : ℕ) (reason 
     → IfSome i (λ bytes. Fails (meaning hooks bytes) a b (Script number reason))
 at_script hooks i a b e number reason is p = subst (λ fault. IfSome i (λ bytes. Fails (meaning hooks bytes) a b fault)) is p
 
-text_whole : (hooks : ℕ) (i a b : Known) (number : ℕ) (reason : Reason) → IfSome i (λ bytes. Fails (meaning hooks bytes) a b (Script number reason)) → IsWhole hooks i a b
+text_whole : (hooks : ℕ) (i a b : Known) (number : ℕ) (reason : Reason) → IfSome i (λ bytes. Fails (meaning hooks bytes) a b (Script number reason)) → IsWrittenWhole hooks i a b
 text_whole hooks None a b number reason p = tt
 text_whole hooks (Some bytes) a b number reason p = p.1
 
-pub whole_script : (hooks : ℕ) (i a b : Known) (e : RunFault) (number : ℕ) (reason : Reason) → e ≡ Script number reason → IfSome i (λ bytes. Fails (meaning hooks bytes) a b e) → IsWhole hooks i a b
+pub whole_script : (hooks : ℕ) (i a b : Known) (e : RunFault) (number : ℕ) (reason : Reason) → e ≡ Script number reason → IfSome i (λ bytes. Fails (meaning hooks bytes) a b e) → IsWrittenWhole hooks i a b
 whole_script hooks i a b e number reason is p = text_whole hooks i a b number reason (at_script hooks i a b e number reason is p)
 
-pub whole_kept : (hooks : ℕ) (i a b c : Known) → IsWhole hooks i a b → Keeps b c → IsWhole hooks i a c
+pub whole_kept : (hooks : ℕ) (i a b c : Known) → IsWrittenWhole hooks i a b → Keeps b c → IsWrittenWhole hooks i a c
 whole_kept hooks None a b c p k = tt
 whole_kept hooks (Some bytes) a b c p k = Appends-kept a b c _ p k
 
@@ -59,14 +59,14 @@ script_counts reads reads' writes writes' e number reason is p = subst (FailsAsC
 pub whole_front : (a b : Known) (text : List ℕ) → Appends a b text → AppendsFront a b text
 whole_front a b text p = record { front = text; rest = []; whole = sym (append-nil text); taken = p }
 
-device_fails : (hooks : ℕ) (i a b : Known) → IsWhole hooks i a b → IfSome i (λ bytes. Fails (meaning hooks bytes) a b (Device Write))
+device_fails : (hooks : ℕ) (i a b : Known) → IsWrittenWhole hooks i a b → IfSome i (λ bytes. Fails (meaning hooks bytes) a b (Device Write))
 device_fails hooks None a b p = tt
 device_fails hooks (Some bytes) a b p = whole_front a b _ p
 
-pub flush_fails : (hooks : ℕ) (i a b : Known) (e : RunFault) → IsWhole hooks i a b → e ≡ Device Write → IfSome i (λ bytes. Fails (meaning hooks bytes) a b e)
+pub flush_fails : (hooks : ℕ) (i a b : Known) (e : RunFault) → IsWrittenWhole hooks i a b → e ≡ Device Write → IfSome i (λ bytes. Fails (meaning hooks bytes) a b e)
 flush_fails hooks i a b e p d = subst (λ fault. IfSome i (λ bytes. Fails (meaning hooks bytes) a b fault)) (sym d) (device_fails hooks i a b p)
 
-pub flush_once : {Whole : Type 0} (flushes flushes' : ℕ) (flushed : Bool) (e : RunFault) → Whole → flushes' ≡ one_more flushes → e ≡ Device Write → FlushesOnce Whole flushes flushes' flushed (Err e)
+pub flush_once : {Whole : Type 0} (flushes flushes' : ℕ) (flushed : Bool) (e : RunFault) → Whole → flushes' ≡ next_count flushes → e ≡ Device Write → FlushesOnce Whole flushes flushes' flushed (Err e)
 flush_once {Whole} flushes flushes' flushed e p once d = subst (λ fault. FlushesOnce Whole flushes flushes' flushed (Err fault)) (sym d) (inr (p, once))
 
 pub flush_read : (a b : Known) (e : RunFault) → e ≡ Device Write → KeepsUnread a b e

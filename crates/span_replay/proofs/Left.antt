@@ -9,7 +9,7 @@ use Rattle.std.specs.Prelude.{nat_le, ◌==◌}
 use Rattle.std.proofs.lemmas.Bool.{cases_Bool, leb-true}
 use Rattle.span_core.proofs.Weights.{weight}
 use Rattle.span_replay.specs.State.{State, first_state}
-use Rattle.span_script.specs.Script.{onto_line, lines_of, most_bytes}
+use Rattle.span_script.specs.Script.{onto_line, script_lines, most_bytes}
 use Rattle.span_replay.specs.Replayed.{Runs}
 use Rattle.span_replay.specs.Meaning.{Turn, Ending, finished, faulty, Transcript, line_turn, turn_then, run, meaning}
 use Rattle.span_script.specs.declared.reason.Reason.{Reason}
@@ -23,12 +23,12 @@ length-onto_line : (x : ℕ) (lines : List (List ℕ)) → length (onto_line x l
 length-onto_line x [] = omega arith
 length-onto_line x (line ∷ lines) = omega arith
 
-pub length-lines_of : (bytes : List ℕ) → length (lines_of bytes) ≤ length bytes
-unfolding lines_of
-length-lines_of [] = omega arith
-length-lines_of (x ∷ xs) =
-    let rest = length-lines_of xs in
-    let longer = length-onto_line x (lines_of xs) in
+pub length-script_lines : (bytes : List ℕ) → length (script_lines bytes) ≤ length bytes
+unfolding script_lines
+length-script_lines [] = omega arith
+length-script_lines (x ∷ xs) =
+    let rest = length-script_lines xs in
+    let longer = length-onto_line x (script_lines xs) in
     elim (cases_Bool (x == 10)) [ inl t ↦ rw t (omega (arith, rest)) | inr t ↦ rw t (omega (arith, rest, longer)) ]
 
 -- how many spans a run left
@@ -57,11 +57,11 @@ pub left_nothing : (hooks : ℕ) (bytes : List ℕ) (n : ℕ) → (meaning hooks
 left_nothing hooks bytes n is = by_case (nat_le (length bytes) most_bytes) refl is
   where
     by_case : (b : Bool) → nat_le (length bytes) most_bytes ≡ b
-        → (if b then run hooks 1 first_state (lines_of bytes) else record { text = []; ending = faulty 0 TooLong }).ending ≡ finished n → n ≡ 0
+        → (if b then run hooks 1 first_state (script_lines bytes) else record { text = []; ending = faulty 0 TooLong }).ending ≡ finished n → n ≡ 0
     by_case true fits ends =
         let few = leb-true (length bytes) most_bytes fits in
-        let lines = length-lines_of bytes in
-        run_left (lines_of bytes) hooks 1 first_state n good_start (omega (arith, few, lines, light_start)) ends
+        let lines = length-script_lines bytes in
+        run_left (script_lines bytes) hooks 1 first_state n good_start (omega (arith, few, lines, light_start)) ends
     by_case false fits ends = cc
 
 -- where the bytes that are read are known

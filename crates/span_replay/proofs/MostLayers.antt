@@ -4,18 +4,18 @@ use Rattle.std.proofs.lemmas.Bool.{ltb-true, ltb-false}
 use Rattle.std.specs.Prelude.{nat_lt, nat_le}
 use Rattle.std.specs.Io.KnownBytes.{Appends}
 use Rattle.serde_json.specs.Data.{Data}
-use Rattle.span_replay.specs.Meaning.{Turn, Transcript, after, at_stage, stage_after, layer_turn, turn_of, value_turn, read_turn, line_turn, turn_then, faulty, run, meaning}
+use Rattle.span_replay.specs.Meaning.{Turn, Transcript, transcript_after, at_stage, stage_after, layer_turn, turn_of, value_turn, read_turn, line_turn, turn_then, faulty, run, meaning}
 use Rattle.span_replay.specs.Explained.{Reached, first_reached, label_in, reached_after, turn_reached, why_run}
 use Rattle.span_replay.specs.inside.Reaching.{IsExplained}
 use Rattle.span_replay.specs.declared.run.explained.Explained.{Explained}
-use Rattle.span_replay.specs.Replayed.{FlushesOnce, IsReplayed, IsWhole, Runs}
+use Rattle.span_replay.specs.Replayed.{FlushesOnce, IsReplayed, IsWrittenWhole, Runs}
 use Rattle.span_replay.specs.State.{State, first_state}
 use Rattle.span_replay.proofs.Flushes.{once_for}
 use Rattle.span_run.specs.declared.fault.RunFault.{RunFault}
 use Rattle.span_run.proofs.Fronts.{Known}
 use Rattle.span_script.specs.Operation.{NewLayer, Operation, set_limits, add_layer, make, on_span, record_fields, tell, find, json_of, operation_of}
 use Rattle.span_script.specs.Reason.{◌>>=◌}
-use Rattle.span_script.specs.Script.{lines_of, most_bytes, is_skipped}
+use Rattle.span_script.specs.Script.{script_lines, most_bytes, is_skipped}
 use Rattle.span_script.specs.declared.reason.Reason.{Reason}
 use Rattle.span_script.specs.declared.reason.Reason.TheVariants.{TooLong}
 
@@ -64,7 +64,7 @@ line_same h k many many' state line =
     ap (λ turn. cond (is_skipped line) (Ok (record { text = []; state = state })) turn) (read_same h k many many' state line)
 
 then_same : (number : ℕ) (turn : Result Turn Reason) (f g : State → Transcript) → ((state : State) → f state ≡ g state) → turn_then number turn f ≡ turn_then number turn g
-then_same number (Ok turn) f g same = ap (after turn.text) (same turn.state)
+then_same number (Ok turn) f g same = ap (transcript_after turn.text) (same turn.state)
 then_same number (Err reason) f g same = refl
 
 run_same : (h k : ℕ) → 64 ≤ h → 64 ≤ k → (lines : List (List ℕ)) (number : ℕ) (state : State) → run h number state lines ≡ run k number state lines
@@ -76,7 +76,7 @@ run_same h k many many' (line ∷ lines) number state =
 
 pub meaning_same : (h k : ℕ) → 64 ≤ h → 64 ≤ k → (bytes : List ℕ) → meaning h bytes ≡ meaning k bytes
 meaning_same h k many many' bytes =
-    ap (λ transcript. cond (nat_le (length bytes) most_bytes) transcript (record { text = []; ending = faulty 0 TooLong })) (run_same h k many many' (lines_of bytes) 1 first_state)
+    ap (λ transcript. cond (nat_le (length bytes) most_bytes) transcript (record { text = []; ending = faulty 0 TooLong })) (run_same h k many many' (script_lines bytes) 1 first_state)
 
 -- no script has more layers than 64
 most_by : (layers n : ℕ) (b : Bool) → nat_lt layers 64 ≡ b → n ≡ min layers 64 → (bytes : List ℕ) → meaning n bytes ≡ meaning layers bytes
@@ -92,12 +92,12 @@ pub replayed_same : (layers n : ℕ) (i a b : Known) (r : Result ℕ RunFault) �
 replayed_same layers n None a b r is p = tt
 replayed_same layers n (Some bytes) a b r is p = subst (λ meant. Runs meant a b r) (most_same layers n is bytes) p
 
-whole_same : (layers n : ℕ) (i a b : Known) → n ≡ min layers 64 → IsWhole n i a b → IsWhole layers i a b
+whole_same : (layers n : ℕ) (i a b : Known) → n ≡ min layers 64 → IsWrittenWhole n i a b → IsWrittenWhole layers i a b
 whole_same layers n None a b is p = tt
 whole_same layers n (Some bytes) a b is p = subst (λ meant. Appends a b meant.text) (most_same layers n is bytes) p
 
 pub flushed_same : (layers n : ℕ) (i a b : Known) (flushes flushes' : ℕ) (flushed : Bool) (r : Result ℕ RunFault) → n ≡ min layers 64
-    → FlushesOnce (IsWhole n i a b) flushes flushes' flushed r → FlushesOnce (IsWhole layers i a b) flushes flushes' flushed r
+    → FlushesOnce (IsWrittenWhole n i a b) flushes flushes' flushed r → FlushesOnce (IsWrittenWhole layers i a b) flushes flushes' flushed r
 flushed_same layers n i a b flushes flushes' flushed r is p = once_for (whole_same layers n i a b is) flushes flushes' flushed r p
 
 -- ---- the same of what `why` tells

@@ -9,7 +9,7 @@ use Rattle.span_layers.specs.declared.form.Form.{Form}
 use Rattle.span_replay.specs.Meaning.{Transcript, line_turn, run, turn_then, value_turn}
 use Rattle.span_script.specs.Operation.{Stage}
 use Rattle.span_replay.specs.Replayed.{Fails, Runs}
-use Rattle.span_script.specs.Script.{lines_of}
+use Rattle.span_script.specs.Script.{script_lines}
 use Rattle.span_replay.specs.State.{State, first_state}
 use Rattle.span_replay.specs.inside.Turns.{HasTurned, Sent, TurnFails, opened_state, resumed_run}
 use Rattle.span_run.specs.declared.fault.RunFault.{RunFault}
@@ -22,28 +22,28 @@ when_some P o value e h = subst (λ x. IfSome x P) e h
 pub when_none : {A : Type 0} → {P : Type 0} → (o : Option A) → o ≡ None → IfNone o P → P
 when_none {A} {P} o e h = subst (λ x. IfNone x P) e h
 
-pub opened_more : (hooks hooks' number : ℕ) (a b c : Known) (whole : Transcript) (state new : State) (rest line tail : List ℕ) → hooks' ≡ hooks → Sent a b whole (run hooks number state (lines_of rest))
-    → lines_of rest ≡ line ∷ lines_of tail → HasTurned (line_turn hooks' state line) new b c → Sent a c whole (run hooks (number + 1) new (lines_of tail))
+pub opened_more : (hooks hooks' number : ℕ) (a b c : Known) (whole : Transcript) (state new : State) (rest line tail : List ℕ) → hooks' ≡ hooks → Sent a b whole (run hooks number state (script_lines rest))
+    → script_lines rest ≡ line ∷ script_lines tail → HasTurned (line_turn hooks' state line) new b c → Sent a c whole (run hooks (number + 1) new (script_lines tail))
 opened_more hooks hooks' number a b c whole state new rest line tail e s cut p =
     loop_more hooks number a b c whole state new rest line tail s cut (subst (λ h. HasTurned (line_turn h state line) new b c) e p)
 
-pub opened_fails : (hooks hooks' number : ℕ) (a b c : Known) (whole : Transcript) (state : State) (rest line tail : List ℕ) (fault : RunFault) → hooks' ≡ hooks → Sent a b whole (run hooks number state (lines_of rest))
-    → lines_of rest ≡ line ∷ lines_of tail → TurnFails (line_turn hooks' state line) number b c fault → Fails whole a c fault
+pub opened_fails : (hooks hooks' number : ℕ) (a b c : Known) (whole : Transcript) (state : State) (rest line tail : List ℕ) (fault : RunFault) → hooks' ≡ hooks → Sent a b whole (run hooks number state (script_lines rest))
+    → script_lines rest ≡ line ∷ script_lines tail → TurnFails (line_turn hooks' state line) number b c fault → Fails whole a c fault
 opened_fails hooks hooks' number a b c whole state rest line tail fault e s cut p =
     loop_fails hooks number a b c whole state rest line tail fault s cut (subst (λ h. TurnFails (line_turn h state line) number b c fault) e p)
 
 sent_kept : (a b c : Known) (whole more : Transcript) → Sent a b whole more → Keeps b c → Sent a c whole more
 sent_kept a b c whole more s k = record { text = s.text; taken = Appends-kept a b c s.text s.taken k; is = s.is }
 
-with_value : (hooks number : ℕ) (state : State) (rest line tail : List ℕ) (value : Data) → lines_of rest ≡ line ∷ lines_of tail → line_turn hooks state line ≡ value_turn hooks state value
-    → run hooks number state (lines_of rest) ≡ resumed_run hooks number state (Some value) tail
+with_value : (hooks number : ℕ) (state : State) (rest line tail : List ℕ) (value : Data) → script_lines rest ≡ line ∷ script_lines tail → line_turn hooks state line ≡ value_turn hooks state value
+    → run hooks number state (script_lines rest) ≡ resumed_run hooks number state (Some value) tail
 unfolding run
 with_value hooks number state rest line tail value cut is =
-    ap (run hooks number state) cut ∙ ap (λ meant. turn_then number meant (λ new. run hooks (number + 1) new (lines_of tail))) is
+    ap (run hooks number state) cut ∙ ap (λ meant. turn_then number meant (λ new. run hooks (number + 1) new (script_lines tail))) is
 
 -- the first call's line was read, and it is still to be run
 pub opened_at_call : (hooks hooks' number : ℕ) (a b c : Known) (whole : Transcript) (state new : State) (rest line tail : List ℕ) (value : Data) → hooks' ≡ hooks → new ≡ state → Keeps b c
-    → Sent a b whole (run hooks number state (lines_of rest)) → lines_of rest ≡ line ∷ lines_of tail → line_turn hooks' state line ≡ value_turn hooks' state value
+    → Sent a b whole (run hooks number state (script_lines rest)) → script_lines rest ≡ line ∷ script_lines tail → line_turn hooks' state line ≡ value_turn hooks' state value
     → Sent a c whole (resumed_run hooks number new (Some value) tail)
 opened_at_call hooks hooks' number a b c whole state new rest line tail value e same k s cut is0 =
     let is = subst (λ h. line_turn h state line ≡ value_turn h state value) e is0 in

@@ -15,7 +15,7 @@ use Rattle.span_replay.proofs.Setups.{value_does}
 use Rattle.span_run.specs.declared.fault.RunFault.{RunFault}
 use Rattle.span_script.specs.Operation.{Operation, running, json_of, operation_of}
 use Rattle.span_script.specs.Reason.{StopsFor}
-use Rattle.span_script.specs.Script.{is_skipped, lines_of}
+use Rattle.span_script.specs.Script.{is_skipped, script_lines}
 use Rattle.span_script.specs.declared.reason.Reason.{Reason}
 use Rattle.span_script.specs.declared.stop.Stop.{Stop}
 use Rattle.span_script.specs.declared.stop.Stop.TheVariants.{Memory, Refused}
@@ -100,14 +100,14 @@ line_halts state old new line value (Err stop) read e p = λ hooks. subst (λ me
 
 -- ---- lines one after another
 
-pub why_more : (hooks number : ℕ) (about : Option (List ℕ)) (whole : Transcript) (old new : Reached) (rest line tail : List ℕ) → whole ≡ why_run hooks about number old (lines_of rest) → lines_of rest ≡ line ∷ lines_of tail
-    → HasReached number (label_in old.state line) (line_turn hooks old.state line) old new → whole ≡ why_run hooks about (number + 1) new (lines_of tail)
+pub why_more : (hooks number : ℕ) (about : Option (List ℕ)) (whole : Transcript) (old new : Reached) (rest line tail : List ℕ) → whole ≡ why_run hooks about number old (script_lines rest) → script_lines rest ≡ line ∷ script_lines tail
+    → HasReached number (label_in old.state line) (line_turn hooks old.state line) old new → whole ≡ why_run hooks about (number + 1) new (script_lines tail)
 unfolding why_run
 why_more hooks number about whole old new rest line tail is cut p =
     is
     ∙ ap (why_run hooks about number old) cut
-    ∙ ap (λ meant. turn_reached about number old (label_in old.state line) meant (λ after. why_run hooks about (number + 1) after (lines_of tail))) p.is
-    ∙ ap (λ after. why_run hooks about (number + 1) after (lines_of tail)) (sym p.left)
+    ∙ ap (λ meant. turn_reached about number old (label_in old.state line) meant (λ after. why_run hooks about (number + 1) after (script_lines tail))) p.is
+    ∙ ap (λ after. why_run hooks about (number + 1) after (script_lines tail)) (sym p.left)
 
 pub same_id : (o : Option ℕ) → other_id o o ≡ None
 same_id None = refl
@@ -121,9 +121,9 @@ skipped_reached hooks number here line k = record {
   left = ap (at_lines here.state) (ap (lines_after number here.lines) (sym (same_id (named_by here.state.labels (label_in here.state line)))));
 }
 
-pub why_ends : (hooks number : ℕ) (about : Option (List ℕ)) (whole : Transcript) (here : Reached) (rest : List ℕ) → whole ≡ why_run hooks about number here (lines_of rest) → rest ≡ [] → HasEnded whole about here
-unfolding why_run lines_of
-why_ends hooks number about whole here rest is none = is ∙ ap (λ r. why_run hooks about number here (lines_of r)) none
+pub why_ends : (hooks number : ℕ) (about : Option (List ℕ)) (whole : Transcript) (here : Reached) (rest : List ℕ) → whole ≡ why_run hooks about number here (script_lines rest) → rest ≡ [] → HasEnded whole about here
+unfolding why_run script_lines
+why_ends hooks number about whole here rest is none = is ∙ ap (λ r. why_run hooks about number here (script_lines r)) none
 
 ends_at : (about : Option (List ℕ)) (number : ℕ) (whole : Transcript) (label : Option (List ℕ)) (meant : Result Turn Reason) (old new : Reached) (more : Reached → Transcript) (stop : Stop) → whole ≡ turn_reached about number old label meant more
     → Halts meant old new stop → EndsAt whole about new (fault_at number stop)
@@ -135,28 +135,28 @@ pub value_fails : (about : Option (List ℕ)) (number : ℕ) (whole : Transcript
     → Halts meant old new stop → fault ≡ fault_at number stop → EndsAt whole about new fault
 value_fails about number whole label meant old new more stop fault is p e = subst (EndsAt whole about new) (sym e) (ends_at about number whole label meant old new more stop is p)
 
-pub why_fails : (hooks number : ℕ) (about : Option (List ℕ)) (whole : Transcript) (old new : Reached) (rest line tail : List ℕ) (stop : Stop) (fault : RunFault) → whole ≡ why_run hooks about number old (lines_of rest) → lines_of rest ≡ line ∷ lines_of tail
+pub why_fails : (hooks number : ℕ) (about : Option (List ℕ)) (whole : Transcript) (old new : Reached) (rest line tail : List ℕ) (stop : Stop) (fault : RunFault) → whole ≡ why_run hooks about number old (script_lines rest) → script_lines rest ≡ line ∷ script_lines tail
     → Halts (line_turn hooks old.state line) old new stop → fault ≡ fault_at number stop → EndsAt whole about new fault
 unfolding why_run
 why_fails hooks number about whole old new rest line tail stop fault is cut p e =
-    value_fails about number whole (label_in old.state line) (line_turn hooks old.state line) old new (λ after. why_run hooks about (number + 1) after (lines_of tail)) stop fault (is ∙ ap (why_run hooks about number old) cut) p e
+    value_fails about number whole (label_in old.state line) (line_turn hooks old.state line) old new (λ after. why_run hooks about (number + 1) after (script_lines tail)) stop fault (is ∙ ap (why_run hooks about number old) cut) p e
 
 -- ---- the first line, whose value was read already, and then the others
 
 resumed_on : (hooks number : ℕ) (about : Option (List ℕ)) (old new : Reached) (value : Data) (lines : List ℕ) → HasReached number (label_by old.state value) (value_turn hooks old.state value) old new
-    → resumed_why hooks about number old value lines ≡ why_run hooks about (number + 1) new (lines_of lines)
+    → resumed_why hooks about number old value lines ≡ why_run hooks about (number + 1) new (script_lines lines)
 resumed_on hooks number about old new value lines p =
-    ap (λ meant. turn_reached about number old (label_by old.state value) meant (λ after. why_run hooks about (number + 1) after (lines_of lines))) p.is
-    ∙ ap (λ after. why_run hooks about (number + 1) after (lines_of lines)) (sym p.left)
+    ap (λ meant. turn_reached about number old (label_by old.state value) meant (λ after. why_run hooks about (number + 1) after (script_lines lines))) p.is
+    ∙ ap (λ after. why_run hooks about (number + 1) after (script_lines lines)) (sym p.left)
 
 pub rest_ended : (number : ℕ) (old new last : Reached) (value : Data) (lines : List ℕ) (r : Result ⊤ RunFault) → ((hooks : ℕ) → HasReached number (label_by old.state value) (value_turn hooks old.state value) old new)
-    → OnOk r ((hooks : ℕ) (about : Option (List ℕ)) → HasEnded (why_run hooks about (number + 1) new (lines_of lines)) about last)
+    → OnOk r ((hooks : ℕ) (about : Option (List ℕ)) → HasEnded (why_run hooks about (number + 1) new (script_lines lines)) about last)
     → OnOk r ((hooks : ℕ) (about : Option (List ℕ)) → HasEnded (resumed_why hooks about number old value lines) about last)
 rest_ended number old new last value lines (Ok _) p q = λ hooks about. resumed_on hooks number about old new value lines (p hooks) ∙ q hooks about
 rest_ended number old new last value lines (Err fault) p q = tt
 
 pub rest_ends : (number : ℕ) (old new last : Reached) (value : Data) (lines : List ℕ) (r : Result ⊤ RunFault) → ((hooks : ℕ) → HasReached number (label_by old.state value) (value_turn hooks old.state value) old new)
-    → IfErr r (λ fault. (hooks : ℕ) (about : Option (List ℕ)) → EndsAt (why_run hooks about (number + 1) new (lines_of lines)) about last fault)
+    → IfErr r (λ fault. (hooks : ℕ) (about : Option (List ℕ)) → EndsAt (why_run hooks about (number + 1) new (script_lines lines)) about last fault)
     → IfErr r (λ fault. (hooks : ℕ) (about : Option (List ℕ)) → EndsAt (resumed_why hooks about number old value lines) about last fault)
 rest_ends number old new last value lines (Ok _) p q = tt
 rest_ends number old new last value lines (Err fault) p q = λ hooks about. subst (λ whole. EndsAt whole about last fault) (sym (resumed_on hooks number about old new value lines (p hooks))) (q hooks about)

@@ -12,7 +12,7 @@ use Rattle.span_replay.specs.Labels.{Bound}
 use Rattle.span_replay.specs.Meaning.{Transcript, last_part, run, value_turn}
 use Rattle.span_script.specs.Operation.{Stage, running, is_setup}
 use Rattle.span_replay.specs.Replayed.{Fails, Runs}
-use Rattle.span_script.specs.Script.{lines_of}
+use Rattle.span_script.specs.Script.{script_lines}
 use Rattle.span_replay.specs.State.{State}
 use Rattle.span_replay.specs.inside.Turns.{HasTurned, Sent, TurnFails, opened_state, resumed_run}
 use Rattle.span_run.specs.declared.fault.RunFault.{RunFault}
@@ -30,22 +30,22 @@ none_left seen hooks number state stage value lines a e none =
 
 -- the first line, at whichever stage, did what is meant of it while calls run
 first_sent : (hooks number : ℕ) (state new : State) (stage : Stage) (value : Data) (lines : List ℕ) (a b : Known) → is_setup value ≡ false → HasTurned (value_turn hooks (staged state running) value) new a b
-    → Sent a b (resumed_run hooks number (staged state stage) (Some value) lines) (run hooks (number + 1) new (lines_of lines))
+    → Sent a b (resumed_run hooks number (staged state stage) (Some value) lines) (run hooks (number + 1) new (script_lines lines))
 first_sent hooks number state new stage value lines a b h p =
-    turned_more a b number (value_turn hooks (staged state stage) value) new (λ state'. run hooks (number + 1) state' (lines_of lines))
+    turned_more a b number (value_turn hooks (staged state stage) value) new (λ state'. run hooks (number + 1) state' (script_lines lines))
     (subst (λ meant. HasTurned meant new a b) (value_same hooks state running stage value h) p)
 
 first_fails : (hooks number : ℕ) (state : State) (stage : Stage) (value : Data) (lines : List ℕ) (a b : Known) (fault : RunFault) → is_setup value ≡ false → TurnFails (value_turn hooks (staged state running) value) number a b fault
     → Fails (resumed_run hooks number (staged state stage) (Some value) lines) a b fault
 first_fails hooks number state stage value lines a b fault h p =
-    turned_fails a b number (value_turn hooks (staged state stage) value) (λ state'. run hooks (number + 1) state' (lines_of lines)) fault
+    turned_fails a b number (value_turn hooks (staged state stage) value) (λ state'. run hooks (number + 1) state' (script_lines lines)) fault
     (subst (λ meant. TurnFails meant number a b fault) (value_same hooks state running stage value h) p)
 
 -- the first line and the lines after it ran as they are meant to
 pub rest_sent : {A : Type 0} (seen : A → Data) (number : ℕ) (state new : State) (last : Transcript) (found : Option A) (value : A) (lines : List ℕ) (a b c : Known) (r : Result ⊤ RunFault)
     → found ≡ Some value → IfSome found (λ v. is_setup (seen v) ≡ false)
     → ((hooks : ℕ) → HasTurned (value_turn hooks (staged state running) (seen value)) new a b)
-    → OnOk r ((hooks : ℕ) → Sent b c (run hooks (number + 1) new (lines_of lines)) last)
+    → OnOk r ((hooks : ℕ) → Sent b c (run hooks (number + 1) new (script_lines lines)) last)
     → OnOk r ((hooks : ℕ) (stage : Stage) → Sent a c (resumed_run hooks number (staged state stage) (option_map seen found) lines) last)
 rest_sent seen number state new last found value lines a b c (Ok _) e h p q = λ hooks stage.
     subst (λ v. Sent a c (resumed_run hooks number (staged state stage) (option_map seen v) lines) last) (sym e)
@@ -56,7 +56,7 @@ rest_sent seen number state new last found value lines a b c (Err fault) e h p q
 pub rest_fails : {A : Type 0} (seen : A → Data) (number : ℕ) (state new : State) (found : Option A) (value : A) (lines : List ℕ) (a b c : Known) (r : Result ⊤ RunFault)
     → found ≡ Some value → IfSome found (λ v. is_setup (seen v) ≡ false)
     → ((hooks : ℕ) → HasTurned (value_turn hooks (staged state running) (seen value)) new a b)
-    → IfErr r (λ fault. (hooks : ℕ) → Fails (run hooks (number + 1) new (lines_of lines)) b c fault)
+    → IfErr r (λ fault. (hooks : ℕ) → Fails (run hooks (number + 1) new (script_lines lines)) b c fault)
     → IfErr r (λ fault. (hooks : ℕ) (stage : Stage) → Fails (resumed_run hooks number (staged state stage) (option_map seen found) lines) a c fault)
 rest_fails seen number state new found value lines a b c (Ok _) e h p q = tt
 rest_fails seen number state new found value lines a b c (Err fault) e h p q = λ hooks stage.

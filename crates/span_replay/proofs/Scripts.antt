@@ -8,14 +8,14 @@ use Rattle.span_layers.specs.Rule.{is_admitted}
 use Rattle.span_layers.specs.Text.{text_of}
 use Rattle.span_replay.specs.Meaning.{meaning, finished, faulty, run, read_turn, value_turn, new_turn}
 use Rattle.span_script.specs.Operation.{json_of, operation_of, op_of, limits_of, layer_of, new_of, on_span_of, record_of, event_of, find_of, all_of}
-use Rattle.span_script.specs.Script.{lines_of}
+use Rattle.span_script.specs.Script.{script_lines}
 use Rattle.span_replay.specs.Written.{calls_written, each_written}
 use Rattle.span_script.specs.declared.key.Key.TheVariants as key
 use Rattle.span_script.specs.declared.reason.Reason.TheVariants.{BadKey, LabelTaken, LateLine, NoSuchLabel, NotJson}
 
 -- what a worked case unfolds to compute the meaning of a script
 unfoldable on_scripts : ⊤
-unfolding lines_of run read_turn value_turn new_turn json_of operation_of op_of limits_of layer_of new_of on_span_of record_of event_of find_of all_of each_written calls_written text_of is_admitted digits is_utf8 chars serde_json_on_literals
+unfolding script_lines run read_turn value_turn new_turn json_of operation_of op_of limits_of layer_of new_of on_span_of record_of event_of find_of all_of each_written calls_written text_of is_admitted digits is_utf8 chars serde_json_on_literals
 on_scripts = tt
 
 -- one span, which the tidying closes

@@ -6,7 +6,7 @@ use Rattle.std.proofs.KnownBytes.{Appends-kept}
 use Rattle.std.proofs.lemmas.Bool.{lt-leb}
 use Rattle.span_run.proofs.Fronts.{Known}
 use Rattle.span_run.specs.Device.{AppendsFront, ReadFails}
-use Rattle.span_run.specs.Counted.{one_more}
+use Rattle.span_run.specs.Counted.{next_count}
 use Rattle.span_run.specs.RunFault.{EndsAsCounted}
 use Rattle.span_run.specs.declared.fault.RunFault.{RunFault}
 use Rattle.span_run.specs.declared.fault.RunFault.TheVariants.{Script, Memory, Device, Refused, Held}
@@ -18,13 +18,13 @@ use Rattle.span_replay.specs.declared.run.explained.Explained.{Explained}
 use Rattle.span_replay.specs.inside.Reaching.{EndsAs, HasEnd, IsExplained, IsOfReading}
 use Rattle.span_replay.proofs.Flushes.{flush_once, once_for, whole_front}
 use Rattle.span_replay.proofs.Written.{empty_front}
-use Rattle.span_script.specs.Script.{lines_of, most_bytes}
+use Rattle.span_script.specs.Script.{script_lines, most_bytes}
 use Rattle.span_script.specs.declared.reason.Reason.{Reason}
 use Rattle.span_script.specs.declared.reason.Reason.TheVariants.{TooLong}
 
 -- ---- what was read
 
-why_short : (hooks : ℕ) (about : Option (List ℕ)) (bytes : List ℕ) → length bytes ≤ most_bytes → why_meaning hooks about bytes ≡ why_run hooks about 1 first_reached (lines_of bytes)
+why_short : (hooks : ℕ) (about : Option (List ℕ)) (bytes : List ℕ) → length bytes ≤ most_bytes → why_meaning hooks about bytes ≡ why_run hooks about 1 first_reached (script_lines bytes)
 why_short hooks about bytes h = let fits : nat_le (length bytes) most_bytes ≡ true = grind arith in rw fits refl
 
 why_long : (hooks : ℕ) (about : Option (List ℕ)) (bytes : List ℕ) → most_bytes < length bytes → why_meaning hooks about bytes ≡ record { text = []; ending = faulty 0 TooLong }
@@ -32,13 +32,13 @@ why_long hooks about bytes h = rw (lt-leb (length bytes) most_bytes h) refl
 
 -- all of the script was read
 pub read_explained : (r : Result Explained RunFault) (hooks : ℕ) (about : Option (List ℕ)) (i j : Known) (bytes shown : List ℕ) → Consumes i j bytes → IsAtEnd j → length bytes ≤ most_bytes → shown ≡ bytes
-    → IfOk r (IsExplained (why_run hooks about 1 first_reached (lines_of shown))) → IfOk r (λ e. IfSome i (λ xs. IsExplained (why_meaning hooks about xs) e))
+    → IfOk r (IsExplained (why_run hooks about 1 first_reached (script_lines shown))) → IfOk r (λ e. IfSome i (λ xs. IsExplained (why_meaning hooks about xs) e))
 read_explained (Err fault) hooks about i j bytes shown all end fits is p = tt
 read_explained (Ok e) hooks about None j bytes shown all end fits is p = tt
 read_explained (Ok e) hooks about (Some xs) None bytes shown all end fits is p = absurd all
 read_explained (Ok e) hooks about (Some xs) (Some ys) bytes shown all end fits is p =
     let same : bytes ≡ xs = sym (all ∙ ap (λ l. bytes ++ l) end ∙ append-nil bytes) in
-    let read : IsExplained (why_run hooks about 1 first_reached (lines_of bytes)) e = subst (λ l. IsExplained (why_run hooks about 1 first_reached (lines_of l)) e) is p in
+    let read : IsExplained (why_run hooks about 1 first_reached (script_lines bytes)) e = subst (λ l. IsExplained (why_run hooks about 1 first_reached (script_lines l)) e) is p in
     subst (λ l. IsExplained (why_meaning hooks about l) e) same (subst (λ meant. IsExplained meant e) (sym (why_short hooks about bytes fits)) read)
 
 -- it is too long
@@ -125,7 +125,7 @@ unread_once Whole flushes flushed (Held party) p = absurd p
 pub front_once : (Whole : Type 0) (flushes flushes' : ℕ) (flushed : Bool) (fault : RunFault) → flushes' ≡ flushes → fault ≡ Device Write → FlushesOnce Whole flushes flushes' flushed (Err fault)
 front_once Whole flushes flushes' flushed fault same d = subst (λ f. FlushesOnce Whole flushes flushes' flushed (Err f)) (sym d) (inl same)
 
-ended_once : {Whole : Type 0} (ended : Result ℕ RunFault) (flushes flushes' : ℕ) (flushed : Bool) → HasEnd ended → Whole → flushes' ≡ one_more flushes → flushed ≡ true → FlushesOnce Whole flushes flushes' flushed ended
+ended_once : {Whole : Type 0} (ended : Result ℕ RunFault) (flushes flushes' : ℕ) (flushed : Bool) → HasEnd ended → Whole → flushes' ≡ next_count flushes → flushed ≡ true → FlushesOnce Whole flushes flushes' flushed ended
 ended_once (Ok left) flushes flushes' flushed h p once done = (p, once, done)
 ended_once (Err (Script number reason)) flushes flushes' flushed h p once done = (p, once, done)
 ended_once (Err Memory) flushes flushes' flushed h p once done = absurd h
@@ -137,14 +137,14 @@ text_kept : (e : Explained) (a b c : Known) (text : List ℕ) → text ≡ e.tex
 text_kept e a b c text same p k = Appends-kept a b c e.text.items (subst (Appends a b) same p) k
 
 -- all of it was written and flushed
-pub told_once : (e : Explained) (a b c : Known) (text : List ℕ) (flushes flushes' flushes'' : ℕ) (flushed : Bool) → HasEnd e.ended → text ≡ e.text.items → Appends a b text → Keeps b c → flushes' ≡ flushes → flushes'' ≡ one_more flushes' → flushed ≡ true
+pub told_once : (e : Explained) (a b c : Known) (text : List ℕ) (flushes flushes' flushes'' : ℕ) (flushed : Bool) → HasEnd e.ended → text ≡ e.text.items → Appends a b text → Keeps b c → flushes' ≡ flushes → flushes'' ≡ next_count flushes' → flushed ≡ true
     → FlushesOnce (Appends a c e.text.items) flushes flushes'' flushed e.ended
-told_once e a b c text flushes flushes' flushes'' flushed h is p k same once done = ended_once e.ended flushes flushes'' flushed h (text_kept e a b c text is p k) (once ∙ ap one_more same) done
+told_once e a b c text flushes flushes' flushes'' flushed h is p k same once done = ended_once e.ended flushes flushes'' flushed h (text_kept e a b c text is p k) (once ∙ ap next_count same) done
 
 -- all of it was written, and the flush failed
-pub unflushed_once : (e : Explained) (a b c : Known) (text : List ℕ) (flushes flushes' flushes'' : ℕ) (flushed : Bool) (fault : RunFault) → text ≡ e.text.items → Appends a b text → Keeps b c → flushes' ≡ flushes → flushes'' ≡ one_more flushes' → fault ≡ Device Write
+pub unflushed_once : (e : Explained) (a b c : Known) (text : List ℕ) (flushes flushes' flushes'' : ℕ) (flushed : Bool) (fault : RunFault) → text ≡ e.text.items → Appends a b text → Keeps b c → flushes' ≡ flushes → flushes'' ≡ next_count flushes' → fault ≡ Device Write
     → FlushesOnce (Appends a c e.text.items) flushes flushes'' flushed (Err fault)
-unflushed_once e a b c text flushes flushes' flushes'' flushed fault is p k same once d = flush_once flushes flushes'' flushed fault (text_kept e a b c text is p k) (once ∙ ap one_more same) d
+unflushed_once e a b c text flushes flushes' flushes'' flushed fault is p k same once d = flush_once flushes flushes'' flushed fault (text_kept e a b c text is p k) (once ∙ ap next_count same) d
 
 whole_why : (i a b : Known) (hooks : ℕ) (about : Option (List ℕ)) (e : Explained) → IfSome i (λ xs. IsExplained (why_meaning hooks about xs) e) → Appends a b e.text.items → IsWholeWhy hooks about i a b
 whole_why None a b hooks about e is p = tt

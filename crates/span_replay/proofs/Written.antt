@@ -5,9 +5,9 @@ use Rattle.std.proofs.KnownBytes.{Appends-nil, Appends-trans, Appends-kept, Keep
 use Rattle.std.proofs.lemmas.Bool.{lt-leb}
 use Rattle.span_run.specs.Device.{AppendsFront, ReadFails}
 use Rattle.span_run.proofs.Fronts.{Known, front_none, front_after, front_more}
-use Rattle.span_replay.specs.Meaning.{Turn, Transcript, faulty, after, turn_then, run, meaning, line_turn, last_part}
+use Rattle.span_replay.specs.Meaning.{Turn, Transcript, faulty, transcript_after, turn_then, run, meaning, line_turn, last_part}
 use Rattle.span_replay.specs.Replayed.{Fails, Runs, KeepsUnread}
-use Rattle.span_script.specs.Script.{lines_of, most_bytes}
+use Rattle.span_script.specs.Script.{script_lines, most_bytes}
 use Rattle.span_replay.specs.State.{State}
 use Rattle.span_replay.specs.inside.Turns.{HasTurned, TurnFails, Sent}
 use Rattle.span_run.specs.declared.fault.RunFault.{RunFault}
@@ -22,11 +22,11 @@ use Rattle.span_run.specs.RunFault.{EndsAsCounted}
 pub sent_none : (a : Known) (t : Transcript) → Sent a a t t
 sent_none a t = record { text = []; taken = Appends-nil a; is = refl }
 
-pub sent_more : (a b c : Known) (whole more rest : Transcript) (text : List ℕ) → Sent a b whole more → more ≡ after text rest → Appends b c text → Sent a c whole rest
+pub sent_more : (a b c : Known) (whole more rest : Transcript) (text : List ℕ) → Sent a b whole more → more ≡ transcript_after text rest → Appends b c text → Sent a c whole rest
 sent_more a b c whole more rest text s e p = record {
   text = s.text ++ text;
   taken = Appends-trans a b c s.text text s.taken p;
-  is = s.is ∙ ap (after s.text) e ∙ ap (λ x. record { text = x; ending = rest.ending }) (sym (append_assoc s.text text rest.text));
+  is = s.is ∙ ap (transcript_after s.text) e ∙ ap (λ x. record { text = x; ending = rest.ending }) (sym (append_assoc s.text text rest.text));
 }
 
 pub sent_trans : (a b c : Known) (whole more rest : Transcript) → Sent a b whole more → Sent b c more rest → Sent a c whole rest
@@ -73,25 +73,25 @@ turned_fails a b number meant more (Held party) p = p
 
 -- ---- a turn of a loop over lines: `rest` is what is left, `line` its first line, `tail` what follows
 
-run_cons : (hooks number : ℕ) (state : State) (rest line tail : List ℕ) → lines_of rest ≡ line ∷ lines_of tail
-    → run hooks number state (lines_of rest) ≡ turn_then number (line_turn hooks state line) (λ new. run hooks (number + 1) new (lines_of tail))
+run_cons : (hooks number : ℕ) (state : State) (rest line tail : List ℕ) → script_lines rest ≡ line ∷ script_lines tail
+    → run hooks number state (script_lines rest) ≡ turn_then number (line_turn hooks state line) (λ new. run hooks (number + 1) new (script_lines tail))
 unfolding run
 run_cons hooks number state rest line tail cut = ap (run hooks number state) cut
 
-pub loop_more : (hooks number : ℕ) (a b c : Known) (whole : Transcript) (state new : State) (rest line tail : List ℕ) → Sent a b whole (run hooks number state (lines_of rest)) → lines_of rest ≡ line ∷ lines_of tail
-    → HasTurned (line_turn hooks state line) new b c → Sent a c whole (run hooks (number + 1) new (lines_of tail))
+pub loop_more : (hooks number : ℕ) (a b c : Known) (whole : Transcript) (state new : State) (rest line tail : List ℕ) → Sent a b whole (run hooks number state (script_lines rest)) → script_lines rest ≡ line ∷ script_lines tail
+    → HasTurned (line_turn hooks state line) new b c → Sent a c whole (run hooks (number + 1) new (script_lines tail))
 loop_more hooks number a b c whole state new rest line tail s cut p =
-    sent_trans a b c whole _ _ s (subst (λ t. Sent b c t (run hooks (number + 1) new (lines_of tail))) (sym (run_cons hooks number state rest line tail cut)) (turned_more b c number _ new _ p))
+    sent_trans a b c whole _ _ s (subst (λ t. Sent b c t (run hooks (number + 1) new (script_lines tail))) (sym (run_cons hooks number state rest line tail cut)) (turned_more b c number _ new _ p))
 
-pub loop_fails : (hooks number : ℕ) (a b c : Known) (whole : Transcript) (state : State) (rest line tail : List ℕ) (e : RunFault) → Sent a b whole (run hooks number state (lines_of rest)) → lines_of rest ≡ line ∷ lines_of tail
+pub loop_fails : (hooks number : ℕ) (a b c : Known) (whole : Transcript) (state : State) (rest line tail : List ℕ) (e : RunFault) → Sent a b whole (run hooks number state (script_lines rest)) → script_lines rest ≡ line ∷ script_lines tail
     → TurnFails (line_turn hooks state line) number b c e → Fails whole a c e
 loop_fails hooks number a b c whole state rest line tail e s cut p =
     fails_after a b c whole _ e s (subst (λ t. Fails t b c e) (sym (run_cons hooks number state rest line tail cut)) (turned_fails b c number _ _ e p))
 
 -- after the last line
-pub loop_ends : (hooks number : ℕ) (a b : Known) (whole : Transcript) (state : State) (rest : List ℕ) → Sent a b whole (run hooks number state (lines_of rest)) → rest ≡ [] → Sent a b whole (last_part state)
-unfolding lines_of run
-loop_ends hooks number a b whole state rest s none = subst (λ xs. Sent a b whole (run hooks number state (lines_of xs))) none s
+pub loop_ends : (hooks number : ℕ) (a b : Known) (whole : Transcript) (state : State) (rest : List ℕ) → Sent a b whole (run hooks number state (script_lines rest)) → rest ≡ [] → Sent a b whole (last_part state)
+unfolding script_lines run
+loop_ends hooks number a b whole state rest s none = subst (λ xs. Sent a b whole (run hooks number state (script_lines xs))) none s
 
 -- ---- the whole script
 

@@ -12,7 +12,7 @@ use Rattle.span_replay.specs.Labels.{Bound, id_in}
 use Rattle.span_replay.specs.Meaning.{Turn, Ending, finished, faulty, Transcript, line_turn}
 use Rattle.span_replay.specs.State.{State, first_state}
 use Rattle.span_script.specs.Operation.{Operation, make, json_of, operation_of}
-use Rattle.span_script.specs.Script.{lines_of, most_bytes}
+use Rattle.span_script.specs.Script.{script_lines, most_bytes}
 use Rattle.span_script.specs.declared.reason.Reason.{Reason}
 use Rattle.span_script.specs.declared.reason.Reason.TheVariants.{TooLong}
 use Rattle.span_why.specs.Why.{PlainOpenSpan, why_text, why_of_text}
@@ -126,7 +126,7 @@ why_run hooks about number reached (line ∷ lines) =
 -- a script of more than 16,777,216 bytes isn't run at all
 abbrev pub why_meaning : ℕ → Option (List ℕ) → List ℕ → Transcript
 why_meaning hooks about bytes =
-    if nat_le (length bytes) most_bytes then why_run hooks about 1 first_reached (lines_of bytes)
+    if nat_le (length bytes) most_bytes then why_run hooks about 1 first_reached (script_lines bytes)
     else record { text = []; ending = faulty 0 TooLong }
 
 -- the whole text that is meant was written, where the script's bytes are known

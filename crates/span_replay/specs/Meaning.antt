@@ -19,7 +19,7 @@ use Rattle.span_script.specs.Operation.{NewLayer, NewSpan, Stage, in_setup, runn
 use Rattle.span_script.specs.Reason.{◌>>=◌}
 use Rattle.span_replay.specs.Requests.{request_of_call, request_of_new, request_of_event}
 use Rattle.span_replay.specs.Written.{Written, answer_for, call_written, find_text, exits, closes, each_written}
-use Rattle.span_script.specs.Script.{lines_of, most_bytes, is_skipped}
+use Rattle.span_script.specs.Script.{script_lines, most_bytes, is_skipped}
 use Rattle.span_replay.specs.State.{State, first_state}
 use Rattle.span_replay.specs.declared.run.answer.Answer.{Answer}
 use Rattle.span_replay.specs.declared.run.answer.Answer.TheVariants as answer
@@ -157,8 +157,8 @@ pub record Transcript : Type 0 where
   pub ending : Ending
 
 -- a text was written before
-abbrev pub after : List ℕ → Transcript → Transcript
-after text transcript = record { text = text ++ transcript.text; ending = transcript.ending }
+abbrev pub transcript_after : List ℕ → Transcript → Transcript
+transcript_after text transcript = record { text = text ++ transcript.text; ending = transcript.ending }
 
 -- the tidying: all workers leave what they have entered, by ascending number
 abbrev pub left_by_workers : State → Written
@@ -178,7 +178,7 @@ last_part state = record {
 
 -- what a line wrote, before what the further lines write; a fault ends the script
 abbrev pub turn_then : ℕ → Result Turn Reason → (State → Transcript) → Transcript
-turn_then number (Ok turn) more = after turn.text (more turn.state)
+turn_then number (Ok turn) more = transcript_after turn.text (more turn.state)
 turn_then number (Err reason) more = record { text = []; ending = faulty number reason }
 
 -- the lines from this number on
@@ -190,5 +190,5 @@ run hooks number state (line ∷ lines) =
 -- a script of more than 16,777,216 bytes isn't run at all
 abbrev pub meaning : ℕ → List ℕ → Transcript
 meaning hooks bytes =
-    if nat_le (length bytes) most_bytes then run hooks 1 first_state (lines_of bytes)
+    if nat_le (length bytes) most_bytes then run hooks 1 first_state (script_lines bytes)
     else record { text = []; ending = faulty 0 TooLong }

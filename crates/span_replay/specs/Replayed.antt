@@ -1,7 +1,7 @@
 -- What a run leaves in the writer, and what it answers.
 use Rattle.std.specs.Prelude.{◌≡◌, ℕ, Bool, true, ◌⊎◌, List, Option, Result, Ok, Err, IfSome, MatchResult}
 use Rattle.std.specs.Io.KnownBytes.{Appends, Keeps}
-use Rattle.span_run.specs.Counted.{one_more}
+use Rattle.span_run.specs.Counted.{next_count}
 use Rattle.span_run.specs.Device.{AppendsFront}
 use Rattle.span_replay.specs.Meaning.{Transcript, finished, faulty, meaning}
 use Rattle.span_run.specs.declared.fault.RunFault.{RunFault}
@@ -36,19 +36,19 @@ KeepsUnread old new (Refused fault) = Unit {0}
 KeepsUnread old new (Held party) = Unit {0}
 
 -- the whole text that is meant was written, where the script's bytes are known
-abbrev pub IsWhole : ℕ → Option (List ℕ) → Option (List ℕ) → Option (List ℕ) → Type 0
-IsWhole hooks script old new = IfSome script (λ bytes. Appends old new (meaning hooks bytes).text)
+abbrev pub IsWrittenWhole : ℕ → Option (List ℕ) → Option (List ℕ) → Option (List ℕ) → Type 0
+IsWrittenWhole hooks script old new = IfSome script (λ bytes. Appends old new (meaning hooks bytes).text)
 
 -- The one flush. A run flushes its writer by one call, once the whole text is written, and ends with it: well, or by
 -- the fault of the script, or because the flush fails. Where memory is refused or a device fails before, it never does.
 -- The numbers are how many flushes there were before and after; the test is whether the writer is flushed at the end.
 abbrev pub FlushesOnce : Type 0 → ℕ → ℕ → Bool → Result ℕ RunFault → Type 0
-FlushesOnce Whole flushes flushes' flushed (Ok left) = Whole × (flushes' ≡ one_more flushes) × (flushed ≡ true)
+FlushesOnce Whole flushes flushes' flushed (Ok left) = Whole × (flushes' ≡ next_count flushes) × (flushed ≡ true)
 FlushesOnce Whole flushes flushes' flushed (Err (Script number reason)) =
-    Whole × (flushes' ≡ one_more flushes) × (flushed ≡ true)
+    Whole × (flushes' ≡ next_count flushes) × (flushed ≡ true)
 FlushesOnce Whole flushes flushes' flushed (Err Memory) = flushes' ≡ flushes
 FlushesOnce Whole flushes flushes' flushed (Err (Device Read)) = flushes' ≡ flushes
 FlushesOnce Whole flushes flushes' flushed (Err (Device Write)) =
-    (flushes' ≡ flushes) ⊎ (Whole × (flushes' ≡ one_more flushes))
+    (flushes' ≡ flushes) ⊎ (Whole × (flushes' ≡ next_count flushes))
 FlushesOnce Whole flushes flushes' flushed (Err (Refused fault)) = ⊥
 FlushesOnce Whole flushes flushes' flushed (Err (Held party)) = ⊥

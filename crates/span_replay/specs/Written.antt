@@ -27,27 +27,27 @@ abbrev pub notes_text : CoreView → PlainBatch → List ℕ
 notes_text core batch = flat_map note_line (lines_of_batch core.forms (length core.sent, batch))
 
 -- what the answer of a call is written as; a span closed where the list of the closed spans isn't empty
-abbrev pub answer_of : call.Answer → Answer
-answer_of (call.made id) = Made id
-answer_of call.cloned = Cloned
-answer_of (call.entered first) = Entered first
-answer_of (call.exited closed) = Closed (nat_lt 0 (length closed))
-answer_of (call.released closed) = Closed (nat_lt 0 (length closed))
-answer_of call.recorded = Recorded
-answer_of call.told = Told
+abbrev pub answer_written : call.Answer → Answer
+answer_written (call.made id) = Made id
+answer_written call.cloned = Cloned
+answer_written (call.entered first) = Entered first
+answer_written (call.exited closed) = Closed (nat_lt 0 (length closed))
+answer_written (call.released closed) = Closed (nat_lt 0 (length closed))
+answer_written call.recorded = Recorded
+answer_written call.told = Told
 
 -- the answer that is written after the notes
 abbrev pub answer_for : Outcome → Answer
 answer_for (refused fault) = Refused fault
 answer_for not_wanted = NotWanted
-answer_for (accepted answer notes new) = answer_of answer
+answer_for (accepted answer notes new) = answer_written answer
 
 -- what is written for a call: the notes of its batch, and then its answer
 abbrev pub outcome_text : CoreView → call.Request → Outcome → List ℕ
 outcome_text core request (refused fault) = answer_text (Refused fault)
 outcome_text core request not_wanted = answer_text NotWanted
 outcome_text core request (accepted answer notes new) =
-    notes_text core (record { request = request; answer = answer; notes = notes }) ++ answer_text (answer_of answer)
+    notes_text core (record { request = request; answer = answer; notes = notes }) ++ answer_text (answer_written answer)
 
 -- the core after a call: where it was refused or no layer wanted the span, as before
 abbrev pub core_left : CoreView → Outcome → CoreView

@@ -23,5 +23,5 @@ abbrev pub flushed_of : {T : Type 0} → Counted T → Bool
 flushed_of c = c.flushed
 
 -- one more, at most the greatest value of a count
-abbrev pub one_more : ℕ → ℕ
-one_more n = min (n + 1) (2 ^ 64 - 1)
+abbrev pub next_count : ℕ → ℕ
+next_count n = min (n + 1) (2 ^ 64 - 1)

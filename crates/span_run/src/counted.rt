@@ -2,7 +2,7 @@
 ghost use Rattle.std.specs.Prelude.{◌≡◌, ◌<◌, true, false, IfOk, OnOk, OnErr};
 ghost use Rattle.std.specs.Io.{ReadsAtMost, WritesAtMost};
 ghost use Rattle.std.specs.Io.KnownBytes.{Keeps, ReadConsumes, WriteAppends};
-ghost use Rattle.span_run.specs.Counted.{inner_of, calls_of, failed_of, flushes_of, flushed_of, one_more};
+ghost use Rattle.span_run.specs.Counted.{inner_of, calls_of, failed_of, flushes_of, flushed_of, next_count};
 
 use std::io;
 use std::io::{Read, Write};
@@ -88,9 +88,9 @@ impl<R: Read> Read for Counted<R> {
         ensures bound { ReadsAtMost result buf.new }
         ensures bytes { ReadConsumes (R.remaining (inner_of self.old)) (R.remaining (inner_of self.new)) result
             buf.new }
-        ensures calls { calls_of self.new ≡ one_more (calls_of self.old) }
+        ensures calls { calls_of self.new ≡ next_count (calls_of self.old) }
         ensures ok { OnOk result (failed_of self.new ≡ failed_of self.old) }
-        ensures err { OnErr result (failed_of self.new ≡ one_more (failed_of self.old)) }
+        ensures err { OnErr result (failed_of self.new ≡ next_count (failed_of self.old)) }
     {
         self.calls = self.calls.saturating_add(1);
         let answer = self.inner.read(buf);
@@ -107,12 +107,12 @@ impl<W: Write> Write for Counted<W> {
     fn write(&mut self, buf: &[u8]) -> io::Result<usize>
         ensures bound { WritesAtMost result buf.now }
         ensures bytes { WriteAppends (W.contents (inner_of self.old)) (W.contents (inner_of self.new)) result buf.now }
-        ensures calls { calls_of self.new ≡ one_more (calls_of self.old) }
+        ensures calls { calls_of self.new ≡ next_count (calls_of self.old) }
         ensures ok { IfOk result (λ n. 0 < n → failed_of self.new ≡ failed_of self.old) }
-        ensures none { IfOk result (λ n. n ≡ 0 → failed_of self.new ≡ one_more (failed_of self.old)) }
+        ensures none { IfOk result (λ n. n ≡ 0 → failed_of self.new ≡ next_count (failed_of self.old)) }
         ensures flushes { flushes_of self.new ≡ flushes_of self.old }
         ensures flushed { flushed_of self.new ≡ false }
-        ensures err { OnErr result (failed_of self.new ≡ one_more (failed_of self.old)) }
+        ensures err { OnErr result (failed_of self.new ≡ next_count (failed_of self.old)) }
     {
         self.calls = self.calls.saturating_add(1);
         self.flushed = false;
@@ -125,10 +125,10 @@ impl<W: Write> Write for Counted<W> {
 
     fn flush(&mut self) -> io::Result<()>
         ensures bytes { Keeps (W.contents (inner_of self.old)) (W.contents (inner_of self.new)) }
-        ensures calls { calls_of self.new ≡ one_more (calls_of self.old) }
+        ensures calls { calls_of self.new ≡ next_count (calls_of self.old) }
         ensures ok { OnOk result (failed_of self.new ≡ failed_of self.old) }
-        ensures err { OnErr result (failed_of self.new ≡ one_more (failed_of self.old)) }
-        ensures flushes { flushes_of self.new ≡ one_more (flushes_of self.old) }
+        ensures err { OnErr result (failed_of self.new ≡ next_count (failed_of self.old)) }
+        ensures flushes { flushes_of self.new ≡ next_count (flushes_of self.old) }
         ensures flushed { OnOk result (flushed_of self.new ≡ true) }
         ensures not_flushed { OnErr result (flushed_of self.new ≡ false) }
     {

@@ -1,7 +1,7 @@
 //! Reading a script to its end, and writing text, each by a loop over single calls.
 ghost use Rattle.std.specs.Prelude.{◌≡◌, true, ◌+◌, ◌^◌, ◌<◌, ◌≤◌, IfOk, IfErr, OnOk, OnErr, vec_len};
 ghost use Rattle.std.specs.Io.KnownBytes.{Appends, Consumes, IsAtEnd, Keeps};
-ghost use Rattle.span_run.specs.Counted.{inner_of, calls_of, failed_of, flushes_of, flushed_of, one_more};
+ghost use Rattle.span_run.specs.Counted.{inner_of, calls_of, failed_of, flushes_of, flushed_of, next_count};
 ghost use Rattle.span_run.specs.Device.{AppendsFront, ReadFails};
 ghost use Rattle.span_script.specs.Script.{most_bytes};
 ghost use Rattle.span_run.specs.RunFault.{EndsAsCounted};
@@ -80,7 +80,7 @@ pub fn write_text<W: Write>(output: &mut Counted<W>, text: &[u8]) -> Result<(), 
 pub fn flush<W: Write>(output: &mut Counted<W>) -> Result<(), RunFault>
     requires { failed_of output.old < 2 ^ 63 }
     ensures keeps { Keeps (W.contents (inner_of output.old)) (W.contents (inner_of output.new)) }
-    ensures once { flushes_of output.new ≡ one_more (flushes_of output.old) }
+    ensures once { flushes_of output.new ≡ next_count (flushes_of output.old) }
     ensures flushed { OnOk result (flushed_of output.new ≡ true) }
     ensures device { IfErr result (λ e. e ≡ RunFault.Device Side.Write) }
     ensures counts { EndsAsCounted 0 0 (failed_of output.old) (failed_of output.new) result }

@@ -6,7 +6,7 @@ use Rattle.std.proofs.lemmas.Bool.{ltb-true, ltb-false}
 use Rattle.std.specs.Prelude.{◌==◌, nat_lt}
 use Rattle.std.specs.List.{position, position_or_len}
 use Rattle.memchr.specs.Find.{IsFirstByte, is_byte}
-use Rattle.span_script.specs.Script.{lines_of}
+use Rattle.span_script.specs.Script.{script_lines}
 
 abbrev is_newline : ℕ → Bool
 is_newline b = b == 10
@@ -15,10 +15,10 @@ abbrev first : List ℕ → ℕ
 first xs = position_or_len is_newline xs
 
 abbrev CutsAt : List ℕ → ℕ → Type 0
-CutsAt xs k = lines_of xs ≡ take k xs ∷ lines_of (drop (k + 1) xs)
+CutsAt xs k = script_lines xs ≡ take k xs ∷ script_lines (drop (k + 1) xs)
 
 cut_step : (x : ℕ) (xs : List ℕ) (b : Bool) → (x == 10) ≡ b → (first xs < length xs → CutsAt xs (first xs)) → first (x ∷ xs) < length (x ∷ xs) → CutsAt (x ∷ xs) (first (x ∷ xs))
-unfolding lines_of
+unfolding script_lines
 cut_step x xs true e ih h = rw e refl
 cut_step x xs false e ih h =
     let below : 1 + first xs < length (x ∷ xs) = rw e at h in
@@ -29,8 +29,8 @@ pub lines_cut : (xs : List ℕ) → first xs < length xs → CutsAt xs (first xs
 lines_cut [] h = absurd (omega arith)
 lines_cut (x ∷ xs) h = cut_step x xs (x == 10) refl (lines_cut xs) h
 
-last_step : (x : ℕ) (xs : List ℕ) (b : Bool) → (x == 10) ≡ b → (0 < length xs → length xs ≤ first xs → lines_of xs ≡ xs ∷ []) → length (x ∷ xs) ≤ first (x ∷ xs) → lines_of (x ∷ xs) ≡ (x ∷ xs) ∷ []
-unfolding lines_of
+last_step : (x : ℕ) (xs : List ℕ) (b : Bool) → (x == 10) ≡ b → (0 < length xs → length xs ≤ first xs → script_lines xs ≡ xs ∷ []) → length (x ∷ xs) ≤ first (x ∷ xs) → script_lines (x ∷ xs) ≡ (x ∷ xs) ∷ []
+unfolding script_lines
 last_step x [] true e ih h = let bad : 1 ≤ 0 = rw e at h in absurd (omega arith)
 last_step x [] false e ih h = rw e refl
 last_step x (y ∷ ys) true e ih h = let bad : length (x ∷ y ∷ ys) ≤ 0 = rw e at h in absurd (omega arith)
@@ -38,12 +38,12 @@ last_step x (y ∷ ys) false e ih h =
     let below : length (x ∷ y ∷ ys) ≤ 1 + first (y ∷ ys) = rw e at h in
     rw (e, ih (omega arith) (omega arith)) refl
 
-pub lines_last : (xs : List ℕ) → 0 < length xs → length xs ≤ first xs → lines_of xs ≡ xs ∷ []
+pub lines_last : (xs : List ℕ) → 0 < length xs → length xs ≤ first xs → script_lines xs ≡ xs ∷ []
 lines_last [] h k = absurd (omega arith)
 lines_last (x ∷ xs) h k = last_step x xs (x == 10) refl (lines_last xs) k
 
-pub lines_nil : lines_of [] ≡ []
-unfolding lines_of
+pub lines_nil : script_lines [] ≡ []
+unfolding script_lines
 lines_nil = refl
 
 -- ---- where a search for a newline ends
@@ -78,12 +78,12 @@ no_place : (xs : List ℕ) (b : Bool) → nat_lt (first xs) (length xs) ≡ b �
 no_place xs true e p = let bad : ⊥ = cc in absurd bad
 no_place xs false e p = ltb-false (first xs) (length xs) e
 
-pub cut_at : (xs : List ℕ) (k : ℕ) → Some k ≡ position is_newline xs → lines_of xs ≡ take k xs ∷ lines_of (take (length xs - (k + 1)) (drop (k + 1) xs))
+pub cut_at : (xs : List ℕ) (k : ℕ) → Some k ≡ position is_newline xs → script_lines xs ≡ take k xs ∷ script_lines (take (length xs - (k + 1)) (drop (k + 1) xs))
 cut_at xs k p =
     let t = place_tells xs k (nat_lt (first xs) (length xs)) refl p in
     rw (take_rest, t.0) (lines_cut xs t.1)
 
-pub cut_last : (xs : List ℕ) → 0 < length xs → None ≡ position is_newline xs → lines_of xs ≡ xs ∷ lines_of (take (length xs - length xs) (drop (length xs) xs))
+pub cut_last : (xs : List ℕ) → 0 < length xs → None ≡ position is_newline xs → script_lines xs ≡ xs ∷ script_lines (take (length xs - length xs) (drop (length xs) xs))
 cut_last xs h p =
     let l = no_place xs (nat_lt (first xs) (length xs)) refl p in
     rw (take_rest, drop_of_length-le xs {i = length xs} (omega arith), lines_nil) (lines_last xs h l)

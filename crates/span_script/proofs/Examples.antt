@@ -4,23 +4,23 @@ use Rattle.serde_json.specs.Data.{Data, Members, null, number, unsigned, string,
 use Rattle.span_id.specs.declared.level.Level.TheVariants.{Error, Warn, Info, Trace}
 use Rattle.span_layers.specs.declared.form.Form.TheVariants.{Compact, Json}
 use Rattle.span_script.specs.Operation.{operation_of, add_layer, make, on_span, record_fields, tell, find, by_label, by_id, current, root, op_of, layer_of, on_span_of, new_of, record_of, event_of, find_of, all_of, is_setup, at_start, in_setup, running}
-use Rattle.span_script.specs.Script.{lines_of, is_skipped}
+use Rattle.span_script.specs.Script.{script_lines, is_skipped}
 use Rattle.span_script.specs.declared.key.Key.TheVariants as key
 use Rattle.span_script.specs.declared.reason.Reason.TheVariants.{BadKey, LateLine, NoSuchOp, NotObject}
 use Rattle.span_script.specs.declared.operations.SpanCall.TheVariants.{Exit}
 
 -- ---- lines
 
-an_empty_script_has_no_line : lines_of [] ≡ []
-unfolding lines_of
+an_empty_script_has_no_line : script_lines [] ≡ []
+unfolding script_lines
 an_empty_script_has_no_line = refl
 
-an_empty_line_is_a_line : lines_of (codes "a\n\nb") ≡ codes "a" ∷ [] ∷ codes "b" ∷ []
-unfolding lines_of
+an_empty_line_is_a_line : script_lines (codes "a\n\nb") ≡ codes "a" ∷ [] ∷ codes "b" ∷ []
+unfolding script_lines
 an_empty_line_is_a_line = refl
 
-nothing_stands_after_the_last_newline : lines_of (codes "a\n") ≡ codes "a" ∷ []
-unfolding lines_of
+nothing_stands_after_the_last_newline : script_lines (codes "a\n") ≡ codes "a" ∷ []
+unfolding script_lines
 nothing_stands_after_the_last_newline = refl
 
 a_blank_line_is_skipped : is_skipped (codes " \t\r") ≡ true

@@ -7,7 +7,7 @@ use Rattle.serde_json.specs.Find.{get, as_object, as_str}
 use Rattle.span_id.specs.declared.level.Level.TheVariants.{Info}
 use Rattle.span_layers.specs.declared.form.Form.TheVariants.{Compact}
 use Rattle.span_script.specs.Key.{key_text}
-use Rattle.span_script.specs.Operation.{Operation, set_limits, add_layer, make, on_span, record_fields, tell, find, Stage, at_start, in_setup, running, Op, limits_op, layer_op, new_op, span_op, record_op, event_op, find_op, required, given_or, optional, below, whole_number, worker_in, limit_in, form_in, kinds_in, rule_in, all_targets, level_in, parent_in, fields_in, span_key_in, old_id_in, op_of, current, limits_of, layer_of, new_of, on_span_of, record_of, event_of, find_by_span, find_by, find_of, keys_of, operation_of}
+use Rattle.span_script.specs.Operation.{Operation, set_limits, add_layer, make, on_span, record_fields, tell, find, Stage, at_start, in_setup, running, Op, limits_op, layer_op, new_op, span_op, record_op, event_op, find_op, required, given_or, optional, below, whole_number, worker_in, limit_in, form_in, kinds_in, rule_in, all_targets, level_in, parent_key_in, field_list_in, span_key_in, old_id_in, op_of, current, limits_of, layer_of, new_of, on_span_of, record_of, event_of, find_by_span, find_by, find_of, keys_of, operation_of}
 use Rattle.span_script.specs.Reason.{◌>>=◌, or_fault, AnswersOrStops}
 use Rattle.span_script.specs.Views.{operation_seen, NamesWorker}
 use Rattle.span_script.specs.declared.key.Key.TheVariants as key
@@ -83,8 +83,8 @@ module _ (workers : ℕ) (some : 0 < workers) where
       then_ok (required key.Name as_str line) _ (λ name.
       then_ok (optional key.Target as_str (codes "app") line) _ (λ target.
       then_ok (optional key.Level level_in Info line) _ (λ level.
-      then_ok (optional key.Parent parent_in current line) _ (λ parent.
-      then_ok (optional key.Fields fields_in [] line) _ (λ fields.
+      then_ok (optional key.Parent parent_key_in current line) _ (λ parent.
+      then_ok (optional key.Fields field_list_in [] line) _ (λ fields.
       then_ok (optional key.Label as_str name line) _ (λ label.
       then_ok_with (optional key.Worker (worker_in workers) 0 line) _ (worker_fits line) (λ worker low. record { is = low })))))))
 
@@ -98,7 +98,7 @@ module _ (workers : ℕ) (some : 0 < workers) where
   unfolding record_of
   record_fits stage line =
       then_ok (required key.Span span_key_in line) _ (λ span.
-      then_ok (optional key.Fields fields_in [] line) _ (λ fields.
+      then_ok (optional key.Fields field_list_in [] line) _ (λ fields.
       then_ok_with (optional key.Worker (worker_in workers) 0 line) _ (worker_fits line) (λ worker low. record { is = low })))
 
   event_fits : (stage : Stage) (line : Data) → WhereOk (event_of workers line) (IsFit workers stage)
@@ -107,7 +107,7 @@ module _ (workers : ℕ) (some : 0 < workers) where
       then_ok (required key.Message as_str line) _ (λ message.
       then_ok (optional key.Target as_str (codes "app") line) _ (λ target.
       then_ok (optional key.Level level_in Info line) _ (λ level.
-      then_ok (optional key.Fields fields_in [] line) _ (λ fields.
+      then_ok (optional key.Fields field_list_in [] line) _ (λ fields.
       then_ok_with (optional key.Worker (worker_in workers) 0 line) _ (worker_fits line) (λ worker low. record { is = low })))))
 
   by_span_fits : (stage : Stage) (line : Data) (old : Option Data) → WhereOk (find_by_span line old) (IsFit workers stage)

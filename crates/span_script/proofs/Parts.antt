@@ -6,7 +6,7 @@ use Rattle.serde_json.specs.Find.{as_str}
 use Rattle.span_id.specs.declared.level.Level.{Level}
 use Rattle.span_id.specs.declared.level.Level.TheVariants.{Info}
 use Rattle.span_id.specs.Meta.{PlainMeta}
-use Rattle.span_script.specs.Operation.{Op, Operation, make, Parent, Stage, required, optional, worker_in, level_in, parent_in, fields_in, current, new_of, event_of, keys_of}
+use Rattle.span_script.specs.Operation.{Op, Operation, make, Parent, Stage, required, optional, worker_in, level_in, parent_key_in, field_list_in, current, new_of, event_of, keys_of}
 use Rattle.span_script.specs.Reason.{◌>>=◌, AnswersOrStops, StopsFor}
 use Rattle.span_script.specs.Views.{operation_seen}
 use Rattle.span_script.specs.inside.Parts.{Head, head_of, label_and_worker_of, new_made, new_rest, event_rest}
@@ -20,7 +20,7 @@ abbrev Fields : Type 0
 Fields = List (List ℕ × List ℕ)
 
 abbrev given_fields : Data → Result Fields Reason
-given_fields line = optional key.Fields fields_in [] line
+given_fields line = optional key.Fields field_list_in [] line
 
 -- ---- what came of a part, and of the rest
 
@@ -63,7 +63,7 @@ abbrev pub new_with : ℕ → Data → Head → Parent → Result Operation Reas
 new_with workers line head parent = given_fields line >>= new_rest workers line head parent
 
 abbrev pub new_under : ℕ → Data → Head → Result Operation Reason
-new_under workers line head = optional key.Parent parent_in current line >>= new_with workers line head
+new_under workers line head = optional key.Parent parent_key_in current line >>= new_with workers line head
 
 last_cut : (head : Head) (parent : Parent) (fields : Fields) (label : Result (List ℕ) Reason) (worker : Result ℕ Reason)
     → (label >>= λ l. worker >>= λ w. Ok (new_made head parent fields (l, w))) ≡ ((label >>= λ l. worker >>= λ w. Ok (l, w)) >>= λ given. Ok (new_made head parent fields given))
@@ -83,13 +83,13 @@ new_given workers line head parent fields meta label worker is same =
 pub new_parts : (workers : ℕ) (line : Data) → new_of workers line ≡ (head_of key.Name line >>= new_under workers line)
 unfolding new_of head_of label_and_worker_of
 new_parts workers line =
-    (λ i. required key.Name as_str line >>= λ x. optional key.Target as_str (codes "app") line >>= λ t. optional key.Level level_in Info line >>= λ l. optional key.Parent parent_in current line >>= λ p.
+    (λ i. required key.Name as_str line >>= λ x. optional key.Target as_str (codes "app") line >>= λ t. optional key.Level level_in Info line >>= λ l. optional key.Parent parent_key_in current line >>= λ p.
     given_fields line >>= λ fields. last_cut (record { text = x; target = t; level = l }) p fields (optional key.Label as_str x line) (optional key.Worker (worker_in workers) 0 line) i)
     ∙ head_cut (required key.Name as_str line) (optional key.Target as_str (codes "app") line) (optional key.Level level_in Info line) (new_under workers line)
 
 -- where all but the label and the worker were read
 pub new_came : (workers : ℕ) (line : Data) (head : Head) (parent : Parent) (fields : Fields)
-    → head_of key.Name line ≡ Ok head → optional key.Parent parent_in current line ≡ Ok parent → given_fields line ≡ Ok fields
+    → head_of key.Name line ≡ Ok head → optional key.Parent parent_key_in current line ≡ Ok parent → given_fields line ≡ Ok fields
     → new_of workers line ≡ new_rest workers line head parent fields
 new_came workers line head parent fields h p f =
     new_parts workers line

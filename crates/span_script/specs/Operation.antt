@@ -144,8 +144,8 @@ named_unless_null value (Some _) = Some root
 named_unless_null value None = option_map named (span_key_in value)
 
 -- a parent is named as a span is, and null stands for none
-abbrev pub parent_in : Data → Option Parent
-parent_in value = named_unless_null value (as_null value)
+abbrev pub parent_key_in : Data → Option Parent
+parent_key_in value = named_unless_null value (as_null value)
 
 -- an id of the older layout: 1 to 2^32
 abbrev pub old_id_numbered : ℕ → Option SpanKey
@@ -170,8 +170,8 @@ two_in (item first (item second no_items)) = Some (first, second)
 two_in (item first (item second (item third items))) = None
 
 -- a pair is a list of two values
-abbrev pub pair_of : {A B : Type 0} → (Data → Option A) → (Data → Option B) → Data → Option (A × B)
-pair_of first second value =
+abbrev pub two_of : {A B : Type 0} → (Data → Option A) → (Data → Option B) → Data → Option (A × B)
+two_of first second value =
     option_and_then (λ two. both (first two.0) (second two.1)) (option_and_then two_in (as_array value))
 
 -- a value before others, where there are all
@@ -191,11 +191,11 @@ list_of reading value = option_and_then (all_of reading) (as_array value)
 
 -- a field is a pair of texts
 abbrev pub field_in : Data → Option (List ℕ × List ℕ)
-field_in value = pair_of as_str as_str value
+field_in value = two_of as_str as_str value
 
 -- fields are a list of pairs of texts
-abbrev pub fields_in : Data → Option (List (List ℕ × List ℕ))
-fields_in value = list_of field_in value
+abbrev pub field_list_in : Data → Option (List (List ℕ × List ℕ))
+field_list_in value = list_of field_in value
 
 -- a form by its name
 abbrev pub form_named : List ℕ → Option Form
@@ -213,7 +213,7 @@ kinds_in value = option_and_then (at_most 15) (whole_number value)
 
 -- a pair of a prefix and the greatest level that it lets in
 abbrev pub prefix_in : Data → Option Pair
-prefix_in value = pair_of as_str level_in value
+prefix_in value = two_of as_str level_in value
 
 -- a rule is a list of pairs of a prefix and a level
 abbrev pub rule_in : Data → Option (List Pair)
@@ -255,8 +255,8 @@ new_of workers line = do
   name ← required key.Name as_str line
   target ← optional key.Target as_str (codes "app") line
   level ← optional key.Level level_in Info line
-  parent ← optional key.Parent parent_in current line
-  fields ← optional key.Fields fields_in [] line
+  parent ← optional key.Parent parent_key_in current line
+  fields ← optional key.Fields field_list_in [] line
   label ← optional key.Label as_str name line
   worker ← optional key.Worker (worker_in workers) 0 line
   Ok (make (record {
@@ -280,7 +280,7 @@ on_span_of workers call line = do
 unfoldable pub record_of : ℕ → Data → Result Operation Reason
 record_of workers line = do
   span ← required key.Span span_key_in line
-  fields ← optional key.Fields fields_in [] line
+  fields ← optional key.Fields field_list_in [] line
   worker ← optional key.Worker (worker_in workers) 0 line
   Ok (record_fields span fields worker)
 
@@ -290,7 +290,7 @@ event_of workers line = do
   message ← required key.Message as_str line
   target ← optional key.Target as_str (codes "app") line
   level ← optional key.Level level_in Info line
-  fields ← optional key.Fields fields_in [] line
+  fields ← optional key.Fields field_list_in [] line
   worker ← optional key.Worker (worker_in workers) 0 line
   Ok (tell (record {
     name = codes "event";

@@ -12,9 +12,9 @@ onto_line x [] = (x ∷ []) ∷ []
 onto_line x (line ∷ lines) = (x ∷ line) ∷ lines
 
 -- a line ends with a newline; a last one without a newline counts if it isn't empty
-unfoldable pub lines_of : List ℕ → List (List ℕ)
-lines_of [] = []
-lines_of (x ∷ xs) = if x == 10 then [] ∷ lines_of xs else onto_line x (lines_of xs)
+unfoldable pub script_lines : List ℕ → List (List ℕ)
+script_lines [] = []
+script_lines (x ∷ xs) = if x == 10 then [] ∷ script_lines xs else onto_line x (script_lines xs)
 
 -- a blank, a tab or a carriage return
 abbrev pub is_blank_byte : ℕ → Bool

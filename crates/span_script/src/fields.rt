@@ -2,7 +2,7 @@
 ghost use Rattle.std.specs.Prelude.{◌≡◌, codes, [], IfOk, Result, map, MatchResult};
 ghost use Rattle.std.specs.Option.{option_map};
 ghost use Rattle.span_script.specs.Reason.{AnswersOrStops, or_fault};
-ghost use Rattle.span_script.specs.Operation.{optional, fields_in, field_in};
+ghost use Rattle.span_script.specs.Operation.{optional, field_list_in, field_in};
 ghost use Rattle.span_id.specs.Meta.{key_value};
 
 use crate::key::Key;
@@ -15,7 +15,7 @@ use std::alloc::{AllocError, Global};
 
 /// The fields that a line gives, none where it has no such key.
 pub fn fields<'v, V: JsonValue<'v>>(alloc: Global, line: V) -> Result<Fields, Stop>
-    ensures { AnswersOrStops (λ fields. fields) result (optional Key.Fields fields_in [] (V.json line)) }
+    ensures { AnswersOrStops (λ fields. fields) result (optional Key.Fields field_list_in [] (V.json line)) }
 {
     let Some(value) = line.member(Key::Fields.text()) else {
         return Ok(Fields::none());
@@ -27,7 +27,7 @@ pub fn fields<'v, V: JsonValue<'v>>(alloc: Global, line: V) -> Result<Fields, St
 /// The fields that the items of a list are.
 fn all_fields<'v, V: JsonValue<'v>>(alloc: Global, list: V) -> Result<Vec<Field>, Stop>
     ensures { AnswersOrStops (λ fields. map key_value fields.items) result
-        (or_fault (fields_in (V.json list)) (Reason.BadKey Key.Fields)) }
+        (or_fault (field_list_in (V.json list)) (Reason.BadKey Key.Fields)) }
 {
     let Some(count) = list.count() else {
         return Err(Stop::Refused(Reason::BadKey(Key::Fields)));

@@ -6,7 +6,7 @@ ghost use Rattle.span_id.specs.declared.level.Level.TheVariants.{Info};
 ghost use Rattle.span_layers.specs.FmtSpan.{bits_of};
 ghost use Rattle.span_layers.specs.declared.form.Form.TheVariants.{Compact};
 ghost use Rattle.span_script.specs.Operation.{required, optional, limit_in, worker_in, level_in, level_named, form_in, kinds_in};
-ghost use Rattle.span_script.specs.Operation.{span_key_in, parent_in, current};
+ghost use Rattle.span_script.specs.Operation.{span_key_in, parent_key_in, current};
 ghost use Rattle.span_script.specs.Reason.{Answers};
 ghost use Rattle.span_script.specs.Views.{key_seen, parent_seen};
 
@@ -124,7 +124,7 @@ pub fn kinds<'v, V: JsonValue<'v>>(line: V) -> Result<FmtSpan, Reason>
 
 /// The parent of a new span, the worker's current span where the line gives none.
 pub fn parent<'v, V: JsonValue<'v>>(line: V) -> Result<Parent<'v>, Reason>
-    ensures { Answers parent_seen result (optional Key.Parent parent_in current (V.json line)) }
+    ensures { Answers parent_seen result (optional Key.Parent parent_key_in current (V.json line)) }
 {
     let Some(value) = line.member(Key::Parent.text()) else {
         return Ok(Parent::Current);

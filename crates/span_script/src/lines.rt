@@ -1,13 +1,13 @@
 //! The lines of a script.
 ghost use Rattle.std.specs.Prelude.{◌≡◌, ◌==◌, ◌∷◌, ◌<◌, length, position};
-ghost use Rattle.span_script.specs.Script.{lines_of, is_skipped};
+ghost use Rattle.span_script.specs.Script.{script_lines, is_skipped};
 
 use memchr::memchr;
 
 /// The first line without its newline, and what follows.
 pub fn cut_line(script: &[u8]) -> (&[u8], &[u8])
     requires { 0 < length script.now }
-    ensures line { lines_of script.now ≡ result.0.now ∷ lines_of result.1.now }
+    ensures line { script_lines script.now ≡ result.0.now ∷ script_lines result.1.now }
     ensures shorter { length result.1.now < length script.now }
 {
     match newline(script) {

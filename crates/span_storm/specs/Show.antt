@@ -11,8 +11,8 @@ abbrev pub number_line : List ℕ → ℕ → List ℕ
 number_line label number = label ++ (codes " " ++ (decimal number ++ codes "\n"))
 
 -- the eight lines of a storm with so many workers and rounds
-abbrev pub shown : ℕ → ℕ → Report → List ℕ
-shown workers rounds report = flat_map (λ (row : List ℕ × ℕ). number_line row.0 row.1) (
+abbrev pub storm_lines : ℕ → ℕ → Report → List ℕ
+storm_lines workers rounds report = flat_map (λ (row : List ℕ × ℕ). number_line row.0 row.1) (
     (codes "workers", workers)
     ∷ (codes "rounds", rounds)
     ∷ (codes "made", report.made)

@@ -4,7 +4,7 @@ ghost use Rattle.std.specs.Io.KnownBytes.{Appends};
 ghost use Rattle.span_run.specs.Counted.{inner_of, failed_of, flushes_of};
 ghost use Rattle.span_run.specs.Device.{AppendsFront};
 ghost use Rattle.span_run.specs.RunFault.{EndsAsCounted};
-ghost use Rattle.span_storm.specs.Show.{number_line, shown, write_failed};
+ghost use Rattle.span_storm.specs.Show.{number_line, storm_lines, write_failed};
 ghost use Rattle.span_storm.specs.inside.Rows.{text_of_rows};
 
 use itoa::Buffer;
@@ -31,9 +31,9 @@ pub fn show<W: Write>(
 ) -> Result<(), RunFault>
     requires { failed_of output.old < 2 ^ 63 }
     ensures ok { OnOk result (Appends (W.contents (inner_of output.old)) (W.contents (inner_of output.new))
-        (shown workers rounds report.now)) }
+        (storm_lines workers rounds report.now)) }
     ensures front { OnErr result (AppendsFront (W.contents (inner_of output.old)) (W.contents (inner_of output.new))
-        (shown workers rounds report.now)) }
+        (storm_lines workers rounds report.now)) }
     ensures device { IfErr result (λ fault. fault ≡ write_failed) }
     ensures counts { EndsAsCounted 0 0 (failed_of output.old) (failed_of output.new) result }
     ensures flushes { flushes_of output.new ≡ flushes_of output.old }

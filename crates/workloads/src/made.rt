@@ -4,7 +4,7 @@ ghost use Rattle.std.specs.Result.{ForOk};
 ghost use Rattle.span_layers.specs.Note.{plain_note};
 ghost use Rattle.span_layers.specs.Rule.{pairs_of, is_admitted};
 ghost use Rattle.span_layers.specs.Text.{text_of};
-ghost use Rattle.workloads.specs.Order.{IsInRange};
+ghost use Rattle.workloads.specs.Order.{MayBeAsked};
 
 use crate::call_costs::chain::chain;
 use crate::call_costs::core_loop::calls_on_core;
@@ -28,7 +28,7 @@ pub fn make<R: Threads + Wait + Clock + Sync>(
     alloc: Global,
     order: &Order,
 ) -> Result<Made, Fault>
-    requires { IsInRange order.now }
+    requires { MayBeAsked order.now }
 {
     let more = order.more();
     let style = Style {
@@ -62,7 +62,7 @@ fn make_with<R: Threads + Wait + Clock + Sync>(
     order: &Order,
     layers: Layers,
 ) -> Result<Made, Fault>
-    requires { IsInRange order.now }
+    requires { MayBeAsked order.now }
 {
     match order {
         Order::Core(shape) => calls_on_core(alloc, shape, layers),

@@ -16,7 +16,7 @@ use Rattle.span_replay.specs.inside.Running.{state_at}
 use Rattle.span_replay.specs.inside.Setup.{opened_in, setup_state}
 use Rattle.span_why.specs.Why.{PlainOpenSpan, why_text, why_of_text}
 use Rattle.span_script.specs.Operation.{Stage}
-use Rattle.span_script.specs.Script.{lines_of}
+use Rattle.span_script.specs.Script.{script_lines}
 use Rattle.span_script.specs.declared.reason.Reason.{Reason}
 use Rattle.span_script.specs.declared.stop.Stop.{Stop}
 use Rattle.span_script.specs.declared.stop.Stop.TheVariants as stop
@@ -62,7 +62,7 @@ HasEnded meant about reached =
 abbrev pub resumed_why : ℕ → Option (List ℕ) → ℕ → Reached → Data → List ℕ → Transcript
 resumed_why hooks about number reached value lines =
     turn_reached about number reached (label_by reached.state value) (value_turn hooks reached.state value)
-    (λ new. why_run hooks about (number + 1) new (lines_of lines))
+    (λ new. why_run hooks about (number + 1) new (script_lines lines))
 
 -- the end that is meant: so many open spans, or the fault of the script
 abbrev pub EndsAs : Ending → Result ℕ RunFault → Type 0

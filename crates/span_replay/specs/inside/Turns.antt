@@ -8,9 +8,9 @@ use Rattle.span_layers.specs.declared.form.Form.{Form}
 use Rattle.span_core.specs.Core.{CoreView}
 use Rattle.span_core.specs.World.{empty_world}
 use Rattle.span_run.specs.Device.{AppendsFront}
-use Rattle.span_replay.specs.Meaning.{Turn, Transcript, after, value_turn, turn_then, run}
+use Rattle.span_replay.specs.Meaning.{Turn, Transcript, transcript_after, value_turn, turn_then, run}
 use Rattle.span_script.specs.Operation.{Operation, Stage, set_limits, add_layer}
-use Rattle.span_script.specs.Script.{lines_of}
+use Rattle.span_script.specs.Script.{script_lines}
 use Rattle.span_replay.specs.State.{State}
 use Rattle.span_replay.specs.Written.{Written, written_after}
 use Rattle.span_script.specs.declared.reason.Reason.{Reason}
@@ -41,9 +41,9 @@ opened_state limits rules forms stage = record {
 
 -- a run goes on with the line of this number, whose JSON value was read already, or else with the first of the lines
 abbrev pub resumed_run : ℕ → ℕ → State → Option Data → List ℕ → Transcript
-resumed_run hooks number state None lines = run hooks number state (lines_of lines)
+resumed_run hooks number state None lines = run hooks number state (script_lines lines)
 resumed_run hooks number state (Some value) lines =
-    turn_then number (value_turn hooks state value) (λ new. run hooks (number + 1) new (lines_of lines))
+    turn_then number (value_turn hooks state value) (λ new. run hooks (number + 1) new (script_lines lines))
 
 -- the line did what is meant, which leaves this state, and its text was written
 pub record HasTurned (meant : Result Turn Reason) (state : State) (old new : Option (List ℕ)) : Type 0 where
@@ -69,7 +69,7 @@ TurnFails meant number old new (Held party) = ⊥
 pub record Sent (old new : Option (List ℕ)) (whole more : Transcript) : Type 0 where
   pub text : List ℕ
   pub taken : Appends old new text
-  pub is : whole ≡ after text more
+  pub is : whole ≡ transcript_after text more
 
 -- calls were made, which leave this core, and their text was written
 pub record AreMade (written : Written) (core : CoreView) (old new : Option (List ℕ)) : Type 0 where

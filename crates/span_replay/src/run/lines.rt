@@ -10,7 +10,7 @@ ghost use Rattle.span_script.specs.Reason.{StopsFor};
 ghost use Rattle.span_replay.specs.Replayed.{Fails, Runs};
 ghost use Rattle.span_run.specs.RunFault.{EndsAsCounted};
 ghost use Rattle.span_replay.specs.inside.Running.{IsWritten, state_at};
-ghost use Rattle.span_script.specs.Script.{is_skipped, lines_of, most_bytes};
+ghost use Rattle.span_script.specs.Script.{is_skipped, script_lines, most_bytes};
 ghost use Rattle.span_replay.specs.inside.Turns.{HasTurned, Sent, TurnFails, resumed_run};
 
 use crate::run::fault::at_line;
@@ -157,11 +157,11 @@ fn run_lines<V: Say, A: Admit, W: Write>(
     requires written { IsWritten script.old }
     requires place { first + length lines.now ≤ most_bytes + 2 }
     ensures sent { OnOk result ((hooks : ℕ) → Sent (W.contents (inner_of output.old)) (W.contents (inner_of output.new))
-        (run hooks first (state_at script.old running) (lines_of lines.now))
+        (run hooks first (state_at script.old running) (script_lines lines.now))
         (last_part (state_at script.new running))) }
     ensures written { OnOk result (IsWritten script.new) }
     ensures err { IfErr result
-        (λ fault. (hooks : ℕ) → Fails (run hooks first (state_at script.old running) (lines_of lines.now))
+        (λ fault. (hooks : ℕ) → Fails (run hooks first (state_at script.old running) (script_lines lines.now))
         (W.contents (inner_of output.old)) (W.contents (inner_of output.new)) fault) }
     ensures counts { EndsAsCounted 0 0 (failed_of output.old) (failed_of output.new) result }
     ensures flushes { flushes_of output.new ≡ flushes_of output.old }

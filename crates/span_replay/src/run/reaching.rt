@@ -7,7 +7,7 @@ ghost use Rattle.span_replay.specs.inside.Reaching.{EndsAt, Halts, HasEnded, Has
 ghost use Rattle.span_replay.specs.inside.Reaching.{reached_at, resumed_why};
 ghost use Rattle.span_replay.specs.inside.Running.{IsWritten, state_at};
 ghost use Rattle.span_script.specs.Operation.{is_setup, running};
-ghost use Rattle.span_script.specs.Script.{is_skipped, lines_of, most_bytes};
+ghost use Rattle.span_script.specs.Script.{is_skipped, script_lines, most_bytes};
 ghost use Rattle.span_script.specs.Views.{IsCall, NamesWorker, operation_seen};
 
 use crate::run::fault::at_line;
@@ -71,10 +71,10 @@ fn run_lines<V: Say, A: Admit>(
     requires written { IsWritten reaching.old.script }
     requires place { first + length lines.now ≤ most_bytes + 2 }
     ensures ended { OnOk result ((hooks : ℕ) (about : Option (List ℕ)) → HasEnded
-        (why_run hooks about first (reached_at reaching.old running) (lines_of lines.now))
+        (why_run hooks about first (reached_at reaching.old running) (script_lines lines.now))
         about (reached_at reaching.new running)) }
     ensures err { IfErr result (λ fault. (hooks : ℕ) (about : Option (List ℕ)) → EndsAt
-        (why_run hooks about first (reached_at reaching.old running) (lines_of lines.now))
+        (why_run hooks about first (reached_at reaching.old running) (script_lines lines.now))
         about (reached_at reaching.new running) fault) }
     ensures written { OnOk result (IsWritten reaching.new.script) }
     ensures known { IfErr result (λ fault.

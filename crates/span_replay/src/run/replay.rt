@@ -6,10 +6,10 @@ ghost use Rattle.std.specs.Io.KnownBytes.{IsAtEnd};
 ghost use Rattle.span_json.specs.Seen.{view};
 ghost use Rattle.span_run.specs.Counted.{inner_of, calls_of, failed_of, flushes_of, flushed_of};
 ghost use Rattle.span_replay.specs.Meaning.{run};
-ghost use Rattle.span_replay.specs.Replayed.{FlushesOnce, IsReplayed, IsWhole, KeepsUnread, Runs};
+ghost use Rattle.span_replay.specs.Replayed.{FlushesOnce, IsReplayed, IsWrittenWhole, KeepsUnread, Runs};
 ghost use Rattle.span_run.specs.RunFault.{EndsAsCounted};
 ghost use Rattle.span_script.specs.Operation.{Stage, is_setup};
-ghost use Rattle.span_script.specs.Script.{lines_of, most_bytes};
+ghost use Rattle.span_script.specs.Script.{script_lines, most_bytes};
 ghost use Rattle.span_replay.specs.State.{first_state};
 ghost use Rattle.span_replay.specs.inside.Setup.{hooks_in, opened_in, setup_state};
 ghost use Rattle.span_replay.specs.inside.Turns.{resumed_run};
@@ -51,7 +51,7 @@ pub fn replay<R: Read, W: Write>(
     ensures whole { OnOk result (IsAtEnd (R.remaining (inner_of input.new))) }
     ensures unread { IfErr result (KeepsUnread (W.contents (inner_of output.old)) (W.contents (inner_of output.new))) }
     ensures flushed { FlushesOnce
-        (IsWhole (vec_len hooks) (R.remaining (inner_of input.old))
+        (IsWrittenWhole (vec_len hooks) (R.remaining (inner_of input.old))
         (W.contents (inner_of output.old)) (W.contents (inner_of output.new)))
         (flushes_of output.old) (flushes_of output.new) (flushed_of output.new) result }
     ensures left { IfSome (R.remaining (inner_of input.old)) (λ bytes. IfOk result (λ left. left ≡ 0)) }
@@ -82,7 +82,7 @@ where
     ensures whole { OnOk result (IsAtEnd (R.remaining (inner_of input.new))) }
     ensures unread { IfErr result (KeepsUnread (W.contents (inner_of output.old)) (W.contents (inner_of output.new))) }
     ensures flushed { FlushesOnce
-        (IsWhole (vec_len hooks) (R.remaining (inner_of input.old))
+        (IsWrittenWhole (vec_len hooks) (R.remaining (inner_of input.old))
         (W.contents (inner_of output.old)) (W.contents (inner_of output.new)))
         (flushes_of output.old) (flushes_of output.new) (flushed_of output.new) result }
     ensures left { IfSome (R.remaining (inner_of input.old)) (λ bytes. IfOk result (λ left. left ≡ 0)) }
@@ -149,7 +149,7 @@ where
     Formatters<F>: Say,
     requires failed { failed_of output.old < 2 ^ 63 }
     requires fits { length script.now ≤ most_bytes }
-    ensures runs { Runs (run (vec_len hooks) 1 first_state (lines_of script.now))
+    ensures runs { Runs (run (vec_len hooks) 1 first_state (script_lines script.now))
         (W.contents (inner_of output.old)) (W.contents (inner_of output.new)) result }
     ensures counts { EndsAsCounted 0 0 (failed_of output.old) (failed_of output.new) result }
     ensures flushes { flushes_of output.new ≡ flushes_of output.old }
@@ -175,7 +175,7 @@ where
     Formatters<F>: Say,
     requires failed { failed_of output.old < 2 ^ 63 }
     requires fits { length script.now ≤ most_bytes }
-    ensures runs { Runs (run (hooks_in setup) 1 (setup_state setup) (lines_of script.now))
+    ensures runs { Runs (run (hooks_in setup) 1 (setup_state setup) (script_lines script.now))
         (W.contents (inner_of output.old)) (W.contents (inner_of output.new)) result }
     ensures counts { EndsAsCounted 0 0 (failed_of output.old) (failed_of output.new) result }
     ensures flushes { flushes_of output.new ≡ flushes_of output.old }

@@ -14,7 +14,7 @@ ghost use Rattle.span_replay.specs.inside.Running.{IsWritten};
 ghost use Rattle.span_replay.specs.inside.Setup.{hooks_in, setup_state};
 ghost use Rattle.span_script.specs.Operation.{Stage, is_setup, running};
 ghost use Rattle.span_script.specs.Reason.{StopsFor};
-ghost use Rattle.span_script.specs.Script.{is_skipped, lines_of, most_bytes};
+ghost use Rattle.span_script.specs.Script.{is_skipped, script_lines, most_bytes};
 
 use crate::run::explained::{Explained, explain, nothing_open};
 use crate::run::hooks::plain_hooks;
@@ -126,7 +126,7 @@ fn explain_script(
 ) -> Result<Explained, RunFault>
     requires { length script.now ≤ most_bytes }
     ensures explained { IfOk result
-        (IsExplained (why_run layers (option_copied about.entry) 1 first_reached (lines_of script.now))) }
+        (IsExplained (why_run layers (option_copied about.entry) 1 first_reached (script_lines script.now))) }
     ensures memory { IfErr result (λ fault. fault ≡ RunFault.Memory) }
 {
     // No script has more than MAX_LAYERS layers.
@@ -148,7 +148,8 @@ where
     Formatters<F>: Say,
     requires { length script.now ≤ most_bytes }
     ensures explained { IfOk result
-        (IsExplained (why_run (hooks_in setup) (option_copied about.entry) 1 (set_up_at setup) (lines_of script.now))) }
+        (IsExplained
+        (why_run (hooks_in setup) (option_copied about.entry) 1 (set_up_at setup) (script_lines script.now))) }
     ensures memory { IfErr result (λ fault. fault ≡ RunFault.Memory) }
 {
     let mut text = Vec::new(alloc);

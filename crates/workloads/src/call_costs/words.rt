@@ -1,13 +1,13 @@
 //! What the words of the command line ask for.
 ghost use Rattle.std.specs.Prelude.{◌≤◌, IfSome};
-ghost use Rattle.workloads.specs.Order.{IsInRange};
+ghost use Rattle.workloads.specs.Order.{MayBeAsked};
 
 use crate::numbers::small_number;
 use crate::order::{Order, Shape};
 
 /// The run that the words name, if they name one.
 pub fn read_order(words: &[String]) -> Option<Order>
-    ensures { IfSome result IsInRange }
+    ensures { IfSome result MayBeAsked }
 {
     let kind = words.first()?;
     let numbers = &words[1..];

@@ -1,13 +1,13 @@
 //! What the words of the command line ask for.
 ghost use Rattle.std.specs.Prelude.{IfSome};
-ghost use Rattle.workloads.specs.Order.{IsInRange};
+ghost use Rattle.workloads.specs.Order.{MayBeAsked};
 
 use crate::numbers::{number, small_number};
 use crate::order::{Crew, Order};
 
 /// The run that four numbers ask for, if each is in its range.
 pub fn read_order(words: &[String]) -> Option<Order>
-    ensures { IfSome result IsInRange }
+    ensures { IfSome result MayBeAsked }
 {
     if words.len() != 4 {
         return None;

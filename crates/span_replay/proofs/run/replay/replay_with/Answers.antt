@@ -1,5 +1,5 @@
 use Rattle.std.proofs.Common.{ap, ◌∙◌}
-use Rattle.span_run.specs.Counted.{one_more}
+use Rattle.span_run.specs.Counted.{next_count}
 use Rattle.span_replay.proofs.Flushes.{flush_counts, flush_fails, flush_once, flush_read, ok_kept, script_counts, script_kept, whole_kept, whole_ok, whole_script}
 use Rattle.span_replay.proofs.Left.{nothing_left}
 use Rattle.span_replay.proofs.Written.{none_told}
@@ -16,7 +16,7 @@ returns-in-Ok-flush-clause-left g c = nothing_left _ _ _ _ _ c.in-Ok.ensures.rep
 pub returns-in-Ok-flush-clause-flushed : goal.returns-in-Ok-flush-clause-flushed
 returns-in-Ok-flush-clause-flushed g c = (
   whole_kept _ _ _ _ _ (whole_ok _ _ _ _ _ c.in-Ok.ensures.replayed) c.in-Ok-flush.ensures.keeps,
-  c.in-Ok-flush.ensures.once ∙ ap one_more c.in-Ok.ensures.flushes,
+  c.in-Ok-flush.ensures.once ∙ ap next_count c.in-Ok.ensures.flushes,
   c.in-Ok-flush.ensures.flushed,
 )
 
@@ -31,7 +31,7 @@ returns-in-Err-clause-left g c = none_told _
 
 pub returns-in-Err-clause-flushed : goal.returns-in-Err-clause-flushed
 returns-in-Err-clause-flushed g c =
-    flush_once _ _ _ _ (whole_kept _ _ _ _ _ (whole_ok _ _ _ _ _ c.in-Ok.ensures.replayed) c.in-Err.ensures.keeps) (c.in-Err.ensures.once ∙ ap one_more c.in-Ok.ensures.flushes) c.in-Err.ensures.device
+    flush_once _ _ _ _ (whole_kept _ _ _ _ _ (whole_ok _ _ _ _ _ c.in-Ok.ensures.replayed) c.in-Err.ensures.keeps) (c.in-Err.ensures.once ∙ ap next_count c.in-Ok.ensures.flushes) c.in-Err.ensures.device
 
 pub returns-in-Err-clause-unread : goal.returns-in-Err-clause-unread
 returns-in-Err-clause-unread g c = flush_read _ _ _ c.in-Err.ensures.device
@@ -50,7 +50,7 @@ returns-in-Ok-flush-2-clause-left g c = none_told _
 pub returns-in-Ok-flush-2-clause-flushed : goal.returns-in-Ok-flush-2-clause-flushed
 returns-in-Ok-flush-2-clause-flushed g c = (
   whole_kept _ _ _ _ _ (whole_script _ _ _ _ _ _ _ c.in-Err-Script.field-0-is c.in-Err-Script.ensures.replayed) c.in-Ok-flush-2.ensures.keeps,
-  c.in-Ok-flush-2.ensures.once ∙ ap one_more c.in-Err-Script.ensures.flushes,
+  c.in-Ok-flush-2.ensures.once ∙ ap next_count c.in-Err-Script.ensures.flushes,
   c.in-Ok-flush-2.ensures.flushed,
 )
 
@@ -68,7 +68,7 @@ returns-in-Err-flush-clause-left g c = none_told _
 
 pub returns-in-Err-flush-clause-flushed : goal.returns-in-Err-flush-clause-flushed
 returns-in-Err-flush-clause-flushed g c =
-    flush_once _ _ _ _ (whole_kept _ _ _ _ _ (whole_script _ _ _ _ _ _ _ c.in-Err-Script.field-0-is c.in-Err-Script.ensures.replayed) c.in-Err-flush.ensures.keeps) (c.in-Err-flush.ensures.once ∙ ap one_more c.in-Err-Script.ensures.flushes)
+    flush_once _ _ _ _ (whole_kept _ _ _ _ _ (whole_script _ _ _ _ _ _ _ c.in-Err-Script.field-0-is c.in-Err-Script.ensures.replayed) c.in-Err-flush.ensures.keeps) (c.in-Err-flush.ensures.once ∙ ap next_count c.in-Err-Script.ensures.flushes)
     c.in-Err-flush.ensures.device
 
 pub returns-in-Err-flush-clause-unread : goal.returns-in-Err-flush-clause-unread
