@@ -4,9 +4,10 @@
 usage: prove.py CRATE..
 
 The crates are named lowest first. Each is proved by `rt lib` once those that it needs are, side by side with others, and
-the program is proved and built by `rt run` in its folder. Since a run of rt has the crates that it needs to itself,
-those that are at work at once are each in a copy of the sources, in kozhumir/proving of the user's cache; rt begins with
-what it kept in the other copies. They stay there when a run is broken off, and the next one goes on from there.
+the program is proved and built by `rt run`. Since a run of rt has the crates that it needs to itself, those that are at
+work at once are each in a copy of the sources, in kozhumir/proving of the user's cache. What rt kept of a crate that is
+proved (its folder out/, which one make of rt can use in any place) is put into the other copies, so that none proves it
+again, and at the end into the clone. The copies stay there when a run is broken off, and the next one goes on from there.
 
 Standard error tells how far it is: on a terminal in one line that is drawn anew, elsewhere in a line for each crate and
 one each minute. What is left is guessed by the times of the last run on this machine that proved a crate from nothing,
@@ -94,11 +95,15 @@ class Proof:
         words += ["--", "replay"] if self.is_program else []
         self.start, self.copy = time.monotonic(), copy
         self.process = subprocess.Popen(
-            words, cwd=(TOP if self.is_program else copy) / "crates" / self.name, preexec_fn=alone,
+            words, cwd=self.kept().parent, preexec_fn=alone,
             encoding="utf-8", errors="replace",
             stdin=subprocess.DEVNULL, stdout=subprocess.PIPE, stderr=subprocess.STDOUT)
         self.reader = threading.Thread(target=self.read, daemon=True)
         self.reader.start()
+
+    def kept(self):
+        """Where rt keeps what it proved of it."""
+        return self.copy / "crates" / self.name / "out"
 
     def read(self):
         for line in self.process.stdout:
@@ -196,7 +201,10 @@ def begin_those_that_can(proofs, copies):
     proved = {it.name for it in proofs if it.is_proved()}
     ways = ways_through(proofs)
     ready = sorted((it for it in proofs if not it.process and it.needs <= proved), key=lambda it: -ways[it.name])
-    for proof, copy in zip(ready, free):
+    for proof in ready[: len(free)]:
+        # (what a run that was broken off kept of it is in one of them)
+        copy = min(free, key=lambda it: not (it / "crates" / proof.name / "out").exists())
+        free.remove(copy)
         if all(ways[proof.name] >= ways[it.name] for it in proofs if it.is_at_work()):
             proof.begin(len(copies), 0, copy)
         else:
@@ -224,6 +232,25 @@ def copies_of(crates):
     return copies
 
 
+def hand_on(proof, copies):
+    """Puts what rt kept of a crate that is proved into the other copies."""
+    for copy in (it for it in copies if it != proof.copy):
+        room, place = copy / "room", copy / "crates" / proof.name / "out"
+        shutil.rmtree(room, ignore_errors=True)
+        shutil.copytree(proof.kept(), room, symlinks=True, copy_function=os.link)
+        shutil.rmtree(place, ignore_errors=True)
+        # (so that a run that is broken off leaves no part of it there)
+        room.rename(place)
+
+
+def put_into_clone(proofs):
+    """Puts what rt kept of all crates into the clone, the program last."""
+    for proof in proofs:
+        place = TOP / "crates" / proof.name / "out"
+        shutil.rmtree(place, ignore_errors=True)
+        shutil.move(proof.kept(), place)
+
+
 @contextlib.contextmanager
 def alone():
     """Lets one run at a time work for a clone."""
@@ -248,6 +275,7 @@ def prove(proofs, progress):
             if not proof.is_proved():
                 return proof
             progress.tells("", f"  {proof.name} is proved ({progress.so_far()})")
+            hand_on(proof, copies)
     return None
 
 
@@ -292,6 +320,7 @@ def main():
         tell(f"proving {len(crates)} crates ({progress.so_far()})")
         with alone():
             prove_all(proofs, progress)
+            put_into_clone(proofs)
             shutil.rmtree(COPIES)
         # What was edited since it began is newer than the program.
         os.utime(program, (began, began))
