@@ -143,6 +143,11 @@ class Clone:
         outs = [it for it in ("low", "mid", "tracerun") if os.path.exists(f"{self.at}/crates/{it}/out/rlib/stamp")]
         return outs, [it for it in os.listdir(rooms) if not it.endswith(".lock")]
 
+    def timed(self):
+        """The crates whose times are kept, each with its functions."""
+        with open(f"{self.fake}/cache/kozhumir/prove_times", encoding="utf-8") as times:
+            return [it.rsplit(maxsplit=1)[0] for it in times]
+
     def forgets(self):
         for crate in os.listdir(f"{self.at}/crates"):
             shutil.rmtree(f"{self.at}/crates/{crate}/out", ignore_errors=True)
@@ -248,8 +253,7 @@ def proving(rows, clone):
     told = errors.startswith("tracerun: proving 3 crates (0 of 7 functions") and "proved and built" in errors
     rows.wants("proved", (output, told, "fn it" in errors, status), ("", True, False, 0))
     rows.wants("proved: its calls", clone.calls(), ["lib low", "lib mid", "run tracerun"])
-    with open(f"{clone.fake}/cache/kozhumir/prove_times", encoding="utf-8") as times:
-        rows.wants("the times of the last run", [it.split()[0] for it in times], ["low", "mid"])
+    rows.wants("the times of the last run", clone.timed(), ["low 2", "mid 2", "tracerun 2"])
     rows.wants("proved: what was not yet", clone.proofs(), ["mid", "tracerun"])
     rows.wants("nothing is left", (clone.is_tidy(), *clone.kept()), (True, ["low", "mid", "tracerun"], []))
     os.remove(f"{clone.at}/crates/tracerun/out/tracerun")
@@ -277,8 +281,10 @@ def nothing_twice(rows, clone):
         rows.wants(name, (found[0::2], clone.proofs(), *clone.kept()), (("", 0), proofs, every, []))
 
     wants("from nothing", every)
+    os.remove(f"{clone.fake}/cache/kozhumir/prove_times")
     write(f"{clone.at}/crates/mid/src/lib.rt", "pub fn other() {}\n")
     wants("after an edit", ["mid"])
+    rows.wants("times of proofs from nothing alone", clone.timed(), [])
     clone.forgets()
     clone.of_rt("lib", "low")
     rows.wants("rt in the clone", clone.proofs(), ["low"])

@@ -84,7 +84,7 @@ class Proof:
         self.name, self.needs, self.is_program = name, needs, is_program
         self.functions, self.seconds = listed
         self.lines, self.process, self.start, self.took = [], None, None, None
-        self.checked = self.of_this_run = 0
+        self.checked, self.is_from_nothing = 0, False
 
     def begin(self, jobs, niceness):
         def alone():
@@ -94,9 +94,10 @@ class Proof:
 
         words = ["rt", "run" if self.is_program else "lib", "--jobs", str(jobs)]
         words += ["--", "replay"] if self.is_program else []
-        self.start = time.monotonic()
+        out = out_of(self.name, room_of(self.name))
+        self.start, self.is_from_nothing = time.monotonic(), not out.exists()
         self.process = subprocess.Popen(
-            words, cwd=out_of(self.name, room_of(self.name)).parent, preexec_fn=alone,
+            words, cwd=out.parent, preexec_fn=alone,
             encoding="utf-8", errors="replace", close_fds=False,
             stdin=subprocess.DEVNULL, stdout=subprocess.PIPE, stderr=subprocess.STDOUT)
         self.reader = threading.Thread(target=self.read, daemon=True)
@@ -107,9 +108,9 @@ class Proof:
             self.lines.append(line)
             found = SO_FAR.match(line)
             if found:
-                checked, self.of_this_run = map(int, found.groups())
+                checked, functions = map(int, found.groups())
                 self.checked = max(self.checked, checked)
-                self.functions = max(self.functions, self.of_this_run)
+                self.functions = functions if self.is_from_nothing else max(self.functions, functions)
 
     def has_ended(self):
         """Whether it ended since this was asked last."""
@@ -162,7 +163,7 @@ class Progress:
 
     def left(self):
         """The longest way through what is left, at the pace until now, or none where nothing is known of it."""
-        ended = [it for it in self.proofs if it.is_proved() and it.seconds and it.of_this_run >= it.functions]
+        ended = [it for it in self.proofs if it.is_proved() and it.seconds and it.is_from_nothing]
         listed = sum(it.seconds for it in ended)
         pace = sum(it.took for it in ended) / listed if listed else 1
         return max(ways_through(self.proofs).values()) * pace if all(it.seconds for it in self.proofs) else None
@@ -305,7 +306,7 @@ def keep_times(proofs):
     """Keeps the times of the crates that were proved from nothing, for the next run's guess."""
     times = times_in(LAST)
     times.update({it.name: (it.functions, round(it.took)) for it in proofs
-                  if it.is_proved() and it.of_this_run and it.of_this_run >= it.functions})
+                  if it.is_proved() and it.is_from_nothing})
     # (else the next run guesses by the listed times)
     with contextlib.suppress(OSError):
         LAST.parent.mkdir(parents=True, exist_ok=True)
