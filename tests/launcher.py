@@ -37,9 +37,16 @@ int main(int count, char **words) {
     return 0;
 }
 """
-# What it does is as the variable RT says, else all goes well. `rt try` runs the words behind `--`.
+# What it does is as the variable RT says, else all goes well. `rt try` runs the words behind `--`. As the real one, it
+# begins with what it kept, and proves the crates below where their proofs aren't there.
 FAKE_RT = r"""#!/bin/sh
 echo "$1 ${PWD##*/}" >> "$FAKE/calls"
+proves() {
+    sum=$(cat "$1"/src/*.rt | cksum)
+    [ "$(cat "$1/out/rlib/stamp" 2> /dev/null)" != "$sum" ] || return
+    echo "${1##*/}" >> "$FAKE/proofs"
+    mkdir -p "$1/out/rlib" && echo "$sum" > "$1/out/rlib/stamp"
+}
 case $1-$RT in
     try-refuses) printf 'src/main.rt:1:1: error: no such name\nrun=none proved=no\n' >&2; exit 1 ;;
     try-faults) printf 'checked: fault kind=overflow\nrun=fault proved=no\n' >&2; exit 4 ;;
@@ -49,12 +56,14 @@ case $1-$RT in
         printf 'checked: ended status=%s\nraces: not looked for\nrun=ended status=%s proved=no\n' $status $status >&2
         exit $status ;;
 esac
+for below in $(sed -n "s/^${PWD##*/}\\b.*://p" ../../crates.txt); do [ ! -d ../$below ] || proves ../$below; done
 [ "${PWD##*/}-$RT" != low-hangs ] || { echo "so far: 1 of 2 functions checked"; exec sleep 60; }
 [ "${PWD##*/}-$RT" != low-is_slow ] || while [ ! -e "$FAKE/go" ]; do sleep 0.1; done
 echo "rt: chose --jobs 4"
 echo "so far: 0 of 2 functions checked; the verdict comes last"
 [ "${PWD##*/}-$RT" != mid-hangs_later ] || exec sleep 60
 [ "${PWD##*/}-$RT" != low-refuses ] || { echo "fn low::it: not proved"; exit 1; }
+proves "$PWD"
 printf 'fn it: proved\nso far: 2 of 2 functions checked\nlogic=proved functions=2\n'
 [ $1 = lib ] || { mkdir -p out && cp "$FAKE/proved" out/tracerun; }
 """
@@ -78,7 +87,7 @@ class Clone:
 
     def __init__(self, folder, programs):
         self.at, self.fake, self.room = f"{folder}/clone", f"{folder}/fake", f"{folder}/room"
-        self.told = 0  # how many calls of rt were told of
+        self.told = {"calls": 0, "proofs": 0}  # of how many it was told
         os.mkdir(folder)
         os.mkdir(self.room)
         for name in COPIED:
@@ -103,6 +112,12 @@ class Clone:
         how = {"stdin": self.script, "stdout": subprocess.PIPE, "stderr": subprocess.PIPE, "text": True, **how}
         return subprocess.Popen([f"{self.at}/tracerun", *words], env=env, **how)
 
+    def of_rt(self, command, crate):
+        """Runs rt in the clone itself."""
+        env = {**os.environ, "FAKE": self.fake, "RT": ""}
+        subprocess.run([f"{self.fake}/bin/rt", command], cwd=f"{self.at}/crates/{crate}", env=env, check=True,
+                       stdout=subprocess.DEVNULL)
+
     def run(self, *words, **how):
         return self.ended(self.start(*words, **how))
 
@@ -112,10 +127,32 @@ class Clone:
 
     def calls(self):
         """The calls of rt since this was asked last, and the folders of the crates where they were made."""
-        path = f"{self.fake}/calls"
+        return self.told_of("calls")
+
+    def proofs(self):
+        """The crates that rt proved since this was asked last."""
+        return self.told_of("proofs")
+
+    def told_of(self, what):
+        path = f"{self.fake}/{what}"
         found = open(path, encoding="utf-8").read().splitlines() if os.path.exists(path) else []
-        before, self.told = self.told, len(found)
+        before, self.told[what] = self.told[what], len(found)
         return found[before:]
+
+    def kept(self):
+        """The crates that the clone has a proof of, and what else is left of a run."""
+        rooms = f"{self.fake}/cache/kozhumir/proving"
+        outs = [it for it in ("low", "mid", "tracerun") if os.path.exists(f"{self.at}/crates/{it}/out/rlib/stamp")]
+        return outs, [it for it in os.listdir(rooms) if not it.endswith(".lock")]
+
+    def timed(self):
+        """The crates whose times are kept, each with its functions."""
+        with open(f"{self.fake}/cache/kozhumir/prove_times", encoding="utf-8") as times:
+            return [it.rsplit(maxsplit=1)[0] for it in times]
+
+    def forgets(self):
+        for crate in os.listdir(f"{self.at}/crates"):
+            shutil.rmtree(f"{self.at}/crates/{crate}/out", ignore_errors=True)
 
     def is_tidy(self):
         return os.listdir(self.room) == []
@@ -213,14 +250,14 @@ def proving(rows, clone):
     told = "low is proved (2 of 7 functions" in errors and "broken off" in errors
     rows.wants("broken off while it proves", (output, told, status), ("", True, 130))
     rows.wants("its calls", calls, ["lib low"] * 3 + ["lib mid"])
+    rows.wants("what it kept", (clone.proofs(), *clone.kept()), (["low"], ["low"], []))
     output, errors, status = clone.run("--prove")
     told = errors.startswith("tracerun: proving 3 crates (0 of 7 functions") and "proved and built" in errors
     rows.wants("proved", (output, told, "fn it" in errors, status), ("", True, False, 0))
     rows.wants("proved: its calls", clone.calls(), ["lib low", "lib mid", "run tracerun"])
-    with open(f"{clone.fake}/cache/kozhumir/prove_times", encoding="utf-8") as times:
-        rows.wants("the times of the last run", [it.split()[0] for it in times], ["low", "mid"])
-    left = [it for it in os.listdir(f"{clone.fake}/cache/kozhumir/proving") if not it.endswith(".lock")]
-    rows.wants("nothing is left", (clone.is_tidy(), left), (True, []))
+    rows.wants("the times of the last run", clone.timed(), ["low 2", "mid 2", "tracerun 2"])
+    rows.wants("proved: what was not yet", clone.proofs(), ["mid", "tracerun"])
+    rows.wants("nothing is left", (clone.is_tidy(), *clone.kept()), (True, ["low", "mid", "tracerun"], []))
     os.remove(f"{clone.at}/crates/tracerun/out/tracerun")
     rows.wants("two that prove at once", two_at_once(clone), ([("", None, 0)] * 2, 1))
 
@@ -235,6 +272,53 @@ def two_at_once(clone):
         write(f"{clone.fake}/go", "")
         ended = [clone.ended(it) for it in two]
         return ended, os.pread(errors.fileno(), 65536, 0).decode().count(waiting)
+
+
+def nothing_twice(rows, clone):
+    """What is proved already, each time, and that the others are proved once."""
+    every = ["low", "mid", "tracerun"]
+
+    def wants(name, proofs):
+        found = clone.run("--prove")
+        rows.wants(name, (found[0::2], clone.proofs(), *clone.kept()), (("", 0), proofs, every, []))
+
+    wants("from nothing", every)
+    os.remove(f"{clone.fake}/cache/kozhumir/prove_times")
+    write(f"{clone.at}/crates/mid/src/lib.rt", "pub fn other() {}\n")
+    wants("after an edit", ["mid"])
+    rows.wants("times of proofs from nothing alone", clone.timed(), [])
+    clone.forgets()
+    clone.of_rt("lib", "low")
+    rows.wants("rt in the clone", clone.proofs(), ["low"])
+    wants("after rt in the clone", ["mid", "tracerun"])
+    clone.forgets()
+    write(f"{clone.at}/crates/low/out/rlib/stamp", "of another make\n")
+    rooms = f"{clone.fake}/cache/kozhumir/proving/{clone.at.strip('/').replace('/', '-')}"
+    write(f"{rooms}/low/crates/low/out/rlib/stamp", "of another make\n")
+    write(f"{rooms}/tracerun/crates/tracerun/out/tracerun", "old", 0o755)
+    wants("over what another make left", every)
+    clone.forgets()
+    killed(rows, clone)
+    wants("two after one that was killed", [])
+
+
+def killed(rows, clone):
+    """That the next run waits for what a killed one began, and begins with what that proved."""
+    clone.calls()
+    run = clone.start("--prove", rt="is_slow")
+    while not clone.calls():
+        time.sleep(0.1)
+    run.kill()
+    run.wait()
+    with tempfile.TemporaryFile("w+") as errors:
+        run = clone.start("--prove", stderr=errors)
+        while "waits for another" not in os.pread(errors.fileno(), 65536, 0).decode() and run.poll() is None:
+            time.sleep(0.1)
+        rows.wants("after one that was killed: it waits", clone.calls(), [])
+        write(f"{clone.fake}/go", "")
+        rows.wants("after one that was killed", clone.ended(run)[0::2], ("", 0))
+    found = clone.calls(), clone.proofs()
+    rows.wants("its proofs", found, (["lib low", "lib mid", "run tracerun"], ["low", "mid", "tracerun"]))
 
 
 def proved(rows, clone):
@@ -268,7 +352,7 @@ def main():
     rows = Rows()
     with tempfile.TemporaryDirectory() as folder:
         compile_programs(folder)
-        for part in (pages, unproved, no_answers, proving, proved):
+        for part in (pages, unproved, no_answers, proving, nothing_twice, proved):
             part(rows, Clone(f"{folder}/for_{part.__name__}", folder))
     print(f"{rows.passed} passed, {rows.failed} failed")
     return 1 if rows.failed else 0

@@ -4,9 +4,10 @@
 usage: prove.py CRATE..
 
 The crates are named lowest first. Each is proved by `rt lib` once those that it needs are, side by side with others, and
-the program is proved and built by `rt run` in its folder. Since a run of rt has the crates that it needs to itself,
-those that are at work at once are each in a copy of the sources, in kozhumir/proving of the user's cache; rt begins with
-what it kept in the other copies. They stay there when a run is broken off, and the next one goes on from there.
+the program is proved and built by `rt run`. Since a run of rt has the crates that it needs to itself, each crate is proved
+in a room of its own, in kozhumir/proving of the user's cache: the sources of all that it stands on, what rt kept of these
+when it proved them, so that no crate is proved twice, and the crate's folder out/ of the clone, with which rt begins (one
+make of rt can use it in any place). That folder goes back into the clone at the end, also where not all is proved.
 
 Standard error tells how far it is: on a terminal in one line that is drawn anew, elsewhere in a line for each crate and
 one each minute. What is left is guessed by the times of the last run on this machine that proved a crate from nothing,
@@ -31,7 +32,8 @@ TOP = Path(__file__).resolve().parent.parent
 LISTED = Path(__file__).resolve().with_name("prove_times.txt")
 CACHE = Path(os.environ.get("XDG_CACHE_HOME") or Path.home() / ".cache") / "kozhumir"
 LAST = CACHE / "prove_times"
-COPIES = CACHE / "proving" / str(TOP).strip("/").replace("/", "-")
+ROOMS = CACHE / "proving" / str(TOP).strip("/").replace("/", "-")
+SOURCES = ROOMS / ".sources"
 MEMORY = 3_000_000_000  # bytes that a job may take
 SO_FAR = re.compile(r"so far: (\d+) of (\d+) functions checked")
 WAITS = "rt: waiting for another rt"
@@ -81,10 +83,10 @@ class Proof:
     def __init__(self, name, needs, is_program, listed):
         self.name, self.needs, self.is_program = name, needs, is_program
         self.functions, self.seconds = listed
-        self.lines, self.process, self.copy, self.start, self.took = [], None, None, None, None
-        self.checked = self.of_this_run = 0
+        self.lines, self.process, self.start, self.took = [], None, None, None
+        self.checked, self.is_from_nothing = 0, False
 
-    def begin(self, jobs, niceness, copy):
+    def begin(self, jobs, niceness):
         def alone():
             # (setpgid and not setsid, across which nice counts nothing)
             os.setpgid(0, 0)
@@ -92,10 +94,11 @@ class Proof:
 
         words = ["rt", "run" if self.is_program else "lib", "--jobs", str(jobs)]
         words += ["--", "replay"] if self.is_program else []
-        self.start, self.copy = time.monotonic(), copy
+        out = out_of(self.name, room_of(self.name))
+        self.start, self.is_from_nothing = time.monotonic(), not out.exists()
         self.process = subprocess.Popen(
-            words, cwd=(TOP if self.is_program else copy) / "crates" / self.name, preexec_fn=alone,
-            encoding="utf-8", errors="replace",
+            words, cwd=out.parent, preexec_fn=alone,
+            encoding="utf-8", errors="replace", close_fds=False,
             stdin=subprocess.DEVNULL, stdout=subprocess.PIPE, stderr=subprocess.STDOUT)
         self.reader = threading.Thread(target=self.read, daemon=True)
         self.reader.start()
@@ -105,8 +108,9 @@ class Proof:
             self.lines.append(line)
             found = SO_FAR.match(line)
             if found:
-                self.checked, self.of_this_run = map(int, found.groups())
-                self.functions = max(self.functions, self.of_this_run)
+                checked, functions = map(int, found.groups())
+                self.checked = max(self.checked, checked)
+                self.functions = functions if self.is_from_nothing else max(self.functions, functions)
 
     def has_ended(self):
         """Whether it ended since this was asked last."""
@@ -159,7 +163,7 @@ class Progress:
 
     def left(self):
         """The longest way through what is left, at the pace until now, or none where nothing is known of it."""
-        ended = [it for it in self.proofs if it.is_proved() and it.seconds and it.of_this_run >= it.functions]
+        ended = [it for it in self.proofs if it.is_proved() and it.seconds and it.is_from_nothing]
         listed = sum(it.seconds for it in ended)
         pace = sum(it.took for it in ended) / listed if listed else 1
         return max(ways_through(self.proofs).values()) * pace if all(it.seconds for it in self.proofs) else None
@@ -186,49 +190,95 @@ class Progress:
         self.minute = minute
 
 
-def begin_those_that_can(proofs, copies):
+def begin_those_that_can(proofs, jobs):
     """Begins the crates that need none any more that isn't proved, those with the longest ways first.
 
     The one with the longest way of all gets a job for each processor and goes before the others, each of which has half
     as many, for what that one leaves: no proof gets more jobs later, and none has work for all of them all the time.
     """
-    free = [it for it in copies if it not in [proof.copy for proof in proofs if proof.is_at_work()]]
     proved = {it.name for it in proofs if it.is_proved()}
     ways = ways_through(proofs)
     ready = sorted((it for it in proofs if not it.process and it.needs <= proved), key=lambda it: -ways[it.name])
-    for proof, copy in zip(ready, free):
+    for proof in ready[: jobs - sum(it.is_at_work() for it in proofs)]:
+        lay_room(proof, proofs)
         if all(ways[proof.name] >= ways[it.name] for it in proofs if it.is_at_work()):
-            proof.begin(len(copies), 0, copy)
+            proof.begin(jobs, 0)
         else:
-            proof.begin(-(-len(copies) // 2), 10, copy)
+            proof.begin(-(-jobs // 2), 10)
 
 
-def copies_of(crates):
-    """As many copies of the sources as jobs may be at work. What rt kept in them stays there."""
-    copies = [COPIES / str(number) for number in range(processors())]
-    listed = (TOP / "crates.txt").read_text(encoding="utf-8").splitlines(keepends=True)
-    for copy in copies:
-        copy.mkdir(parents=True, exist_ok=True)
-        shutil.copy(TOP / "HANDLES", copy)
-        # (rt wants the folder of each crate that is listed)
-        (copy / "crates.txt").write_text("".join(it for it in listed if re.split(r"[\s:#]", it)[0] in crates),
-                                         encoding="utf-8")
-        for crate in crates:
-            for old in (copy / "crates" / crate).glob("[!.]*"):
-                if old.is_file():
-                    old.unlink()
-                elif old.name != "out":
-                    shutil.rmtree(old)
-            shutil.copytree(TOP / "crates" / crate, copy / "crates" / crate, dirs_exist_ok=True,
-                            ignore=shutil.ignore_patterns("out", "must-fail"))
-    return copies
+def room_of(crate):
+    return ROOMS / crate
+
+
+def out_of(crate, top=TOP):
+    """Where rt keeps what it proved of a crate."""
+    return top / "crates" / crate / "out"
+
+
+def listed_alone(crates):
+    """The lines of crates.txt for these crates: rt wants the folder of each one that is listed."""
+    lines = (SOURCES / "crates.txt").read_text(encoding="utf-8").splitlines(keepends=True)
+    return "".join(it for it in lines if re.split(r"[\s:#]", it)[0] in crates)
+
+
+def lay_sources(proofs):
+    """Copies the sources, so that what is edited from now on counts for no crate."""
+    SOURCES.mkdir(parents=True)
+    for name in "HANDLES", "crates.txt":
+        shutil.copy(TOP / name, SOURCES)
+    for proof in proofs:
+        shutil.copytree(TOP / "crates" / proof.name, SOURCES / "crates" / proof.name,
+                        ignore=shutil.ignore_patterns("out", "must-fail"))
+
+
+def lay_room(proof, proofs):
+    """Lays the room of a crate whose needs are proved."""
+    below, room = stands_on(proof, proofs), room_of(proof.name)
+    for crate in below | {proof.name}:
+        shutil.copytree(SOURCES / "crates" / crate, room / "crates" / crate)
+    shutil.copy(SOURCES / "HANDLES", room)
+    (room / "crates.txt").write_text(listed_alone(below | {proof.name}), encoding="utf-8")
+    if out_of(proof.name).exists():
+        move(out_of(proof.name), out_of(proof.name, room))
+    for crate in below:
+        # (all that the crates above read of it, and a tenth of the files)
+        kept = out_of(crate, room_of(crate)) / "rlib"
+        shutil.copytree(kept, out_of(crate, room) / "rlib", symlinks=True, copy_function=os.link)
+
+
+def stands_on(proof, proofs):
+    """The crates that it needs, and that these need."""
+    found = {*proof.needs}
+    for it in reversed(proofs):
+        found |= it.needs if it.name in found else set()
+    return found
+
+
+def move(kept, place):
+    """Moves what rt kept, so that no part of it stands there where that is broken off."""
+    part = place.with_name(".out")
+    shutil.rmtree(part, ignore_errors=True)
+    shutil.move(kept, part)
+    part.rename(place)
+
+
+def put_back(proofs):
+    """Puts what rt kept in the rooms into the clone, where that has none, and clears the rooms."""
+    for proof in proofs:
+        kept, place = out_of(proof.name, room_of(proof.name)), out_of(proof.name)
+        if kept.exists() and not place.exists():
+            move(kept, place)
+    shutil.rmtree(ROOMS, ignore_errors=True)
 
 
 @contextlib.contextmanager
 def alone():
     """Lets one run at a time work for a clone."""
-    COPIES.parent.mkdir(parents=True, exist_ok=True)
-    with open(f"{COPIES}.lock", "w", encoding="utf-8") as lock:
+    ROOMS.parent.mkdir(parents=True, exist_ok=True)
+    with open(f"{ROOMS}.lock", "w", encoding="utf-8") as lock:
+        # (what a run that was killed began holds the lock until it ends)
+        os.set_inheritable(lock.fileno(), True)
         try:
             fcntl.flock(lock, fcntl.LOCK_EX | fcntl.LOCK_NB)
         except BlockingIOError:
@@ -239,9 +289,10 @@ def alone():
 
 def prove(proofs, progress):
     """The proof that failed, if one did."""
-    copies = copies_of([it.name for it in proofs])
+    lay_sources(proofs)
+    jobs = processors()
     while not all(it.is_proved() for it in proofs):
-        begin_those_that_can(proofs, copies)
+        begin_those_that_can(proofs, jobs)
         progress.ticks()
         time.sleep(0.2)
         for proof in (it for it in proofs if it.has_ended()):
@@ -255,7 +306,7 @@ def keep_times(proofs):
     """Keeps the times of the crates that were proved from nothing, for the next run's guess."""
     times = times_in(LAST)
     times.update({it.name: (it.functions, round(it.took)) for it in proofs
-                  if it.is_proved() and it.of_this_run and it.of_this_run >= it.functions})
+                  if it.is_proved() and it.is_from_nothing})
     # (else the next run guesses by the listed times)
     with contextlib.suppress(OSError):
         LAST.parent.mkdir(parents=True, exist_ok=True)
@@ -263,6 +314,7 @@ def keep_times(proofs):
 
 
 def prove_all(proofs, progress):
+    program, began = out_of(proofs[-1].name) / proofs[-1].name, time.time()
     try:
         failed = prove(proofs, progress)
     except SystemExit:
@@ -273,6 +325,10 @@ def prove_all(proofs, progress):
         for proof in proofs:
             proof.end()
         keep_times(proofs)
+        put_back(proofs)
+        # What was edited since it began is newer than the program.
+        if program.exists() and (proofs[-1].is_proved() or program.stat().st_mtime > began):
+            os.utime(program, (began, began))
     progress.tells("", "")
     if failed:
         print(*(line for line in failed.lines if not GOOD.match(line)), sep="", end="", file=sys.stderr)
@@ -283,18 +339,16 @@ def prove_all(proofs, progress):
 def main():
     for number in (signal.SIGINT, signal.SIGTERM, signal.SIGHUP):
         signal.signal(number, lambda number, _: sys.exit(128 + number))
-    crates, began = sys.argv[1:], time.time()
-    program = TOP / f"crates/{crates[-1]}/out/{crates[-1]}"
-    times = {**times_in(LISTED), **times_in(LAST)}
+    crates, times = sys.argv[1:], {**times_in(LISTED), **times_in(LAST)}
     try:
         proofs = [Proof(it, needs, it == crates[-1], times.get(it, (0, 0))) for it, needs in needs_of(crates).items()]
         progress = Progress(proofs)
         tell(f"proving {len(crates)} crates ({progress.so_far()})")
         with alone():
+            # What a run that was killed left, without the program, which may be older than a source.
+            (out_of(crates[-1], room_of(crates[-1])) / crates[-1]).unlink(missing_ok=True)
+            put_back(proofs)
             prove_all(proofs, progress)
-            shutil.rmtree(COPIES)
-        # What was edited since it began is newer than the program.
-        os.utime(program, (began, began))
     except (OSError, KeyError) as error:
         tell(f"the program was not built: {error!r}")
         sys.exit(4)
