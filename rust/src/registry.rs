@@ -260,13 +260,7 @@ impl Registry {
     /// # Ok(())
     /// # }
     /// ```
-    pub fn event_in(
-        &self,
-        meta: &Meta<'_>,
-        parent: Parent,
-        message: &str,
-        fields: Fields<'_>,
-    ) -> Result<(), Error> {
+    pub fn event_in(&self, meta: &Meta<'_>, parent: Parent, message: &str, fields: Fields<'_>) -> Result<(), Error> {
         let (at, parent) = self.own_parent(parent)?;
         let told = if are_marked(meta.name, fields) {
             Err(Refusal::BAD_NAME)

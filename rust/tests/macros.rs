@@ -130,9 +130,11 @@ fn a_parent_is_a_span_an_id_or_none() -> Result<(), Error> {
 #[test]
 fn an_event_is_told_under_a_parent_of_its_own() -> Result<(), Error> {
     let targets = ["trace", "app=trace"].map(|targets| targets.parse().expect("targets"));
-    let builder = targets.into_iter().fold(Registry::builder().workers(1), |builder, targets| {
-        builder.layer(Layer::compact().with_targets(targets).with_span_events(FmtSpan::NONE))
-    });
+    let builder = targets
+        .into_iter()
+        .fold(Registry::builder().workers(1), |builder, targets| {
+            builder.layer(Layer::compact().with_targets(targets).with_span_events(FmtSpan::NONE))
+        });
     let (registry, mut drain) = builder.build()?;
     let a = span!(registry, target: "app", Level::Info, "a");
     let other = span!(registry, target: "other", parent: &a, Level::Info, "other");
