@@ -4,8 +4,8 @@
 usage: given_back.py [--program FILE]
 
 The script has 64 layers, and twice a chain of 128 spans. The first time each span closes by itself, with a line for
-each layer; the second time all close in one call, with 8,192 lines. Behind each stand calls that keep nothing. While
-the program waits there until its output is read, `count_memory.c`, loaded before the C library, says how many bytes it
+each layer; the second time all close in one call, with 8,192 lines. Behind each stand an event, since the room of a
+call's lines is given back by the next one that has some, and calls that keep nothing. While the program waits there until its output is read, `count_memory.c`, loaded before the C library, says how many bytes it
 has: the second time as many as the first, but for MARGIN, which is less than places for 512 lines take. (The text of a
 call's lines goes into one buffer, which stays. An event with a long message has made it large enough before.)
 The last line is 'N passed, M failed'.
@@ -42,7 +42,7 @@ def chain(closes):
 
 def script():
     layers = line(op="layer", spans=8) * LAYERS + line(op="event", message=MESSAGE)
-    nothing = line(op="close", span=1 << 40) * CALLS
+    nothing = line(op="event", message="") + line(op="close", span=1 << 40) * CALLS
     return layers + chain(reversed(range(SPANS))) + nothing + chain(range(SPANS)) + nothing
 
 
