@@ -259,7 +259,7 @@ impl Registry {
     /// [`OutOfMemory`](Error::OutOfMemory).
     pub fn enter(&self, id: Id) -> Result<bool, Error> {
         let (at, id) = self.own(id)?;
-        Ok(at.enter(id)?.0)
+        Ok(at.enter(id, |is_first, _| is_first)?)
     }
 
     /// The calling thread leaves its topmost entry of a span. True where the span closed.

@@ -162,12 +162,12 @@ impl Handle {
     }
 
     fn enter(&self) -> Result<Entry<'_>, Error> {
-        let (is_first, worker) = self.at().enter(self.id)?;
-        Ok(Entry {
+        let entry = |is_first, worker| Entry {
             handle: self,
             worker,
             is_first,
-        })
+        };
+        Ok(self.at().enter(self.id, entry)?)
     }
 
     fn record(&self, fields: Fields<'_>) -> Result<(), Error> {

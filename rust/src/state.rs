@@ -128,13 +128,17 @@ impl State {
         Ok(())
     }
 
-    /// As which worker the thread makes a call: by its number, or one that it takes, or as the outsider.
-    #[inline]
-    pub(crate) fn worker(&mut self, caller: Caller) -> u32 {
-        self.seats.of(caller).unwrap_or_else(|| self.seats.of_or_free(caller))
+    /// As which worker a thread without a number makes a call: by one that it takes, or as the outsider.
+    pub(crate) fn number(&mut self, caller: Caller) -> Result<u32, Refusal> {
+        Ok(self.seats.of_or_free(caller))
     }
 
-    /// The same where it takes no number, as for a drop.
+    /// As which worker it may enter a span: by a number that it takes, also an idle thread's.
+    pub(crate) fn number_to_enter(&mut self, caller: Caller) -> Result<u32, Refusal> {
+        self.seats.entering(caller)
+    }
+
+    /// As which worker a thread gives back what it drops, for which it takes no number.
     #[inline]
     pub(crate) fn worker_or_outsider(&self, caller: Caller) -> u32 {
         self.worker_of(caller).unwrap_or_else(|| self.seats.outsider())
@@ -151,35 +155,16 @@ impl State {
         self.seats.of(caller)
     }
 
-    /// As which worker the thread may enter a span: by its number, or one that it takes, also an idle thread's.
-    #[inline]
-    pub(crate) fn worker_to_enter(&mut self, caller: Caller) -> Result<u32, Refusal> {
-        self.seats.entering(caller)
-    }
-
     // A call that takes a place of the ring: where lines may be thrown away for one, they are. `what` says what is to
     // be noted of it.
     #[inline(always)]
     fn placed<T: Answer>(&mut self, what: impl Noting, call: impl Sending<T>) -> Result<T, Refusal> {
-        let sent = self.sent(what, call);
-        sent.or_else(move |refusal| self.placed_again(refusal, what, call))
-    }
-
-    // A call that was refused.
-    #[cold]
-    fn placed_again<T: Answer>(
-        &mut self,
-        mut refusal: Refusal,
-        what: impl Noting,
-        call: impl Sending<T>,
-    ) -> Result<T, Refusal> {
-        while refusal == Refusal::BACKLOG && self.ring.makes_place() {
+        loop {
             match self.sent(what, call) {
-                Err(again) => refusal = again,
+                Err(Refusal::BACKLOG) if self.ring.makes_place() => {}
                 answer => return answer,
             }
         }
-        Err(refusal)
     }
 
     // A call that may put a batch into the ring.
@@ -303,7 +288,7 @@ impl State {
         Ok(())
     }
 
-    #[inline]
+    #[inline(always)]
     pub(crate) fn enter(&mut self, worker: u32, id: RawId) -> Result<bool, Refusal> {
         self.owing.reserve_entry(worker)?;
         let first = self.placed(|_| Ok(What::Other), move |core, _| core.enter(worker, id))?;
