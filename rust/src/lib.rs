@@ -20,6 +20,7 @@ mod interest;
 mod json;
 mod kind;
 mod level;
+mod lock;
 mod lost;
 mod macros;
 mod meta;
