@@ -53,7 +53,7 @@ pub use directives::{ParseError, Targets};
 pub use drain::{Drain, DrainCounts, Line};
 pub use error::{BadLimit, BadName, Differing, Error, Limit};
 pub use kind::Kind;
-pub use level::{FmtSpan, Form, Level};
+pub use level::{FmtSpan, Form, Level, ParseLevelError};
 pub use lost::Lost;
 pub use meta::{Counts, Fields, Found, Id, Meta, Parent};
 pub use note::{Note, NoteField, NoteKind};
