@@ -60,7 +60,7 @@ pub use note::{Note, NoteField, NoteKind};
 pub use open::{OpenSpan, OpenSpans};
 pub use registry::{retry, Registry};
 pub use ring::OnFull;
-pub use span::{Entered, Span};
+pub use span::{Entered, EnteredSpan, Span};
 pub use writer::Guard;
 
 /// For the macros.
