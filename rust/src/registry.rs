@@ -343,7 +343,7 @@ impl Registry {
     }
 
     /// An open span; none where no span of this registry is open with the id. What is owed and can't be done now
-    /// counts as not done.
+    /// counts as not done. [`open_span`](Registry::open_span) tells its name and its fields too.
     #[must_use]
     pub fn find(&self, id: Id) -> Option<Found> {
         let (at, id) = self.own(id).ok()?;

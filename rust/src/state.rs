@@ -1,20 +1,20 @@
 //! What lies under the lock: the proved registry, what is owed to it, and which threads have which numbers.
 #![forbid(unsafe_code)]
+mod open;
+
 use crate::level::Level;
 use crate::lost::{Lost, TARGET};
 use crate::meta::{Counts, Fields, Given, Meta, RawId, RawParent};
 use crate::notes::{known_as_written, What};
-use crate::open::Open;
 use crate::origins::{Names, Origins};
 use crate::owed::{Debt, Owed, Owing};
-use crate::packed::{reserve, Packed};
+use crate::packed::Packed;
 use crate::raw::{Core, SpanFound};
 use crate::refusal::Refusal;
 use crate::ring::Ring;
 use crate::seats::{Caller, Seats};
 use crate::site::Site;
 use crate::stamps::{Answer, Sent};
-use std::collections::HashSet;
 use std::sync::Arc;
 
 /// Says what is to be noted of a call, which may be made again: so what is captured is copied.
@@ -389,66 +389,6 @@ impl State {
 
     pub(crate) fn find(&mut self, id: RawId) -> Option<SpanFound> {
         self.core.find(id)
-    }
-
-    /// Each span that is open, by ascending slot.
-    pub(crate) fn open_spans(&mut self) -> Result<Vec<Open>, Refusal> {
-        let ids = self.core.open_ids()?;
-        let mut open = Vec::new();
-        reserve(&mut open, ids.len())?;
-        for id in ids {
-            open.push(self.open_span(id)?);
-        }
-        Ok(open)
-    }
-
-    /// A span, the spans at it or below it that keep it open, and those between them and it.
-    pub(crate) fn why_open(&mut self, id: RawId) -> Result<Vec<Open>, Refusal> {
-        let mut seen = HashSet::from([id.get()]);
-        let mut open = vec![self.open_span(id.get())?];
-        for holder in self.core.holders_of(id)? {
-            let mut at = holder.id;
-            // Each span between is looked at once.
-            while seen.insert(at) {
-                let span = self.open_span(at)?;
-                at = span.found.parent;
-                open.push(span);
-            }
-        }
-        open.sort_unstable_by_key(|span| span.id.slot());
-        Ok(open)
-    }
-
-    fn open_span(&mut self, id: u64) -> Result<Open, Refusal> {
-        let id = RawId::from_u64(id).ok_or(Refusal::UNKNOWN)?;
-        let found = self.core.find(id).ok_or(Refusal::UNKNOWN)?;
-        // All workers' stacks are looked through, so not for a span that none is inside of.
-        let mut inside = if found.entries > 0 {
-            self.core.workers_inside(id)?
-        } else {
-            Vec::new()
-        };
-        inside.iter_mut().for_each(|worker| *worker += self.first_worker);
-        let details = self.origins.details(id)?.ok_or(Refusal::UNKNOWN)?;
-        Ok(Open {
-            id,
-            found,
-            details,
-            inside,
-        })
-    }
-
-    /// Tells of these that they are open, as the outsider, up to the first for which the ring has no room. How many.
-    pub(crate) fn tell_open(&mut self, part: u32, spans: &[Open]) -> Result<usize, Refusal> {
-        for (told, span) in spans.iter().enumerate() {
-            let fields = span.fields(part);
-            let fields: Vec<(&str, &str)> = fields.iter().map(|(key, value)| (*key, &**value)).collect();
-            match self.tell_of_itself("open", &fields) {
-                Err(Refusal::BACKLOG) => return Ok(told),
-                told => told?,
-            }
-        }
-        Ok(spans.len())
     }
 
     /// Whether some layer admits it: the proved registry's own answer.
