@@ -4,7 +4,6 @@ use crate::meta::RawId;
 use crate::part::Part;
 use crate::parts::Parts;
 use crate::refusal::Refusal;
-use crate::seats::Caller;
 use crate::state::State;
 use crate::workers;
 use std::sync::Arc;
@@ -43,25 +42,25 @@ impl<'a> At<'a> {
 
     /// A call as the worker whose number the thread has there.
     #[inline(always)]
-    pub(crate) fn call<T>(self, call: impl Fn(&mut State, u32) -> Result<T, Refusal> + Copy) -> Result<T, Refusal> {
+    pub(crate) fn call<T>(self, call: impl Fn(&mut State, u32) -> Result<T, Refusal>) -> Result<T, Refusal> {
         self.before()?;
-        self.part
-            .call(|state: &mut State, caller: Caller| Ok(state.worker(caller)), call)
+        self.part.call(State::number, call)
     }
 
-    /// The thread enters a span. Whether it wasn't inside of it already, and as which worker it entered.
+    /// The thread enters a span. `told` is given whether it wasn't inside of it already, and as which worker it entered.
+    /// Each way has a copy of its own.
     #[inline(always)]
-    pub(crate) fn enter(self, id: RawId) -> Result<(bool, u32), Refusal> {
+    pub(crate) fn enter<T>(self, id: RawId, told: impl FnOnce(bool, u32) -> T) -> Result<T, Refusal> {
         if self.several.is_some() {
             workers::reserve_entry()?;
         }
         self.before()?;
-        let enter = move |state: &mut State, worker| Ok((state.enter(worker, id)?, worker));
-        let entered = self.part.call(State::worker_to_enter, enter)?;
+        let enter = |state: &mut State, worker| Ok((state.enter(worker, id)?, worker));
+        let (is_first, worker) = self.part.call(State::number_to_enter, enter)?;
         if self.several.is_some() {
-            workers::entered(self.part, id, entered.0);
+            workers::entered(self.part, id, is_first);
         }
-        Ok(entered)
+        Ok(told(is_first, worker))
     }
 
     /// The thread left an entry of a span, or owes that.

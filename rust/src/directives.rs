@@ -38,6 +38,33 @@ impl Targets {
         Targets::default()
     }
 
+    /// As [`FromStr`] reads it, but refuses a bare word that may be a level's misspelling, which is a target there: a
+    /// number, or a word that one letter more, less or other, or two neighbours swapped, make a level or `off`. Such a
+    /// target is written with its level.
+    ///
+    /// # Errors
+    /// Those of [`FromStr`], and where there is such a word.
+    ///
+    /// ```
+    /// # fn main() -> Result<(), span_registry::ParseError> {
+    /// use span_registry::{Level, Targets};
+    /// assert!("inof".parse::<Targets>()?.admits(Level::Trace, "inof"));
+    /// assert!(Targets::parse_strict("inof").is_err());
+    /// assert_eq!(Targets::parse_strict("inof=trace")?, "inof".parse()?);
+    /// # Ok(())
+    /// # }
+    /// ```
+    pub fn parse_strict(text: &str) -> Result<Targets, ParseError> {
+        let targets = text.parse()?;
+        let words = directives(text).filter(|word| !word.contains('=') && level_of(word).is_none());
+        for word in words {
+            if let Some(level) = misspelt_level(word) {
+                return Err(ParseError::of(word, Reason::Misspelt(level)));
+            }
+        }
+        Ok(targets)
+    }
+
     /// Targets that begin with this prefix are admitted up to this level.
     #[must_use]
     pub fn with_target(mut self, prefix: impl Into<String>, level: Level) -> Targets {
@@ -112,8 +139,7 @@ impl FromStr for Targets {
     type Err = ParseError;
 
     fn from_str(text: &str) -> Result<Targets, ParseError> {
-        let directives = text.split(',').map(str::trim).filter(|directive| !directive.is_empty());
-        let read = directives.map(Directive::read).collect::<Result<Vec<_>, _>>()?;
+        let read = directives(text).map(Directive::read).collect::<Result<Vec<_>, _>>()?;
         if read.is_empty() {
             return Err(ParseError::of(text, Reason::Empty));
         }
@@ -129,6 +155,11 @@ impl FromStr for Targets {
         }
         Ok(targets)
     }
+}
+
+/// The directives of a text, without the blanks around them.
+fn directives(text: &str) -> impl Iterator<Item = &str> {
+    text.split(',').map(str::trim).filter(|directive| !directive.is_empty())
 }
 
 /// One directive, with its text.
@@ -187,10 +218,39 @@ fn level_of(text: &str) -> Option<Option<Level>> {
     if text.eq_ignore_ascii_case("off") || text == "0" {
         return Some(None);
     }
-    let is_named =
-        |(place, level): &(usize, Level)| text.eq_ignore_ascii_case(level.name()) || text == (place + 1).to_string();
-    let found = Level::ALL.into_iter().enumerate().find(is_named);
-    found.map(|(_, level)| Some(level))
+    text.parse().ok().map(Some)
+}
+
+/// The level that a word, which is none, may be a misspelling of.
+fn misspelt_level(word: &str) -> Option<&'static str> {
+    if word.bytes().all(|byte| byte.is_ascii_digit()) {
+        return Some("5");
+    }
+    let written: Vec<char> = word.to_ascii_lowercase().chars().collect();
+    let names = ["error", "warn", "info", "debug", "trace", "off"];
+    let is_meant = |name: &&str| differ_by_one(&written, &name.chars().collect::<Vec<_>>());
+    names.into_iter().find(is_meant)
+}
+
+/// Whether one letter more, less or other, or two neighbours swapped, make one word the other.
+fn differ_by_one(mut word: &[char], mut other: &[char]) -> bool {
+    while let ([first, rest @ ..], [other_first, other_rest @ ..]) = (word, other) {
+        if first != other_first {
+            break;
+        }
+        (word, other) = (rest, other_rest);
+    }
+    while let ([rest @ .., last], [other_rest @ .., other_last]) = (word, other) {
+        if last != other_last {
+            break;
+        }
+        (word, other) = (rest, other_rest);
+    }
+    match (word, other) {
+        ([_], []) | ([], [_]) | ([_], [_]) => true,
+        ([first, second], [other_first, other_second]) => (first, second) == (other_second, other_first),
+        _ => false,
+    }
 }
 
 /// Why a text is no list of directives.
@@ -208,6 +268,7 @@ enum Reason {
     NoTarget,
     NoSuchLevel,
     OffBelow,
+    Misspelt(&'static str),
 }
 
 impl ParseError {
@@ -228,6 +289,13 @@ impl fmt::Display for ParseError {
             Reason::NoTarget => "no target before the equals sign",
             Reason::NoSuchLevel => "no such level",
             Reason::OffBelow => "a target can't be off where a shorter prefix admits something; the least is error",
+            Reason::Misspelt(level) => {
+                let word = &self.directive;
+                return write!(
+                    f,
+                    "directive `{word}`: is it `{level}`? A target of that name is `{word}=trace`"
+                );
+            }
         };
         write!(f, "directive `{}`: {reason}", self.directive)
     }

@@ -2,6 +2,7 @@
 #![forbid(unsafe_code)]
 use std::fmt;
 use std::ops::{BitOr, BitOrAssign};
+use std::str::FromStr;
 
 /// How verbose a span or an event is: the later, the more verbose.
 #[derive(Clone, Copy, Debug, PartialEq, Eq, PartialOrd, Ord, Hash)]
@@ -48,6 +49,43 @@ impl fmt::Display for Level {
         f.pad(self.name())
     }
 }
+
+/// A level's name in any case of letters, or its number, from 1 for `error` to 5 for `trace`.
+///
+/// ```
+/// use span_registry::Level;
+/// assert_eq!("warn".parse(), Ok(Level::Warn));
+/// assert_eq!("5".parse(), Ok(Level::Trace));
+/// assert!("inof".parse::<Level>().is_err());
+/// ```
+impl FromStr for Level {
+    type Err = ParseLevelError;
+
+    fn from_str(text: &str) -> Result<Level, ParseLevelError> {
+        let is_meant =
+            |level: &Level| text.eq_ignore_ascii_case(level.name()) || text == (level.verbosity() + 1).to_string();
+        let found = Level::ALL.into_iter().find(is_meant);
+        found.ok_or_else(|| ParseLevelError { text: text.to_owned() })
+    }
+}
+
+/// That a text is no level.
+#[derive(Clone, Debug, PartialEq, Eq)]
+pub struct ParseLevelError {
+    text: String,
+}
+
+impl fmt::Display for ParseLevelError {
+    fn fmt(&self, f: &mut fmt::Formatter<'_>) -> fmt::Result {
+        write!(
+            f,
+            "no such level: {:?} isn't error, warn, info, debug, trace or 1 to 5",
+            self.text
+        )
+    }
+}
+
+impl std::error::Error for ParseLevelError {}
 
 /// Of which parts of a span's life a layer is told. Records and events are told whatever it is.
 ///

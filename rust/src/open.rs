@@ -15,9 +15,6 @@ use crate::writer::Guard;
 use std::collections::{HashMap, HashSet};
 use std::fmt;
 
-/// What a search under the lock finds.
-type Found = Result<Vec<Open>, Refusal>;
-
 /// An open span, as it is found under the lock.
 pub(crate) struct Open {
     pub(crate) id: RawId,
@@ -47,6 +44,14 @@ impl Open {
         fields.extend(counts.map(|(key, count)| (key, count.to_string())));
         fields
     }
+}
+
+// What is found under the lock of a part, after what is owed, as far as that can be done now.
+fn found<T>(part: &Part, find: impl FnOnce(&mut State) -> Result<T, Refusal>) -> Result<T, Refusal> {
+    part.with(|state| {
+        let _owing = state.settle();
+        find(state)
+    })
 }
 
 /// A span that was open when it was asked for, with what holds it.
@@ -158,12 +163,8 @@ impl OpenSpans {
         self.0.iter()
     }
 
-    // Of a list that is found under the lock of a part, after what is owed, as far as that can be done now.
-    fn found(part: &Part, find: impl FnOnce(&mut State) -> Found) -> Result<OpenSpans, Error> {
-        let open = part.with(|state| {
-            let _owing = state.settle();
-            find(state)
-        })?;
+    fn found(part: &Part, find: impl FnOnce(&mut State) -> Result<Vec<Open>, Refusal>) -> Result<OpenSpans, Error> {
+        let open = found(part, find)?;
         let told = open.into_iter().filter_map(|span| OpenSpan::of(part, span));
         Ok(OpenSpans(told.collect()))
     }
@@ -243,6 +244,29 @@ impl Registry {
     /// ```
     pub fn open_spans(&self) -> Result<OpenSpans, Error> {
         OpenSpans::of_all(self.parts())
+    }
+
+    /// A span that is open, of one moment. [`find`](Registry::find) tells its counts alone, and takes no memory.
+    ///
+    /// # Errors
+    /// [`OtherRegistry`](Error::OtherRegistry), [`Unknown`](Error::Unknown) where it isn't open,
+    /// [`OutOfMemory`](Error::OutOfMemory).
+    ///
+    /// ```
+    /// # fn main() -> Result<(), span_registry::Error> {
+    /// # let (registry, _drain) = span_registry::Registry::builder().build()?;
+    /// use span_registry::{span, Level};
+    /// let request = span!(registry, target: "app", Level::Info, "request", user = 7);
+    /// let found = registry.open_span(request.id().expect("made"))?;
+    /// assert_eq!((&*found.name, &*found.target, found.level), ("request", "app", Level::Info));
+    /// assert_eq!(found.fields, [("user".to_owned(), "7".to_owned())]);
+    /// # Ok(())
+    /// # }
+    /// ```
+    pub fn open_span(&self, id: Id) -> Result<OpenSpan, Error> {
+        let (at, id) = self.own(id)?;
+        let open = found(at.part, |state| state.open_span(id))?;
+        OpenSpan::of(at.part, open).ok_or(Error::Unknown)
     }
 
     /// Why a span is open: itself, the open spans at it or below it that [are held](OpenSpan::is_held), and those

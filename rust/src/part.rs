@@ -1,6 +1,7 @@
 //! A part of a registry: its lock, and what may be asked without it.
 #![forbid(unsafe_code)]
 use crate::interest::Interest;
+use crate::lock::lock;
 use crate::lost::{Losses, Lost};
 use crate::owed::Debt;
 use crate::refusal::Refusal;
@@ -9,7 +10,7 @@ use crate::seats::Caller;
 use crate::state::State;
 use crate::workers;
 use std::sync::atomic::{AtomicBool, AtomicU32, AtomicU64, Ordering};
-use std::sync::{Arc, Mutex, PoisonError};
+use std::sync::{Arc, Mutex, MutexGuard, PoisonError};
 use std::thread;
 use std::time::Duration;
 
@@ -120,7 +121,12 @@ impl Part {
     /// is done whole or refused: the poison says nothing.
     #[inline(always)]
     pub(crate) fn with<T>(&self, call: impl FnOnce(&mut State) -> T) -> T {
-        call(&mut self.state.lock().unwrap_or_else(PoisonError::into_inner))
+        call(&mut self.lock())
+    }
+
+    #[inline(always)]
+    fn lock(&self) -> MutexGuard<'_, State> {
+        lock(&self.state)
     }
 
     /// Makes a call until it isn't refused for want of a place, where the registry waits for the drain.
@@ -146,53 +152,54 @@ impl Part {
         waits
     }
 
-    /// A thread's call: what is owed comes first, then the thread's number, then the call, and then, where there is
-    /// room, what was lost. What other parts owe comes before that.
+    /// A thread's call: what is owed comes first, then the thread's number, which `number` gives it where it has none,
+    /// then the call, and then, where there is room, what was lost. What other parts owe comes before that.
     #[inline(always)]
     pub(crate) fn call<T>(
         self: &Arc<Part>,
-        as_worker: impl Fn(&mut State, Caller) -> Result<u32, Refusal> + Copy,
-        call: impl Fn(&mut State, u32) -> Result<T, Refusal> + Copy,
+        number: fn(&mut State, Caller) -> Result<u32, Refusal>,
+        call: impl Fn(&mut State, u32) -> Result<T, Refusal>,
     ) -> Result<T, Refusal> {
-        let called = self.call_now(as_worker, call);
-        called.or_else(move |refusal| self.call_again(refusal, as_worker, call))
+        let mut turn: u32 = 0;
+        loop {
+            let result = self.call_now(number, &call);
+            if !matches!(result, Err(Refusal::BACKLOG)) || !self.has_waited(turn) {
+                return result;
+            }
+            turn = turn.saturating_add(1);
+        }
     }
 
     #[inline(always)]
     fn call_now<T>(
         self: &Arc<Part>,
-        as_worker: impl Fn(&mut State, Caller) -> Result<u32, Refusal>,
-        call: impl Fn(&mut State, u32) -> Result<T, Refusal>,
+        number: fn(&mut State, Caller) -> Result<u32, Refusal>,
+        call: &impl Fn(&mut State, u32) -> Result<T, Refusal>,
     ) -> Result<T, Refusal> {
         let caller = workers::caller(self);
-        self.with(|state| {
-            state.settle()?;
-            let worker = as_worker(state, caller)?;
-            // A refused call may have taken a number too.
-            workers::called_as(self, caller, worker);
-            let answer = call(state, worker)?;
-            self.tell(state);
-            Ok(answer)
-        })
+        let mut state = self.lock();
+        state.settle()?;
+        let worker = match state.worker_of(caller) {
+            Some(worker) => worker,
+            None => self.numbered(&mut state, caller, number)?,
+        };
+        let answer = call(&mut state, worker)?;
+        self.tell(&mut state);
+        Ok(answer)
     }
 
-    // A call that was refused. While it waits, the thread may take a number or lose it.
+    // As which worker a thread calls that has no number.
     #[cold]
-    fn call_again<T>(
+    fn numbered(
         self: &Arc<Part>,
-        mut refusal: Refusal,
-        as_worker: impl Fn(&mut State, Caller) -> Result<u32, Refusal> + Copy,
-        call: impl Fn(&mut State, u32) -> Result<T, Refusal> + Copy,
-    ) -> Result<T, Refusal> {
-        let mut turn: u32 = 0;
-        while refusal == Refusal::BACKLOG && self.has_waited(turn) {
-            match self.call_now(as_worker, call) {
-                Err(again) => refusal = again,
-                answer => return answer,
-            }
-            turn = turn.saturating_add(1);
-        }
-        Err(refusal)
+        state: &mut State,
+        caller: Caller,
+        number: fn(&mut State, Caller) -> Result<u32, Refusal>,
+    ) -> Result<u32, Refusal> {
+        let worker = number(state, caller)?;
+        // A call that is refused from here on may have taken a number too.
+        workers::called_as(self, caller, worker);
+        Ok(worker)
     }
 
     /// By which it is told from all others of the process, also those that are gone.

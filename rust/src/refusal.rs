@@ -27,6 +27,7 @@ impl Refusal {
     }
 
     #[cold]
+    #[inline(never)]
     fn of(status: u32) -> Refusal {
         Refusal(u8::try_from(status).unwrap_or(u8::MAX))
     }

@@ -283,7 +283,7 @@ impl Registry {
     /// [`OutOfMemory`](Error::OutOfMemory).
     pub fn enter(&self, id: Id) -> Result<bool, Error> {
         let (at, id) = self.own(id)?;
-        Ok(at.enter(id)?.0)
+        Ok(at.enter(id, |is_first, _| is_first)?)
     }
 
     /// The calling thread leaves its topmost entry of a span. True where the span closed.
@@ -367,7 +367,7 @@ impl Registry {
     }
 
     /// An open span; none where no span of this registry is open with the id. What is owed and can't be done now
-    /// counts as not done.
+    /// counts as not done. [`open_span`](Registry::open_span) tells its name and its fields too.
     #[must_use]
     pub fn find(&self, id: Id) -> Option<Found> {
         let (at, id) = self.own(id).ok()?;

@@ -6,7 +6,10 @@ use crate::meta::{Fields, Id, RawId};
 use crate::part::Part;
 use crate::registry::Registry;
 use std::fmt;
+use std::hash::{Hash, Hasher};
 use std::marker::PhantomData;
+use std::mem;
+use std::ops::Deref;
 use std::sync::Arc;
 
 /// A handle of a span, which gives itself back when it is dropped: no span is leaked, and none is closed twice.
@@ -27,6 +30,8 @@ use std::sync::Arc;
 /// While something owed can't be done, ordinary calls are refused as [`Backlog`](Error::Backlog) or
 /// [`OutOfMemory`](Error::OutOfMemory), so that nothing overtakes it. To owe takes no memory: room for it is made when
 /// a handle or an entry is.
+///
+/// Handles of the same span are equal, and so are disabled ones.
 ///
 /// It may be sent to other threads and dropped there. The thread that drops the last clone is told in the lines as the
 /// worker that closed the span.
@@ -74,7 +79,7 @@ impl Span {
     ///
     /// A guard that is forgotten leaves the thread inside until it ends.
     pub fn enter(&self) -> Entered<'_> {
-        Entered::of(self.or_lost(Handle::enter))
+        Entered::of(self.or_lost(Handle::inside))
     }
 
     /// [`enter`](Span::enter), or why it is refused.
@@ -82,7 +87,40 @@ impl Span {
     /// # Errors
     /// Those of [`Registry::enter`].
     pub fn try_enter(&self) -> Result<Entered<'_>, Error> {
-        self.0.as_deref().map(Handle::enter).transpose().map(Entered::of)
+        self.0.as_deref().map(Handle::inside).transpose().map(Entered::of)
+    }
+
+    /// [`enter`](Span::enter) by a guard that owns the handle, for where there is nothing to borrow it from.
+    ///
+    /// ```
+    /// # fn main() -> Result<(), span_registry::Error> {
+    /// # let (registry, mut drain) = span_registry::Registry::builder()
+    /// #     .layer(span_registry::Layer::compact()).build()?;
+    /// use span_registry::{span, Level};
+    /// let inside = span!(registry, Level::Info, "request").entered();
+    /// inside.record(&[("user", "7")]);
+    /// let request = inside.exit();
+    /// # drop(request);
+    /// # let lines: Vec<String> = drain.lines().map(|line| line.text).collect();
+    /// # let wanted = ["new", "enter", "record", "exit", "close"];
+    /// # assert!(lines.len() == 5 && lines.iter().zip(wanted).all(|(line, kind)| line.starts_with(kind)), "{lines:?}");
+    /// # Ok(())
+    /// # }
+    /// ```
+    pub fn entered(self) -> EnteredSpan {
+        let entry = self.or_lost(Handle::enter);
+        EnteredSpan::of(self, entry)
+    }
+
+    /// [`entered`](Span::entered), or why it is refused.
+    ///
+    /// # Errors
+    /// Those of [`Registry::enter`], with the span.
+    pub fn try_entered(self) -> Result<EnteredSpan, (Span, Error)> {
+        match self.0.as_deref().map(Handle::enter).transpose() {
+            Ok(entry) => Ok(EnteredSpan::of(self, entry)),
+            Err(error) => Err((self, error)),
+        }
     }
 
     /// Runs `run` inside the span; outside of it where the entry is refused.
@@ -161,13 +199,19 @@ impl Handle {
         self.registry.id_of(self.at().part, self.id)
     }
 
-    fn enter(&self) -> Result<Entry<'_>, Error> {
-        let (is_first, worker) = self.at().enter(self.id)?;
-        Ok(Entry {
-            handle: self,
-            worker,
-            is_first,
-        })
+    fn enter(&self) -> Result<Entry, Error> {
+        Ok(self
+            .at()
+            .enter(self.id, |is_first, worker| Entry { worker, is_first })?)
+    }
+
+    fn inside(&self) -> Result<(&Handle, Entry), Error> {
+        Ok((self, self.enter()?))
+    }
+
+    fn leave(&self, entry: Entry) {
+        // Refused is only what somebody left by its id.
+        let _left_or_owed = self.at().exit_or_owe(self.id, entry.worker);
     }
 
     fn record(&self, fields: Fields<'_>) -> Result<(), Error> {
@@ -184,6 +228,20 @@ impl Drop for Handle {
     }
 }
 
+impl PartialEq for Span {
+    fn eq(&self, other: &Span) -> bool {
+        self.id() == other.id()
+    }
+}
+
+impl Eq for Span {}
+
+impl Hash for Span {
+    fn hash<H: Hasher>(&self, state: &mut H) {
+        self.id().hash(state);
+    }
+}
+
 impl fmt::Debug for Span {
     fn fmt(&self, f: &mut fmt::Formatter<'_>) -> fmt::Result {
         f.debug_tuple("Span").field(&self.id().map(Id::into_u64)).finish()
@@ -195,21 +253,21 @@ impl fmt::Debug for Span {
 /// Guards may be dropped in any order: each takes the topmost entry of its span out.
 #[must_use = "the span is left at once where its guard is dropped"]
 pub struct Entered<'a> {
-    entry: Option<Entry<'a>>,
+    inside: Option<(&'a Handle, Entry)>,
     stays_on_its_thread: PhantomData<*const ()>,
 }
 
-struct Entry<'a> {
-    handle: &'a Handle,
+#[derive(Clone, Copy)]
+struct Entry {
     worker: u32,
     is_first: bool,
 }
 
 impl<'a> Entered<'a> {
     // None where the span is disabled or the entry was lost: then it does nothing.
-    fn of(entry: Option<Entry<'a>>) -> Entered<'a> {
+    fn of(inside: Option<(&'a Handle, Entry)>) -> Entered<'a> {
         Entered {
-            entry,
+            inside,
             stays_on_its_thread: PhantomData,
         }
     }
@@ -217,23 +275,81 @@ impl<'a> Entered<'a> {
     /// Whether the thread wasn't inside of the span already. False of a disabled span, and where the entry was lost.
     #[must_use]
     pub fn is_first(&self) -> bool {
-        self.entry.as_ref().is_some_and(|entry| entry.is_first)
+        self.inside.is_some_and(|(_, entry)| entry.is_first)
     }
 }
 
 impl Drop for Entered<'_> {
     fn drop(&mut self) {
-        let Some(Entry { handle, worker, .. }) = self.entry else {
-            return;
-        };
-        // Refused is only what somebody left by its id.
-        let _left_or_owed = handle.at().exit_or_owe(handle.id, worker);
+        if let Some((handle, entry)) = self.inside {
+            handle.leave(entry);
+        }
     }
 }
 
 impl fmt::Debug for Entered<'_> {
     fn fmt(&self, f: &mut fmt::Formatter<'_>) -> fmt::Result {
-        let id = self.entry.as_ref().map(|entry| entry.handle.id().into_u64());
+        let id = self.inside.map(|(handle, _)| handle.id().into_u64());
         f.debug_tuple("Entered").field(&id).finish()
+    }
+}
+
+/// The thread is inside the span until this is dropped, and then its handle is. Otherwise it is as [`Entered`], and
+/// what a [`Span`] can be asked it can.
+#[must_use = "the span is left at once where its guard is dropped"]
+pub struct EnteredSpan {
+    span: Span,
+    // As of `Entered`.
+    entry: Option<Entry>,
+    stays_on_its_thread: PhantomData<*const ()>,
+}
+
+impl EnteredSpan {
+    fn of(span: Span, entry: Option<Entry>) -> EnteredSpan {
+        EnteredSpan {
+            span,
+            entry,
+            stays_on_its_thread: PhantomData,
+        }
+    }
+
+    /// As [`Entered::is_first`].
+    #[must_use]
+    pub fn is_first(&self) -> bool {
+        self.entry.is_some_and(|entry| entry.is_first)
+    }
+
+    /// The thread leaves the span, as by a drop, which the caller gets again.
+    #[must_use = "the handle is given back where it is dropped"]
+    pub fn exit(mut self) -> Span {
+        self.leave();
+        mem::take(&mut self.span)
+    }
+
+    fn leave(&mut self) {
+        if let (Some(handle), Some(entry)) = (&self.span.0, self.entry.take()) {
+            handle.leave(entry);
+        }
+    }
+}
+
+impl Deref for EnteredSpan {
+    type Target = Span;
+
+    fn deref(&self) -> &Span {
+        &self.span
+    }
+}
+
+impl Drop for EnteredSpan {
+    fn drop(&mut self) {
+        self.leave();
+    }
+}
+
+impl fmt::Debug for EnteredSpan {
+    fn fmt(&self, f: &mut fmt::Formatter<'_>) -> fmt::Result {
+        let entry = self.entry.and(self.span.id()).map(Id::into_u64);
+        f.debug_tuple("EnteredSpan").field(&entry).finish()
     }
 }

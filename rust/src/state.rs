@@ -1,20 +1,20 @@
 //! What lies under the lock: the proved registry, what is owed to it, and which threads have which numbers.
 #![forbid(unsafe_code)]
+mod open;
+
 use crate::level::Level;
 use crate::lost::{Lost, TARGET};
 use crate::meta::{Counts, Fields, Given, Meta, RawId, RawParent};
 use crate::notes::{known_as_written, What};
-use crate::open::Open;
 use crate::origins::{Names, Origins};
 use crate::owed::{Debt, Owed, Owing};
-use crate::packed::{reserve, Packed};
+use crate::packed::Packed;
 use crate::raw::{Core, SpanFound};
 use crate::refusal::Refusal;
 use crate::ring::Ring;
 use crate::seats::{Caller, Seats};
 use crate::site::Site;
 use crate::stamps::{Answer, Sent};
-use std::collections::HashSet;
 use std::sync::Arc;
 
 /// Says what is to be noted of a call, which may be made again: so what is captured is copied.
@@ -128,13 +128,17 @@ impl State {
         Ok(())
     }
 
-    /// As which worker the thread makes a call: by its number, or one that it takes, or as the outsider.
-    #[inline]
-    pub(crate) fn worker(&mut self, caller: Caller) -> u32 {
-        self.seats.of(caller).unwrap_or_else(|| self.seats.of_or_free(caller))
+    /// As which worker a thread without a number makes a call: by one that it takes, or as the outsider.
+    pub(crate) fn number(&mut self, caller: Caller) -> Result<u32, Refusal> {
+        Ok(self.seats.of_or_free(caller))
     }
 
-    /// The same where it takes no number, as for a drop.
+    /// As which worker it may enter a span: by a number that it takes, also an idle thread's.
+    pub(crate) fn number_to_enter(&mut self, caller: Caller) -> Result<u32, Refusal> {
+        self.seats.entering(caller)
+    }
+
+    /// As which worker a thread gives back what it drops, for which it takes no number.
     #[inline]
     pub(crate) fn worker_or_outsider(&self, caller: Caller) -> u32 {
         self.worker_of(caller).unwrap_or_else(|| self.seats.outsider())
@@ -151,35 +155,16 @@ impl State {
         self.seats.of(caller)
     }
 
-    /// As which worker the thread may enter a span: by its number, or one that it takes, also an idle thread's.
-    #[inline]
-    pub(crate) fn worker_to_enter(&mut self, caller: Caller) -> Result<u32, Refusal> {
-        self.seats.entering(caller)
-    }
-
     // A call that takes a place of the ring: where lines may be thrown away for one, they are. `what` says what is to
     // be noted of it.
     #[inline(always)]
     fn placed<T: Answer>(&mut self, what: impl Noting, call: impl Sending<T>) -> Result<T, Refusal> {
-        let sent = self.sent(what, call);
-        sent.or_else(move |refusal| self.placed_again(refusal, what, call))
-    }
-
-    // A call that was refused.
-    #[cold]
-    fn placed_again<T: Answer>(
-        &mut self,
-        mut refusal: Refusal,
-        what: impl Noting,
-        call: impl Sending<T>,
-    ) -> Result<T, Refusal> {
-        while refusal == Refusal::BACKLOG && self.ring.makes_place() {
+        loop {
             match self.sent(what, call) {
-                Err(again) => refusal = again,
+                Err(Refusal::BACKLOG) if self.ring.makes_place() => {}
                 answer => return answer,
             }
         }
-        Err(refusal)
     }
 
     // A call that may put a batch into the ring.
@@ -303,7 +288,7 @@ impl State {
         Ok(())
     }
 
-    #[inline]
+    #[inline(always)]
     pub(crate) fn enter(&mut self, worker: u32, id: RawId) -> Result<bool, Refusal> {
         self.owing.reserve_entry(worker)?;
         let first = self.placed(|_| Ok(What::Other), move |core, _| core.enter(worker, id))?;
@@ -406,66 +391,6 @@ impl State {
 
     pub(crate) fn find(&mut self, id: RawId) -> Option<SpanFound> {
         self.core.find(id)
-    }
-
-    /// Each span that is open, by ascending slot.
-    pub(crate) fn open_spans(&mut self) -> Result<Vec<Open>, Refusal> {
-        let ids = self.core.open_ids()?;
-        let mut open = Vec::new();
-        reserve(&mut open, ids.len())?;
-        for id in ids {
-            open.push(self.open_span(id)?);
-        }
-        Ok(open)
-    }
-
-    /// A span, the spans at it or below it that keep it open, and those between them and it.
-    pub(crate) fn why_open(&mut self, id: RawId) -> Result<Vec<Open>, Refusal> {
-        let mut seen = HashSet::from([id.get()]);
-        let mut open = vec![self.open_span(id.get())?];
-        for holder in self.core.holders_of(id)? {
-            let mut at = holder.id;
-            // Each span between is looked at once.
-            while seen.insert(at) {
-                let span = self.open_span(at)?;
-                at = span.found.parent;
-                open.push(span);
-            }
-        }
-        open.sort_unstable_by_key(|span| span.id.slot());
-        Ok(open)
-    }
-
-    fn open_span(&mut self, id: u64) -> Result<Open, Refusal> {
-        let id = RawId::from_u64(id).ok_or(Refusal::UNKNOWN)?;
-        let found = self.core.find(id).ok_or(Refusal::UNKNOWN)?;
-        // All workers' stacks are looked through, so not for a span that none is inside of.
-        let mut inside = if found.entries > 0 {
-            self.core.workers_inside(id)?
-        } else {
-            Vec::new()
-        };
-        inside.iter_mut().for_each(|worker| *worker += self.first_worker);
-        let details = self.origins.details(id)?.ok_or(Refusal::UNKNOWN)?;
-        Ok(Open {
-            id,
-            found,
-            details,
-            inside,
-        })
-    }
-
-    /// Tells of these that they are open, as the outsider, up to the first for which the ring has no room. How many.
-    pub(crate) fn tell_open(&mut self, part: u32, spans: &[Open]) -> Result<usize, Refusal> {
-        for (told, span) in spans.iter().enumerate() {
-            let fields = span.fields(part);
-            let fields: Vec<(&str, &str)> = fields.iter().map(|(key, value)| (*key, &**value)).collect();
-            match self.tell_of_itself("open", &fields) {
-                Err(Refusal::BACKLOG) => return Ok(told),
-                told => told?,
-            }
-        }
-        Ok(spans.len())
     }
 
     /// Whether some layer admits it: the proved registry's own answer.

@@ -110,7 +110,6 @@ fn looked_up(part: &Arc<Part>) -> Caller {
 }
 
 /// The call was made as this worker.
-#[inline]
 pub(crate) fn called_as(part: &Arc<Part>, caller: Caller, worker: u32) {
     if caller.last != worker && caller.may_own() {
         keep(part, Caller { last: worker, ..caller });

@@ -10,8 +10,75 @@ use std::fmt;
 use std::io::{self, Write};
 use std::panic::{catch_unwind, resume_unwind, AssertUnwindSafe};
 use std::sync::atomic::{AtomicBool, Ordering};
-use std::sync::Arc;
+use std::sync::{Arc, Condvar, Mutex, MutexGuard, PoisonError};
 use std::thread::{self, Builder, JoinHandle};
+
+/// What is asked of a thread that writes, and how far it is.
+#[derive(Default)]
+pub(crate) struct Asked {
+    is_stopped: AtomicBool,
+    // Whether a flush was asked for since the thread last looked. It changes under the lock.
+    is_flush: AtomicBool,
+    progress: Mutex<Progress>,
+    has_changed: Condvar,
+}
+
+#[derive(Default)]
+struct Progress {
+    // How many flushes were asked for, and how many of them, the first ones, are done.
+    asked: u64,
+    done: u64,
+    // Whether none will be done any longer, and whether that is for a failure.
+    is_over: bool,
+    has_failed: bool,
+}
+
+impl Asked {
+    /// Whether there is anything to be done but to write what comes.
+    pub(crate) fn is_something(&self) -> bool {
+        self.is_stopped() || self.is_flush.load(Ordering::Acquire)
+    }
+
+    pub(crate) fn is_stopped(&self) -> bool {
+        self.is_stopped.load(Ordering::Acquire)
+    }
+
+    /// How many flushes were asked for so far; none where all of them are done.
+    pub(crate) fn flushes(&self) -> Option<u64> {
+        let progress = self.progress();
+        self.is_flush.store(false, Ordering::Release);
+        (progress.done < progress.asked).then_some(progress.asked)
+    }
+
+    /// So many of the flushes, the first ones, are done.
+    pub(crate) fn are_done(&self, flushes: u64) {
+        self.progress().done = flushes;
+        self.has_changed.notify_all();
+    }
+
+    fn ends(&self, has_failed: bool) {
+        let mut progress = self.progress();
+        (progress.is_over, progress.has_failed) = (true, has_failed);
+        self.has_changed.notify_all();
+    }
+
+    fn progress(&self) -> MutexGuard<'_, Progress> {
+        self.progress.lock().unwrap_or_else(PoisonError::into_inner)
+    }
+
+    // Asks for a flush and waits for it. Whether it was done, or nothing was left to be flushed.
+    fn flush(&self) -> bool {
+        let mut progress = self.progress();
+        progress.asked += 1;
+        let number = progress.asked;
+        self.is_flush.store(true, Ordering::Release);
+        while progress.done < number && !progress.is_over {
+            let changed = self.has_changed.wait(progress);
+            progress = changed.unwrap_or_else(PoisonError::into_inner);
+        }
+        !progress.has_failed
+    }
+}
 
 /// A thread writes the lines as they come, until this is dropped. By then all lines of the calls that were accepted
 /// before are written and flushed, whatever spans are still open and whatever other threads go on to do, unless a
@@ -25,7 +92,7 @@ use std::thread::{self, Builder, JoinHandle};
 #[must_use = "the writer ends where its guard is dropped"]
 pub struct Guard {
     parts: Parts,
-    is_stopped: Arc<AtomicBool>,
+    asked: Arc<Asked>,
     writing: Option<JoinHandle<io::Result<u64>>>,
 }
 
@@ -40,7 +107,34 @@ impl Guard {
         &self.parts
     }
 
-    /// As a drop, and answers how many lines were written, or what a write or a flush failed with. Lines that are
+    /// Waits until all lines of the calls that were accepted before are written and flushed, and the writer goes on.
+    /// Call it where nothing is held that the writer waits for. Want of memory is told by [`finish`](Guard::finish).
+    ///
+    /// # Errors
+    /// Where a write or a flush failed or panicked, now or before, which [`finish`](Guard::finish) tells, and where the
+    /// writer itself calls it.
+    ///
+    /// ```
+    /// # fn main() -> Result<(), Box<dyn std::error::Error>> {
+    /// use span_registry::{event, Layer, Level, Registry};
+    /// let (registry, guard) = Registry::builder().layer(Layer::compact()).spawn_writer(std::io::stdout())?;
+    /// event!(registry, Level::Info, "that line is out");
+    /// guard.flush()?;
+    /// # Ok(())
+    /// # }
+    /// ```
+    pub fn flush(&self) -> io::Result<()> {
+        if self.writing.as_ref().is_some_and(is_this_thread) {
+            return Err(io::Error::other("the writer can't wait for itself"));
+        }
+        if self.asked.flush() {
+            Ok(())
+        } else {
+            Err(io::Error::other("the writer failed"))
+        }
+    }
+
+    /// The end of the writer, as a drop. It answers how many lines were written, or what a write or a flush failed with. Lines that are
     /// missing for want of memory are a failure of the kind [`OutOfMemory`](io::ErrorKind::OutOfMemory).
     ///
     /// # Errors
@@ -51,13 +145,17 @@ impl Guard {
     }
 
     fn stop(&mut self) -> io::Result<u64> {
-        self.is_stopped.store(true, Ordering::Release);
+        self.asked.is_stopped.store(true, Ordering::Release);
         // The writer itself, which may have come to own this, doesn't wait for its own end.
         let writing = self.writing.take();
-        let others = writing.filter(|writing| writing.thread().id() != thread::current().id());
+        let others = writing.filter(|writing| !is_this_thread(writing));
         let ended = others.map_or(Ok(Ok(0)), JoinHandle::join);
         ended.unwrap_or_else(|_| Err(io::Error::other("the writer panicked")))
     }
+}
+
+fn is_this_thread(writing: &JoinHandle<io::Result<u64>>) -> bool {
+    writing.thread().id() == thread::current().id()
 }
 
 impl Drop for Guard {
@@ -74,23 +172,25 @@ impl Drain {
     /// # Errors
     /// Where no thread can be made; the drain is gone then.
     pub fn spawn<W: Write + Send + 'static>(self, out: W) -> io::Result<Guard> {
-        let is_stopped = Arc::new(AtomicBool::new(false));
-        let (stop, parts) = (Arc::clone(&is_stopped), self.parts().clone());
-        let run = move || written(self, out, &stop);
+        let asked = Arc::new(Asked::default());
+        let (asked_there, parts) = (Arc::clone(&asked), self.parts().clone());
+        let run = move || written(self, out, &asked_there);
         let writing = Builder::new().name("span-registry-writer".to_owned()).spawn(run)?;
         Ok(Guard {
             parts,
-            is_stopped,
+            asked,
             writing: Some(writing),
         })
     }
 }
 
 // What `finish` answers.
-fn written(mut drain: Drain, mut out: impl Write, stop: &AtomicBool) -> io::Result<u64> {
-    let ended = catch_unwind(AssertUnwindSafe(|| drain.run_until(&mut out, stop)));
-    if !matches!(ended, Ok(Ok(_))) {
-        let _thrown_away = drain.run_until(&mut io::sink(), stop);
+fn written(mut drain: Drain, mut out: impl Write, asked: &Asked) -> io::Result<u64> {
+    let ended = catch_unwind(AssertUnwindSafe(|| drain.run_asked(&mut out, asked)));
+    let has_failed = !matches!(ended, Ok(Ok(_)));
+    asked.ends(has_failed);
+    if has_failed {
+        let _thrown_away = drain.run_until(&mut io::sink(), &asked.is_stopped);
     }
     let lines = ended.unwrap_or_else(|panic| resume_unwind(panic))?;
     match drain.counts().missed {

@@ -1,5 +1,5 @@
 //! The text by which a layer's targets are chosen.
-use span_registry::{Level, Targets};
+use span_registry::{Level, ParseError, Targets};
 
 fn pairs(text: &str) -> Result<Vec<(String, Level)>, String> {
     let targets: Targets = text
@@ -89,4 +89,115 @@ fn off_is_said_where_it_says_something() {
     // What would be below is off itself, or decided by a later directive of the same prefix.
     assert_eq!(pairs("a=info,a=off,ab=off"), Ok(vec![]));
     assert_eq!(pairs("info,ab=off,ab=warn").map(|pairs| pairs.len()), Ok(2));
+}
+
+/// What the strict reading answers, where it is another than the usual one's.
+fn refused(text: &str) -> Option<String> {
+    let (usual, strict) = (text.parse::<Targets>(), Targets::parse_strict(text));
+    assert!(usual.is_ok(), "{text:?}");
+    let refused = strict.as_ref().err().map(ParseError::to_string);
+    assert!(refused.is_some() || strict == usual, "{text:?}");
+    refused
+}
+
+#[test]
+fn a_misspelt_level_is_refused_by_the_strict_reading() {
+    let table = [
+        ("info", ["inof", "nfo", "inffo", "Ifno"]),
+        ("warn", ["wran", "war", "warns", "ward"]),
+        ("error", ["eror", "erorr", "errror", "terror"]),
+        ("debug", ["dbug", "debgu", "DEBUGS", "debut"]),
+        ("trace", ["trac", "tarce", "tracer", "grace"]),
+        ("off", ["of", "fof", "offf", "oft"]),
+        ("5", ["6", "10", "00", "99"]),
+    ];
+    for (level, words) in table {
+        for word in words {
+            let wanted = format!("directive `{word}`: is it `{level}`? A target of that name is `{word}=trace`");
+            for text in [word.to_owned(), format!("app=info, {word} ,x=off")] {
+                assert_eq!(refused(&text), Some(wanted.clone()));
+            }
+            assert_eq!(refused(&format!("{word}=trace,{word}::db=5")), None);
+        }
+    }
+}
+
+#[test]
+fn the_strict_reading_takes_what_else_the_usual_one_takes() {
+    let words = [
+        "app",
+        "db",
+        "io",
+        "tree",
+        "warning",
+        "fo",
+        "informs",
+        "wanr_x",
+        "\u{ef}nfoo",
+        "a",
+        "5a",
+        "web::inof",
+    ];
+    let levels = [
+        "info",
+        "WARN",
+        "off",
+        "0",
+        "5",
+        "app=info,app::db=trace,warn",
+        "app=1,lib",
+    ];
+    for text in words.into_iter().chain(levels) {
+        assert_eq!(refused(text), None, "{text:?}");
+    }
+    for text in ["", "app=loud", "inof=", "info,app=off", "[inof]"] {
+        assert_eq!(Targets::parse_strict(text), text.parse(), "{text:?}");
+    }
+}
+
+#[test]
+fn the_text_of_targets_is_read_to_the_same_by_both() -> Result<(), ParseError> {
+    let prefixes = ["", "app", "app::db", "inof", "trace", "6"];
+    let pairs = || {
+        prefixes
+            .into_iter()
+            .flat_map(|prefix| Level::ALL.map(|level| (prefix, level)))
+    };
+    for (one, other) in pairs().flat_map(|one| pairs().map(move |other| (one, other))) {
+        let targets = Targets::from_iter([one, other]);
+        let text = targets.to_string();
+        assert_eq!(
+            (text.parse()?, Targets::parse_strict(&text)?),
+            (targets.clone(), targets)
+        );
+    }
+    assert_eq!(Targets::new().to_string().parse(), Ok(Targets::new()));
+    Ok(())
+}
+
+#[test]
+fn levels_are_read() {
+    for (level, number) in Level::ALL.into_iter().zip(1..) {
+        let name = level.to_string();
+        let mixed = format!("{}{}", &name[..1], name[1..].to_lowercase());
+        for text in [name.to_lowercase(), name, mixed, number.to_string()] {
+            assert_eq!(text.parse(), Ok(level), "{text:?}");
+        }
+    }
+    for text in [
+        "",
+        "0",
+        "6",
+        "01",
+        "+1",
+        " info",
+        "inof",
+        "off",
+        "warning",
+        "\u{131}nfo",
+    ] {
+        let error = text.parse::<Level>().expect_err(text).to_string();
+        let wanted = format!("no such level: {text:?} isn't error, warn, info, debug, trace or 1 to 5");
+        assert_eq!(error, wanted);
+    }
 }

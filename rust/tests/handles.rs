@@ -3,6 +3,8 @@ mod common;
 
 use common::{assert_empty, compact, id, span, texts, Ids};
 use span_registry::{Callsite, Drain, Entered, Error, Parent, Registry, Span};
+use std::collections::hash_map::DefaultHasher;
+use std::hash::{BuildHasher, BuildHasherDefault};
 use std::panic::{catch_unwind, AssertUnwindSafe};
 use std::thread;
 
@@ -28,6 +30,25 @@ fn clones_share_one_handle() -> Result<(), Error> {
     drop(clones);
     assert_eq!(texts(&mut drain), ["new 1 w0 a", "close 1 w0 a"]);
     assert_empty(&registry);
+    Ok(())
+}
+
+#[test]
+fn handles_of_the_same_span_are_equal() -> Result<(), Error> {
+    let (registry, _drain) = compact().build()?;
+    let (other, _of_other) = compact().build()?;
+    let (a, b) = (span(&registry, "a"), span(&registry, "a"));
+    let of_other = span(&other, "a");
+    assert_eq!(of_other.id().map(|id| id.into_u64()), a.id().map(|id| id.into_u64()));
+    assert_eq!((&a.clone(), &a.try_clone()?), (&a, &a));
+    assert_eq!((Span::none(), Span::none()), (Span::none(), Span::default()));
+    let others = [b, of_other, Span::none()];
+    assert!(others.iter().all(|other| *other != a));
+    let hasher = BuildHasherDefault::<DefaultHasher>::default();
+    let hash = |span: &Span| hasher.hash_one(span);
+    assert_eq!(hash(&a), hash(&a.try_clone()?));
+    assert_eq!(hash(&Span::none()), hash(&Span::default()));
+    assert!(others.iter().all(|other| hash(other) != hash(&a)));
     Ok(())
 }
 

@@ -80,6 +80,36 @@ fn names_and_targets_of_any_length_are_told() -> Result<(), Error> {
 }
 
 #[test]
+fn one_span_is_told_as_among_all() -> Result<(), Error> {
+    let (registry, _drain) = compact().workers(2).parts(2).build()?;
+    let a = span!(registry, target: "t", Level::Warn, "a", n = 1);
+    let b = registry.span(&info("b"), Parent::from(&a), &[("k", "v")])?;
+    b.record(&[("l", "w")]);
+    let other = thread::scope(|scope| scope.spawn(|| by_meta(&registry, "other")).join()).expect("no panic");
+    let _inside = (a.enter(), b.enter());
+    let open = registry.open_spans()?;
+    assert_eq!(open.len(), 3);
+    for span in &open {
+        assert_eq!(registry.open_span(span.id).as_ref(), Ok(span));
+    }
+    let told = registry.open_span(b.id().expect("wanted"))?;
+    assert_eq!(
+        (&*told.name, &*told.target, told.level, told.parent),
+        ("b", "app", Level::Info, a.id())
+    );
+    let fields = [("k", "v"), ("l", "w")].map(|(key, value)| (key.to_owned(), value.to_owned()));
+    assert_eq!(
+        (told.fields.as_slice(), told.handles, told.entries),
+        (&fields[..], 1, 1)
+    );
+    let gone = other.id().expect("wanted");
+    drop(other);
+    assert_eq!(registry.open_span(gone), Err(Error::Unknown));
+    assert_eq!(registry.open_span(registry.id(77).expect("not 0")), Err(Error::Unknown));
+    Ok(())
+}
+
+#[test]
 fn many_threads_inside_a_span_are_told_by_their_numbers() -> Result<(), Error> {
     const THREADS: u32 = 40;
     let (registry, _drain) = Registry::builder().workers(THREADS).build()?;

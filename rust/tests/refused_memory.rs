@@ -144,6 +144,8 @@ fn run(registry: Registry, drain: &mut Drain) -> Calls {
     let open = calls.make(|registry| registry.open_spans());
     let why = calls.make(|registry| registry.why_open(id(registry, 1)));
     assert_eq!((open.len(), why.len()), (2, 2));
+    let of_b = calls.make(|registry| registry.open_span(id(registry, 2)));
+    assert_eq!((&*of_b.name, of_b.fields.len()), ("b", 1));
     calls.drop(in_b);
     calls.drop(own);
     calls.drop(in_a);

@@ -4,7 +4,7 @@ mod common;
 use common::{assert_empty, compact, span};
 use span_registry::{event, span, try_event, FmtSpan, Guard, Layer, Level, Registry, RegistryBuilder, Targets};
 use std::io::{self, Write};
-use std::sync::atomic::{AtomicBool, Ordering};
+use std::sync::atomic::{AtomicBool, AtomicU32, Ordering};
 use std::sync::{Arc, Mutex};
 use std::thread;
 use std::time::Duration;
@@ -224,6 +224,110 @@ fn a_writer_may_drop_its_own_guard() -> Result<(), AnyError> {
         thread::sleep(Duration::from_millis(5));
     }
     panic!("the writer didn't end");
+}
+
+#[test]
+fn a_flush_waits_for_the_lines_before_it_and_ends_nothing() -> Result<(), AnyError> {
+    let paper = Paper {
+        delay: Duration::from_micros(200),
+        ..Paper::default()
+    };
+    let (registry, guard) = compact().ring(8).spawn_writer(paper.clone())?;
+    for flush in 1..=20 {
+        (0..10).for_each(|number| event!(registry, Level::Info, "{flush}.{number}"));
+        guard.flush()?;
+        let text = paper.flushed();
+        assert_eq!(text.lines().count(), 10 * flush);
+        assert!(text.ends_with(&format!("event 0 w0 - INFO {flush}.9\n")), "{text}");
+    }
+    // With nothing to be written.
+    guard.flush()?;
+    drop(registry);
+    thread::sleep(Duration::from_millis(20));
+    guard.flush()?;
+    assert_eq!(guard.finish()?, 200);
+    Ok(())
+}
+
+#[test]
+fn flushes_of_several_threads_end_though_others_go_on() -> Result<(), AnyError> {
+    let paper = Paper::default();
+    let (registry, guard) = Registry::builder()
+        .workers(8)
+        .parts(2)
+        .layer(Layer::compact())
+        .spawn_writer(paper.clone())?;
+    let (is_over, flushing) = (AtomicBool::new(false), AtomicU32::new(4));
+    thread::scope(|scope| {
+        for _ in 0..2 {
+            scope.spawn(|| {
+                while !is_over.load(Ordering::Relaxed) {
+                    span!(registry, Level::Info, "a").in_scope(|| event!(registry, Level::Info, "m"));
+                }
+            });
+        }
+        for thread in 0..4 {
+            let (registry, guard, paper, flushing, is_over) = (&registry, &guard, &paper, &flushing, &is_over);
+            scope.spawn(move || {
+                let are_out = (0..10).all(|flush| {
+                    event!(registry, Level::Info, "of {thread}.{flush}.");
+                    guard.flush().is_ok() && paper.flushed().contains(&format!("INFO of {thread}.{flush}.\n"))
+                });
+                // (the others end first, whatever the outcome)
+                if flushing.fetch_sub(1, Ordering::Relaxed) == 1 {
+                    is_over.store(true, Ordering::Relaxed);
+                }
+                assert!(are_out);
+            });
+        }
+    });
+    guard.finish()?;
+    assert_empty(&registry);
+    Ok(())
+}
+
+#[test]
+fn a_flush_tells_that_the_writer_failed() -> Result<(), AnyError> {
+    for panics in [false, true] {
+        let (registry, guard) = compact().spawn_writer(Failing { panics })?;
+        guard.flush()?;
+        event!(registry, Level::Info, "m");
+        assert_eq!(guard.flush().expect_err("it fails").to_string(), "the writer failed");
+        assert_eq!(guard.flush().expect_err("it failed").to_string(), "the writer failed");
+        drop(guard);
+    }
+    Ok(())
+}
+
+/// Flushes the guard of its own thread while it writes.
+struct Flushing(Arc<Mutex<Option<Guard>>>);
+
+impl Write for Flushing {
+    fn write(&mut self, bytes: &[u8]) -> io::Result<usize> {
+        if let Some(guard) = self.0.lock().expect("no panic").take() {
+            let refused = guard.flush().expect_err("it can't");
+            assert_eq!(refused.to_string(), "the writer can't wait for itself");
+        }
+        Ok(bytes.len())
+    }
+
+    fn flush(&mut self) -> io::Result<()> {
+        Ok(())
+    }
+}
+
+#[test]
+fn a_writer_can_not_flush_itself() -> Result<(), AnyError> {
+    let shelf = Arc::new(Mutex::new(None));
+    let (registry, guard) = compact().spawn_writer(Flushing(Arc::clone(&shelf)))?;
+    *shelf.lock().expect("no panic") = Some(guard);
+    event!(registry, Level::Info, "m");
+    while Arc::strong_count(&shelf) > 1 {
+        thread::sleep(Duration::from_millis(5));
+    }
+    let was_asked = shelf.lock().map(|guard| guard.is_none());
+    assert!(was_asked.expect("no panic there"));
+    Ok(())
 }
 
 #[test]
