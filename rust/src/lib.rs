@@ -21,7 +21,6 @@ mod interest;
 mod json;
 mod kind;
 mod level;
-mod lock;
 mod lost;
 mod macros;
 mod meta;

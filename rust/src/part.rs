@@ -1,7 +1,6 @@
 //! A part of a registry: its lock, and what may be asked without it.
 #![forbid(unsafe_code)]
 use crate::interest::Interest;
-use crate::lock::lock;
 use crate::lost::{Losses, Lost};
 use crate::owed::Debt;
 use crate::refusal::Refusal;
@@ -126,7 +125,7 @@ impl Part {
 
     #[inline(always)]
     fn lock(&self) -> MutexGuard<'_, State> {
-        lock(&self.state)
+        self.state.lock().unwrap_or_else(PoisonError::into_inner)
     }
 
     /// Makes a call until it isn't refused for want of a place, where the registry waits for the drain.
