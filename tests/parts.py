@@ -74,8 +74,6 @@ PARTS = [
          "python3 tests/refused_memory.py --program {tracerun} --hostile-use {hostile_use}"),
     Part("each growth of further calls refused", "hostile_use",
          "python3 tests/refused_calls.py --hostile-use {hostile_use}"),
-    Part("the commands in the pages, on the programs", "tracerun workloads span_benchmark",
-         "python3 tests/run_commands.py programs"),
     Part("the C interface", "span_ffi valgrind", "python3 tests/c_interface.py --library {span_ffi}"),
     Part("the C interface of the store", "span_store_ffi valgrind",
          "python3 tests/c_store.py --library {span_store_ffi}"),
@@ -83,8 +81,6 @@ PARTS = [
          "python3 tests/tracing.py --library {span_store_ffi} --registry-library {span_ffi}"),
     Part("the Rust package", "span_ffi cargo",
          "env SPAN_REGISTRY_LIB={library} CARGO_TARGET_DIR={room}/target rust/test"),
-    Part("the commands in the pages, on the libraries", "span_ffi span_store_ffi",
-         "python3 tests/run_commands.py libraries"),
 ]
 # (an archive of nothing stands for the library, which these tests don't call)
 RUST_ALONE = """sh -c 'mkdir {room}/nothing && echo "!<arch>" > {room}/nothing/libspan_ffi.a &&
@@ -96,7 +92,7 @@ QUICK = [
     Part("the Rust package without its library", "cargo", RUST_ALONE, "rust"),
 ]
 # What parts need of crates.
-BUILT = {it: TOP / f"crates/{it}/out/{it}" for it in ("tracerun", "hostile_use", "workloads", "span_benchmark")}
+BUILT = {it: TOP / f"crates/{it}/out/{it}" for it in ("tracerun", "hostile_use")}
 BUILT.update({it: TOP / f"crates/{it}/out/lib{it}.a" for it in LIBRARIES})
 
 

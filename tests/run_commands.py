@@ -9,7 +9,7 @@ Each command that page_commands.py finds is one of these, and each of these is i
   commit of the start, isn't run, and that is said.
 - BESIDE: what another part of `./check` runs.
 - What begins with `rt` is the toolchain's own, and has to be a word of `rt help`. A file's name alone is no command.
-With --only those are run that have the word. The last line is 'N passed, M failed'.
+With --only those are run that have the word. It is no part of `./check`. The last line is 'N passed, M failed'.
 """
 import argparse
 import os
