@@ -63,8 +63,8 @@ PROGRAMS = {
     "workloads soak WORKERS PLACES ROUNDS SEED": Run("crates/workloads/out/workloads soak 2 4 1000 1", "missed 0\n"),
     "git clone . /tmp/old && git -C /tmp/old checkout ce2d9ee": Run(
         f"git clone -q {TOP} $ROOM/old && git -C $ROOM/old checkout -q {START}", needs=START),
-    "cp -r bench /tmp/old/ && cp -r crates/span_benchmark /tmp/old/crates/": Run(
-        "cp -r bench $ROOM/old/ && cp -r crates/span_benchmark/src $ROOM/old/crates/", needs=START),
+    "cp -r bench /tmp/old/ && git -C /tmp/old checkout f8efeba1~ crates/span_benchmark": Run(
+        "cp -r bench $ROOM/old/ && git -C $ROOM/old checkout -q f8efeba1~ crates/span_benchmark", needs=START),
     "grep ^span_benchmark crates.txt >> /tmp/old/crates.txt": Run(
         "grep ^span_benchmark crates.txt >> $ROOM/old/crates.txt", needs=START),
     "bench/run /tmp/old . 1": TWO_BUILDS,
