@@ -5,13 +5,14 @@ usage: figures.py [--write]
 
 bench/figures/NAME.json says when something was measured, where, on which commit, by what command and who says so, and
 what came out: records in `rows`, or numbers by their names in `values`. What isn't known of it is `not known`, but for
-the commit; a figure that is taken from a page has that of the page, and the toolchain that README named with it.
+the commit.
 - `table` has the columns of a table of the rows: of each its head (a blank after it makes it another one), and its
   cells as Python's `format` writes them. A cell whose value a row hasn't is empty. The table stands in a page between
   `<!-- figures NAME -->` and `<!-- end -->`, with a line that says where it comes from.
 - `says` has for each page the texts in which values stand there, written likewise; none for one that has a picture.
+- `from` stands in a file whose figures past_figures.py takes from a page of an earlier commit.
 
-What measures writes such a file by `record`, which keeps `table` and `says`. With --write the pages get what the files
+What measures writes any other by `record`, which keeps `table` and `says`. With --write the pages get what the files
 say; without it they are compared. No other figure may stand in a page, but for those in NOT_MEASURED: no table with a
 column of numbers, no cell that is a number, no number with a point, and none with a unit that is measured, be it in
 words. The last line is 'N passed, M failed'.
@@ -31,6 +32,7 @@ from pages import FIGURES, TOP, prose, read_pages
 
 FOLDER = TOP / "bench/figures"
 SOURCE = ("date", "machine", "processors", "commit", "toolchain", "command", "source")
+MEASURED = "measured by this command"
 NUMBERS = re.compile(r"^\|[-:| ]*-:[-:| ]*$", flags=re.M)
 FIGURE = re.compile(
     r"(?<![\w.,/^-])\d[\d,]*(?:\.\d+)? ?(?:ns|ms|s|%|MB|GB|min|minutes?|hours?|seconds?|times|instructions)(?!\w)"
@@ -64,8 +66,8 @@ def machine():
     return names[0] if names else platform.machine()
 
 
-def record(name, rows=(), values=None, at=TOP, beside=None):
-    """Writes a file of what the running script measured of a checkout, or of it beside another one."""
+def record(name, rows=(), values=None, at=TOP, beside=None, how=""):
+    """Writes a file of what the running script measured of a checkout, or of it beside another one, and how."""
     path = FOLDER / f"{name}.json"
     before = json.loads(path.read_text(encoding="utf-8")) if path.exists() else {}
     others = [":!bench/figures", ":!*.md", ":!*.svg"]  # a run's second file finds its first one changed
@@ -76,7 +78,7 @@ def record(name, rows=(), values=None, at=TOP, beside=None):
     data = {
         "date": datetime.date.today().isoformat(), "machine": machine(), "processors": os.cpu_count(),
         "commit": commit, "toolchain": said_by("rt", "version"),
-        "command": shlex.join([script, *sys.argv[1:]]), "source": "measured by this command",
+        "command": shlex.join([script, *sys.argv[1:]]), "source": MEASURED + how,
         "values": values or {}, "rows": list(rows), "table": before.get("table", {}), "says": before.get("says", {}),
     }
     FOLDER.mkdir(exist_ok=True)
@@ -141,6 +143,8 @@ def sources(figures, pages):
         data = figures.get(name, {})
         yield all(data.get(it) for it in SOURCE), f"bench/figures/{name}.json doesn't say each of {', '.join(SOURCE)}"
         yield data.get("commit") != "not known", f"bench/figures/{name}.json doesn't say of which commit"
+        is_scripts = "from" in data or data.get("source", "").startswith(MEASURED)
+        yield is_scripts, f"no script wrote bench/figures/{name}.json"
         told = {it for texts in data.get("says", {}).values() for text in texts for it in names_in(text)}
         told |= {it for text in data.get("table", {}).values() for it in names_in(text)}
         had = {*data.get("values", {})}.union(*data.get("rows", []))
