@@ -1,9 +1,12 @@
 #!/usr/bin/env python3
-"""Runs `./check` in a small clone, with a command rt that proves nothing, and parts that only say that they passed.
+"""Runs `./check` in a small clone, with a command rt that proves nothing, and parts that only say that they passed; and
+bench/gate.py, which measures it.
 
 usage: check_itself.py
 Each row compares how a run ends, and what it says. The last line is 'N passed, M failed'.
 """
+import contextlib
+import io
 import os
 import re
 import shutil
@@ -11,8 +14,13 @@ import signal
 import subprocess
 import sys
 import tempfile
+from unittest.mock import patch
 
+from figures import names_in, read_figures
 from parts import LIBRARIES, PARTS, QUICK, TOP
+
+sys.path.insert(0, str(TOP / "bench"))
+import gate  # noqa: E402
 
 WAITS = {"tracerun": 2, "hostile_use": 29, "workloads": 42, "span_benchmark": 36}
 CRATES = "low: # the lowest\n" + "".join([*(f"{name} may_wait={number}: low\n" for name, number in WAITS.items()),
@@ -20,7 +28,7 @@ CRATES = "low: # the lowest\n" + "".join([*(f"{name} may_wait={number}: low\n" f
 LISTED = {"low": 0, **WAITS, **dict.fromkeys(LIBRARIES, 0)}
 # What it prints as rt ci is in a file; the programs that it makes are in the variable MAKES.
 FAKE_RT = """#!/bin/sh
-echo "$1 in ${PWD##*/}" >> "$FAKE/calls"
+echo "$* in ${PWD##*/}" >> "$FAKE/calls"
 case $1 in
     ci) cat "$FAKE/ci"
         for name in $MAKES; do mkdir -p crates/$name/out && touch crates/$name/out/$name; done
@@ -54,7 +62,8 @@ class Clone:
             self.write(f"{self.at}/{script}", PASSES)
         self.write(f"{self.at}/crates.txt", CRATES)
         for name in LISTED:
-            os.makedirs(f"{self.at}/crates/{name}")
+            os.makedirs(f"{self.at}/crates/{name}/must-fail")
+            self.write(f"{self.at}/crates/{name}/must-fail/low.edit", "")
         self.write(f"{self.at}/rust/test", "#!/bin/sh\necho 4 passed, 0 failed\n")
         for name, text in (("rt", FAKE_RT), ("valgrind", ""), ("cargo", "")):
             self.write(f"{folder}/bin/{name}", text or "#!/bin/sh\n")
@@ -65,15 +74,18 @@ class Clone:
             file.write(text)
         os.chmod(path, 0o755)
 
-    def start(self, *words, said=None, makes=ALL, status=0, hangs="", path=None):
-        for name in LISTED:
-            shutil.rmtree(f"{self.at}/crates/{name}/out", ignore_errors=True)
+    def places(self, said=None, makes=ALL, status=0, hangs="", path=None):
+        """The environment in which the command rt says and does so."""
         self.write(f"{self.fake}/ci", said or ci())
         self.write(f"{self.fake}/calls", "")
-        env = {**os.environ, "PATH": path or self.path, "FAKE": self.fake, "TMPDIR": self.room, "MAKES": makes,
-               "STATUS": str(status), "HANGS": hangs}
-        return subprocess.Popen([f"{self.at}/check", *words], env=env, stdout=subprocess.PIPE, stderr=subprocess.STDOUT,
-                                encoding="utf-8")
+        return {**os.environ, "PATH": path or self.path, "FAKE": self.fake, "TMPDIR": self.room, "MAKES": makes,
+                "STATUS": str(status), "HANGS": hangs}
+
+    def start(self, *words, **how):
+        for name in LISTED:
+            shutil.rmtree(f"{self.at}/crates/{name}/out", ignore_errors=True)
+        return subprocess.Popen([f"{self.at}/check", *words], env=self.places(**how), stdout=subprocess.PIPE,
+                                stderr=subprocess.STDOUT, encoding="utf-8")
 
     def run(self, *words, **how):
         """The status, the last line and all that was said."""
@@ -148,6 +160,9 @@ def others(rows, clone):
     found = clone.run("--quick")
     rows.wants("what needs no proof", found, 0, f"{4 * len(QUICK)} passed, 0 failed", "nothing was proved")
     rows.wants("what needs no proof: the calls of rt", (0, "", str(clone.calls())), 0, "", "[]")
+    found = clone.run("--anew")
+    rows.wants("no earlier proof: the call of rt", (found[0], "", clone.calls()[0]), 0, "", "ci --anew in clone")
+    rows.wants("no such option", clone.run("--old"), 2, "check: there is no crate --old")
     rows.wants("named crates", clone.run("low", "tracerun"), 0, "2 passed, 0 failed")
     wanted = "['check in low', 'test in low', 'check in tracerun', 'test in tracerun']"
     rows.wants("named crates: the calls", (0, "", str(clone.calls())), 0, "", wanted)
@@ -161,9 +176,30 @@ def others(rows, clone):
     rows.wants("broken off: nothing is left", found, 143, "[]")
 
 
+def measured(rows, clone):
+    for words in ("init -q", "add .", "-c user.name=a -c user.email=a@example.org commit -q -m a"):
+        subprocess.run(["git", "-C", clone.at, *words.split()], check=True)
+    for name, how, wanted in (("all proved", {}, 0), ("a failure", {"said": ci(last="5 passed, 2 failed"), "status": 1}, 1),
+                              ("an earlier proof", {"said": ci(kept=["low"])}, 0)):
+        found, said = {}, io.StringIO()
+        with patch.dict(os.environ, clone.places(**how)), contextlib.redirect_stdout(said), contextlib.redirect_stderr(said):
+            status = gate.measured(clone.at, lambda name, values, _: found.update({name: values}))
+        rows.wants(f"measured: {name}, the status", (status, "", said.getvalue()), wanted, "", "low")
+        rows.wants(f"measured: {name}, its call", (0, "", str(clone.calls())), 0, "", "'ci --anew in clone', 'lib in")
+        if how:
+            rows.wants(f"measured: {name}, nothing is kept", (0, str(found), ""), 0, "{}")
+        else:
+            told = {it: {name for texts in read_figures()[it]["says"].values() for text in texts for name in names_in(text)}
+                    for it in ("gate", "whole-gate")}
+            rows.wants("measured: the files", (0, str(found.keys() >= told.keys()), ""), 0, "True")
+            rows.wants("measured: what pages tell", (0, str(all(told[it] <= {*found[it]} for it in told)), ""), 0, "True")
+            rows.wants("measured: edits", (found["gate"]["edits"], "", ""), len(LISTED), "")
+    rows.wants("measured: nothing is left", (0, str(os.listdir(clone.room)), ""), 0, "[]")
+
+
 def main():
     rows = Rows()
-    for part in (wholes, parts_left_out, others):
+    for part in (wholes, parts_left_out, others, measured):
         with tempfile.TemporaryDirectory() as folder:
             part(rows, Clone(folder))
     print(f"{rows.passed} passed, {rows.failed} failed")

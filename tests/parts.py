@@ -1,12 +1,12 @@
 #!/usr/bin/env python3
 """Runs all that `./check` is: `rt ci`, then `rt lib` of the static libraries, then the other parts that PARTS lists.
 
-usage: parts.py [--quick]
+usage: parts.py [--quick|--anew]
 
 A part that needs nothing begins beside `rt ci`. Those on the programs that it leaves in crates/NAME/out/ run beside
 `rt lib`, and those on the libraries after it, each kind one after the other. A part whose program or library wasn't
 made failed; one whose tool isn't on the PATH isn't run, and says so. With --quick nothing is proved, and the parts that
-QUICK lists run side by side. The last line is 'N passed, M failed', the sums of what the parts say in such a line.
+QUICK lists run side by side; with --anew `rt ci` takes no proof of an earlier run. The last line is 'N passed, M failed', the sums of what the parts say in such a line.
 `rt` proves as many crates at once as RT_JOBS says, which is set here where it isn't: one for each processor, as far as
 memory goes.
 """
@@ -48,6 +48,7 @@ ALONE = [
     Part("the pages", "", "python3 tests/pages.py"),
     Part("the commands in the pages", "", "python3 tests/page_commands.py"),
     Part("the figures in the pages", "", "python3 tests/figures.py"),
+    Part("the figures of earlier commits", "", "python3 tests/past_figures.py"),
     Part("the pictures of the pages", "", "python3 tests/pictures.py"),
     Part("the public words", "", "python3 tests/words.py"),
     Part("the list of public words", "", "python3 tests/test_words.py"),
@@ -97,13 +98,14 @@ BUILT.update({it: TOP / f"crates/{it}/out/lib{it}.a" for it in LIBRARIES})
 
 
 class Ended(NamedTuple):
-    """A part that ended: what it said, what it counted, and its seconds on the clock."""
+    """A part that ended: what it said, what it counted, and its seconds on the clock and of processors."""
 
     name: str
     lines: list
     passed: int
     failed: int
     seconds: float = 0
+    cpu: float = 0
 
 
 def jobs():
@@ -117,6 +119,16 @@ def counted(lines, status):
     found = [it for it in map(COUNTS.match, lines) if it]
     passed, failed = map(int, found[-1].groups()) if found else (0, 0)
     return passed, failed or int(status != 0 or not found)
+
+
+def end_of(process):
+    """The status of a process when it has ended, and the CPU seconds of it and of all that it waited for."""
+    try:
+        _, status, used = os.wait4(process.pid, 0)
+    except ChildProcessError:  # (it was broken off)
+        return process.wait(), 0
+    process.returncode = os.WEXITSTATUS(status) if os.WIFEXITED(status) else -os.WTERMSIG(status)
+    return process.returncode, used.ru_utime + used.ru_stime
 
 
 class Runs:
@@ -138,11 +150,11 @@ class Runs:
             lines.append(line)
             if shows:
                 print(line, end="", flush=True)
-        status = process.wait()
+        status, cpu = end_of(process)
         self.running.remove(process)
         is_library = part in LIBRARIES.values()
         counts = (int(status == 0), int(status != 0)) if is_library else counted(lines, status)
-        return Ended(part.name, lines, *counts, time.monotonic() - start)
+        return Ended(part.name, lines, *counts, time.monotonic() - start, cpu)
 
     def beside(self, parts):
         """Runs parts one after the other beside what else runs, and answers where they come, and what to wait for."""
@@ -220,11 +232,11 @@ def able(parts, built):
     return [part for part, (said, _) in why.items() if not said], left_out
 
 
-def all_parts(runs):
+def all_parts(runs, words):
     """Runs each part, and gives it when it has ended and been shown. What needs no library runs beside the others."""
     beside, thread = runs.beside([it for it in PARTS if not it.needs])
     print(f"== {GATE.name}", flush=True)
-    gate = runs.run(GATE)
+    gate = runs.run(GATE._replace(command=" ".join([GATE.command, *words])))
     proved, kept = stand_after(gate.lines)
     yield gate
     yield from map(shown, (edits_made(gate.lines), who_may_wait(proved, kept)))
@@ -274,14 +286,16 @@ def main():
         signal.signal(number, lambda number, _: sys.exit(128 + number))
     os.environ.setdefault("RT_JOBS", str(jobs()))
     start, is_quick = time.monotonic(), sys.argv[1:] == ["--quick"]
+    if sys.argv[1:] not in ([], ["--quick"], ["--anew"]):
+        sys.exit(__doc__)
     with tempfile.TemporaryDirectory(prefix="check-") as room:
         runs = Runs(room)
         try:
-            ended = list(quick_parts(runs) if is_quick else all_parts(runs))
+            ended = list(quick_parts(runs) if is_quick else all_parts(runs, sys.argv[1:]))
         finally:
             runs.end()
     for it in ended:
-        print(f"{it.name}: {it.passed} passed, {it.failed} failed, {clock(it.seconds)}")
+        print(f"{it.name}: {it.passed} passed, {it.failed} failed, {clock(it.seconds)}, {clock(it.cpu)} of processors")
     used = resource.getrusage(resource.RUSAGE_CHILDREN)
     print(f"in all {clock(time.monotonic() - start)}, and {clock(used.ru_utime + used.ru_stime)} of processors")
     if is_quick:
