@@ -39,7 +39,7 @@ COMMANDS = [
     Command("takes-longer", "timed", 1, "bench/dearer.py {old} --figures"),
     Command("scripts storms", "timed", 6, "bench/run.py --figures"),
     Command("calls chains", "timed", 5, "bench/calls.py --figures"),
-    Command("border disabled", "timed", 2, "bench/border.py --figures"),
+    Command("border disabled", "timed", 4, "bench/border.py --runs 4 --figures"),
     Command("parts", "timed", 5, "bench/parts.py --figures"),
     Command("tracing-clock", "timed", 4, "bench/tracing.py clock --figures"),
     Command("tracing", "counted", 10, "bench/tracing.py instructions --figures"),

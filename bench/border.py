@@ -7,7 +7,9 @@ cc. With --figures the same rounds are run by the Rust package and in plain Rust
 bench/figures/border.json, and what no layer wants (rust/examples/disabled) to disabled.json, from where
 tests/figures.py takes them to the pages.
 
-usage: border.py [--library FILE] [--figures]
+usage: border.py [--library FILE] [--runs N] [--figures]
+
+Of several runs the least counts.
 """
 import argparse
 import os
@@ -43,36 +45,52 @@ def said_by_example(library, name):
     return subprocess.run(words, cwd=TOP / "rust", env=places, check=True, capture_output=True, text=True).stdout
 
 
+def least(runs):
+    """The least of each number that runs tell, by what it is called."""
+    return {called: tuple(map(min, zip(*(run[called] for run in runs)))) for called in runs[0]}
+
+
+def rounds_in_c(program):
+    """Of each line that the program prints its layers, its fields and whether it is at a callsite, the cost of a round
+    and that of reading."""
+    told = subprocess.run([program], check=True, capture_output=True, text=True).stdout
+    return {tuple(called): costs for *called, cost, reading in (map(int, line.split()) for line in told.splitlines())
+            for costs in [(cost, reading)]}
+
+
 def rounds_in_rust(library):
-    """Of each line that the example prints its layers, its name, the cost of a round and that of reading."""
-    return re.findall(r"^(\d+) layers, (.*?) +(\d+) \+ +(\d+)$", said_by_example(library, "border"), flags=re.M)
+    """The same of the lines that the example prints, by their layers and their name."""
+    told = re.findall(r"^(\d+) layers, (.*?) +(\d+) \+ +(\d+)$", said_by_example(library, "border"), flags=re.M)
+    return {(int(layers), name): (int(cost), int(reading)) for layers, name, cost, reading in told}
 
 
-def record_disabled(library):
+def disabled(library):
     """The nanoseconds of each call that no layer wants."""
     told = re.findall(r"^(\w+)!?: ([\d.]+) ns$", said_by_example(library, "disabled"), flags=re.M)
-    figures.record("disabled", values={name: float(nanoseconds) for name, nanoseconds in told})
+    return {name: (float(nanoseconds),) for name, nanoseconds in told}
 
 
-def record(of_c, of_rust):
+def record(of_c, of_rust, how):
     """The figures of each number of layers and fields, and what a call costs more by the package, and by its lock."""
     rows = {}
-    for layers, fields, at_callsite, cost, reading in of_c:
+    for (layers, fields, at_callsite), (cost, reading) in of_c.items():
         row = rows.setdefault((layers, fields), {"layers": layers, "fields": fields})
         name = "c_callsite" if at_callsite else "c_ids"
         row.update({name: cost, f"{name}_reading": reading})
-    for layers, told, cost, reading in of_rust:
+    for (layers, told), (cost, reading) in of_rust.items():
         fields, name = OF_RUST[told]
-        rows[int(layers), fields].update({name: int(cost), f"{name}_reading": int(reading)})
-    least = rows[0, 0]
-    values = {"package": (least["callsite"] - least["c_callsite"]) / CALLS,
-              "lock": (least["plain"] - least["plain_no_lock"]) / CALLS}
-    figures.record("border", sorted(rows.values(), key=lambda row: (row["fields"], row["layers"])), values)
+        rows[layers, fields].update({name: cost, f"{name}_reading": reading})
+    bare = rows[0, 0]
+    values = {"package": (bare["callsite"] - bare["c_callsite"]) / CALLS,
+              "lock": (bare["plain"] - bare["plain_no_lock"]) / CALLS}
+    rows = sorted(rows.values(), key=lambda row: (row["fields"], row["layers"]))
+    figures.record("border", rows, values, how=how)
 
 
 def main():
     parser = argparse.ArgumentParser(description=__doc__.split("\n\n")[0])
     parser.add_argument("--library", type=Path, default=LIBRARY, help="the static library to measure")
+    parser.add_argument("--runs", type=int, default=1, metavar="N")
     parser.add_argument("--figures", action="store_true", help="what pages have of it goes to bench/figures")
     asked = parser.parse_args()
     library = asked.library
@@ -82,17 +100,19 @@ def main():
         program = c_interface.built(library, HERE / "border.c", Path(folder) / "border", ["-O2"])
         if program is None:
             sys.exit("border: the program was not built")
-        told = subprocess.run([program], check=True, capture_output=True, text=True).stdout
-    rows, of_c = {}, [tuple(map(int, line.split())) for line in told.splitlines()]
-    for layers, fields, at_callsite, cost, reading in of_c:
+        of_c = least([rounds_in_c(program) for _ in range(asked.runs)])
+    rows = {}
+    for (layers, fields, at_callsite), (cost, reading) in of_c.items():
         rows.setdefault(layers, {})[fields, at_callsite] = f"{cost:,} + {reading:,}"
     print(f"| layers | {' | '.join(COLUMNS.values())} |")
     print(f"|---:|{'---:|' * len(COLUMNS)}")
     for layers, costs in rows.items():
         print(f"| {layers} | {' | '.join(costs[column] for column in COLUMNS)} |")
     if asked.figures:
-        record(of_c, rounds_in_rust(library))
-        record_disabled(library)
+        how = f", the least of {asked.runs} runs" if asked.runs > 1 else ""
+        record(of_c, least([rounds_in_rust(library) for _ in range(asked.runs)]), how)
+        told = least([disabled(library) for _ in range(asked.runs)])
+        figures.record("disabled", values={name: it for name, (it,) in told.items()}, how=how)
 
 
 if __name__ == "__main__":
