@@ -65,6 +65,7 @@ def measured(source, keep):
     """The status of ./check in a fresh clone of a repository, whose figures are kept where all was proved."""
     os.environ.setdefault("RT_JOBS", str(parts.jobs()))
     with tempfile.TemporaryDirectory(prefix="gate-") as folder:
+        os.chmod(folder, 0o755)  # (rt ci runs programs as nobody)
         clone = Path(folder) / "clone"
         subprocess.run(["git", "clone", "-q", source, clone], check=True)
         status, lines = run_in(clone)

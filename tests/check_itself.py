@@ -34,6 +34,7 @@ case $1 in
         for name in $MAKES; do mkdir -p crates/$name/out && touch crates/$name/out/$name; done
         [ -z "$HANGS" ] || sleep 600
         exit $STATUS ;;
+    help) echo "$HELPS" ;;
     lib) mkdir -p out; touch "out/lib${PWD##*/}.a"; [ -n "$MAKES" ] ;;
 esac
 """
@@ -74,12 +75,12 @@ class Clone:
             file.write(text)
         os.chmod(path, 0o755)
 
-    def places(self, said=None, makes=ALL, status=0, hangs="", path=None):
+    def places(self, said=None, makes=ALL, status=0, hangs="", path=None, helps="rt ci --anew"):
         """The environment in which the command rt says and does so."""
         self.write(f"{self.fake}/ci", said or ci())
         self.write(f"{self.fake}/calls", "")
         return {**os.environ, "PATH": path or self.path, "FAKE": self.fake, "TMPDIR": self.room, "MAKES": makes,
-                "STATUS": str(status), "HANGS": hangs}
+                "STATUS": str(status), "HANGS": hangs, "HELPS": helps}
 
     def start(self, *words, **how):
         for name in LISTED:
@@ -160,8 +161,9 @@ def others(rows, clone):
     found = clone.run("--quick")
     rows.wants("what needs no proof", found, 0, f"{4 * len(QUICK)} passed, 0 failed", "nothing was proved")
     rows.wants("what needs no proof: the calls of rt", (0, "", str(clone.calls())), 0, "", "[]")
-    found = clone.run("--anew")
-    rows.wants("no earlier proof: the call of rt", (found[0], "", clone.calls()[0]), 0, "", "ci --anew in clone")
+    for helps, wanted in (("rt ci --anew", "ci --anew in clone"), ("rt ci", "ci in clone")):
+        found = clone.run("--anew", helps=helps)
+        rows.wants(f"no earlier proof, with {helps}", (found[0], "", clone.calls()[1]), 0, "", wanted)
     rows.wants("no such option", clone.run("--old"), 2, "check: there is no crate --old")
     rows.wants("named crates", clone.run("low", "tracerun"), 0, "2 passed, 0 failed")
     wanted = "['check in low', 'test in low', 'check in tracerun', 'test in tracerun']"

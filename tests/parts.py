@@ -75,6 +75,8 @@ PARTS = [
          "python3 tests/refused_memory.py --program {tracerun} --hostile-use {hostile_use}"),
     Part("each growth of further calls refused", "hostile_use",
          "python3 tests/refused_calls.py --hostile-use {hostile_use}"),
+    Part("the pages' commands on the programs", "tracerun workloads span_benchmark",
+         "python3 tests/run_commands.py programs"),
     Part("the C interface", "span_ffi valgrind", "python3 tests/c_interface.py --library {span_ffi}"),
     Part("the C interface of the store", "span_store_ffi valgrind",
          "python3 tests/c_store.py --library {span_store_ffi}"),
@@ -82,6 +84,7 @@ PARTS = [
          "python3 tests/tracing.py --library {span_store_ffi} --registry-library {span_ffi}"),
     Part("the Rust package", "span_ffi cargo",
          "env SPAN_REGISTRY_LIB={library} CARGO_TARGET_DIR={room}/target rust/test"),
+    Part("the pages' commands on the libraries", "span_ffi span_store_ffi", "python3 tests/run_commands.py libraries"),
 ]
 # (an archive of nothing stands for the library, which these tests don't call)
 RUST_ALONE = """sh -c 'mkdir {room}/nothing && echo "!<arch>" > {room}/nothing/libspan_ffi.a &&
@@ -93,7 +96,7 @@ QUICK = [
     Part("the Rust package without its library", "cargo", RUST_ALONE, "rust"),
 ]
 # What parts need of crates.
-BUILT = {it: TOP / f"crates/{it}/out/{it}" for it in ("tracerun", "hostile_use")}
+BUILT = {it: TOP / f"crates/{it}/out/{it}" for it in ("tracerun", "hostile_use", "workloads", "span_benchmark")}
 BUILT.update({it: TOP / f"crates/{it}/out/lib{it}.a" for it in LIBRARIES})
 
 
@@ -232,6 +235,12 @@ def able(parts, built):
     return [part for part, (said, _) in why.items() if not said], left_out
 
 
+def anew():
+    """What keeps rt ci from taking an earlier run's proofs, where it would."""
+    told = subprocess.run(["rt", "help"], stdout=subprocess.PIPE, stderr=subprocess.STDOUT, encoding="utf-8").stdout
+    return ["--anew"] if "--anew" in told else []
+
+
 def all_parts(runs, words):
     """Runs each part, and gives it when it has ended and been shown. What needs no library runs beside the others."""
     beside, thread = runs.beside([it for it in PARTS if not it.needs])
@@ -291,7 +300,7 @@ def main():
     with tempfile.TemporaryDirectory(prefix="check-") as room:
         runs = Runs(room)
         try:
-            ended = list(quick_parts(runs) if is_quick else all_parts(runs, sys.argv[1:]))
+            ended = list(quick_parts(runs) if is_quick else all_parts(runs, anew() if sys.argv[1:] else []))
         finally:
             runs.end()
     for it in ended:
