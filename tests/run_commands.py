@@ -9,7 +9,7 @@ Each command that page_commands.py finds is one of these, and each of these is i
   commit of the start, isn't run, and that is said.
 - BESIDE: what another part of `./check` runs.
 - What begins with `rt` is the toolchain's own, and has to be a word of `rt help`. A file's name alone is no command.
-With --only those are run that have the word. It is no part of `./check`. The last line is 'N passed, M failed'.
+With --only those are run that have the word. Both are parts of `./check`. The last line is 'N passed, M failed'.
 """
 import argparse
 import os
@@ -18,6 +18,7 @@ import shutil
 import subprocess
 import sys
 import tempfile
+import time
 from pathlib import Path
 from typing import NamedTuple
 
@@ -52,7 +53,7 @@ PROGRAMS = {
     "./tracerun storm --workers 4 --rounds 100": Run(prints="workers 4\nrounds 100\n"),
     "./tracerun --prove": Run("./tracerun --prove 2>&1", "proved already"),
     "tracerun replay": Run("./tracerun replay < examples/request.jsonl", "left 0\n"),
-    "tracerun why": Run("./tracerun why < examples/request.jsonl", "open 0\n"),
+    "tracerun why": Run("./tracerun why < examples/request.jsonl", "open 1\n"),
     "tracerun why --span LABEL": Run("./tracerun why --span query < examples/leak.jsonl", "open 2\n"),
     "tracerun storm --workers N --rounds M": Run("./tracerun storm --workers 2 --rounds 3", "rounds 3\n"),
     "tracerun storm --workers N --rounds 400": Run("./tracerun storm --workers 2 --rounds 400", "rounds 400\n"),
@@ -110,7 +111,8 @@ GATE, (FFI, STORE_FFI) = parts.GATE.name, (it.name for it in parts.LIBRARIES.val
 LAUNCHER, RUNNER, PACKAGE = "the launcher", "the runner of the parts", "the Rust package"
 TRACING = "tracing over the store and over the registry"
 BESIDE = {
-    "./tracerun": LAUNCHER, "./check": RUNNER, "./check --quick": RUNNER, "./check CRATE..": RUNNER,
+    "./tracerun": LAUNCHER,
+    "./check": RUNNER, "./check --quick": RUNNER, "./check --anew": RUNNER, "./check CRATE..": RUNNER,
     "./view": "the pictures of scripts", "./view SCRIPT > run.html": "the pictures of scripts",
     "(cd crates/span_store_ffi && rt lib)": STORE_FFI,
     "(cd crates/span_ffi && rt lib) && (cd crates/span_store_ffi && rt lib)": FFI,
@@ -150,8 +152,12 @@ def listed():
 
 
 def copy_sources(folder):
-    """A copy of the sources, in which what was built of the crates is seen."""
-    shutil.copytree(TOP, folder, ignore=shutil.ignore_patterns(".git", "out", "target", "laid", "__pycache__"))
+    """A copy of the sources with their history, where there is one, in which what was built of the crates is seen."""
+    cloned = subprocess.run(["git", "clone", "-q", "--shared", "--no-checkout", TOP, folder], capture_output=True)
+    if cloned.returncode == 0:
+        subprocess.run(["git", "-C", folder, "reset", "-q"], check=True)
+    left_out = shutil.ignore_patterns(".git", "out", "target", "laid", "__pycache__")
+    shutil.copytree(TOP, folder, ignore=left_out, dirs_exist_ok=True)
     for built in TOP.glob("crates/*/out"):
         (folder / built.relative_to(TOP)).symlink_to(built)
 
@@ -190,7 +196,9 @@ def all_run(rows, only):
             if lack := lacks(how):
                 print(f"not run, as {lack} isn't there: {command}")
             else:
+                begun = time.monotonic()
                 fault = fault_of(command, how, room)
+                print(f"{time.monotonic() - begun:5.1f} s  {command}", flush=True)
                 yield fault is None, f"{command}: {fault}"
 
 
