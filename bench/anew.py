@@ -51,7 +51,7 @@ COMMANDS = [
     Command("unproved-start", "fresh", 1,
             "bench/times.py unproved-start sh -c './tracerun replay < examples/first.jsonl'"),
     Command("prove", "fresh", 30, "bench/times.py prove ./tracerun --prove"),
-    Command("gate", "fresh", 90, "bench/gate.py"),
+    Command("gate whole-gate", "fresh", 90, "bench/gate.py"),
 ]
 KINDS = list(dict.fromkeys(it.kind for it in COMMANDS))
 NAMES = [name for it in COMMANDS for name in it.names.split()]

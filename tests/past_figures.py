@@ -5,8 +5,8 @@ usage: past_figures.py [--write]
 
 Such a file of bench/figures has in `from` the `commit` and the `page`, and
 - `texts` of that page, with names in place of numbers; where a number stands in words, the text and what it means.
-  {machine}, {processors} and {commit} are what was measured and where; where the page hasn't them they are not known,
-  and the commit is the page's;
+  {machine}, {processors}, {commit} and {date} are those of the measuring; where the page hasn't them they are not
+  known, and the commit is the page's, whose day the measuring was at the latest;
 - `rows`: lists of what a row is called, a text, which gives a row wherever the page has it, and texts with more of it.
 Where the history has that commit, the numbers there have to be those of the file; with --write they are written, with
 the day of the commit and the toolchain that its README names. Where it hasn't, as in a shallow clone, that is said. The
@@ -22,7 +22,7 @@ from figures import FOLDER, read_figures
 from pages import TOP
 
 NUMBER = r"\d+(?:,\d{3})*(?:\.\d+)?"
-OTHERS = {"machine": r"\w[^|\n]*?", "processors": r"\w+", "commit": r"[0-9a-f]{7,}"}
+OTHERS = {"date": r"\d{4}-\d\d-\d\d", "machine": r"\w[^|\n]*?", "processors": r"\w+", "commit": r"[0-9a-f]{7,}"}
 IN_WORDS = {"four": 4}
 TOOLCHAIN = re.compile(r"^Proved with `(.*?)`", flags=re.M)
 
@@ -49,7 +49,7 @@ def number(said):
 
 def taken(text, page):
     """The values that a text has at each place where the page has it."""
-    return [{name: it if name in ("machine", "commit") else number(it) for name, it in found.groupdict().items()}
+    return [{name: it if name in ("date", "machine", "commit") else number(it) for name, it in found.groupdict().items()}
             for found in re.finditer(pattern_of(text), page)]
 
 
@@ -72,7 +72,7 @@ def told(data):
     beside = f", beside {source['beside']}" if "beside" in source else ""
     named = TOOLCHAIN.search(in_history("show", f"{commit}:README.md") or "")
     head = {
-        "date": f"by {in_history('show', '-s', '--format=%cs', commit).strip()}",
+        "date": values.pop("date", None) or f"by {in_history('show', '-s', '--format=%cs', commit).strip()}",
         "machine": values.pop("machine", "not known"), "processors": values.pop("processors", "not known"),
         "commit": f"{values.pop('commit', commit)}, by its page{beside}", "toolchain": named[1] if named else "not known",
         "source": f"taken from {name} of {commit}", "values": values, "rows": rows,
