@@ -5,8 +5,8 @@ usage: run_commands.py programs|libraries [--only WORD]
 
 Each command that page_commands.py finds is one of these, and each of these is in a page:
 - PROGRAMS and LIBRARIES: what is run here, on the programs or the libraries that `./check` made before, the line that is
-  run where it isn't the command itself, and what it has to print. A line that needs a tool which isn't there, or the
-  commit of the start, isn't run, and that is said.
+  run where it isn't the command itself, and what it has to print. A line isn't run, and that is said, where a tool that
+  it needs isn't there, or the commit of the start, or Debian's sources of tracing-subscriber.
 - BESIDE: what another part of `./check` runs.
 - What begins with `rt` is the toolchain's own, and has to be a word of `rt help`. A file's name alone is no command.
 With --only those are run that have the word. Both are parts of `./check`. The last line is 'N passed, M failed'.
@@ -23,6 +23,7 @@ from pathlib import Path
 from typing import NamedTuple
 
 import parts
+import tracing_yard
 from page_commands import commands_of
 from pages import TOP, read_pages
 
@@ -105,7 +106,7 @@ LIBRARIES = {
     "python3 bench/border.py": Run(prints="| layers | "),
     "bench/tracing.py instructions|allocations|clock|benches": Run(
         "for it in instructions allocations clock; do python3 bench/tracing.py $it --folder $ROOM/yard --first 1 "
-        "--threads 1 --turns 1 --rounds 100 || exit; done", "ns of processor", "cargo valgrind"),
+        "--threads 1 --turns 1 --rounds 100 || exit; done", "ns of processor", "sources valgrind"),
 }
 GATE, (FFI, STORE_FFI) = parts.GATE.name, (it.name for it in parts.LIBRARIES.values())
 LAUNCHER, RUNNER, PACKAGE = "the launcher", "the runner of the parts", "the Rust package"
@@ -165,8 +166,13 @@ def copy_sources(folder):
 def lacks(run):
     """A tool that a line needs and that isn't there, if one is."""
     for need in run.needs.split():
-        asked = ["git", "-C", str(TOP), "cat-file", "-e", f"{START}^{{commit}}"]
-        is_there = subprocess.run(asked, capture_output=True).returncode == 0 if need == START else shutil.which(need)
+        if need == "sources":
+            is_there = tracing_yard.missing() is None
+        elif need == START:
+            asked = ["git", "-C", str(TOP), "cat-file", "-e", f"{START}^{{commit}}"]
+            is_there = subprocess.run(asked, capture_output=True).returncode == 0
+        else:
+            is_there = shutil.which(need)
         if not is_there:
             return need
     return None
