@@ -10,6 +10,7 @@ the commit.
   cells as Python's `format` writes them. A cell whose value a row hasn't is empty. The table stands in a page between
   `<!-- figures NAME -->` and `<!-- end -->`, with a line that says where it comes from.
 - `says` has for each page the texts in which values stand there, written likewise; none for one that has a picture.
+  The page has a link to the file.
 - `from` stands in a file whose figures past_figures.py takes from a page of an earlier commit.
 
 What measures writes any other by `record`, which keeps `table` and `says`. With --write the pages get what the files
@@ -154,9 +155,11 @@ def sources(figures, pages):
 
 
 def texts(figures, pages):
-    """Each text stands in its page once, and what its numbers are is what its file has."""
+    """Each text stands in its page once, what its numbers are is what its file has, and the page links the file."""
     for name, data in figures.items():
         for page, templates in data["says"].items():
+            to = os.path.relpath(FOLDER / f"{name}.json", (TOP / page).parent)
+            yield not templates or f"]({to})" in pages[page], f"{page} has figures of bench/figures/{name}.json, and no link to it"
             for template in templates:
                 found, text = re.findall(pattern_of(template), pages[page]), template.format(**data["values"])
                 yield found == [text], f"{page}, by bench/figures/{name}.json: {text}; it has {found or 'nothing'}"
