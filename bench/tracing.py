@@ -249,6 +249,8 @@ def main():
     if lack := tracing.missing():
         sys.exit(f"not run: {lack}")
     library = None if asked.what == "proved" else asked.library or tracing.current_library()
+    if library is None and asked.what != "proved":
+        sys.exit("there is no library of the store")
     os.environ["SPAN_REGISTRY_LIB"] = str(asked.registry_library.resolve().parent)
     with tempfile.TemporaryDirectory() as made:
         measured(asked, tracing.Yard((asked.folder or Path(made)).resolve(), library and library.resolve(), asked.jobs))

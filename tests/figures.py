@@ -159,7 +159,8 @@ def texts(figures, pages):
     for name, data in figures.items():
         for page, templates in data["says"].items():
             to = os.path.relpath(FOLDER / f"{name}.json", (TOP / page).parent)
-            yield not templates or f"]({to})" in pages[page], f"{page} has figures of bench/figures/{name}.json, and no link to it"
+            is_linked = not templates or f"]({to})" in pages[page]
+            yield is_linked, f"{page} has figures of bench/figures/{name}.json, and no link to it"
             for template in templates:
                 found, text = re.findall(pattern_of(template), pages[page]), template.format(**data["values"])
                 yield found == [text], f"{page}, by bench/figures/{name}.json: {text}; it has {found or 'nothing'}"

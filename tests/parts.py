@@ -47,6 +47,7 @@ ALONE = [
     Part("the page of the model", "", "python3 tests/model_page.py"),
     Part("the pages", "", "python3 tests/pages.py"),
     Part("the commands in the pages", "", "python3 tests/page_commands.py"),
+    Part("that each command is run", "", "python3 tests/run_commands.py listed"),
     Part("the figures in the pages", "", "python3 tests/figures.py"),
     Part("the figures of earlier commits", "", "python3 tests/past_figures.py"),
     Part("the pictures of the pages", "", "python3 tests/pictures.py"),

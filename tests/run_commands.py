@@ -1,15 +1,15 @@
 #!/usr/bin/env python3
 """Runs the commands of the pages in a copy of the sources: as they stand, or where that takes long in a shorter form.
 
-usage: run_commands.py programs|libraries [--only WORD]
+usage: run_commands.py listed|programs|libraries [--only WORD]
 
-Each command that page_commands.py finds is one of these, and each of these is in a page:
+Each command that page_commands.py finds is one of these, and each of these is in a page, which `listed` looks at:
 - PROGRAMS and LIBRARIES: what is run here, on the programs or the libraries that `./check` made before, the line that is
   run where it isn't the command itself, and what it has to print. A line isn't run, and that is said, where a tool that
   it needs isn't there, or the commit of the start, or Debian's sources of tracing-subscriber.
 - BESIDE: what another part of `./check` runs.
 - What begins with `rt` is the toolchain's own, and has to be a word of `rt help`. A file's name alone is no command.
-With --only those are run that have the word. Both are parts of `./check`. The last line is 'N passed, M failed'.
+With --only those are run that have the word. All three are parts of `./check`. The last line is 'N passed, M failed'.
 """
 import argparse
 import os
@@ -210,13 +210,12 @@ def all_run(rows, only):
 
 def main():
     parser = argparse.ArgumentParser(description=__doc__, formatter_class=argparse.RawDescriptionHelpFormatter)
-    parser.add_argument("what", choices=["programs", "libraries"])
+    parser.add_argument("what", choices=["listed", "programs", "libraries"])
     parser.add_argument("--only", default="", metavar="WORD")
     asked = parser.parse_args()
     passed = failed = 0
-    rows = PROGRAMS if asked.what == "programs" else LIBRARIES
-    looks = [all_run(rows, asked.only)] + ([listed()] if asked.what == "programs" else [])
-    for is_good, said in (it for look in looks for it in look):
+    rows = {"programs": PROGRAMS, "libraries": LIBRARIES}.get(asked.what)
+    for is_good, said in all_run(rows, asked.only) if rows else listed():
         passed, failed = passed + bool(is_good), failed + (not is_good)
         if not is_good:
             print(f"FAILED {said}", flush=True)
