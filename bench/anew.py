@@ -51,6 +51,7 @@ COMMANDS = [
     Command("unproved-start", "fresh", 1,
             "bench/times.py unproved-start sh -c './tracerun replay < examples/first.jsonl'"),
     Command("prove", "fresh", 30, "bench/times.py prove ./tracerun --prove"),
+    Command("library", "fresh", 30, "bench/times.py library sh -c 'cd crates/span_ffi && rt lib'"),
     Command("gate whole-gate", "fresh", 90, "bench/gate.py"),
 ]
 KINDS = list(dict.fromkeys(it.kind for it in COMMANDS))
