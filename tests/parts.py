@@ -236,6 +236,13 @@ def able(parts, built):
     return [part for part, (said, _) in why.items() if not said], left_out
 
 
+def made(names, begun):
+    """Gives what was made the time when that began: of the sources as they were then (./tracerun and others look whether
+    one is newer)."""
+    for path in (BUILT[name] for name in names if name in BUILT and BUILT[name].exists()):
+        os.utime(path, (begun, begun))
+
+
 def anew():
     """What keeps rt ci from taking an earlier run's proofs, where it would."""
     told = subprocess.run(["rt", "help"], stdout=subprocess.PIPE, stderr=subprocess.STDOUT, encoding="utf-8").stdout
@@ -246,11 +253,13 @@ def all_parts(runs, words):
     """Runs each part, and gives it when it has ended and been shown. What needs no library runs beside the others."""
     beside, thread = runs.beside([it for it in PARTS if not it.needs])
     print(f"== {GATE.name}", flush=True)
+    begun = time.time()
     gate = runs.run(GATE._replace(command=" ".join([GATE.command, *words])))
     proved, kept = stand_after(gate.lines)
     yield gate
     yield from map(shown, (edits_made(gate.lines), who_may_wait(proved, kept)))
     built = {*proved, *kept}
+    made(built - {*LIBRARIES}, begun)
     needing = [it for it in PARTS if it.needs]
     on_libraries = [it for it in needing if set(LIBRARIES) & set(it.needs.split())]
     on_programs, left_out = able([it for it in needing if it not in on_libraries], built)
@@ -258,9 +267,13 @@ def all_parts(runs, words):
     ended, other_thread = runs.beside(on_programs)
     for name, part in LIBRARIES.items():
         print(f"== {part.name}", flush=True)
+        begun = time.time()
         library = runs.run(part)
         yield library
-        built -= {name} if library.failed else set()
+        if library.failed:
+            built -= {name}
+        else:
+            made([name], begun)
     for it in (thread, other_thread):
         it.join()
     yield from map(shown, beside + ended)
