@@ -30,7 +30,8 @@ LISTED = {"low": 0, **WAITS, **dict.fromkeys(LIBRARIES, 0)}
 FAKE_RT = """#!/bin/sh
 echo "$* in ${PWD##*/}" >> "$FAKE/calls"
 case $1 in
-    ci) cat "$FAKE/ci"
+    ci) : > "$FAKE/begun"
+        cat "$FAKE/ci"
         for name in $MAKES; do mkdir -p crates/$name/out && touch crates/$name/out/$name; done
         [ -z "$HANGS" ] || sleep 600
         exit $STATUS ;;
@@ -118,6 +119,9 @@ def wholes(rows, clone):
     found = clone.run()
     rows.wants("all is well", found, 0, f"{good} passed, 0 failed", "the C interface: 4 passed, 0 failed")
     rows.wants("the calls of rt", (0, "", str(clone.calls())), 0, "", str(["ci in clone", *(f"lib in {it}" for it in LIBRARIES)]))
+    program, begun = f"{clone.at}/crates/tracerun/out/tracerun", f"{clone.fake}/begun"
+    is_older = os.stat(program).st_mtime <= os.stat(begun).st_mtime
+    rows.wants("what is made is as old as its sources", (0, str(is_older), ""), 0, "True")
     found = clone.run(said=ci({"low": 1, "tracerun": 3}))
     told = "low: crates.txt says that 0 may wait, the checker counted 1"
     other = "tracerun: crates.txt says that 2 may wait, the checker counted 3"
