@@ -6,7 +6,8 @@ usage: parts.py [--quick|--anew]
 A part that needs nothing begins beside `rt ci`. Those on the programs that it leaves in crates/NAME/out/ run beside
 `rt lib`, and those on the libraries after it, each kind one after the other. A part whose program or library wasn't
 made failed; one whose tool isn't on the PATH isn't run, and says so. With --quick nothing is proved, and the parts that
-QUICK lists run side by side; with --anew `rt ci` takes no proof of an earlier run. The last line is 'N passed, M failed', the sums of what the parts say in such a line.
+QUICK lists run side by side; with --anew `rt ci` takes no proof of an earlier run. The last line is 'N passed, M
+failed', the sums of what the parts say in such a line.
 `rt` proves as many crates at once as RT_JOBS says, which is set here where it isn't: one for each processor, as far as
 memory goes.
 """
@@ -237,8 +238,8 @@ def able(parts, built):
 
 
 def made(names, begun):
-    """Gives what was made the time when that began: of the sources as they were then (./tracerun and others look whether
-    one is newer)."""
+    """Gives what was made the time when that began, since it is of the sources as they were then (./tracerun and others
+    look whether one is newer)."""
     for path in (BUILT[name] for name in names if name in BUILT and BUILT[name].exists()):
         os.utime(path, (begun, begun))
 

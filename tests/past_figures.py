@@ -22,7 +22,8 @@ from figures import FOLDER, read_figures
 from pages import TOP
 
 NUMBER = r"\d+(?:,\d{3})*(?:\.\d+)?"
-OTHERS = {"date": r"\d{4}-\d\d-\d\d", "machine": r"\w[^|\n]*?", "processors": r"\w+", "commit": r"[0-9a-f]{7,}"}
+TEXTS = {"date": r"\d{4}-\d\d-\d\d", "machine": r"\w[^|\n]*?", "commit": r"[0-9a-f]{7,}"}
+OTHERS = {**TEXTS, "processors": r"\w+"}
 IN_WORDS = {"four": 4}
 TOOLCHAIN = re.compile(r"^Proved with `(.*?)`", flags=re.M)
 
@@ -49,7 +50,7 @@ def number(said):
 
 def taken(text, page):
     """The values that a text has at each place where the page has it."""
-    return [{name: it if name in ("date", "machine", "commit") else number(it) for name, it in found.groupdict().items()}
+    return [{name: it if name in TEXTS else number(it) for name, it in found.groupdict().items()}
             for found in re.finditer(pattern_of(text), page)]
 
 
@@ -68,13 +69,15 @@ def told(data):
     for called, *texts in source.get("rows", []):
         first, *more = [taken(text, page) for text in texts]
         faults += [text for text, found in zip(texts, [first, *more]) if not found]
-        rows += [{**called, **row, **{name: it for found in more if found for name, it in found[0].items()}} for row in first]
+        further = {name: it for found in more if found for name, it in found[0].items()}
+        rows += [{**called, **row, **further} for row in first]
     beside = f", beside {source['beside']}" if "beside" in source else ""
     named = TOOLCHAIN.search(in_history("show", f"{commit}:README.md") or "")
     head = {
         "date": values.pop("date", None) or f"by {in_history('show', '-s', '--format=%cs', commit).strip()}",
         "machine": values.pop("machine", "not known"), "processors": values.pop("processors", "not known"),
-        "commit": f"{values.pop('commit', commit)}, by its page{beside}", "toolchain": named[1] if named else "not known",
+        "commit": f"{values.pop('commit', commit)}, by its page{beside}",
+        "toolchain": named[1] if named else "not known",
         "source": f"taken from {name} of {commit}", "values": values, "rows": rows,
     }
     return head, [f"{name} of {commit} hasn't: {it}" for it in faults]
@@ -108,7 +111,8 @@ def main():
         head, faults = told(data)
         if sys.argv[1:] and not faults:
             data.update(head)
-            (FOLDER / f"{name}.json").write_text(json.dumps(data, indent=1, ensure_ascii=False) + "\n", encoding="utf-8")
+            text = json.dumps(data, indent=1, ensure_ascii=False) + "\n"
+            (FOLDER / f"{name}.json").write_text(text, encoding="utf-8")
         found = [(False, it) for it in faults] + list(differences(data, head))
         passed, failed = passed + sum(good for good, _ in found), failed + sum(not good for good, _ in found)
         for is_good, said in found:
