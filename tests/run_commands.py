@@ -77,7 +77,8 @@ PROGRAMS = {
         "python3 tests/random_scripts.py --replay --program bench/peer/target/release/peer --scripts 200", GOOD, "cargo"),
     "python3 bench/run.py --out bench/out": Run(f"python3 bench/run.py {TURNS} --out bench/out", "## Growth", "cargo"),
     "python3 bench/run.py --figures": Run(f"python3 bench/run.py {TURNS} --figures", "## Storms", "cargo"),
-    "python3 bench/calls.py": Run("python3 bench/calls.py --calls 1000 --runs 1 --storm-runs 1", "| 1,000,000 |", "cargo"),
+    "python3 bench/calls.py": Run(
+        "python3 bench/calls.py --calls 1000 --runs 1 --storm-runs 1", "| 1,000,000 |", "cargo cc"),
     "python3 tests/soak.py --minutes 10": Run("python3 tests/soak.py --minutes 0.01 --storms 1", GOOD),
     "python3 bench/anew.py --list": Run(prints="bench/calls.py --figures"),
     "python3 bench/anew.py timed --old /tmp/old --plain PROGRAM": Run("python3 bench/anew.py timed --list"),
@@ -103,7 +104,7 @@ LIBRARIES = {
     'cc -Iinclude program.c crates/span_ffi/out/libspan_ffi.a "$(dirname "$(rt doc)")/c/liblibc_c.a"': Run(
         'cc -Iinclude -o $ROOM/border bench/border.c crates/span_ffi/out/libspan_ffi.a "$(dirname "$(rt doc)")/c/liblibc_c.a"',
         needs="cc"),
-    "python3 bench/border.py": Run(prints="| layers | "),
+    "python3 bench/border.py": Run(prints="| layers | ", needs="cc"),
     "bench/tracing.py instructions|allocations|clock|benches": Run(
         "for it in instructions allocations clock; do python3 bench/tracing.py $it --folder $ROOM/yard --first 1 "
         "--threads 1 --turns 1 --rounds 100 || exit; done", "ns of processor", "sources valgrind"),
