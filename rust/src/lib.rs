@@ -15,6 +15,7 @@ mod callsite;
 mod directives;
 mod drain;
 mod error;
+mod follows;
 mod head;
 mod instrument;
 mod interest;
