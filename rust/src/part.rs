@@ -8,8 +8,9 @@ use crate::ring::Ring;
 use crate::seats::Caller;
 use crate::state::State;
 use crate::workers;
+use crate::writer::Asked;
 use std::sync::atomic::{AtomicBool, AtomicU32, AtomicU64, Ordering};
-use std::sync::{Arc, Mutex, MutexGuard, PoisonError};
+use std::sync::{Arc, Mutex, MutexGuard, OnceLock, PoisonError};
 use std::thread;
 use std::time::Duration;
 
@@ -30,6 +31,8 @@ pub(crate) struct Common {
     owing: Arc<AtomicU32>,
     // Who adds a callsite has this one, and then the lock of a part.
     adding: Mutex<()>,
+    // What is asked of the thread that writes, where one was spawned.
+    writer: OnceLock<Arc<Asked>>,
 }
 
 impl Common {
@@ -43,7 +46,18 @@ impl Common {
             told: Mutex::default(),
             owing: Arc::default(),
             adding: Mutex::default(),
+            writer: OnceLock::new(),
         }
+    }
+
+    /// A thread writes the lines from now on. There is one drain, which comes to one thread.
+    pub(crate) fn is_written(&self, asked: Arc<Asked>) {
+        let _first = self.writer.set(asked);
+    }
+
+    /// What is asked of the thread that writes; none where none was spawned.
+    pub(crate) fn writer(&self) -> Option<&Asked> {
+        self.writer.get().map(|asked| &**asked)
     }
 
     /// By which the registry is told from all others of the process, also those that are gone.
