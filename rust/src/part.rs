@@ -100,7 +100,8 @@ impl Common {
     }
 }
 
-/// A proved registry with its lock and its ring. No two parts have a line of the processors' caches in common.
+/// A proved registry with its lock and its ring. No two parts have a line of the processors' caches in common, and
+/// neither have the lock's word, the [`State`] and what is only read here.
 #[repr(align(128))]
 pub(crate) struct Part {
     state: Mutex<State>,
