@@ -22,6 +22,7 @@ mod interest;
 mod json;
 mod kind;
 mod level;
+mod lock;
 mod lost;
 mod macros;
 mod meta;

@@ -1,6 +1,7 @@
 //! A part of a registry: its lock, and what may be asked without it.
 #![forbid(unsafe_code)]
 use crate::interest::Interest;
+use crate::lock::lock;
 use crate::lost::{Losses, Lost};
 use crate::owed::Debt;
 use crate::refusal::Refusal;
@@ -140,7 +141,7 @@ impl Part {
 
     #[inline(always)]
     fn lock(&self) -> MutexGuard<'_, State> {
-        self.state.lock().unwrap_or_else(PoisonError::into_inner)
+        lock(&self.state)
     }
 
     /// Makes a call until it isn't refused for want of a place, where the registry waits for the drain.
