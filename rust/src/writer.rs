@@ -222,12 +222,16 @@ impl Drain {
 fn written(mut drain: Drain, mut out: impl Write, asked: &Asked) -> io::Result<u64> {
     let ended = catch_unwind(AssertUnwindSafe(|| drain.run_asked(&mut out, asked)));
     let has_failed = !matches!(ended, Ok(Ok(_)));
-    asked.ends(has_failed);
     if has_failed {
+        asked.ends(has_failed);
         let _thrown_away = drain.run_until(&mut io::sink(), &asked.is_stopped);
     }
+    let missed = drain.counts().missed;
+    // Before the writer, whose own drop may make calls that would wait for this thread.
+    drop(drain);
+    asked.ends(has_failed);
     let lines = ended.unwrap_or_else(|panic| resume_unwind(panic))?;
-    match drain.counts().missed {
+    match missed {
         0 => Ok(lines),
         missed => Err(io::Error::new(
             io::ErrorKind::OutOfMemory,
