@@ -84,7 +84,7 @@ fn each_refusal_changes_nothing() -> Result<(), Error> {
     let filled = registry.event(&common::info("m"), "m", &[]);
     assert_eq!(filled, Ok(()));
     assert_eq!(registry.follows_from(own, own), Err(Error::Backlog));
-    assert_eq!(texts(&mut drain)[..2], ["new 1 w0 a", "event 1 w0 a INFO m"]);
+    assert_eq!(texts(&mut drain)[..2], ["new 1 w0 a", "event 0 w0 - INFO m"]);
     let closed = registry.new_span(&common::info("b"), Parent::Root, &[])?.expect("wanted");
     registry.try_close(closed)?;
     drain.lines().for_each(drop);

@@ -51,7 +51,7 @@ fn a_registry_flushes_and_ends_its_writer() -> Result<(), AnyError> {
     event!(registry, Level::Info, "m");
     registry.shutdown()?;
     let lines = paper.flushed();
-    assert_eq!((lines.len(), &*lines[1]), (3, "event 1 w0 a INFO m"));
+    assert_eq!((lines.len(), &*lines[1]), (3, "event 0 w0 - INFO m"));
     assert!(lines[2].contains(" open span=1 "), "{lines:?}");
     // What comes now is thrown away, and nobody waits.
     (0..3000).for_each(|_| event!(registry, Level::Info, "late"));

@@ -160,6 +160,7 @@ fn the_open_spans_of_a_long_chain_have_a_text_no_longer_than_they() -> Result<()
     assert!(text.len() < 200 * lines.len());
     // The outermost first, so that none closes before all do.
     drop(chain);
+    assert_eq!(drain.line(), None);
     assert_empty(&registry);
     Ok(())
 }
