@@ -58,7 +58,10 @@ fn trees_have_the_number_as_an_integer() -> Result<(), Error> {
         b.follows_from(&a);
         let note = drain.note().expect("a record");
         let field = &note.fields[0];
-        assert_eq!((note.id, &*field.key, field.kind), (b.id(), "follows_from", Kind::Integer));
+        assert_eq!(
+            (note.id, &*field.key, field.kind),
+            (b.id(), "follows_from", Kind::Integer)
+        );
         assert_eq!(field.value, number.to_string());
     }
     Ok(())
@@ -73,7 +76,10 @@ fn each_refusal_changes_nothing() -> Result<(), Error> {
     assert_eq!(registry.follows_from(own, strange), Err(Error::OtherRegistry));
     assert_eq!(registry.follows_from(strange, own), Err(Error::OtherRegistry));
     // It comes before all else.
-    assert_eq!(registry.follows_from(id(&registry, 7), strange), Err(Error::OtherRegistry));
+    assert_eq!(
+        registry.follows_from(id(&registry, 7), strange),
+        Err(Error::OtherRegistry)
+    );
     assert_eq!(registry.follows_from(id(&registry, 7), own), Err(Error::Unknown));
     assert_eq!(a.try_follows_from(&stranger), Err(Error::OtherRegistry));
     a.follows_from(&stranger);
@@ -85,7 +91,9 @@ fn each_refusal_changes_nothing() -> Result<(), Error> {
     assert_eq!(filled, Ok(()));
     assert_eq!(registry.follows_from(own, own), Err(Error::Backlog));
     assert_eq!(texts(&mut drain)[..2], ["new 1 w0 a", "event 0 w0 - INFO m"]);
-    let closed = registry.new_span(&common::info("b"), Parent::Root, &[])?.expect("wanted");
+    let closed = registry
+        .new_span(&common::info("b"), Parent::Root, &[])?
+        .expect("wanted");
     registry.try_close(closed)?;
     drain.lines().for_each(drop);
     assert_eq!(registry.follows_from(closed, own), Err(Error::Unknown));

@@ -58,7 +58,10 @@ fn a_registry_flushes_and_ends_its_writer() -> Result<(), AnyError> {
     assert!(registry.lost().lines() > 0 && registry.lost().calls() == 0);
     registry.shutdown()?;
     let stopped = Some("the writer was stopped".to_owned());
-    assert_eq!((text_of(registry.flush()), text_of(guard.flush())), (stopped.clone(), stopped));
+    assert_eq!(
+        (text_of(registry.flush()), text_of(guard.flush())),
+        (stopped.clone(), stopped)
+    );
     assert_eq!((guard.finish()?, paper.flushed().len()), (3, 3));
     Ok(())
 }
@@ -181,7 +184,13 @@ fn many_ask_for_flushes_and_the_end_at_once_and_no_line_before_them_is_lost() ->
         let flushed = paper.flushed();
         assert_eq!(written, flushed.len() as u64);
         for message in lines.into_inner()? {
-            assert_eq!(flushed.iter().filter(|line| line.ends_with(&format!(" {message}"))).count(), 1);
+            assert_eq!(
+                flushed
+                    .iter()
+                    .filter(|line| line.ends_with(&format!(" {message}")))
+                    .count(),
+                1
+            );
         }
     }
     Ok(())

@@ -180,7 +180,9 @@ fn two_registries_at_one_place_of_the_program_keep_apart() -> Result<(), Error> 
         assert_empty(&registry);
         let lines = texts(&mut drain);
         let is_own = |line: &String| line.contains(&format!("of={which}")) || line.ends_with(&format!("of {which}"));
-        let told = lines.iter().filter(|line| line.starts_with("new") || line.starts_with("event"));
+        let told = lines
+            .iter()
+            .filter(|line| line.starts_with("new") || line.starts_with("event"));
         assert!(told.clone().count() as u64 >= registry.counts().made && told.clone().all(is_own));
     }
     Ok(())

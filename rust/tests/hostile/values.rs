@@ -125,7 +125,11 @@ fn no_text_forges_a_line() -> Result<(), Error> {
         a.try_record(&[(&*name, text)])?;
         let open = registry.open_spans()?;
         let shown = open.to_string();
-        assert_eq!((shown.lines().count(), shown.matches('\n').count()), (1, 1), "{shown:?}");
+        assert_eq!(
+            (shown.lines().count(), shown.matches('\n').count()),
+            (1, 1),
+            "{shown:?}"
+        );
         drop((a, open));
         let mut lines = [0; 3];
         for line in drain.lines() {
@@ -133,7 +137,11 @@ fn no_text_forges_a_line() -> Result<(), Error> {
             assert!(!line.text.contains(['\n', '\r']), "{:?}", line.text);
             let is_json = line.text.starts_with('{') && line.text.ends_with('}');
             assert_eq!(is_json, line.layer > 0);
-            assert!(!is_json || line.text.bytes().all(|byte| byte >= 0x20), "{:?}", line.text);
+            assert!(
+                !is_json || line.text.bytes().all(|byte| byte >= 0x20),
+                "{:?}",
+                line.text
+            );
         }
         assert_eq!(lines, [7; 3], "{text:?}");
     }
