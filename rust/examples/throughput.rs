@@ -3,6 +3,11 @@
 //! A round is a new span with a field, an enter, an exit and a close: four calls. Where nobody reads, so many rounds
 //! are timed as the ring has places for, and it is emptied between two turns. Beside a writer, who writes the lines to
 //! nowhere, a call that finds the ring full is made again. `cargo run --release --offline --example throughput`
+//!
+//! The plain registry does less than the package: it is told which worker calls, its ids don't say whose they are, it
+//! keeps no room for what drops may come to owe, and memory that is refused ends the process. It does more in that it
+//! is given a span's name and target, which it checks and copies each time, where the package has a callsite. Both are
+//! behind the standard `Mutex`, which the package tries for a fraction of a millisecond before a thread sleeps.
 #[path = "border/plain/mod.rs"]
 // It is whole, though a round needs only a part.
 #[allow(dead_code)]

@@ -1,6 +1,7 @@
 //! Which targets a layer admits, and up to which level.
 #![forbid(unsafe_code)]
 use crate::level::Level;
+use std::collections::HashSet;
 use std::fmt;
 use std::str::FromStr;
 
@@ -100,11 +101,10 @@ impl Targets {
     /// The most verbose level that is admitted of some target; none where nothing is admitted.
     #[must_use]
     pub fn max_level(&self) -> Option<Level> {
-        let says = |&(place, (prefix, _)): &(usize, &(String, Level))| {
-            self.pairs[place + 1..].iter().all(|(later, _)| later != prefix)
-        };
-        let deciding = self.pairs.iter().enumerate().filter(says);
-        deciding.map(|(_, &(_, level))| level).max()
+        // Of equal prefixes the last decides.
+        let mut seen = HashSet::new();
+        let deciding = self.pairs.iter().rev().filter(|(prefix, _)| seen.insert(prefix));
+        deciding.map(|&(_, level)| level).max()
     }
 
     /// The pairs, in the order in which they were given.

@@ -223,6 +223,13 @@ impl From<&Span> for Parent {
     }
 }
 
+/// The span's id; none of a disabled one.
+impl From<&Span> for Option<Id> {
+    fn from(span: &Span) -> Option<Id> {
+        span.id()
+    }
+}
+
 /// An open span, as [`Registry::find`](crate::Registry::find) tells of it.
 #[derive(Clone, Copy, Debug, PartialEq, Eq)]
 #[non_exhaustive]

@@ -141,7 +141,8 @@ impl fmt::Display for OpenSpan {
 }
 
 /// Open spans of one moment, by ascending slot; of several [parts](crate::RegistryBuilder::parts) one after another,
-/// each of its own moment. Its text is their trees, a line a span.
+/// each of its own moment. Its text is their trees, a line a span, which stands by two blanks further in than its
+/// parent's, as far as the fortieth below a root.
 #[derive(Clone, Debug, Default, PartialEq, Eq)]
 pub struct OpenSpans(Vec<OpenSpan>);
 
@@ -211,10 +212,14 @@ impl<'a> IntoIterator for &'a OpenSpans {
     }
 }
 
+/// The deepest span whose line stands further in than its parent's: else the lines of a long chain would be mostly
+/// blanks.
+const DEEPEST: usize = 40;
+
 impl fmt::Display for OpenSpans {
     fn fmt(&self, f: &mut fmt::Formatter<'_>) -> fmt::Result {
         for (depth, span) in self.trees() {
-            writeln!(f, "{:1$}{span}", "", 2 * depth)?;
+            writeln!(f, "{:1$}{span}", "", 2 * depth.min(DEEPEST))?;
         }
         Ok(())
     }

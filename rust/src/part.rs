@@ -1,6 +1,7 @@
 //! A part of a registry: its lock, and what may be asked without it.
 #![forbid(unsafe_code)]
 use crate::interest::Interest;
+use crate::lock::lock;
 use crate::lost::{Losses, Lost};
 use crate::owed::Debt;
 use crate::refusal::Refusal;
@@ -8,8 +9,9 @@ use crate::ring::Ring;
 use crate::seats::Caller;
 use crate::state::State;
 use crate::workers;
+use crate::writer::Asked;
 use std::sync::atomic::{AtomicBool, AtomicU32, AtomicU64, Ordering};
-use std::sync::{Arc, Mutex, MutexGuard, PoisonError};
+use std::sync::{Arc, Mutex, MutexGuard, OnceLock, PoisonError};
 use std::thread;
 use std::time::Duration;
 
@@ -30,6 +32,8 @@ pub(crate) struct Common {
     owing: Arc<AtomicU32>,
     // Who adds a callsite has this one, and then the lock of a part.
     adding: Mutex<()>,
+    // What is asked of the thread that writes, where one was spawned.
+    writer: OnceLock<Arc<Asked>>,
 }
 
 impl Common {
@@ -43,7 +47,18 @@ impl Common {
             told: Mutex::default(),
             owing: Arc::default(),
             adding: Mutex::default(),
+            writer: OnceLock::new(),
         }
+    }
+
+    /// A thread writes the lines from now on. There is one drain, which comes to one thread.
+    pub(crate) fn is_written(&self, asked: Arc<Asked>) {
+        let _first = self.writer.set(asked);
+    }
+
+    /// What is asked of the thread that writes; none where none was spawned.
+    pub(crate) fn writer(&self) -> Option<&Asked> {
+        self.writer.get().map(|asked| &**asked)
     }
 
     /// By which the registry is told from all others of the process, also those that are gone.
@@ -86,7 +101,8 @@ impl Common {
     }
 }
 
-/// A proved registry with its lock and its ring. No two parts have a line of the processors' caches in common.
+/// A proved registry with its lock and its ring. No two parts have a line of the processors' caches in common, and
+/// neither have the lock's word, the [`State`] and what is only read here.
 #[repr(align(128))]
 pub(crate) struct Part {
     state: Mutex<State>,
@@ -125,7 +141,7 @@ impl Part {
 
     #[inline(always)]
     fn lock(&self) -> MutexGuard<'_, State> {
-        self.state.lock().unwrap_or_else(PoisonError::into_inner)
+        lock(&self.state)
     }
 
     /// Makes a call until it isn't refused for want of a place, where the registry waits for the drain.

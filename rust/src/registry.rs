@@ -56,7 +56,9 @@ pub struct Registry {
 /// Registries are numbered from 1 on.
 const NO_NUMBER: u64 = 0;
 
-/// All registries that are clones of one another. When it goes, only the drain is left.
+/// All registries that are clones of one another. When it goes, only the drain is left. It has no line of the
+/// processors' caches in common with the count of its owners, which each new [`Span`] changes.
+#[repr(align(128))]
 struct User {
     parts: Parts,
     number: u64,

@@ -152,6 +152,40 @@ impl Span {
         self.0.as_deref().map_or(Ok(()), |handle| handle.record(fields))
     }
 
+    /// Tells that the span follows from another one, given as an id or as `&other`
+    /// ([`Registry::follows_from`]). Where either is disabled, nothing is told.
+    ///
+    /// ```
+    /// # fn main() -> Result<(), span_registry::Error> {
+    /// # let (registry, mut drain) = span_registry::Registry::builder()
+    /// #     .layer(span_registry::Layer::compact()).build()?;
+    /// use span_registry::{span, Level};
+    /// let ask = span!(registry, Level::Info, "ask");
+    /// let answer = span!(registry, Level::Info, "answer");
+    /// answer.follows_from(&ask);
+    /// # let lines: Vec<String> = drain.lines().map(|line| line.text).collect();
+    /// # assert_eq!(lines[2], "record 2 w0 answer follows_from=1");
+    /// # Ok(())
+    /// # }
+    /// ```
+    pub fn follows_from(&self, other: impl Into<Option<Id>>) -> &Span {
+        if let Some(other) = other.into() {
+            self.or_lost(|handle| handle.registry.follows_from(handle.id(), other));
+        }
+        self
+    }
+
+    /// [`follows_from`](Span::follows_from), or why it is refused.
+    ///
+    /// # Errors
+    /// Those of [`Registry::follows_from`].
+    pub fn try_follows_from(&self, other: impl Into<Option<Id>>) -> Result<(), Error> {
+        match (&self.0, other.into()) {
+            (Some(handle), Some(other)) => handle.registry.follows_from(handle.id(), other),
+            _ => Ok(()),
+        }
+    }
+
     // None of a disabled span, and where it is refused.
     fn or_lost<'a, T>(&'a self, call: impl FnOnce(&'a Handle) -> Result<T, Error>) -> Option<T> {
         let handle = self.0.as_deref()?;

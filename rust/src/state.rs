@@ -25,6 +25,9 @@ impl<F: Fn(&Origins) -> Result<What, Refusal> + Copy> Noting for F {}
 trait Sending<T>: Fn(&mut Core, &Packed) -> Result<T, Refusal> + Copy {}
 impl<T, F: Fn(&mut Core, &Packed) -> Result<T, Refusal> + Copy> Sending<T> for F {}
 
+/// It begins in a line of the processors' caches of its own: threads that wait look at the lock's word again and again,
+/// which would take from the one that has the lock what it works on.
+#[repr(align(128))]
 pub(crate) struct State {
     core: Core,
     // Workers are numbered from 0 on here and in the core, and from this one on where they are told.

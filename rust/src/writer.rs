@@ -6,6 +6,7 @@ use crate::error::Error;
 use crate::parts::Parts;
 use crate::registry::Registry;
 use crate::ring::OnFull;
+use crate::workers;
 use std::fmt;
 use std::io::{self, Write};
 use std::panic::{catch_unwind, resume_unwind, AssertUnwindSafe};
@@ -66,17 +67,45 @@ impl Asked {
         self.progress.lock().unwrap_or_else(PoisonError::into_inner)
     }
 
-    // Asks for a flush and waits for it. Whether it was done, or nothing was left to be flushed.
-    fn flush(&self) -> bool {
+    // Asks for a flush and waits for it.
+    fn flush(&self) -> io::Result<()> {
         let mut progress = self.progress();
         progress.asked += 1;
         let number = progress.asked;
         self.is_flush.store(true, Ordering::Release);
         while progress.done < number && !progress.is_over {
-            let changed = self.has_changed.wait(progress);
-            progress = changed.unwrap_or_else(PoisonError::into_inner);
+            progress = self.changed(progress);
         }
-        !progress.has_failed
+        if progress.has_failed {
+            Err(failed())
+        } else if progress.done < number && self.is_stopped() {
+            Err(io::Error::other("the writer was stopped"))
+        } else {
+            // It was done, or the registry is gone and all lines are out.
+            Ok(())
+        }
+    }
+
+    fn asks_for_the_end(&self) {
+        self.is_stopped.store(true, Ordering::Release);
+    }
+
+    // Asks for the end and waits for it.
+    fn stop(&self) -> io::Result<()> {
+        self.asks_for_the_end();
+        let mut progress = self.progress();
+        while !progress.is_over {
+            progress = self.changed(progress);
+        }
+        if progress.has_failed {
+            Err(failed())
+        } else {
+            Ok(())
+        }
+    }
+
+    fn changed<'a>(&self, progress: MutexGuard<'a, Progress>) -> MutexGuard<'a, Progress> {
+        self.has_changed.wait(progress).unwrap_or_else(PoisonError::into_inner)
     }
 }
 
@@ -111,8 +140,8 @@ impl Guard {
     /// Call it where nothing is held that the writer waits for. Want of memory is told by [`finish`](Guard::finish).
     ///
     /// # Errors
-    /// Where a write or a flush failed or panicked, now or before, which [`finish`](Guard::finish) tells, and where the
-    /// writer itself calls it.
+    /// Where a write or a flush failed or panicked, now or before, which [`finish`](Guard::finish) tells, where the
+    /// writer was [stopped](Registry::shutdown) before, and where the writer itself calls it.
     ///
     /// ```
     /// # fn main() -> Result<(), Box<dyn std::error::Error>> {
@@ -125,13 +154,9 @@ impl Guard {
     /// ```
     pub fn flush(&self) -> io::Result<()> {
         if self.writing.as_ref().is_some_and(is_this_thread) {
-            return Err(io::Error::other("the writer can't wait for itself"));
+            return Err(waits_for_itself());
         }
-        if self.asked.flush() {
-            Ok(())
-        } else {
-            Err(io::Error::other("the writer failed"))
-        }
+        self.asked.flush()
     }
 
     /// The end of the writer, as a drop. It answers how many lines were written, or what a write or a flush failed with. Lines that are
@@ -145,13 +170,21 @@ impl Guard {
     }
 
     fn stop(&mut self) -> io::Result<u64> {
-        self.asked.is_stopped.store(true, Ordering::Release);
+        self.asked.asks_for_the_end();
         // The writer itself, which may have come to own this, doesn't wait for its own end.
         let writing = self.writing.take();
         let others = writing.filter(|writing| !is_this_thread(writing));
         let ended = others.map_or(Ok(Ok(0)), JoinHandle::join);
         ended.unwrap_or_else(|_| Err(io::Error::other("the writer panicked")))
     }
+}
+
+fn waits_for_itself() -> io::Error {
+    io::Error::other("the writer can't wait for itself")
+}
+
+fn failed() -> io::Error {
+    io::Error::other("the writer failed")
 }
 
 fn is_this_thread(writing: &JoinHandle<io::Result<u64>>) -> bool {
@@ -176,6 +209,7 @@ impl Drain {
         let (asked_there, parts) = (Arc::clone(&asked), self.parts().clone());
         let run = move || written(self, out, &asked_there);
         let writing = Builder::new().name("span-registry-writer".to_owned()).spawn(run)?;
+        parts.common().is_written(Arc::clone(&asked));
         Ok(Guard {
             parts,
             asked,
@@ -188,17 +222,80 @@ impl Drain {
 fn written(mut drain: Drain, mut out: impl Write, asked: &Asked) -> io::Result<u64> {
     let ended = catch_unwind(AssertUnwindSafe(|| drain.run_asked(&mut out, asked)));
     let has_failed = !matches!(ended, Ok(Ok(_)));
-    asked.ends(has_failed);
     if has_failed {
+        asked.ends(has_failed);
         let _thrown_away = drain.run_until(&mut io::sink(), &asked.is_stopped);
     }
+    let missed = drain.counts().missed;
+    // Before the writer, whose own drop may make calls that would wait for this thread.
+    drop(drain);
+    asked.ends(has_failed);
     let lines = ended.unwrap_or_else(|panic| resume_unwind(panic))?;
-    match drain.counts().missed {
+    match missed {
         0 => Ok(lines),
         missed => Err(io::Error::new(
             io::ErrorKind::OutOfMemory,
             format!("lines written: {lines}, missing for want of memory: {missed}"),
         )),
+    }
+}
+
+/// What is asked of the thread that writes, by who hasn't its [`Guard`], as where the registry is in a static.
+impl Registry {
+    /// As [`Guard::flush`].
+    ///
+    /// # Errors
+    /// Those of [`Guard::flush`], and [`NotFound`](io::ErrorKind::NotFound) where no writer was spawned.
+    ///
+    /// ```
+    /// # fn main() -> Result<(), Box<dyn std::error::Error>> {
+    /// use span_registry::{event, Layer, Level, Registry};
+    /// let (registry, _guard) = Registry::builder().layer(Layer::compact()).spawn_writer(std::io::stdout())?;
+    /// event!(registry, Level::Info, "that line is out");
+    /// registry.flush()?;
+    /// # Ok(())
+    /// # }
+    /// ```
+    pub fn flush(&self) -> io::Result<()> {
+        let writer = self.writer()?;
+        if workers::is_writing(self.parts().common()) {
+            return Err(waits_for_itself());
+        }
+        writer.flush()
+    }
+
+    /// The end of the writer, as where its [`Guard`] is dropped: all lines of the calls that were accepted before it
+    /// was first asked to end are written and flushed, and which spans are open is told. Nobody reads any longer then:
+    /// lines are thrown away, and counted as [`Lost::lines`](crate::Lost::lines). [`Guard::finish`] still tells how
+    /// many were written, and want of memory.
+    ///
+    /// # Errors
+    /// Where a write or a flush failed or panicked, now or before; where the writer itself calls it, which ends then
+    /// and isn't waited for; and [`NotFound`](io::ErrorKind::NotFound) where none was spawned.
+    ///
+    /// ```
+    /// # fn main() -> Result<(), Box<dyn std::error::Error>> {
+    /// use span_registry::{event, Layer, Level, Registry};
+    /// let (registry, guard) = Registry::builder().layer(Layer::compact()).spawn_writer(std::io::stdout())?;
+    /// event!(registry, Level::Info, "the last line");
+    /// registry.shutdown()?;
+    /// event!(registry, Level::Info, "nobody reads this");
+    /// assert_eq!(guard.finish()?, 1);
+    /// # Ok(())
+    /// # }
+    /// ```
+    pub fn shutdown(&self) -> io::Result<()> {
+        let writer = self.writer()?;
+        if workers::is_writing(self.parts().common()) {
+            writer.asks_for_the_end();
+            return Err(waits_for_itself());
+        }
+        writer.stop()
+    }
+
+    fn writer(&self) -> io::Result<&Asked> {
+        let none = || io::Error::new(io::ErrorKind::NotFound, "no writer was spawned");
+        self.parts().common().writer().ok_or_else(none)
     }
 }
 

@@ -157,7 +157,10 @@ impl Drain {
         loop {
             lines += self.write_until(outs, || asked.is_something())?;
             if asked.is_stopped() {
-                return Ok(lines + self.write_rest(outs)?);
+                let flushes = asked.flushes();
+                lines += self.write_rest(outs)?;
+                flushes.into_iter().for_each(|flushes| asked.are_done(flushes));
+                return Ok(lines);
             }
             let Some(flushes) = asked.flushes() else {
                 return Ok(lines);

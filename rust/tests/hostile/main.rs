@@ -6,7 +6,9 @@ mod common;
 mod edges;
 mod memcheck;
 mod misuse;
+mod outliving;
 mod threads;
+mod values;
 
 use std::env;
 

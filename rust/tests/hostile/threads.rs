@@ -18,7 +18,7 @@ thread_local! {
 }
 
 /// The panics that are meant say nothing.
-fn hush() {
+pub fn hush() {
     std::panic::set_hook(Box::new(|panic| {
         if panic.payload().downcast_ref::<&str>() != Some(&"on purpose") {
             eprintln!("thread {:?} {panic}", thread::current().name());
