@@ -181,7 +181,16 @@ fn run_lines<V: Say, A: Admit, W: Write>(
             number += 1;
             continue;
         }
-        if let Err(fault) = run_line(alloc, number, line, &mut scratch, metas, script, text, output) {
+        if let Err(fault) = run_line(
+            alloc,
+            number,
+            line,
+            &mut scratch,
+            metas,
+            script,
+            text,
+            output,
+        ) {
             return Err(fault);
         }
         number += 1;
