@@ -5,6 +5,7 @@ ghost use Rattle.span_script.specs.Reason.{Answers, AnswersOrStops};
 ghost use Rattle.span_script.specs.Operation.{json_of, op_of, is_setup, operation_of};
 ghost use Rattle.span_script.specs.Views.{operation_seen, op_seen, stage_seen, NamesWorker};
 
+use crate::line_metas::{LineMetas, OwnMetas};
 use crate::line_value::Borrowed;
 use crate::operations::Operation;
 use crate::reading::{Op, Stage, asked, op_given, sets_up};
@@ -46,7 +47,21 @@ pub fn operation_in_line<'v>(
     ensures meant { AnswersOrStops operation_seen result (operation_of workers (stage_seen stage) (view line.now)) }
     ensures worker { 0 < workers → IfOk result (λ operation. NamesWorker operation workers) }
 {
-    asked(alloc, Borrowed(line), workers, stage)
+    asked(alloc, Borrowed(line), workers, stage, &mut OwnMetas)
+}
+
+/// The same, where metas are shared with earlier lines.
+pub fn operation_with_metas<'v>(
+    alloc: Global,
+    line: &Value<'v>,
+    workers: usize,
+    stage: Stage,
+    metas: &mut LineMetas,
+) -> Result<Operation<'v>, Stop>
+    ensures meant { AnswersOrStops operation_seen result (operation_of workers (stage_seen stage) (view line.now)) }
+    ensures worker { 0 < workers → IfOk result (λ operation. NamesWorker operation workers) }
+{
+    asked(alloc, Borrowed(line), workers, stage, metas)
 }
 
 /// The line's op, as `op_in` reads it.

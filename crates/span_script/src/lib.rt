@@ -9,6 +9,7 @@ mod borrowed;
 mod fields;
 mod key;
 mod key_values;
+mod line_metas;
 mod line_value;
 mod lines;
 mod meta;
@@ -19,8 +20,9 @@ mod reason;
 mod rules;
 mod stop;
 
-pub use borrowed::{is_setup_line, json_line, op_in_line, operation_in_line};
+pub use borrowed::{is_setup_line, json_line, op_in_line, operation_in_line, operation_with_metas};
 pub use key::Key;
+pub use line_metas::LineMetas;
 pub use lines::{cut_line, is_skipped};
 pub use operations::{NewEvent, NewLayer, NewSpan, Operation, Parent, SpanCall, SpanKey};
 pub use reading::{Op, Stage, is_setup, json_value, op_in, operation};

@@ -15,8 +15,8 @@ use crate::key::Key;
 use crate::key_values::{
     form, kinds, level, limit, parent, required_text, span, text, text_at, worker,
 };
+use crate::line_metas::{Metas, OwnMetas};
 use crate::line_value::{JsonValue, Owned};
-use crate::meta::meta;
 use crate::operations::{NewEvent, NewLayer, NewSpan, Operation, SpanCall, SpanKey};
 use crate::reason::Reason;
 use crate::rules::rule;
@@ -87,7 +87,7 @@ pub fn operation<'v>(
     ensures meant { AnswersOrStops operation_seen result (operation_of workers (stage_seen stage) (view line.now)) }
     ensures worker { 0 < workers → IfOk result (λ operation. NamesWorker operation workers) }
 {
-    asked(alloc, Owned(line), workers, stage)
+    asked(alloc, Owned(line), workers, stage, &mut OwnMetas)
 }
 
 /// The line's op.
@@ -107,11 +107,12 @@ pub(crate) fn sets_up<'v, V: JsonValue<'v>>(line: V) -> bool
 
 /// What a line asks for.
 #[tactic(auto, unfolding(crate::specs::Operation::operation_of))]
-pub(crate) fn asked<'v, V: JsonValue<'v>>(
+pub(crate) fn asked<'v, V: JsonValue<'v>, M: Metas>(
     alloc: Global,
     line: V,
     workers: usize,
     stage: Stage,
+    metas: &mut M,
 ) -> Result<Operation<'v>, Stop>
     ensures meant { AnswersOrStops operation_seen result (operation_of workers (stage_seen stage) (V.json line)) }
     ensures worker { 0 < workers → IfOk result (λ operation. NamesWorker operation workers) }
@@ -120,18 +121,19 @@ pub(crate) fn asked<'v, V: JsonValue<'v>>(
         return Err(Stop::Refused(Reason::NotObject));
     }
     match op_given(line) {
-        Ok(op) => with_op(alloc, line, workers, stage, op),
+        Ok(op) => with_op(alloc, line, workers, stage, op, metas),
         Err(reason) => Err(Stop::Refused(reason)),
     }
 }
 
 /// What a line with this op asks for.
-fn with_op<'v, V: JsonValue<'v>>(
+fn with_op<'v, V: JsonValue<'v>, M: Metas>(
     alloc: Global,
     line: V,
     workers: usize,
     stage: Stage,
     op: Op,
+    metas: &mut M,
 ) -> Result<Operation<'v>, Stop>
     ensures { AnswersOrStops operation_seen result
         (keys_of workers (stage_seen stage) (V.json line) (op_seen op)) }
@@ -145,10 +147,10 @@ fn with_op<'v, V: JsonValue<'v>>(
             Stage::AtStart | Stage::InSetup => layer(alloc, line),
             Stage::Running => Err(Stop::Refused(Reason::LateLine)),
         },
-        Op::New => new_span(alloc, line, workers),
+        Op::New => new_span(alloc, line, workers, metas),
         Op::OnSpan(call) => on_span(line, workers, call),
         Op::Record => record(alloc, line, workers),
-        Op::Event => event(alloc, line, workers),
+        Op::Event => event(alloc, line, workers, metas),
         Op::Find => find(line),
     }
 }
@@ -237,10 +239,11 @@ fn read_head<'v, V: JsonValue<'v>>(line: V, key: Key) -> Result<Head<'v>, Reason
 }
 
 /// The new span that a line asks for.
-fn new_span<'v, V: JsonValue<'v>>(
+fn new_span<'v, V: JsonValue<'v>, M: Metas>(
     alloc: Global,
     line: V,
     workers: usize,
+    metas: &mut M,
 ) -> Result<Operation<'v>, Stop>
     ensures { AnswersOrStops operation_seen result (new_of workers (V.json line)) }
 {
@@ -256,7 +259,7 @@ fn new_span<'v, V: JsonValue<'v>>(
         Ok(fields) => fields,
         Err(stop) => return Err(stop),
     };
-    match meta_and_label(alloc, line, workers, &head) {
+    match meta_and_label(alloc, line, workers, &head, metas) {
         Ok((meta, label, worker)) => Ok(Operation::New(NewSpan {
             meta,
             fields,
@@ -269,11 +272,12 @@ fn new_span<'v, V: JsonValue<'v>>(
 }
 
 /// The meta of a new span, its label and its worker.
-fn meta_and_label<'v, V: JsonValue<'v>>(
+fn meta_and_label<'v, V: JsonValue<'v>, M: Metas>(
     alloc: Global,
     line: V,
     workers: usize,
     head: &Head<'v>,
+    metas: &mut M,
 ) -> Result<(SharedMeta, &'v str, usize), Stop>
     ensures given { AnswersOrStops (λ given. (given.1.now, given.2)) result
         (label_and_worker_of workers (V.json line) head.now.text.now) }
@@ -281,7 +285,7 @@ fn meta_and_label<'v, V: JsonValue<'v>>(
         ≡ record { name = head.now.text.now; target = head.now.target.now; level = head.now.level }) }
 {
     match label_and_worker(line, head.text, workers) {
-        Ok((label, worker)) => match meta(alloc, head.text, head.target, head.level) {
+        Ok((label, worker)) => match metas.give(alloc, head.text, head.target, head.level) {
             Ok(meta) => Ok((meta, label, worker)),
             Err(stop) => Err(stop),
         },
@@ -347,16 +351,17 @@ fn record<'v, V: JsonValue<'v>>(
 }
 
 /// The event that a line asks for, whose name is `event`.
-fn event<'v, V: JsonValue<'v>>(
+fn event<'v, V: JsonValue<'v>, M: Metas>(
     alloc: Global,
     line: V,
     workers: usize,
+    metas: &mut M,
 ) -> Result<Operation<'v>, Stop>
     ensures { AnswersOrStops operation_seen result (event_of workers (V.json line)) }
 {
     match read_head(line, Key::Message) {
         Ok(head) => match fields(alloc, line) {
-            Ok(fields) => event_with(alloc, line, workers, &head, fields),
+            Ok(fields) => event_with(alloc, line, workers, &head, fields, metas),
             Err(stop) => Err(stop),
         },
         Err(reason) => Err(Stop::Refused(reason)),
@@ -364,18 +369,19 @@ fn event<'v, V: JsonValue<'v>>(
 }
 
 /// The event of a line that gives these fields.
-fn event_with<'v, V: JsonValue<'v>>(
+fn event_with<'v, V: JsonValue<'v>, M: Metas>(
     alloc: Global,
     line: V,
     workers: usize,
     head: &Head<'_>,
     fields: Fields,
+    metas: &mut M,
 ) -> Result<Operation<'v>, Stop>
     ensures { AnswersOrStops operation_seen result
         (event_rest workers (V.json line) (head_seen head.now) fields) }
 {
     match worker(line, workers) {
-        Ok(worker) => match event_texts(alloc, head) {
+        Ok(worker) => match event_texts(alloc, head, metas) {
             Ok((meta, message)) => Ok(Operation::Event(NewEvent {
                 meta,
                 message,
@@ -389,13 +395,17 @@ fn event_with<'v, V: JsonValue<'v>>(
 }
 
 /// The meta and the message of an event. The only error is `Memory`.
-fn event_texts(alloc: Global, head: &Head<'_>) -> Result<(SharedMeta, ArcStr), Stop>
+fn event_texts<M: Metas>(
+    alloc: Global,
+    head: &Head<'_>,
+    metas: &mut M,
+) -> Result<(SharedMeta, ArcStr), Stop>
     ensures texts { IfOk result (λ texts. (texts.0
         ≡ record { name = codes "event"; target = head.now.target.now; level = head.now.level })
         × (arc_str_bytes texts.1 ≡ head.now.text.now)) }
     ensures memory { IfErr result (λ stop. stop ≡ Stop.Memory) }
 {
-    match meta(alloc, "event", head.target, head.level) {
+    match metas.give(alloc, "event", head.target, head.level) {
         Ok(meta) => match ArcStr::from_str(alloc, head.text) {
             Ok(message) => Ok((meta, message)),
             Err(_) => Err(Stop::Memory),

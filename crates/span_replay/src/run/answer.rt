@@ -59,21 +59,21 @@ fn answer_line(text: &mut Vec<u8>, answer: Answer) -> io::Result<()>
     ensures { OnOk result (text.new.items ≡ text.old.items ++ answer_text answer) }
 {
     match answer {
-        Answer::Limits => text.write_all(b"= limits\n"),
+        Answer::Limits => put(text, b"= limits\n"),
         Answer::Layer(number) => writeln!(text, "= layer {number}"),
         Answer::Made(id) => {
-            text.write_all(b"= ")?;
+            put(text, b"= ")?;
             write_number(text, id.get())?;
-            text.write_all(b"\n")
+            put(text, b"\n")
         }
-        Answer::NotWanted => text.write_all(b"= not wanted\n"),
-        Answer::Cloned => text.write_all(b"= cloned\n"),
-        Answer::Closed(true) => text.write_all(b"= closed\n"),
-        Answer::Closed(false) => text.write_all(b"= open\n"),
-        Answer::Entered(true) => text.write_all(b"= entered\n"),
-        Answer::Entered(false) => text.write_all(b"= again\n"),
-        Answer::Recorded => text.write_all(b"= recorded\n"),
-        Answer::Told => text.write_all(b"= told\n"),
+        Answer::NotWanted => put(text, b"= not wanted\n"),
+        Answer::Cloned => put(text, b"= cloned\n"),
+        Answer::Closed(true) => put(text, b"= closed\n"),
+        Answer::Closed(false) => put(text, b"= open\n"),
+        Answer::Entered(true) => put(text, b"= entered\n"),
+        Answer::Entered(false) => put(text, b"= again\n"),
+        Answer::Recorded => put(text, b"= recorded\n"),
+        Answer::Told => put(text, b"= told\n"),
         Answer::Refused(fault) => writeln!(text, "! {fault}"),
     }
 }
@@ -100,11 +100,20 @@ pub fn write_found(text: &mut Vec<u8>, found: &Found<'_>) -> io::Result<()>
 pub fn write_note(text: &mut Vec<u8>, line: &Line) -> io::Result<()>
     ensures { OnOk result (text.new.items ≡ text.old.items ++ note_line (plain_line line.now)) }
 {
-    text.write_all(b"L")?;
+    put(text, b"L")?;
     write_number(text, u64::from(line.layer))?;
-    text.write_all(b" ")?;
-    text.write_all(line.text.as_slice())?;
-    text.write_all(b"\n")
+    put(text, b" ")?;
+    put(text, line.text.as_slice())?;
+    put(text, b"\n")
+}
+
+/// Appends bytes to a text. The only error is that memory was refused.
+#[inline(always)]
+fn put(text: &mut Vec<u8>, bytes: &[u8]) -> io::Result<()>
+    ensures { OnOk result (text.new.items ≡ text.old.items ++ bytes.now) }
+{
+    text.extend_from_slice(bytes)?;
+    Ok(())
 }
 
 /// Appends a number in decimal to a text. The only error is that memory was refused.
@@ -112,7 +121,7 @@ fn write_number(text: &mut Vec<u8>, number: u64) -> io::Result<()>
     ensures { OnOk result (text.new.items ≡ text.old.items ++ decimal number) }
 {
     let mut buffer = Buffer::new();
-    text.write_all(buffer.format(number).as_bytes())
+    put(text, buffer.format(number).as_bytes())
 }
 
 /// Appends the last line, which tells how many spans are open, to a text. The only error is that memory was refused.

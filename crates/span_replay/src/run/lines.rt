@@ -22,7 +22,7 @@ use span_json::{Scratch, Value};
 use span_layers::{Admit, Say};
 use span_outlet::Latest;
 use span_run::{Counted, RunFault, write_text};
-use span_script::{Stop, cut_line, is_skipped, json_line, operation_in_line};
+use span_script::{LineMetas, Stop, cut_line, is_skipped, json_line, operation_with_metas};
 use std::alloc::Global;
 use std::io::Write;
 
@@ -75,7 +75,8 @@ fn run_to_end<V: Say, A: Admit, W: Write>(
     ensures counts { EndsAsCounted 0 0 (failed_of output.old) (failed_of output.new) result }
     ensures flushes { flushes_of output.new ≡ flushes_of output.old }
 {
-    let ended = run_and_tidy(alloc, rest, &mut script, text, output);
+    let mut metas = LineMetas::none(alloc);
+    let ended = run_and_tidy(alloc, rest, &mut metas, &mut script, text, output);
     let_go(script, remains, ended.is_ok());
     ended
 }
@@ -84,6 +85,7 @@ fn run_to_end<V: Say, A: Admit, W: Write>(
 fn run_and_tidy<V: Say, A: Admit, W: Write>(
     alloc: Global,
     rest: Rest<'_>,
+    metas: &mut LineMetas,
     script: &mut Script<V, A>,
     text: &mut Vec<u8>,
     output: &mut Counted<W>,
@@ -99,7 +101,7 @@ fn run_and_tidy<V: Say, A: Admit, W: Write>(
     ensures counts { EndsAsCounted 0 0 (failed_of output.old) (failed_of output.new) result }
     ensures flushes { flushes_of output.new ≡ flushes_of output.old }
 {
-    match run_first(alloc, rest, script, text, output) {
+    match run_first(alloc, rest, metas, script, text, output) {
         Ok(()) => tidy(alloc, script, text, output),
         Err(fault) => Err(fault),
     }
@@ -109,6 +111,7 @@ fn run_and_tidy<V: Say, A: Admit, W: Write>(
 fn run_first<V: Say, A: Admit, W: Write>(
     alloc: Global,
     rest: Rest<'_>,
+    metas: &mut LineMetas,
     script: &mut Script<V, A>,
     text: &mut Vec<u8>,
     output: &mut Counted<W>,
@@ -138,8 +141,8 @@ fn run_first<V: Say, A: Admit, W: Write>(
     let Some(value) = value else {
         return Ok(());
     };
-    match run_value(alloc, number, value, script, text, output) {
-        Ok(()) => run_lines(alloc, number + 1, lines, script, text, output),
+    match run_value(alloc, number, value, metas, script, text, output) {
+        Ok(()) => run_lines(alloc, number + 1, lines, metas, script, text, output),
         Err(fault) => Err(fault),
     }
 }
@@ -149,6 +152,7 @@ fn run_lines<V: Say, A: Admit, W: Write>(
     alloc: Global,
     first: u64,
     lines: &[u8],
+    metas: &mut LineMetas,
     script: &mut Script<V, A>,
     text: &mut Vec<u8>,
     output: &mut Counted<W>,
@@ -177,7 +181,16 @@ fn run_lines<V: Say, A: Admit, W: Write>(
             number += 1;
             continue;
         }
-        if let Err(fault) = run_line(alloc, number, line, &mut scratch, script, text, output) {
+        if let Err(fault) = run_line(
+            alloc,
+            number,
+            line,
+            &mut scratch,
+            metas,
+            script,
+            text,
+            output,
+        ) {
             return Err(fault);
         }
         number += 1;
@@ -191,6 +204,7 @@ fn run_line<V: Say, A: Admit, W: Write>(
     number: u64,
     line: &[u8],
     scratch: &mut Scratch,
+    metas: &mut LineMetas,
     script: &mut Script<V, A>,
     text: &mut Vec<u8>,
     output: &mut Counted<W>,
@@ -209,7 +223,7 @@ fn run_line<V: Say, A: Admit, W: Write>(
     ensures flushes { flushes_of output.new ≡ flushes_of output.old }
 {
     match json_line(alloc, line, scratch) {
-        Ok(value) => run_value(alloc, number, value, script, text, output),
+        Ok(value) => run_value(alloc, number, value, metas, script, text, output),
         Err(stop) => Err(at_line(number, stop)),
     }
 }
@@ -220,6 +234,7 @@ fn run_value<V: Say, A: Admit, W: Write>(
     alloc: Global,
     number: u64,
     line: Value<'_>,
+    metas: &mut LineMetas,
     script: &mut Script<V, A>,
     text: &mut Vec<u8>,
     output: &mut Counted<W>,
@@ -237,7 +252,7 @@ fn run_value<V: Say, A: Admit, W: Write>(
     ensures counts { EndsAsCounted 0 0 (failed_of output.old) (failed_of output.new) result }
     ensures flushes { flushes_of output.new ≡ flushes_of output.old }
 {
-    match call(alloc, &line, script, text) {
+    match call(alloc, &line, metas, script, text) {
         Ok(()) => write_text(output, text.as_slice()),
         Err(stop) => Err(at_line(number, stop)),
     }
@@ -247,6 +262,7 @@ fn run_value<V: Say, A: Admit, W: Write>(
 fn call<V: Say, A: Admit>(
     alloc: Global,
     line: &Value<'_>,
+    metas: &mut LineMetas,
     script: &mut Script<V, A>,
     text: &mut Vec<u8>,
 ) -> Result<(), Stop>
@@ -258,11 +274,12 @@ fn call<V: Say, A: Admit>(
         (λ stop. (hooks : ℕ) → StopsFor (value_turn hooks (state_at script.old running) (view line.now)) stop) }
 {
     text.clear();
-    match operation_in_line(
+    match operation_with_metas(
         alloc,
         line,
         script.workers as usize,
         span_script::Stage::Running,
+        metas,
     ) {
         Ok(operation) => script.run(alloc, &operation, text),
         Err(stop) => Err(stop),
