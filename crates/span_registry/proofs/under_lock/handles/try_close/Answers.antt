@@ -4,7 +4,7 @@ use Rattle.span_registry.proofs.Free.{free_worker, free_room, free_longer, free_
 use Rattle.span_registry.specs.Worker.{WorkerView}
 use Rattle.span_seats.specs.declared.view.HandleView.{HandleView}
 use Rattle.span_registry.proofs.Happens.{close_happened}
-use Rattle.span_registry.proofs.laws.handles.try_close.Goals as goal
+use Rattle.span_registry.proofs.under_lock.handles.try_close.Goals as goal
 
 pub try_close-requires-clause-worker : goal.try_close-requires-clause-worker
 try_close-requires-clause-worker g c = free_worker c.locked.invariant c.worker.invariant.4

@@ -3,7 +3,7 @@ use Rattle.span_history.specs.Own.{IsFront}
 use Rattle.span_outlet.specs.Batch.{PlainBatch}
 use Rattle.span_registry.proofs.Free.{free_legal}
 use Rattle.span_registry.proofs.Within.{within_limits}
-use Rattle.span_registry.proofs.laws.reports.end.Goals as goal
+use Rattle.span_registry.proofs.under_lock.reports.end.Goals as goal
 
 pub returns-clause-legal : goal.returns-clause-legal
 returns-clause-legal g c = rw (← c.locked.view_is) (free_legal c.locked.invariant)

@@ -1,6 +1,6 @@
 use Rattle.std.proofs.Math.Nat.{add-zero}
 use Rattle.span_registry.proofs.Free.{free_worker, free_room, free_longer, free_as_long, free_seated, free_refused, free_not_wanted, free_counted}
-use Rattle.span_registry.proofs.laws.spans.new_span.Goals as goal
+use Rattle.span_registry.proofs.under_lock.spans.new_span.Goals as goal
 
 pub new_span-new-requires-clause-worker : goal.new_span-new-requires-clause-worker
 new_span-new-requires-clause-worker g c = free_worker c.locked.invariant c.worker.invariant.4

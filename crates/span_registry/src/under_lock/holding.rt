@@ -1,30 +1,22 @@
 //! What keeps spans open.
-ghost use Rattle.std.specs.Prelude.{◌≡◌, ◌≢◌, ◌↔◌, ℕ, [], map, length, List, IfOk, IfErr, OnOk, OnErr};
-ghost use Rattle.span_layers.specs.Filter.{Filter};
-ghost use Rattle.span_outlet.specs.Batch.{PlainBatch};
+ghost use Rattle.std.specs.Prelude.{◌≡◌, ◌≢◌, ◌↔◌, [], map, length, IfOk, IfErr, OnOk, OnErr};
 ghost use Rattle.span_forest.specs.Spans.{find, IsOpen, WhyNotFound};
 ghost use Rattle.span_forest.specs.declared.span.Holder.TheVariants.{Entry};
 ghost use Rattle.span_forest.specs.Holders.{held_in};
 ghost use Rattle.span_forest.specs.Holding.{open_ids, held_spans, what_holds};
-ghost use Rattle.span_core.specs.World.{World, workers_with};
-ghost use Rattle.span_core.specs.History.{IsLegal};
-ghost use Rattle.span_core.specs.Core.{CoreView};
+ghost use Rattle.span_core.specs.World.{workers_with};
 ghost use Rattle.span_core.specs.Details.{plain_details, details_of};
-ghost use Rattle.span_registry.specs.declared.report.Counts.{Counts};
 ghost use mathlib.Core.List.{IsPrefix};
 ghost use Rattle.span_registry.specs.Worker.{HasNoMore};
 ghost use Rattle.span_registry.specs.Happened.{Happened};
-ghost use Rattle.span_registry.specs.Report.{AreCounts};
 
-use crate::laws::finds::look;
 use crate::locked::Locked;
 use crate::setup::Setup;
+use crate::under_lock::finds::look;
 use crate::worker::Worker;
 use span_core::SpanDetails;
-use span_core::laws::outcome::a_history_leaves_one_world;
 use span_core::laws::{
-    a_span_is_open_as_long_as_something_keeps_it, no_span_is_held_where_none_is_left,
-    no_span_is_held_where_none_is_open,
+    a_span_is_open_as_long_as_something_keeps_it, no_span_is_held_where_none_is_open,
 };
 use span_forest::Held;
 use span_id::{Fault, Id};
@@ -143,18 +135,4 @@ pub fn span_details<H: Ledger, C: Ledger, S: Setup, O: Outlet, A>(
 {
     look(locked, worker);
     locked.core.span_details()
-}
-
-/// Where no call was accepted after the list of all that is held was asked for, the registry ends with no span left
-/// exactly where that list is empty: what is counted is of a core whose history begins with the one that was known
-/// then, and is no longer.
-pub fn no_span_is_left_where_none_is_held()
-    ensures { (rules : List Filter) (workers : ℕ) (history : List PlainBatch) (world : World) (core : CoreView)
-        (counts : Counts) →
-        IsLegal rules workers history world → IsLegal rules workers core.sent core.world → AreCounts core counts →
-        IsPrefix history core.sent → counts.calls ≡ length history →
-        ((counts.left ≡ 0) ↔ (held_spans world.spans ≡ [])) }
-{
-    a_history_leaves_one_world();
-    no_span_is_held_where_none_is_left();
 }

@@ -2,7 +2,7 @@ use Rattle.std.proofs.Common.{◌≡◌, length, sym, ap, subst, ◌∙◌, arit
 use Rattle.span_history.proofs.Prefixes.{prefix_whole}
 use Rattle.span_core.specs.World.{World}
 use Rattle.span_core.specs.History.{IsLegal}
-use Rattle.span_registry.proofs.laws.holding.no_span_is_left_where_none_is_held.Goals as goal
+use Rattle.span_registry.proofs.laws.promises.no_span_is_left_where_none_is_held.Goals as goal
 
 pub returns : goal.returns
 returns c = λ rules workers history world core counts known legal are begins calls.

@@ -3,7 +3,7 @@ use Rattle.span_registry.specs.Worker.{WorkerView}
 use Rattle.span_registry.proofs.Exited.{stack_left}
 use Rattle.span_registry.proofs.Free.{free_worker, free_room, free_longer, free_as_long, free_seated, free_refused, free_counted}
 use Rattle.span_registry.proofs.Happens.{exit_happened}
-use Rattle.span_registry.proofs.laws.entries.exit.Goals as goal
+use Rattle.span_registry.proofs.under_lock.entries.exit.Goals as goal
 
 pub exit-requires-clause-worker : goal.exit-requires-clause-worker
 exit-requires-clause-worker g c = free_worker c.locked.invariant c.worker.invariant.4

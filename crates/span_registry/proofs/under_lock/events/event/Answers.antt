@@ -1,6 +1,6 @@
 use Rattle.std.proofs.Common.{refl}
 use Rattle.span_registry.proofs.Free.{free_worker, free_room, free_longer, free_as_long, free_seated, free_refused, free_counted}
-use Rattle.span_registry.proofs.laws.events.event.Goals as goal
+use Rattle.span_registry.proofs.under_lock.events.event.Goals as goal
 
 pub event-requires-clause-worker : goal.event-requires-clause-worker
 event-requires-clause-worker g c = free_worker c.locked.invariant c.worker.invariant.4

@@ -1,6 +1,6 @@
 use Rattle.std.proofs.Math.Nat.{add-zero}
 use Rattle.span_registry.proofs.Free.{free_worker, free_room, free_longer, free_as_long, free_seated, free_refused, free_counted}
-use Rattle.span_registry.proofs.laws.handles.clone_span.Goals as goal
+use Rattle.span_registry.proofs.under_lock.handles.clone_span.Goals as goal
 
 pub clone_span-requires-clause-worker : goal.clone_span-requires-clause-worker
 clone_span-requires-clause-worker g c = free_worker c.locked.invariant c.worker.invariant.4

@@ -4,9 +4,9 @@ ghost use mathlib.Core.List.{IsPrefix};
 ghost use Rattle.span_registry.specs.Worker.{HasNoMore};
 ghost use Rattle.span_registry.specs.Happened.{Happened};
 
-use crate::laws::finds::look;
 use crate::locked::Locked;
 use crate::setup::Setup;
+use crate::under_lock::finds::look;
 use crate::worker::Worker;
 use span_outlet::{Drain, Ring};
 use std::sync::ledger::Ledger;

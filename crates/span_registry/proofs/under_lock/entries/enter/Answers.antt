@@ -1,6 +1,6 @@
 use Rattle.std.proofs.Common.{refl}
 use Rattle.span_registry.proofs.Free.{free_worker, free_room, free_longer, free_as_long, free_seated, free_refused, free_counted}
-use Rattle.span_registry.proofs.laws.entries.enter.Goals as goal
+use Rattle.span_registry.proofs.under_lock.entries.enter.Goals as goal
 
 pub enter-requires-clause-worker : goal.enter-requires-clause-worker
 enter-requires-clause-worker g c = free_worker c.locked.invariant c.worker.invariant.4

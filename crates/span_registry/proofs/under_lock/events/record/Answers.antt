@@ -1,6 +1,6 @@
 use Rattle.std.proofs.Common.{refl}
 use Rattle.span_registry.proofs.Free.{free_worker, free_room, free_longer, free_as_long, free_seated, free_refused, free_counted}
-use Rattle.span_registry.proofs.laws.events.record.Goals as goal
+use Rattle.span_registry.proofs.under_lock.events.record.Goals as goal
 
 pub record-requires-clause-worker : goal.record-requires-clause-worker
 record-requires-clause-worker g c = free_worker c.locked.invariant c.worker.invariant.4
