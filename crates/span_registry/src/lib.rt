@@ -14,6 +14,7 @@
 
 mod blanks;
 mod books;
+mod droppable_handle;
 mod found;
 mod handle;
 pub mod laws;
@@ -27,6 +28,7 @@ mod with_seats;
 mod worker;
 
 pub use blanks::Blanks;
+pub use droppable_handle::DroppableHandle;
 pub use found::Found;
 pub use handle::Handle;
 pub use locked::Locked;
