@@ -3,35 +3,14 @@ ghost use Rattle.std.specs.Prelude.{◌≡◌, ◌+◌, ◌<◌, ◌↔◌, IfSo
 ghost use Rattle.hostile_use.specs.Units.{units_in};
 
 use span_id::Id;
-use span_registry::{Handle, Setup};
+use span_registry::{DroppableHandle, Setup};
 use std::sync::ledger::Ledger;
-
-/// A handle that is given up where it is dropped, as where a row ends early.
-pub(crate) struct Held<H: Ledger, C: Ledger, S: Setup> {
-    pub(crate) handle: Handle<H, C, S>,
-}
-
-impl<H: Ledger, C: Ledger, S: Setup> Drop for Held<H, C, S> {
-    fn drop(self) {
-        drop(self.into_handle().into_share());
-    }
-}
-
-impl<H: Ledger, C: Ledger, S: Setup> Held<H, C, S> {
-    /// The handle, which has to be spent.
-    pub(crate) fn into_handle(self) -> Handle<H, C, S>
-        ensures { result ≡ self.handle }
-    {
-        let Held { handle } = self;
-        handle
-    }
-}
 
 /// At most two handles.
 #[derive(Drop)]
 pub(crate) struct Hands<H: Ledger, C: Ledger, S: Setup> {
-    pub(crate) first: Option<Held<H, C, S>>,
-    pub(crate) second: Option<Held<H, C, S>>,
+    pub(crate) first: Option<DroppableHandle<H, C, S>>,
+    pub(crate) second: Option<DroppableHandle<H, C, S>>,
 }
 
 impl<H: Ledger, C: Ledger, S: Setup> Hands<H, C, S> {
@@ -45,7 +24,7 @@ impl<H: Ledger, C: Ledger, S: Setup> Hands<H, C, S> {
 
     /// Takes out a handle of this id.
     #[tactic(auto, unfolding(crate::specs::Units::units_in))]
-    pub(crate) fn take(&mut self, id: Id) -> Option<Held<H, C, S>>
+    pub(crate) fn take(&mut self, id: Id) -> Option<DroppableHandle<H, C, S>>
         ensures taken { OnSome result (units_in self.new.first + units_in self.new.second + 1
             ≡ units_in self.old.first + units_in self.old.second) }
         ensures room { OnSome result (units_in self.new.first + units_in self.new.second < 2) }
@@ -62,7 +41,7 @@ impl<H: Ledger, C: Ledger, S: Setup> Hands<H, C, S> {
 
     /// Puts a handle where there is place.
     #[tactic(auto, unfolding(crate::specs::Units::units_in))]
-    pub(crate) fn put(&mut self, held: Held<H, C, S>)
+    pub(crate) fn put(&mut self, held: DroppableHandle<H, C, S>)
         requires { units_in self.old.first + units_in self.old.second < 2 }
         ensures { units_in self.new.first + units_in self.new.second
             ≡ units_in self.old.first + units_in self.old.second + 1 }
@@ -82,7 +61,7 @@ impl<H: Ledger, C: Ledger, S: Setup> Hands<H, C, S> {
 }
 
 // The id of a handle, 0 where there is none: no id is 0.
-fn id_of<H: Ledger, C: Ledger, S: Setup>(held: &Option<Held<H, C, S>>) -> u64 {
+fn id_of<H: Ledger, C: Ledger, S: Setup>(held: &Option<DroppableHandle<H, C, S>>) -> u64 {
     match held {
         Some(held) => held.handle.id().get(),
         None => 0,
