@@ -1,33 +1,15 @@
-//! Handles that may be dropped, and shares that know how many parts they have.
+//! Shares that know how many parts they have.
 ghost use Rattle.std.specs.Prelude.{◌≡◌, ◌+◌, ◌^◌, ◌<◌, Some, IfSome, OnSome};
 ghost use Rattle.span_registry.specs.Share.{IsWhole};
 
 use span_layers::{Admit, Say};
 use span_outlet::{Drain, Kept, LineReader, Ring};
-use span_registry::{Counts, HANDLE_PARTS, Handle, Registry, Report, Setup, Share, Worker};
+use span_registry::{
+    Counts, DroppableHandle, HANDLE_PARTS, Registry, Report, Setup, Share, Worker,
+};
 use std::alloc::Global;
 use std::process::Abort;
 use std::sync::ledger::Ledger;
-
-/// A handle that is given up where it is dropped.
-pub(crate) struct Held<H: Ledger, C: Ledger, S: Setup> {
-    pub(crate) handle: Handle<H, C, S>,
-}
-
-impl<H: Ledger, C: Ledger, S: Setup> Drop for Held<H, C, S> {
-    fn drop(self) {
-        let Held { handle } = self;
-        drop(handle.into_share());
-    }
-}
-
-impl<H: Ledger, C: Ledger, S: Setup> Held<H, C, S> {
-    /// The handle, which has to be spent.
-    pub(crate) fn into_handle(self) -> Handle<H, C, S> {
-        let Held { handle } = self;
-        handle
-    }
-}
 
 /// A share, and its parts of the two ledgers.
 #[derive(Drop)]
@@ -67,7 +49,7 @@ impl<H: Ledger, C: Ledger, S: Setup> Part<H, C, S> {
     }
 
     /// A handle that is given up.
-    pub(crate) fn of_handle(held: Held<H, C, S>) -> Part<H, C, S> {
+    pub(crate) fn of_handle(held: DroppableHandle<H, C, S>) -> Part<H, C, S> {
         Part {
             share: held.into_handle().into_share(),
             handle_parts: 1,
@@ -121,7 +103,7 @@ pub(crate) fn gather<H: Ledger, C: Ledger, S: Setup>(
     alloc: Global,
     counts: &mut Vec<u8>,
     workers: Vec<Worker<H, C, S>>,
-    held: Vec<Held<H, C, S>>,
+    held: Vec<DroppableHandle<H, C, S>>,
 ) -> Option<Part<H, C, S>> {
     let mut whole = None;
     for worker in workers {
