@@ -22,9 +22,9 @@ HEADLINE = [
     ("closed ids find nothing;", ["span_registry::laws::promises::the_promise:absent,closed"]),
     ("a release closes exactly the spans that nothing holds any longer, child first, each announced once to every layer "
      "that wants it;",
-     ["span_registry::laws::handles::try_close:released", "span_registry::laws::entries::exit:released"]),
+     ["span_registry::under_lock::handles::try_close:released", "span_registry::under_lock::entries::exit:released"]),
     ("and when all shares come back with nothing outstanding, the registry is empty.",
-     ["span_registry::laws::reports::finish:emptied", "span_registry::laws::reports::finish_kept:emptied"]),
+     ["span_registry::under_lock::reports::finish:emptied", "span_registry::under_lock::reports::finish_kept:emptied"]),
 ]
 
 # What is promised beside it, and the clauses that say it; their definitions are in MODEL.md.
@@ -70,7 +70,7 @@ def page():
     lines = sum(it.size() for it in words)
     text = ["# The theorem\n", "<!-- tests/theorem.py --write makes this page. -->\n",
             "What the registry promises, sentence by sentence, each beside the clauses that say it. A check proves that "
-            "the function meets them; the functions of `laws` that bear a call's name are what that call runs under the "
+            "the function meets them; the functions of `under_lock` are what the calls of their names run under the "
             "lock. The %d definitions of `specs/` that the clauses cite, %d lines, follow in the order in which they are "
             "to be read.\n" % (len(words), lines)]
     for sentence, clauses in said:

@@ -6,7 +6,7 @@ mod caller;
 mod copies;
 mod ending;
 mod forest;
-mod held;
+mod hands;
 mod kept;
 mod layers;
 mod on_core;

@@ -4,8 +4,9 @@
 //! proves that the span is open. At the end the workers, and the handles that were not given back, become one
 //! [`Share`], and with the whole share the registry becomes a [`Report`].
 //!
-//! What each call does to the locked value is said in full by the function of its name in [`laws`]. The calls of the
-//! registry take the lock, run that one function and give the lock back.
+//! What each call does to the locked value is said in full by the function of its name in [`under_lock`]. The calls of
+//! the registry take the lock, run that one function and give the lock back. What every registry promises is said in
+//! [`laws`].
 //!
 //! The crate also gives every public word of the core (`span_core`, which has no lock) and of what leaves it
 //! (`span_outlet`) again.
@@ -13,6 +14,7 @@
 
 mod blanks;
 mod books;
+mod droppable_handle;
 mod found;
 mod handle;
 pub mod laws;
@@ -21,10 +23,12 @@ mod registry;
 mod report;
 mod setup;
 mod share;
+pub mod under_lock;
 mod with_seats;
 mod worker;
 
 pub use blanks::Blanks;
+pub use droppable_handle::DroppableHandle;
 pub use found::Found;
 pub use handle::Handle;
 pub use locked::Locked;

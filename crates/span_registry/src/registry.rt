@@ -31,8 +31,8 @@ const WORKER_PARTS: u64 = 1 << 47;
 /// [`Setup`] `S`, and its outlet `O`. So a handle or a worker of another registry isn't taken.
 ///
 /// Each call but `new` and those that end it (`finish_kept`, `finish`, `finish_reading`) takes the lock, so it may wait
-/// for other threads. While it has the lock it runs the function of its name in [`laws`](crate::laws), whose contract
-/// says in full what it does. The clauses here are those that can be said without the locked value.
+/// for other threads. While it has the lock it runs the function of its name in [`under_lock`](crate::under_lock), whose
+/// contract says in full what it does. The clauses here are those that can be said without the locked value.
 #[derive(Drop)]
 pub struct Registry<H: Ledger, C: Ledger, S: Setup, O: Outlet, A = Admitters> {
     locked: Mutex<Locked<H, C, S, O, A>>,

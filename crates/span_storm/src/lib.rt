@@ -7,7 +7,6 @@
 
 mod draining;
 mod gate;
-mod held;
 mod metas;
 mod numbers;
 mod party;

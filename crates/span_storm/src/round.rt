@@ -10,11 +10,10 @@ ghost use Rattle.span_history.specs.Own.{own};
 ghost use Rattle.span_storm.specs.inside.Back.{ComesBack, HasRounds, IsAt, IsCallOf, IsWorkersStop};
 
 use crate::gate::Gate;
-use crate::held::Held;
 use crate::metas::Metas;
 use crate::stopped::Stopped;
 use span_id::Meta;
-use span_registry::{Handle, ParentOf, Registry, Ring, Setup, Share, Worker};
+use span_registry::{DroppableHandle, Handle, ParentOf, Registry, Ring, Setup, Share, Worker};
 use std::sync::Wait;
 use std::sync::ledger::Ledger;
 
@@ -105,7 +104,7 @@ fn with_job<H: Ledger, C: Ledger, S: Setup, G: Gate, R: Wait>(
     gate: &G,
     metas: &Metas,
     worker: &mut Worker<H, C, S>,
-    job: Held<H, C, S>,
+    job: DroppableHandle<H, C, S>,
 ) -> Result<(), Stopped>
     requires wanted { wants_jobs S.rules ≡ true }
     requires spare { 2 ≤ worker.old.spare }
@@ -207,7 +206,7 @@ fn open<H: Ledger, C: Ledger, S: Setup, G: Gate, R: Wait>(
     worker: &mut Worker<H, C, S>,
     meta: &Meta,
     parent: ParentOf,
-) -> Result<Held<H, C, S>, Stopped>
+) -> Result<DroppableHandle<H, C, S>, Stopped>
     requires wanted { is_wanted S.rules (plain_meta meta.now) ≡ true }
     requires span { (world : World)
         → IsSpanOfRound (worker.old.accepted % 9) (plain_meta meta.now) (parent_found world worker.old.number parent) }
@@ -221,7 +220,7 @@ fn open<H: Ledger, C: Ledger, S: Setup, G: Gate, R: Wait>(
 {
     ask(gate, worker)?;
     match registry.new_span(rt, worker, meta, &[], parent) {
-        Ok(Some(handle)) => Ok(Held { handle }),
+        Ok(Some(handle)) => Ok(DroppableHandle { handle }),
         Ok(None) => unreachable!(),
         Err(fault) => Err(Stopped::Refused(fault)),
     }
@@ -234,7 +233,7 @@ fn clone_handle<H: Ledger, C: Ledger, S: Setup, G: Gate, R: Wait>(
     gate: &G,
     worker: &mut Worker<H, C, S>,
     handle: &mut Handle<H, C, S>,
-) -> Result<Held<H, C, S>, Stopped>
+) -> Result<DroppableHandle<H, C, S>, Stopped>
     requires spare { 0 < worker.old.spare }
     requires place { worker.old.accepted % 9 ≡ 1 }
     requires rounds { HasRounds worker.old }
@@ -246,7 +245,7 @@ fn clone_handle<H: Ledger, C: Ledger, S: Setup, G: Gate, R: Wait>(
 {
     ask(gate, worker)?;
     match registry.clone_span(rt, worker, handle) {
-        Ok(handle) => Ok(Held { handle }),
+        Ok(handle) => Ok(DroppableHandle { handle }),
         Err(fault) => Err(Stopped::Refused(fault)),
     }
 }
@@ -327,7 +326,7 @@ fn close<H: Ledger, C: Ledger, S: Setup, G: Gate, R: Wait>(
     registry: &Registry<H, C, S, Ring>,
     gate: &G,
     worker: &mut Worker<H, C, S>,
-    held: Held<H, C, S>,
+    held: DroppableHandle<H, C, S>,
 ) -> Result<(), Stopped>
     requires place { IsPlaceOfClose (worker.old.accepted % 9) }
     requires rounds { HasRounds worker.old }

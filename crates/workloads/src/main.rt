@@ -7,7 +7,6 @@
 mod call_costs;
 mod ended;
 mod ending;
-mod held;
 mod layers;
 mod made;
 mod numbers;

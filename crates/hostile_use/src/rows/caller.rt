@@ -4,11 +4,11 @@ ghost use Rattle.hostile_use.specs.Units.{units_in};
 
 use crate::answer::{Answer, details, done, holders, spans, workers, yes_or_no};
 use crate::rows::acts::{Act, MESSAGE, Names};
-use crate::rows::held::{Hands, Held};
+use crate::rows::hands::Hands;
 use span_id::{Fault, Field, Id, Meta};
 use span_layers::Admit;
 use span_outlet::{Outlet, ParentOf};
-use span_registry::{Handle, Registry, Setup, Worker};
+use span_registry::{DroppableHandle, Handle, Registry, Setup, Worker};
 use std::alloc::Global;
 use std::sync::Wait;
 use std::sync::ledger::Ledger;
@@ -82,7 +82,7 @@ impl<H: Ledger, C: Ledger, S: Setup> Caller<H, C, S> {
         match registry.new_span(rt, &mut self.worker, meta, &[], parent) {
             Ok(Some(handle)) => {
                 let id = handle.id();
-                self.hands.put(Held { handle });
+                self.hands.put(DroppableHandle { handle });
                 Ok(Answer::Span(id))
             }
             Ok(None) => Ok(Answer::Nothing),
@@ -107,7 +107,7 @@ impl<H: Ledger, C: Ledger, S: Setup> Caller<H, C, S> {
         self.hands.put(lent);
         match cloned {
             Ok(handle) => {
-                self.hands.put(Held { handle });
+                self.hands.put(DroppableHandle { handle });
                 Ok(Answer::Done)
             }
             Err(fault) => Err(fault),
@@ -162,7 +162,7 @@ impl<H: Ledger, C: Ledger, S: Setup> Caller<H, C, S> {
         match registry.try_close(rt, &mut self.worker, held.into_handle()) {
             Ok(closed) => Ok(Answer::Yes(closed)),
             Err((handle, fault)) => {
-                self.hands.put(Held { handle });
+                self.hands.put(DroppableHandle { handle });
                 Err(fault)
             }
         }

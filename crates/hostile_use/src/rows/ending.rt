@@ -3,10 +3,10 @@ ghost use Rattle.std.specs.Prelude.{◌≡◌, ◌+◌, ◌-◌, ◌^◌, ◌≤
 ghost use Rattle.hostile_use.specs.Units.{units_in};
 
 use crate::rows::caller::Caller;
-use crate::rows::held::{Hands, Held};
+use crate::rows::hands::Hands;
 use crate::stage::{Memory, Stage};
 use crate::texts::shown;
-use span_registry::{Line, Report, Setup, Share};
+use span_registry::{DroppableHandle, Line, Report, Setup, Share};
 use std::sync::ledger::Ledger;
 
 /// The whole share, that of the worker and those of the handles that are left. What it counts is told where that is
@@ -37,7 +37,7 @@ pub(crate) fn whole<H: Ledger, C: Ledger, S: Setup, R: Print>(
 #[tactic(auto, unfolding(crate::specs::Units::units_in))]
 fn with<H: Ledger, C: Ledger, S: Setup>(
     share: Share<H, C, S>,
-    held: Option<Held<H, C, S>>,
+    held: Option<DroppableHandle<H, C, S>>,
 ) -> Share<H, C, S>
     requires few { share.units ≤ 1 }
     ensures handles { result.handle_parts ≡ share.handle_parts + units_in held }

@@ -1,21 +1,32 @@
-//! The promise of the registry, and what a handle proves.
-ghost use Rattle.std.specs.Prelude.{◌≡◌, ◌≢◌, ◌^◌, ◌<◌, ◌≤◌, ℕ, length, Some, None, IsTrue, IfSome, IfNone};
+//! The promise of the registry, what a handle proves, and where no span is left at the end.
+ghost use Rattle.std.specs.Prelude.{◌≡◌, ◌≢◌, ◌↔◌, ◌^◌, ◌<◌, ◌≤◌, ℕ, [], length, List, Some, None, IsTrue, IfSome, IfNone};
+ghost use Rattle.span_layers.specs.Filter.{Filter};
+ghost use Rattle.span_outlet.specs.Batch.{PlainBatch};
 ghost use Rattle.span_forest.specs.declared.span.Holder.TheVariants.{Handle};
 ghost use Rattle.span_forest.specs.Node.{node_of};
 ghost use Rattle.span_forest.specs.Spans.{find, IsOpen};
 ghost use Rattle.span_forest.specs.Live.{stands_in};
 ghost use Rattle.span_forest.specs.Count.{reference_count, total_handles};
 ghost use Rattle.span_forest.specs.Holders.{IsHeld};
+ghost use Rattle.span_forest.specs.Holding.{held_spans};
 ghost use Rattle.span_id.specs.Id.{slot_of};
-ghost use Rattle.span_core.specs.World.{IsCounted};
+ghost use Rattle.span_core.specs.World.{World, IsCounted};
 ghost use Rattle.span_core.specs.ClosedSpans.{closed_in};
 ghost use Rattle.span_core.specs.History.{IsLegal};
+ghost use Rattle.span_core.specs.Core.{CoreView};
+ghost use Rattle.span_registry.specs.declared.report.Counts.{Counts};
+ghost use Rattle.span_registry.specs.Report.{AreCounts};
+ghost use mathlib.Core.List.{IsPrefix};
 
 use crate::handle::take_seat;
 use crate::locked::Locked;
 use crate::setup::Setup;
 use crate::with_seats;
-use span_core::laws::{counts_and_calls_have_bounds, open_spans_were_made_and_not_closed};
+use span_core::laws::outcome::a_history_leaves_one_world;
+use span_core::laws::{
+    counts_and_calls_have_bounds, no_span_is_held_where_none_is_left,
+    open_spans_were_made_and_not_closed,
+};
 use span_forest::Span;
 use span_id::Id;
 use span_outlet::Outlet;
@@ -88,4 +99,18 @@ pub fn two_handles_have_two_numbers<H: Ledger, C: Ledger, S: Setup, O: Outlet, A
     let (one, other) = with_seats::handles::show_two(&locked.core, &mut locked.root, one, other);
     first.seat = Some(one);
     second.seat = Some(other);
+}
+
+/// Where no call was accepted after the list of all that is held was asked for, the registry ends with no span left
+/// exactly where that list is empty: what is counted is of a core whose history begins with the one that was known
+/// then, and is no longer.
+pub fn no_span_is_left_where_none_is_held()
+    ensures { (rules : List Filter) (workers : ℕ) (history : List PlainBatch) (world : World) (core : CoreView)
+        (counts : Counts) →
+        IsLegal rules workers history world → IsLegal rules workers core.sent core.world → AreCounts core counts →
+        IsPrefix history core.sent → counts.calls ≡ length history →
+        ((counts.left ≡ 0) ↔ (held_spans world.spans ≡ [])) }
+{
+    a_history_leaves_one_world();
+    no_span_is_held_where_none_is_left();
 }

@@ -4,9 +4,9 @@ ghost use mathlib.Core.List.{IsPrefix};
 ghost use Rattle.span_registry.specs.Worker.{HasNoMore};
 ghost use Rattle.span_registry.specs.Happened.{Happened};
 
-use crate::laws;
 use crate::registry::Registry;
 use crate::setup::Setup;
+use crate::under_lock;
 use crate::worker::Worker;
 use span_outlet::{Drain, Ring};
 use std::sync::Wait;
@@ -24,6 +24,6 @@ impl<H: Ledger, C: Ledger, S: Setup, A> Registry<H, C, S, Ring, A> {
         ensures worker { worker.new ≡ record worker.old { seen = worker.new.seen } }
         ensures drain { drain.new ≡ drain.old }
     {
-        laws::drained(&mut *self.locked.lock(rt), worker, drain)
+        under_lock::drained(&mut *self.locked.lock(rt), worker, drain)
     }
 }

@@ -20,9 +20,9 @@ ghost use Rattle.span_registry.specs.Happened.{Happened, closed_by_close};
 
 use crate::found::Found;
 use crate::handle::Handle;
-use crate::laws;
 use crate::registry::Registry;
 use crate::setup::Setup;
+use crate::under_lock;
 use crate::worker::Worker;
 use span_id::{Fault, Field, Id, Meta};
 use span_layers::Admit;
@@ -68,7 +68,7 @@ impl<H: Ledger, C: Ledger, S: Setup, O: Outlet, A: Admit> Registry<H, C, S, O, A
         ensures wanted { IfOk result (λ new. OnSome new (is_wanted S.rules (plain_meta meta.now) ≡ true)) }
         ensures unchanged { OnErr result (worker.new ≡ record worker.old { seen = worker.new.seen }) }
     {
-        laws::new_span(&mut *self.locked.lock(rt), worker, meta, fields, parent)
+        under_lock::new_span(&mut *self.locked.lock(rt), worker, meta, fields, parent)
     }
 
     /// Tells an event under the worker's current span, as a core does. An event that no layer admits is accepted and has
@@ -127,7 +127,7 @@ impl<H: Ledger, C: Ledger, S: Setup, O: Outlet, A: Admit> Registry<H, C, S, O, A
         ensures bad_name { IfErr result (λ fault. fault ≡ BadName → is_named
             (event worker.old.number (plain_meta meta.now) message.now (plain_fields fields.now) parent) ≡ false) }
     {
-        laws::event(
+        under_lock::event(
             &mut *self.locked.lock(rt),
             worker,
             meta,
@@ -164,7 +164,7 @@ impl<H: Ledger, C: Ledger, S: Setup, O: Outlet, A> Registry<H, C, S, O, A> {
         ensures keeps_id { handle.new.id ≡ handle.old.id }
         ensures no_names { IfErr result (λ fault. fault ≢ BadName) }
     {
-        laws::clone_span(&mut *self.locked.lock(rt), worker, handle)
+        under_lock::clone_span(&mut *self.locked.lock(rt), worker, handle)
     }
 
     /// The worker enters the span of a handle. It answers whether the entry is no duplicate: only then it holds the
@@ -190,7 +190,7 @@ impl<H: Ledger, C: Ledger, S: Setup, O: Outlet, A> Registry<H, C, S, O, A> {
         ensures keeps_id { handle.new.id ≡ handle.old.id }
         ensures no_names { IfErr result (λ fault. fault ≢ BadName) }
     {
-        laws::enter(&mut *self.locked.lock(rt), worker, handle)
+        under_lock::enter(&mut *self.locked.lock(rt), worker, handle)
     }
 
     /// The worker leaves a span: its topmost entry of it is taken out. Where the span stands in its stack no longer,
@@ -213,7 +213,7 @@ impl<H: Ledger, C: Ledger, S: Setup, O: Outlet, A> Registry<H, C, S, O, A> {
         ensures unchanged { OnErr result (worker.new ≡ record worker.old { seen = worker.new.seen }) }
         ensures no_names { IfErr result (λ fault. fault ≢ BadName) }
     {
-        laws::exit(&mut *self.locked.lock(rt), worker, id)
+        under_lock::exit(&mut *self.locked.lock(rt), worker, id)
     }
 
     /// Gives a handle back, and answers whether the span closed. Where the call is refused, a handle of the same id
@@ -242,7 +242,7 @@ impl<H: Ledger, C: Ledger, S: Setup, O: Outlet, A> Registry<H, C, S, O, A> {
         ensures back { IfErr result (λ e. e.0.id ≡ handle.id) }
         ensures no_names { IfErr result (λ e. e.1 ≢ BadName) }
     {
-        laws::try_close(&mut *self.locked.lock(rt), worker, handle)
+        under_lock::try_close(&mut *self.locked.lock(rt), worker, handle)
     }
 
     /// Appends fields to those of the span of a handle. The handle keeps its id.
@@ -271,7 +271,7 @@ impl<H: Ledger, C: Ledger, S: Setup, O: Outlet, A> Registry<H, C, S, O, A> {
         ensures bad_name { IfErr result (λ fault. fault ≡ BadName → is_named
             (record_fields worker.old.number handle.old.id (plain_fields fields.now)) ≡ false) }
     {
-        laws::record(&mut *self.locked.lock(rt), worker, handle, fields)
+        under_lock::record(&mut *self.locked.lock(rt), worker, handle, fields)
     }
 
     /// The name, the parent and the numbers of the span of an id, if it is open. It is no call of the history. The only
@@ -294,6 +294,6 @@ impl<H: Ledger, C: Ledger, S: Setup, O: Outlet, A> Registry<H, C, S, O, A> {
         ensures worker { worker.new ≡ record worker.old { seen = worker.new.seen } }
         ensures memory { IfErr result (λ fault. fault ≡ Fault.Memory) }
     {
-        laws::find(alloc, &mut *self.locked.lock(rt), worker, id)
+        under_lock::find(alloc, &mut *self.locked.lock(rt), worker, id)
     }
 }

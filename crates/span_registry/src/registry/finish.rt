@@ -3,11 +3,11 @@ ghost use Rattle.std.specs.Prelude.{◌≡◌, ◌+◌, ◌↔◌, Some};
 ghost use Rattle.span_registry.specs.Share.{IsWhole};
 ghost use Rattle.span_registry.specs.Report.{IsEnd, IsDrainedEnd, IsReadingEnd};
 
-use crate::laws;
 use crate::registry::Registry;
 use crate::report::{Counts, Report};
 use crate::setup::Setup;
 use crate::share::Share;
+use crate::under_lock;
 use span_layers::Say;
 use span_outlet::{Drain, Kept, LineReader, Ring};
 use std::sync::ledger::Ledger;
@@ -26,7 +26,7 @@ impl<H: Ledger, C: Ledger, S: Setup, V: Say + Drop, A: Drop> Registry<H, C, S, K
         ensures balance { result.made ≡ result.closed + result.left }
         ensures ended { IsEnd S.limits S.rules S.forms share result }
     {
-        laws::finish_kept(self.locked.into_inner(), share)
+        under_lock::finish_kept(self.locked.into_inner(), share)
     }
 }
 
@@ -44,7 +44,7 @@ impl<H: Ledger, C: Ledger, S: Setup, A: Drop> Registry<H, C, S, Ring, A> {
         ensures balance { result.made ≡ result.closed + result.left }
         ensures ended { IsDrainedEnd S.limits S.rules drain share result }
     {
-        laws::finish(self.locked.into_inner(), share, drain)
+        under_lock::finish(self.locked.into_inner(), share, drain)
     }
 
     /// Ends the registry with the whole share, beside the line reader of its ring, and answers what `finish_kept` counts,
@@ -67,6 +67,6 @@ impl<H: Ledger, C: Ledger, S: Setup, A: Drop> Registry<H, C, S, Ring, A> {
         ensures ended { IsReadingEnd S.limits S.rules reader.old share result.0 result.1 }
         ensures same { reader.new ≡ reader.old }
     {
-        laws::finish_reading(self.locked.into_inner(), share, reader)
+        under_lock::finish_reading(self.locked.into_inner(), share, reader)
     }
 }

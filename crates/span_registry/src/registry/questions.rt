@@ -10,9 +10,9 @@ ghost use mathlib.Core.List.{IsPrefix};
 ghost use Rattle.span_registry.specs.Worker.{HasNoMore};
 ghost use Rattle.span_registry.specs.Happened.{Happened};
 
-use crate::laws;
 use crate::registry::Registry;
 use crate::setup::Setup;
+use crate::under_lock;
 use crate::worker::Worker;
 use span_core::SpanDetails;
 use span_forest::Held;
@@ -37,7 +37,7 @@ impl<H: Ledger, C: Ledger, S: Setup, O: Outlet, A> Registry<H, C, S, O, A> {
         ensures worker { worker.new ≡ record worker.old { seen = worker.new.seen } }
         ensures memory { IfErr result (λ fault. fault ≡ Fault.Memory) }
     {
-        laws::open_spans(&mut *self.locked.lock(rt), worker)
+        under_lock::open_spans(&mut *self.locked.lock(rt), worker)
     }
 
     /// What keeps all open spans open: the spans that have handles or entries of their own, with how many, by ascending
@@ -57,7 +57,7 @@ impl<H: Ledger, C: Ledger, S: Setup, O: Outlet, A> Registry<H, C, S, O, A> {
         ensures worker { worker.new ≡ record worker.old { seen = worker.new.seen } }
         ensures memory { IfErr result (λ fault. fault ≡ Fault.Memory) }
     {
-        laws::held_spans(&mut *self.locked.lock(rt), worker)
+        under_lock::held_spans(&mut *self.locked.lock(rt), worker)
     }
 
     /// What keeps a span open: the spans at it or below it that have handles or entries of their own, with how many, by
@@ -80,7 +80,7 @@ impl<H: Ledger, C: Ledger, S: Setup, O: Outlet, A> Registry<H, C, S, O, A> {
             (new ≡ old) × WhyNotFound old.world.spans id fault)) }
         ensures worker { worker.new ≡ record worker.old { seen = worker.new.seen } }
     {
-        laws::holders_of(&mut *self.locked.lock(rt), worker, id)
+        under_lock::holders_of(&mut *self.locked.lock(rt), worker, id)
     }
 
     /// The workers that are inside a span, by their numbers, as many as it has entries. A worker that entered it more
@@ -101,7 +101,7 @@ impl<H: Ledger, C: Ledger, S: Setup, O: Outlet, A> Registry<H, C, S, O, A> {
         ensures worker { worker.new ≡ record worker.old { seen = worker.new.seen } }
         ensures memory { IfErr result (λ fault. fault ≡ Fault.Memory) }
     {
-        laws::workers_inside(&mut *self.locked.lock(rt), worker, id)
+        under_lock::workers_inside(&mut *self.locked.lock(rt), worker, id)
     }
 
     /// All open spans of one moment, by ascending slot, each with its name, target, level, parent, handles, the workers
@@ -121,6 +121,6 @@ impl<H: Ledger, C: Ledger, S: Setup, O: Outlet, A> Registry<H, C, S, O, A> {
         ensures worker { worker.new ≡ record worker.old { seen = worker.new.seen } }
         ensures memory { IfErr result (λ fault. fault ≡ Fault.Memory) }
     {
-        laws::span_details(&mut *self.locked.lock(rt), worker)
+        under_lock::span_details(&mut *self.locked.lock(rt), worker)
     }
 }

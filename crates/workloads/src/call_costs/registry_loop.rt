@@ -3,14 +3,13 @@ ghost use Rattle.std.specs.Prelude.{◌≡◌, [], Some};
 
 use crate::call_costs::core_loop::{PLACES, read_all};
 use crate::ended::Made;
-use crate::held::Held;
 use crate::order::Shape;
 use crate::parts::{CoreParts, Parts};
 use crate::texts::Texts;
 use span_id::{Fault, Limits};
 use span_layers::{Filters, Layers, Say};
 use span_outlet::LineReader;
-use span_registry::{Blanks, Handle, ParentOf, Registry, Ring, Setup, Worker};
+use span_registry::{Blanks, DroppableHandle, Handle, ParentOf, Registry, Ring, Setup, Worker};
 use std::alloc::Global;
 use std::marker::Brand;
 use std::sync::Wait;
@@ -114,7 +113,7 @@ fn stand<H: Ledger, C: Ledger, S: Setup, R: Wait>(
 ) -> Result<(), Fault> {
     let fields = texts.fields.as_slice();
     if let Some(handle) = registry.new_span(rt, worker, &texts.meta, fields, ParentOf::Current)? {
-        let mut held = Held { handle };
+        let mut held = DroppableHandle { handle };
         registry.enter(rt, worker, &mut held.handle)?;
     }
     Ok(())
@@ -132,7 +131,7 @@ fn round<H: Ledger, C: Ledger, S: Setup, R: Wait>(
     let Some(handle) = made else {
         return Ok(());
     };
-    let mut held = Held { handle };
+    let mut held = DroppableHandle { handle };
     visit(rt, registry, worker, texts, &mut held.handle)?;
     match registry.try_close(rt, worker, held.into_handle()) {
         Ok(_closed) => Ok(()),

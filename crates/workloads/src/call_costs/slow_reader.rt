@@ -4,14 +4,13 @@ ghost use Rattle.span_registry.specs.Worker.{after_call};
 ghost use Rattle.workloads.specs.Back.{HasParts};
 
 use crate::ended::{Ended, Tally};
-use crate::held::Held;
 use crate::order::Plan;
 use crate::soak::returned::Returned;
 use crate::soak::soaked::beside_a_reader;
 use crate::texts::Texts;
 use span_id::{Fault, Limits};
 use span_layers::Layers;
-use span_registry::{ParentOf, Registry, Ring, Setup, Worker};
+use span_registry::{DroppableHandle, ParentOf, Registry, Ring, Setup, Worker};
 use std::alloc::Global;
 use std::sync::Wait;
 use std::sync::ledger::Ledger;
@@ -90,13 +89,13 @@ fn open<H: Ledger, C: Ledger, S: Setup, R: Wait>(
     texts: &Texts,
     worker: &mut Worker<H, C, S>,
     backlogs: &mut u64,
-) -> Result<Held<H, C, S>, Fault>
+) -> Result<DroppableHandle<H, C, S>, Fault>
     ensures worker { OnOk result (worker.new ≡ after_call worker.old (worker.old.spare - 1) worker.new.seen) }
     ensures part { OnOk result (0 < worker.old.spare) }
 {
     for _ in rt.forever() {
         match registry.new_span(rt, worker, &texts.meta, &[], ParentOf::Root) {
-            Ok(Some(handle)) => return Ok(Held { handle }),
+            Ok(Some(handle)) => return Ok(DroppableHandle { handle }),
             Ok(None) => return Err(Fault::Unknown),
             Err(Fault::Backlog) => wait(backlogs),
             Err(fault) => return Err(fault),
@@ -129,7 +128,7 @@ fn close<H: Ledger, C: Ledger, S: Setup, R: Wait>(
     rt: &R,
     registry: &Registry<H, C, S, Ring>,
     worker: &mut Worker<H, C, S>,
-    held: Held<H, C, S>,
+    held: DroppableHandle<H, C, S>,
     backlogs: &mut u64,
 ) -> Result<(), Fault>
     ensures { OnOk result (worker.new ≡ after_call worker.old (worker.old.spare + 1) worker.new.seen) }
@@ -139,7 +138,7 @@ fn close<H: Ledger, C: Ledger, S: Setup, R: Wait>(
         match registry.try_close(rt, worker, held.into_handle()) {
             Ok(_closed) => return Ok(()),
             Err((handle, fault)) => {
-                held = Held { handle };
+                held = DroppableHandle { handle };
                 let Fault::Backlog = fault else {
                     return Err(fault);
                 };

@@ -3,13 +3,12 @@ ghost use Rattle.std.specs.Prelude.{◌≡◌, ◌+◌, vec_len, IfOk, OnOk};
 ghost use Rattle.workloads.specs.Back.{HasParts};
 
 use crate::ended::Tally;
-use crate::held::Held;
 use crate::soak::act::{Act, MOST_HANDLES, MOST_INSIDE, choose};
 use crate::soak::dice::Dice;
 use crate::soak::returned::Returned;
 use crate::texts::Texts;
 use span_id::{Fault, Id};
-use span_registry::{ParentOf, Registry, Ring, Setup, Worker};
+use span_registry::{DroppableHandle, ParentOf, Registry, Ring, Setup, Worker};
 use std::alloc::Global;
 use std::sync::Wait;
 use std::sync::ledger::Ledger;
@@ -19,7 +18,7 @@ use std::thread;
 #[derive(Drop)]
 pub struct Caller<H: Ledger, C: Ledger, S: Setup> {
     worker: Worker<H, C, S>,
-    hands: Vec<Held<H, C, S>>,
+    hands: Vec<DroppableHandle<H, C, S>>,
     inside: Vec<Id>,
     tally: Tally,
 }
@@ -194,7 +193,7 @@ impl<H: Ledger, C: Ledger, S: Setup> Caller<H, C, S> {
             parent,
         )?;
         if let Some(handle) = made {
-            self.hands.push_reserved(Held { handle });
+            self.hands.push_reserved(DroppableHandle { handle });
         }
         Ok(())
     }
@@ -232,7 +231,7 @@ impl<H: Ledger, C: Ledger, S: Setup> Caller<H, C, S> {
             return Err(Fault::Unknown);
         };
         let handle = registry.clone_span(rt, &mut self.worker, &mut held.handle)?;
-        self.hands.push_reserved(Held { handle });
+        self.hands.push_reserved(DroppableHandle { handle });
         Ok(())
     }
 
@@ -310,7 +309,7 @@ impl<H: Ledger, C: Ledger, S: Setup> Caller<H, C, S> {
         match registry.try_close(rt, &mut self.worker, held.into_handle()) {
             Ok(_closed) => Ok(()),
             Err((handle, fault)) => {
-                self.hands.push_reserved(Held { handle });
+                self.hands.push_reserved(DroppableHandle { handle });
                 Err(fault)
             }
         }

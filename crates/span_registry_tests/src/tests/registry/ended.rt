@@ -2,9 +2,9 @@
 ghost use Rattle.std.specs.Prelude.{◌≡◌, [], None};
 
 use crate::tests::registry::acts::{Act, Transcript};
-use crate::tests::registry::held::{Part, finished, gather};
 use crate::tests::registry::layers::{Plan, layers};
 use crate::tests::registry::on_registry::calls;
+use crate::tests::registry::parts::{Part, finished, gather};
 use crate::tests::registry::same::same;
 use crate::tests::registry::steps::NoDrain;
 use crate::tests::registry::threads::{Turn, take_turns};

@@ -3,8 +3,8 @@ ghost use Rattle.std.specs.Prelude.{◌≡◌, [], Some};
 
 use crate::tests::registry::acts::{Act, Transcript};
 use crate::tests::registry::ended::{Ended, all_calls};
-use crate::tests::registry::held::counted;
 use crate::tests::registry::layers::{Plan, layers};
+use crate::tests::registry::parts::counted;
 use span_id::Limits;
 use span_layers::{Filters, Say};
 use span_registry::{

@@ -3,12 +3,14 @@ ghost use Rattle.std.specs.Prelude.{◌≡◌, [], Some};
 
 use crate::tests::registry::acts::{Act, Transcript};
 use crate::tests::registry::ended::Ended;
-use crate::tests::registry::held::{Held, Part, drained, gather};
 use crate::tests::registry::layers::{Plan, layers};
 use crate::tests::registry::on_registry::calls;
+use crate::tests::registry::parts::{Part, drained, gather};
 use span_id::Limits;
 use span_layers::Filters;
-use span_registry::{Blanks, Drain, HANDLE_PARTS, Registry, Report, Ring, Setup, Worker};
+use span_registry::{
+    Blanks, Drain, DroppableHandle, HANDLE_PARTS, Registry, Report, Ring, Setup, Worker,
+};
 use std::alloc::Global;
 use std::marker::Brand;
 use std::process::Abort;
@@ -22,7 +24,7 @@ fn calls_and_a_look<H: Ledger, C: Ledger, S: Setup, R: Wait + Abort>(
     registry: &Registry<H, C, S, Ring>,
     drain: &mut Drain,
     workers: &mut [Worker<H, C, S>],
-    held: &mut Vec<Held<H, C, S>>,
+    held: &mut Vec<DroppableHandle<H, C, S>>,
     acts: &[(u32, Act)],
     transcript: &mut Transcript,
 )

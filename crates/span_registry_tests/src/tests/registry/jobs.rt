@@ -1,9 +1,8 @@
 //! What a worker does in a thread of its own: it makes jobs, and enters, closes and leaves their spans.
 use crate::tests::registry::acts::{Act, Answer, NEWEST};
-use crate::tests::registry::held::Held;
 use crate::tests::registry::on_registry::call;
 use span_id::{Fault, Id, Level};
-use span_registry::{Outlet, Registry, Setup, Worker};
+use span_registry::{DroppableHandle, Outlet, Registry, Setup, Worker};
 use std::alloc::Global;
 use std::process::Abort;
 use std::sync::Wait;
@@ -28,7 +27,7 @@ pub(crate) enum Task {
 #[derive(Drop)]
 pub(crate) struct Station<H: Ledger, C: Ledger, S: Setup> {
     pub(crate) worker: Worker<H, C, S>,
-    pub(crate) held: Vec<Held<H, C, S>>,
+    pub(crate) held: Vec<DroppableHandle<H, C, S>>,
     pub(crate) inside: Vec<Id>,
     pub(crate) closed_by_close: u32,
     pub(crate) closed_by_exit: u32,
@@ -81,7 +80,7 @@ fn make_calls<H: Ledger, C: Ledger, S: Setup, O: Outlet, R: Wait + Abort>(
     alloc: Global,
     registry: &Registry<H, C, S, O>,
     worker: &mut Worker<H, C, S>,
-    held: &mut Vec<Held<H, C, S>>,
+    held: &mut Vec<DroppableHandle<H, C, S>>,
     acts: &[Act],
 ) -> u32 {
     let mut closed = 0u32;
@@ -99,7 +98,7 @@ fn make_job<H: Ledger, C: Ledger, S: Setup, O: Outlet, R: Wait + Abort>(
     alloc: Global,
     registry: &Registry<H, C, S, O>,
     worker: &mut Worker<H, C, S>,
-    held: &mut Vec<Held<H, C, S>>,
+    held: &mut Vec<DroppableHandle<H, C, S>>,
 ) {
     make_calls(rt, alloc, registry, worker, held, &[Act::Child("job", 0)]);
     let job = held.last().expect(rt, "a job").handle.id();
@@ -123,7 +122,7 @@ fn make_jobs<H: Ledger, C: Ledger, S: Setup, O: Outlet, R: Wait + Abort>(
 fn ids_of<H: Ledger, C: Ledger, S: Setup>(
     rt: &impl Abort,
     alloc: Global,
-    held: &[Held<H, C, S>],
+    held: &[DroppableHandle<H, C, S>],
 ) -> Vec<Id> {
     let mut ids = Vec::new(alloc);
     for one in held {

@@ -5,11 +5,12 @@ use crate::tests::registry::acts::{
     Act, Answer, NEWEST, Sight, Transcript, looked_for, parent_of, push_sight, said_by,
 };
 use crate::tests::registry::asked::{Asked, push_asked};
-use crate::tests::registry::held::Held;
 use crate::tests::registry::layers::Said;
 use crate::tests::registry::steps::Steps;
 use span_id::{Fault, Id};
-use span_registry::{Found, HANDLE_PARTS, Handle, Outlet, ParentOf, Registry, Setup, Worker};
+use span_registry::{
+    DroppableHandle, Found, HANDLE_PARTS, Handle, Outlet, ParentOf, Registry, Setup, Worker,
+};
 use std::alloc::Global;
 use std::process::Abort;
 use std::sync::Wait;
@@ -17,11 +18,11 @@ use std::sync::ledger::Ledger;
 
 // Keeps a handle that came with this answer.
 fn keep<H: Ledger, C: Ledger, S: Setup>(
-    held: &mut Vec<Held<H, C, S>>,
+    held: &mut Vec<DroppableHandle<H, C, S>>,
     handle: Handle<H, C, S>,
     answer: Answer,
 ) -> Answer {
-    match held.push(Held { handle }) {
+    match held.push(DroppableHandle { handle }) {
         Ok(()) => answer,
         Err(_) => Answer::Refused(Fault::Memory),
     }
@@ -32,7 +33,7 @@ fn make<H: Ledger, C: Ledger, S: Setup, O: Outlet, R: Wait>(
     rt: &R,
     registry: &Registry<H, C, S, O>,
     worker: &mut Worker<H, C, S>,
-    held: &mut Vec<Held<H, C, S>>,
+    held: &mut Vec<DroppableHandle<H, C, S>>,
     parent: ParentOf,
     said: &Said,
 ) -> Answer {
@@ -77,7 +78,10 @@ fn tell_in<H: Ledger, C: Ledger, S: Setup, O: Outlet, R: Wait>(
 }
 
 // The place of a handle of this id.
-fn place_of<H: Ledger, C: Ledger, S: Setup>(held: &[Held<H, C, S>], number: u64) -> Option<usize> {
+fn place_of<H: Ledger, C: Ledger, S: Setup>(
+    held: &[DroppableHandle<H, C, S>],
+    number: u64,
+) -> Option<usize> {
     if number == NEWEST {
         return held.len().checked_sub(1);
     }
@@ -91,9 +95,9 @@ fn place_of<H: Ledger, C: Ledger, S: Setup>(held: &[Held<H, C, S>], number: u64)
 
 // A handle of this id.
 fn lent<'a, H: Ledger, C: Ledger, S: Setup>(
-    held: &'a mut Vec<Held<H, C, S>>,
+    held: &'a mut Vec<DroppableHandle<H, C, S>>,
     number: u64,
-) -> Option<&'a mut Held<H, C, S>> {
+) -> Option<&'a mut DroppableHandle<H, C, S>> {
     let place = place_of(held.as_slice(), number)?;
     held.get_mut(place)
 }
@@ -103,7 +107,7 @@ fn record<H: Ledger, C: Ledger, S: Setup, O: Outlet, R: Wait>(
     rt: &R,
     registry: &Registry<H, C, S, O>,
     worker: &mut Worker<H, C, S>,
-    held: &mut Vec<Held<H, C, S>>,
+    held: &mut Vec<DroppableHandle<H, C, S>>,
     number: u64,
     said: &Said,
 ) -> Answer {
@@ -121,7 +125,7 @@ fn clone_one<H: Ledger, C: Ledger, S: Setup, O: Outlet, R: Wait>(
     rt: &R,
     registry: &Registry<H, C, S, O>,
     worker: &mut Worker<H, C, S>,
-    held: &mut Vec<Held<H, C, S>>,
+    held: &mut Vec<DroppableHandle<H, C, S>>,
     number: u64,
 ) -> Answer {
     let Some(one) = lent(held, number) else {
@@ -138,7 +142,7 @@ fn enter<H: Ledger, C: Ledger, S: Setup, O: Outlet, R: Wait>(
     rt: &R,
     registry: &Registry<H, C, S, O>,
     worker: &mut Worker<H, C, S>,
-    held: &mut Vec<Held<H, C, S>>,
+    held: &mut Vec<DroppableHandle<H, C, S>>,
     number: u64,
 ) -> Answer {
     let Some(one) = lent(held, number) else {
@@ -155,7 +159,7 @@ fn give_back<H: Ledger, C: Ledger, S: Setup, O: Outlet, R: Wait>(
     rt: &R,
     registry: &Registry<H, C, S, O>,
     worker: &mut Worker<H, C, S>,
-    held: &mut Vec<Held<H, C, S>>,
+    held: &mut Vec<DroppableHandle<H, C, S>>,
     handle: Handle<H, C, S>,
 ) -> Answer {
     match registry.try_close(rt, worker, handle) {
@@ -169,7 +173,7 @@ fn close<H: Ledger, C: Ledger, S: Setup, O: Outlet, R: Wait>(
     rt: &R,
     registry: &Registry<H, C, S, O>,
     worker: &mut Worker<H, C, S>,
-    held: &mut Vec<Held<H, C, S>>,
+    held: &mut Vec<DroppableHandle<H, C, S>>,
     number: u64,
 ) -> Answer {
     match place_of(held.as_slice(), number) {
@@ -182,7 +186,10 @@ fn close<H: Ledger, C: Ledger, S: Setup, O: Outlet, R: Wait>(
 }
 
 // The id of this number, or that of the newest handle.
-fn id_of<H: Ledger, C: Ledger, S: Setup>(held: &[Held<H, C, S>], number: u64) -> Option<Id> {
+fn id_of<H: Ledger, C: Ledger, S: Setup>(
+    held: &[DroppableHandle<H, C, S>],
+    number: u64,
+) -> Option<Id> {
     if number == NEWEST {
         return held.last().map(|one| one.handle.id());
     }
@@ -216,7 +223,7 @@ fn pass<H: Ledger, C: Ledger, S: Setup, O: Outlet, R: Wait>(
     rt: &R,
     registry: &Registry<H, C, S, O>,
     worker: &mut Worker<H, C, S>,
-    held: &mut Vec<Held<H, C, S>>,
+    held: &mut Vec<DroppableHandle<H, C, S>>,
     act: &Act,
     said: &Said,
 ) -> Answer {
@@ -245,7 +252,7 @@ pub(crate) fn call<H: Ledger, C: Ledger, S: Setup, O: Outlet, R: Wait + Abort>(
     alloc: Global,
     registry: &Registry<H, C, S, O>,
     worker: &mut Worker<H, C, S>,
-    held: &mut Vec<Held<H, C, S>>,
+    held: &mut Vec<DroppableHandle<H, C, S>>,
     act: &Act,
 ) -> Answer {
     match act {
@@ -328,7 +335,7 @@ fn note_act<H: Ledger, C: Ledger, S: Setup, O: Outlet, D: Steps, R: Wait + Abort
     registry: &Registry<H, C, S, O>,
     drain: &mut D,
     worker: &mut Worker<H, C, S>,
-    held: &mut Vec<Held<H, C, S>>,
+    held: &mut Vec<DroppableHandle<H, C, S>>,
     act: &Act,
     transcript: &mut Transcript,
 )
@@ -371,7 +378,7 @@ pub(crate) fn calls<H: Ledger, C: Ledger, S: Setup, O: Outlet, D: Steps, R: Wait
     registry: &Registry<H, C, S, O>,
     drain: &mut D,
     workers: &mut [Worker<H, C, S>],
-    held: &mut Vec<Held<H, C, S>>,
+    held: &mut Vec<DroppableHandle<H, C, S>>,
     acts: &[(u32, Act)],
     transcript: &mut Transcript,
 )

@@ -1,10 +1,10 @@
 //! Workers that take turns, each in a thread of its own.
 use crate::tests::registry::acts::Transcript;
 use crate::tests::registry::ended::{Deed, has_numbers, run_to_end, with_workers};
-use crate::tests::registry::held::{Held, Part, gather};
 use crate::tests::registry::jobs::{Station, Task, work};
+use crate::tests::registry::parts::{Part, gather};
 use crate::tests::registry::same::same;
-use span_registry::{Outlet, Registry, Setup, Worker};
+use span_registry::{DroppableHandle, Outlet, Registry, Setup, Worker};
 use std::alloc::Global;
 use std::process::Abort;
 use std::sync::Wait;
@@ -194,7 +194,7 @@ fn leave<H: Ledger, C: Ledger, S: Setup>(
     for station in stations {
         workers.push(station.worker).expect(rt, "memory");
     }
-    let none: Vec<Held<H, C, S>> = Vec::new(alloc);
+    let none: Vec<DroppableHandle<H, C, S>> = Vec::new(alloc);
     gather(rt, alloc, counts, workers, none)
 }
 

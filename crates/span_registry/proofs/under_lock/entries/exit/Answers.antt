@@ -1,0 +1,40 @@
+use Rattle.std.proofs.Common.{refl, ap}
+use Rattle.span_registry.specs.Worker.{WorkerView}
+use Rattle.span_registry.proofs.Exited.{stack_left}
+use Rattle.span_registry.proofs.Free.{free_worker, free_room, free_longer, free_as_long, free_seated, free_refused, free_counted}
+use Rattle.span_registry.proofs.Happens.{exit_happened}
+use Rattle.span_registry.proofs.under_lock.entries.exit.Goals as goal
+
+pub exit-requires-clause-worker : goal.exit-requires-clause-worker
+exit-requires-clause-worker g c = free_worker c.locked.invariant c.worker.invariant.4
+
+pub exit-requires-clause-seated : goal.exit-requires-clause-seated
+exit-requires-clause-seated g c = free_seated c.locked.invariant
+
+pub count_call-requires-clause-room : goal.count_call-requires-clause-room
+count_call-requires-clause-room g c = free_room c.locked.invariant c.in-Ok.ensures.accepted
+
+pub count_call-requires-clause-longer : goal.count_call-requires-clause-longer
+count_call-requires-clause-longer g c = rw (← c.worker.view_is) (free_longer c.locked.invariant c.in-Ok.ensures.accepted)
+
+pub invariant_of-locked-2 : goal.invariant_of-locked-2
+invariant_of-locked-2 g c = free_counted c.locked.invariant c.in-Ok.ensures.accepted c.in-Ok.ensures.seated refl c.count_call.ensures.total c.count_call.ensures.history
+
+pub invariant_of-locked : goal.invariant_of-locked
+invariant_of-locked g c = free_refused c.locked.invariant c.in-Err.ensures.refused c.in-Err.ensures.seated c.see.ensures.history
+
+pub see-requires : goal.see-requires
+see-requires g c = free_as_long c.locked.invariant c.in-Err.ensures.refused
+
+pub returns-clause-left : goal.returns-clause-left
+returns-clause-left g c =
+    rw (← c.locked.view_is, ← c.worker.view_is) (stack_left _ _ _ _ _ _ _ _ c.in-Ok.ensures.accepted.accepted.step)
+
+pub returns-clause-was_released : goal.returns-clause-was_released
+returns-clause-was_released g c =
+    let accepted = c.in-Ok.ensures.accepted.accepted in
+    exit_happened c.args.worker.now c.count_call.new.worker _ c.worker.inside.number c.args.id c.in-Ok.closed
+    c.locked.invariant c.count_call.ensures.seen (ap (λ (w : WorkerView). w.seen) c.count_call.ensures.worker) c.count_call.ensures.legal c.count_call.ensures.within (ap (λ (w : WorkerView). w.number) c.worker.view_is)
+    (c.accepted_releases_close_what_nothing_holds.ensures _ _ _ accepted refl)
+    (rw c.in-Ok.ensures.closed (c.the_named_span_closes_first.ensures.exit _ _ _ _ accepted))
+    (stack_left _ _ _ _ _ _ _ _ accepted.step)
