@@ -11,7 +11,7 @@ use Rattle.span_layers.specs.Note.{Told, PlainNote}
 use Rattle.span_layers.specs.Filter.{Filter, layer_wants, admission_set}
 use Rattle.span_forest.specs.Spans.{Spans, find}
 use Rattle.span_forest.specs.Path.{path, path_text}
-use Rattle.span_stack.specs.Stack.{walk}
+use Rattle.span_stack.specs.Stack.{distinct_from_top}
 use Rattle.span_outlet.specs.declared.batch.ParentOf.{ParentOf}
 use Rattle.span_core.specs.World.{World, stack_of}
 use Rattle.span_core.specs.Parent.{spans_around}
@@ -53,7 +53,7 @@ close_of spans id = at_span spans OnClose id (fields_in spans id)
 
 -- where a layer sees an event: at the topmost of these spans, duplicates skipped, that the layer admits
 abbrev pub contextual_span : Spans → List ℕ → ℕ → Option ℕ
-contextual_span spans stack layer = first_that (λ id. has_bit (bits_in spans id) layer) (walk stack)
+contextual_span spans stack layer = first_that (λ id. has_bit (bits_in spans id) layer) (distinct_from_top stack)
 
 -- an event that these layers admit, told among these spans
 abbrev pub event_at : Spans → List ℕ → ℕ → Level → List ℕ → List KeyValue → Happening
