@@ -33,7 +33,7 @@ use Rattle.span_outlet.specs.Request.{Request, new_span, made}
 use Rattle.span_outlet.specs.Batch.{PlainBatch}
 use Rattle.span_core.specs.Step.{is_open_parent, IsStep, is_wanted, made_node}
 use Rattle.span_core.specs.History.{issued}
-use Rattle.span_core.specs.NextId.{with_answer, slots_after, next_id}
+use Rattle.span_core.specs.NextId.{with_answer, slots_after, next_id_after}
 use Rattle.span_core.specs.Happening.{at_span, is_told, note_of, notes_of, notes_of_all, path_at}
 use Rattle.span_core.specs.inside.Sound.{first_note, hears, IsSound, forest_with}
 use Rattle.span_core.proofs.Soundness.{sound_more}
@@ -206,7 +206,7 @@ not_in_history limits rules forest stacks calls sent id sound never =
 -- the next id of sound parts is new: it is the forest's, of which that is known
 pub next_is_new : (limits : Limits) (rules : List Filter) (forest : ForestView) (stacks : List (List ℕ)) (calls : ℕ) (sent : List PlainBatch) → IsSound limits forest stacks rules calls sent
     → IfSome (next_span_id forest) IsId → IfSome (next_span_id forest) (λ id. IsIssued (table_of forest) id → ⊥)
-    → IfSome (next_id limits.slots limits.last_generation sent) (λ id. IsId id × (stands_in id (issued sent) ≡ false))
+    → IfSome (next_id_after limits.slots limits.last_generation sent) (λ id. IsId id × (stands_in id (issued sent) ≡ false))
 next_is_new limits rules forest stacks calls sent sound in_layout never =
     subst (λ (o : Option ℕ). IfSome o (λ id. IsId id × (stands_in id (issued sent) ≡ false))) (ap next_span_id sound.forest_is) (by_case (next_span_id forest) in_layout never)
   where

@@ -44,8 +44,8 @@ next_id_from slots used =
     option_map (λ slot. id_of slot (slice_index used.given slot)) (next_slot_of slots (length used.given) used.freed)
 
 -- the id of the next new span after this history
-abbrev pub next_id : ℕ → ℕ → List PlainBatch → Option ℕ
-next_id slots last_generation history = next_id_from slots (slots_after last_generation history)
+abbrev pub next_id_after : ℕ → ℕ → List PlainBatch → Option ℕ
+next_id_after slots last_generation history = next_id_from slots (slots_after last_generation history)
 
 -- an open span has the slot
 abbrev pub is_occupied : Spans → ℕ → Bool
