@@ -22,7 +22,7 @@ use Rattle.span_outlet.specs.declared.batch.ParentOf.TheVariants.{Root, Current,
 use Rattle.span_outlet.specs.Request.{Request, new_span, exit, try_close, event, Answer, made, exited, released, told, enter, entered}
 use Rattle.span_outlet.specs.Batch.{PlainBatch}
 use Rattle.span_core.specs.Happening.{contextual_span, event_told, happenings, notes_of_all}
-use Rattle.span_core.specs.Step.{is_wanted, closed_by_exit}
+use Rattle.span_core.specs.Step.{is_wanted_meta, closed_by_exit}
 use Rattle.span_core.specs.History.{IsLegal, issued}
 use Rattle.span_core.specs.History.IsLegal.{none, more}
 use Rattle.span_core.specs.NextId.{next_id_after}
@@ -93,11 +93,11 @@ event_under_none =
     refl
 
 -- a span that no layer admits isn't wanted; without layers all spans are
-unwanted : is_wanted (only_app ∷ []) (meta (codes "b") (codes "lib")) ≡ false
+unwanted : is_wanted_meta (only_app ∷ []) (meta (codes "b") (codes "lib")) ≡ false
 unfolding is_admitted
 unwanted = refl
 
-wanted_without_layers : is_wanted [] (meta (codes "b") (codes "lib")) ≡ true
+wanted_without_layers : is_wanted_meta [] (meta (codes "b") (codes "lib")) ≡ true
 wanted_without_layers = refl
 
 -- an exit that causes closes is told before them, and the closes child first, each with the path of its own layer

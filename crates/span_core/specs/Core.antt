@@ -20,7 +20,7 @@ use Rattle.span_core.specs.Parent.{parent_named}
 use Rattle.span_outlet.specs.Request.{Request, new_span, clone_span, enter, exit, try_close, record_fields, event, Answer}
 use Rattle.span_outlet.specs.Batch.{PlainBatch}
 use Rattle.span_outlet.specs.Outlet.{RingName, one_more}
-use Rattle.span_core.specs.Step.{IsStep, is_wanted, is_open, is_open_parent}
+use Rattle.span_core.specs.Step.{IsStep, is_wanted_meta, is_open, is_open_parent}
 use Rattle.span_core.specs.History.{issued}
 use Rattle.span_core.specs.NextId.{next_id_after}
 
@@ -51,7 +51,7 @@ is_named _ = true
 
 -- a new span is wanted
 abbrev pub is_wanted_call : CoreView → Request → Bool
-is_wanted_call core (new_span worker meta fields parent) = is_wanted core.rules meta
+is_wanted_call core (new_span worker meta fields parent) = is_wanted_meta core.rules meta
 is_wanted_call core _ = true
 
 -- the span is open and has a handle

@@ -12,7 +12,7 @@ ghost use Rattle.span_outlet.specs.Request.{event, told, record_fields, recorded
 ghost use Rattle.span_stack.specs.Stack.{without_last};
 ghost use Rattle.span_core.specs.World.{stack_of};
 ghost use Rattle.span_core.specs.GivenBack.{ClosesWhatNothingHolds};
-ghost use Rattle.span_core.specs.Step.{is_wanted, closed_by_exit};
+ghost use Rattle.span_core.specs.Step.{is_wanted_meta, closed_by_exit};
 ghost use Rattle.span_core.specs.Core.{is_named, IsAccepted, IsRefused};
 ghost use mathlib.Core.List.{IsPrefix};
 ghost use Rattle.span_registry.specs.Worker.{after_call, HasOneMore, HasNoMore};
@@ -64,8 +64,8 @@ impl<H: Ledger, C: Ledger, S: Setup, O: Outlet, A: Admit> Registry<H, C, S, O, A
         ensures no_part { IfErr result (λ fault. worker.old.spare ≡ 0 → fault ≡ CountFull) }
         ensures not_wanted { IfOk result (λ new. IfNone new (
             (is_named (new_span worker.old.number (plain_meta meta.now) (plain_fields fields.now) None) ≡ true)
-            × (is_wanted S.rules (plain_meta meta.now) ≡ false) × (worker.new ≡ worker.old))) }
-        ensures wanted { IfOk result (λ new. OnSome new (is_wanted S.rules (plain_meta meta.now) ≡ true)) }
+            × (is_wanted_meta S.rules (plain_meta meta.now) ≡ false) × (worker.new ≡ worker.old))) }
+        ensures wanted { IfOk result (λ new. OnSome new (is_wanted_meta S.rules (plain_meta meta.now) ≡ true)) }
         ensures unchanged { OnErr result (worker.new ≡ record worker.old { seen = worker.new.seen }) }
     {
         laws::new_span(&mut *self.locked.lock(rt), worker, meta, fields, parent)

@@ -14,7 +14,7 @@ use Rattle.span_forest.specs.Add.{with_span}
 use Rattle.span_forest.specs.Live.{stands_in}
 use Rattle.span_stack.specs.Stack.{ids_of_each}
 use Rattle.span_core.specs.Happening.{at_span, notes_of_all}
-use Rattle.span_core.specs.Step.{is_wanted, made_node, is_open_parent}
+use Rattle.span_core.specs.Step.{is_wanted_meta, made_node, is_open_parent}
 use Rattle.span_core.specs.History.{issued}
 use Rattle.span_core.specs.inside.Sound.{first_note, hears}
 use Rattle.span_core.specs.NextId.{next_id_after}
@@ -30,8 +30,8 @@ use Rattle.span_core.proofs.Core.make.Goals as goal
 use Rattle.span_core.proofs.Core.make.Goals.{After-put}
 
 -- what holds of the core before the call, said of its parts
-wanted : (g : given.Over) (c : After-put g) → is_wanted c.self.inside.rules (meta_given c.args.new.now.meta) ≡ true
-wanted g c = subst (λ (v : CoreView). is_wanted v.rules (meta_given c.args.new.now.meta) ≡ true) (sym c.self.view_is) c.requires.due.wanted
+wanted : (g : given.Over) (c : After-put g) → is_wanted_meta c.self.inside.rules (meta_given c.args.new.now.meta) ≡ true
+wanted g c = subst (λ (v : CoreView). is_wanted_meta v.rules (meta_given c.args.new.now.meta) ≡ true) (sym c.self.view_is) c.requires.due.wanted
 
 parent_open : (g : given.Over) (c : After-put g) → is_open_parent c.self.inside.forest.spans c.args.new.now.parent ≡ true
 parent_open g c = subst (λ (v : CoreView). is_open_parent v.world.spans c.args.new.now.parent ≡ true) (sym c.self.view_is) c.requires.due.known
