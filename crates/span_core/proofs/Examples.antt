@@ -22,10 +22,10 @@ use Rattle.span_outlet.specs.declared.batch.ParentOf.TheVariants.{Root, Current,
 use Rattle.span_outlet.specs.Request.{Request, new_span, exit, try_close, event, Answer, made, exited, released, told, enter, entered}
 use Rattle.span_outlet.specs.Batch.{PlainBatch}
 use Rattle.span_core.specs.Happening.{contextual_span, event_told, happenings, notes_of_all}
-use Rattle.span_core.specs.Step.{is_wanted, closed_by_exit}
+use Rattle.span_core.specs.Step.{is_wanted_meta, closed_by_exit}
 use Rattle.span_core.specs.History.{IsLegal, issued}
 use Rattle.span_core.specs.History.IsLegal.{none, more}
-use Rattle.span_core.specs.NextId.{next_id}
+use Rattle.span_core.specs.NextId.{next_id_after}
 use Rattle.span_core.specs.ClosedSpans.{closed_by, closed_in, gives_back, spans_before_closing, tells_close, hears_close}
 use Rattle.span_outlet.specs.Lines.{lines_of}
 use Rattle.span_core.specs.Core.{CoreView}
@@ -93,11 +93,11 @@ event_under_none =
     refl
 
 -- a span that no layer admits isn't wanted; without layers all spans are
-unwanted : is_wanted (only_app ∷ []) (meta (codes "b") (codes "lib")) ≡ false
+unwanted : is_wanted_meta (only_app ∷ []) (meta (codes "b") (codes "lib")) ≡ false
 unfolding is_admitted
 unwanted = refl
 
-wanted_without_layers : is_wanted [] (meta (codes "b") (codes "lib")) ≡ true
+wanted_without_layers : is_wanted_meta [] (meta (codes "b") (codes "lib")) ≡ true
 wanted_without_layers = refl
 
 -- an exit that causes closes is told before them, and the closes child first, each with the path of its own layer
@@ -193,20 +193,20 @@ ids_of_family = refl
 closed_in_family : closed_in family ≡ 2 ∷ 1 ∷ []
 closed_in_family = refl
 
-root_slot_again : next_id 1024 4294967295 family ≡ Some 16777217
+root_slot_again : next_id_after 1024 4294967295 family ≡ Some 16777217
 root_slot_again = refl
 
-lowest_unused : next_id 1024 4294967295 (made_a ∷ []) ≡ Some 2
+lowest_unused : next_id_after 1024 4294967295 (made_a ∷ []) ≡ Some 2
 lowest_unused = refl
 
 -- one slot whose last generation is 1: after two spans it is retired
 abbrev once_more : List PlainBatch
 once_more = made_a ∷ batch (try_close 0 1) (released (1 ∷ [])) ∷ []
 
-slot_again : next_id 1 1 once_more ≡ Some 16777217
+slot_again : next_id_after 1 1 once_more ≡ Some 16777217
 slot_again = refl
 
-retired : next_id 1 1 (once_more ++ batch (new_span 0 (meta (codes "b") (codes "app")) [] None) (made 16777217) ∷ batch (try_close 0 16777217) (released (16777217 ∷ [])) ∷ []) ≡ None
+retired : next_id_after 1 1 (once_more ++ batch (new_span 0 (meta (codes "b") (codes "app")) [] None) (made 16777217) ∷ batch (try_close 0 16777217) (released (16777217 ∷ [])) ∷ []) ≡ None
 retired = refl
 
 -- a span that is made and closed, without layers, is a legal history and leaves the empty world

@@ -31,9 +31,9 @@ use Rattle.span_forest.proofs.Slotted.{issue_more}
 use Rattle.span_core.specs.World.{IsWorld}
 use Rattle.span_outlet.specs.Request.{Request, new_span, made}
 use Rattle.span_outlet.specs.Batch.{PlainBatch}
-use Rattle.span_core.specs.Step.{is_open_parent, IsStep, is_wanted, made_node}
+use Rattle.span_core.specs.Step.{is_open_parent, IsStep, is_wanted_meta, made_node}
 use Rattle.span_core.specs.History.{issued}
-use Rattle.span_core.specs.NextId.{with_answer, slots_after, next_id}
+use Rattle.span_core.specs.NextId.{with_answer, slots_after, next_id_after}
 use Rattle.span_core.specs.Happening.{at_span, is_told, note_of, notes_of, notes_of_all, path_at}
 use Rattle.span_core.specs.inside.Sound.{first_note, hears, IsSound, forest_with}
 use Rattle.span_core.proofs.Soundness.{sound_more}
@@ -180,7 +180,7 @@ only_one id x h = same_key id x (sym (or_none (id == x)) ∙ h)
     or_none false = refl
 
 pub step_new : (rules : List Filter) (ids : List ℕ) (spans new_spans : Spans) (stacks : List (List ℕ)) (worker id : ℕ) (meta : PlainMeta) (fields : List KeyValue) (parent : Option ℕ) (notes : List PlainNote)
-    → worker < length stacks → IsId id → stands_in id ids ≡ false → is_wanted rules meta ≡ true → is_open_parent spans parent ≡ true
+    → worker < length stacks → IsId id → stands_in id ids ≡ false → is_wanted_meta rules meta ≡ true → is_open_parent spans parent ≡ true
     → new_spans ≡ with_node spans id (made_node rules meta fields parent)
     → notes ≡ notes_of_all rules worker (at_span new_spans OnNew id fields ∷ [])
     → IsStep rules ids (record { spans = spans; stacks = stacks }) (new_span worker meta fields parent) (made id) notes (record { spans = new_spans; stacks = stacks })
@@ -206,7 +206,7 @@ not_in_history limits rules forest stacks calls sent id sound never =
 -- the next id of sound parts is new: it is the forest's, of which that is known
 pub next_is_new : (limits : Limits) (rules : List Filter) (forest : ForestView) (stacks : List (List ℕ)) (calls : ℕ) (sent : List PlainBatch) → IsSound limits forest stacks rules calls sent
     → IfSome (next_span_id forest) IsId → IfSome (next_span_id forest) (λ id. IsIssued (table_of forest) id → ⊥)
-    → IfSome (next_id limits.slots limits.last_generation sent) (λ id. IsId id × (stands_in id (issued sent) ≡ false))
+    → IfSome (next_id_after limits.slots limits.last_generation sent) (λ id. IsId id × (stands_in id (issued sent) ≡ false))
 next_is_new limits rules forest stacks calls sent sound in_layout never =
     subst (λ (o : Option ℕ). IfSome o (λ id. IsId id × (stands_in id (issued sent) ≡ false))) (ap next_span_id sound.forest_is) (by_case (next_span_id forest) in_layout never)
   where
@@ -221,7 +221,7 @@ pub sound_new : (limits : Limits) (rules : List Filter) (forest new_forest : For
     → (generation_of id < slice_index forest.given (slot_of id) → ⊥)
     → generation_of id < slice_index new_forest.given (slot_of id)
     → ((x : ℕ) → IsId x → generation_of x < slice_index new_forest.given (slot_of x) → (generation_of x < slice_index forest.given (slot_of x)) ⊎ (stands_in x (id ∷ []) ≡ true))
-    → is_wanted rules meta ≡ true
+    → is_wanted_meta rules meta ≡ true
     → is_open_parent forest.spans parent ≡ true
     → find forest.spans id ≡ None
     → new_forest ≡ with_span forest id (made_node rules meta fields parent)

@@ -1,6 +1,6 @@
 -- The relations that the calls' contracts state leave no choice: what they allow is the outcome.
 use Rattle.std.proofs.Common.{◌≡◌, ℕ, ◌<◌, Bool, true, false, not, ◌&&◌, if◌then◌else◌, List, length, Option, Some, None, refl, sym, ap, ◌∙◌}
-use Rattle.std.specs.Prelude.{is_some, IfSome, slice_index}
+use Rattle.std.specs.Prelude.{is_some, IfSome, slice_index, unwrap_or}
 use Rattle.std.proofs.lemmas.Bool.{true≢false}
 use Rattle.span_id.specs.declared.fault.Fault.{Fault}
 use Rattle.span_id.specs.declared.fault.Fault.TheVariants.{Unknown, CountFull, Full, NotEntered, TooManyLayers, BadName, Backlog, BadLimits, Memory}
@@ -10,7 +10,6 @@ use Rattle.span_layers.specs.Filter.{Filter}
 use Rattle.span_forest.specs.Live.{stands_in}
 use Rattle.span_core.specs.World.{World}
 use Rattle.span_outlet.specs.Request.{Request, new_span, clone_span, enter, exit, try_close, record_fields, event, Answer, made, cloned, entered, exited, released, recorded, told, worker_of}
-use Rattle.span_core.specs.Happening.{id_at}
 use Rattle.span_core.specs.Step.{Changes, IsStep}
 use Rattle.span_core.specs.History.{issued, id_issued}
 use Rattle.span_core.specs.Core.{CoreView, is_named, is_wanted_call, is_known, may_count, may_send, id_after, has_slot, is_inside, IsDue, WhyRefused, IsLate, times_after, IsRefused, IsAccepted, IsNotWanted}
@@ -128,8 +127,8 @@ one_step rules ids old request answer other notes others new next step another s
 
 -- the next id is that of the answer
 next_id_in : (core : CoreView) (rules : List Filter) (ids : List ℕ) (request : Request) (answer : Answer) (new : World) → Changes rules ids core.world request answer new → TakesNextId core answer
-    → answer_to core.world (id_in answer) request ≡ answer_to core.world (id_at (id_after core)) request
-next_id_in core rules ids (new_span worker meta fields parent) (made id) new h next = ap made (sym (ap id_at next))
+    → answer_to core.world (id_in answer) request ≡ answer_to core.world (unwrap_or (id_after core) 0) request
+next_id_in core rules ids (new_span worker meta fields parent) (made id) new h next = ap made (sym (ap (λ o. unwrap_or o 0) next))
 next_id_in core rules ids (clone_span worker id) answer new h next = refl
 next_id_in core rules ids (enter worker id) answer new h next = refl
 next_id_in core rules ids (exit worker id) answer new h next = refl
@@ -144,7 +143,7 @@ pub accepted_outcome : (old : CoreView) (request : Request) (answer : Answer) (n
 accepted_outcome old request answer new call next =
     due_outcome old request call.due ∙ ap (answered old request) (sym answer_is) ∙ ap (stepped old request answer) (sym world_is) ∙ ap (noted old request answer new.world) (sym call.step.notes_are) ∙ ap (accepted answer call.notes) (sym core_is)
   where
-    answer_is : answer ≡ answer_to old.world (id_at (id_after old)) request
+    answer_is : answer ≡ answer_to old.world (unwrap_or (id_after old) 0) request
     answer_is = step_answer old.rules (issued old.sent) old.world request answer new.world call.step.changes ∙ next_id_in old old.rules (issued old.sent) request answer new.world call.step.changes next
 
     world_is : new.world ≡ world_after old.rules old.world request answer
@@ -210,17 +209,17 @@ allowed_by : (b : Bool) (core : CoreView) (request : Request) (x y : Outcome) �
 allowed_by true core request x y failing holding = holding refl
 allowed_by false core request x y failing holding = failing refl
 
-at_some : (Q : ℕ → Type 0) (o : Option ℕ) → is_some o ≡ true → IfSome o Q → Q (id_at o)
+at_some : (Q : ℕ → Type 0) (o : Option ℕ) → is_some o ≡ true → IfSome o Q → Q (unwrap_or o 0)
 at_some Q None some h = absurd (true≢false (sym some))
 at_some Q (Some id) some h = h
 
-is_at_some : (o : Option ℕ) → is_some o ≡ true → o ≡ Some (id_at o)
+is_at_some : (o : Option ℕ) → is_some o ≡ true → o ≡ Some (unwrap_or o 0)
 is_at_some None some = absurd (true≢false (sym some))
 is_at_some (Some id) some = refl
 
 -- what is done is a step
 done_changes : (core : CoreView) (request : Request) → IsDue core request → IsNextIdNew core
-    → Changes core.rules (issued core.sent) core.world request (answer_to core.world (id_at (id_after core)) request) (world_after core.rules core.world request (answer_to core.world (id_at (id_after core)) request))
+    → Changes core.rules (issued core.sent) core.world request (answer_to core.world (unwrap_or (id_after core) 0) request) (world_after core.rules core.world request (answer_to core.world (unwrap_or (id_after core) 0) request))
 done_changes core (new_span worker meta fields parent) due new =
     let id_is = at_some (λ id. IsId id × (stands_in id (issued core.sent) ≡ false)) (id_after core) due.slot new in
     record { in_layout = id_is.0; not_issued = id_is.1; wanted = due.wanted; parent_open = due.known; after = refl }
@@ -231,7 +230,7 @@ done_changes core (try_close worker id) due new = record { held = held_from core
 done_changes core (record_fields worker id fields) due new = record { held = held_from core.world.spans id due.known; after = refl }
 done_changes core (event worker meta message fields parent) due new = record { parent_open = due.known; after = refl }
 
-done_takes : (core : CoreView) (request : Request) → IsDue core request → TakesNextId core (answer_to core.world (id_at (id_after core)) request)
+done_takes : (core : CoreView) (request : Request) → IsDue core request → TakesNextId core (answer_to core.world (unwrap_or (id_after core) 0) request)
 done_takes core (new_span worker meta fields parent) due = is_at_some (id_after core) due.slot
 done_takes core (clone_span worker id) due = tt
 done_takes core (enter worker id) due = tt
@@ -258,7 +257,7 @@ done_allowed core request within due new = (
 )
   where
     answer : Answer
-    answer = answer_to core.world (id_at (id_after core)) request
+    answer = answer_to core.world (unwrap_or (id_after core) 0) request
 
 -- the relations that the contracts state allow the outcome of a call by one of the workers, where the next id is new,
 -- as it is in every sound core

@@ -1,6 +1,6 @@
 -- What is true of every core between calls, for the definitions alone, and that each call that is done keeps it.
 use Rattle.std.proofs.Common.{◌≡◌, ℕ, ◌<◌, ◌≤◌, Bool, true, false, cond, not, List, [], length, get_or, set, Option, Some, None, refl, sym, ap, ◌∙◌, subst, arith, length-set}
-use Rattle.std.specs.Prelude.{is_some}
+use Rattle.std.specs.Prelude.{is_some, unwrap_or}
 use Rattle.std.proofs.lemmas.List.{length-replicate}
 use Rattle.span_id.specs.declared.limits.Limits.{Limits}
 use Rattle.span_layers.specs.Note.{PlainNote}
@@ -18,7 +18,6 @@ use Rattle.span_forest.proofs.Upheld.{IsUpheld, upheld_empty, upheld_with, uphel
 use Rattle.span_stack.specs.Stack.{has, without_last}
 use Rattle.span_core.specs.World.{World, IsWorld, empty_world, stack_of}
 use Rattle.span_outlet.specs.Request.{Request, new_span, clone_span, enter, exit, try_close, record_fields, event, Answer, worker_of}
-use Rattle.span_core.specs.Happening.{id_at}
 use Rattle.span_core.specs.Step.{made_node, is_open_parent, stays_inside}
 use Rattle.span_core.specs.NextId.{SlotsUsed, slots_after, with_answer}
 use Rattle.span_core.specs.Core.{CoreView, id_after, IsDue}
@@ -40,7 +39,7 @@ pub record IsSteady (core : CoreView) : Type 0 where
 
 -- the answer of a call that is done, and the core after it, with some notes
 abbrev pub answer_in : CoreView → Request → Answer
-answer_in core request = answer_to core.world (id_at (id_after core)) request
+answer_in core request = answer_to core.world (unwrap_or (id_after core) 0) request
 
 abbrev pub world_then : CoreView → Request → World
 world_then core request = world_after core.rules core.world request (answer_in core request)
@@ -123,8 +122,8 @@ steady_then core (new_span worker meta fields parent) notes steady low due =
     let node = made_node core.rules meta fields parent in
     let next = agrees_made core.limits.slots core.limits.last_generation spans (used_in core) steady.slots due.slot in
     then_steady core (new_span worker meta fields parent) notes
-    (upheld_with spans (id_at (id_after core)) node steady.upheld next.0 (parent_open spans parent due.known) (omega arith))
-    (world_new spans (id_at (id_after core)) node core.world.stacks next.0 refl steady.world)
+    (upheld_with spans (unwrap_or (id_after core) 0) node steady.upheld next.0 (parent_open spans parent due.known) (omega arith))
+    (world_new spans (unwrap_or (id_after core) 0) node core.world.stacks next.0 refl steady.world)
     steady.stacks
     (next.1 node)
 steady_then core (clone_span worker id) notes steady low due =

@@ -10,7 +10,7 @@ use Rattle.std.proofs.lemmas.Option.{slice_get_within, slice_get-get_or, get_or_
 use Rattle.span_id.specs.declared.bits.Bits.{Bits}
 use Rattle.span_id.specs.Bits.{has_bit}
 use Rattle.span_forest.specs.Spans.{Spans}
-use Rattle.span_stack.specs.Stack.{has, first_places, walk, top, without_last}
+use Rattle.span_stack.specs.Stack.{has, first_places, distinct_from_top, top, without_last}
 use Rattle.span_stack.proofs.Stacks.{or_true, has-first_places, first_places-push, without_last-at}
 use Rattle.span_stack.proofs.Entries.{has-append}
 use Rattle.span_core.specs.declared.summary.Summary.{Summary}
@@ -52,8 +52,8 @@ has-reverse (x ∷ ids) id =
     ∙ ap (λ b. b || has (x ∷ []) id) (has-reverse ids id)
     ∙ or_swap (has ids id) (eqb x id)
 
-has-walk : (ids : List ℕ) (id : ℕ) → has (walk ids) id ≡ has ids id
-has-walk ids id = has-reverse (first_places ids) id ∙ has-first_places ids id
+has-distinct_from_top : (ids : List ℕ) (id : ℕ) → has (distinct_from_top ids) id ≡ has ids id
+has-distinct_from_top ids id = has-reverse (first_places ids) id ∙ has-first_places ids id
 
 -- the layers of a mask admit none of those that a walk has passed
 abbrev pub AdmitNonePassed : Spans → List ℕ → ℕ → ℕ → ℕ → List ℕ → Type 0
@@ -62,12 +62,12 @@ AdmitNonePassed spans ids from to mask left =
     → has_bit (bits_in spans id) layer ≡ false
 
 -- it passed none yet
-pub none_passed : (spans : Spans) (ids : List ℕ) (from to mask : ℕ) (left : List ℕ) → walk (take to ids) ≡ left ++ walk (take from ids)
+pub none_passed : (spans : Spans) (ids : List ℕ) (from to mask : ℕ) (left : List ℕ) → distinct_from_top (take to ids) ≡ left ++ distinct_from_top (take from ids)
     → AdmitNonePassed spans ids from to mask left
 none_passed spans ids from to mask left parts = λ id layer outside inside passed admits.
     absurd (false≢true
-    (sym (ap (λ b. b || has (walk (take from ids)) id) passed ∙ (has-walk (take from ids) id ∙ outside))
-    ∙ sym (has-append left (walk (take from ids)) id) ∙ sym (ap (λ xs. has xs id) parts) ∙ has-walk (take to ids) id ∙ inside))
+    (sym (ap (λ b. b || has (distinct_from_top (take from ids)) id) passed ∙ (has-distinct_from_top (take from ids) id ∙ outside))
+    ∙ sym (has-append left (distinct_from_top (take from ids)) id) ∙ sym (ap (λ xs. has xs id) parts) ∙ has-distinct_from_top (take to ids) id ∙ inside))
 
 -- it passes one more
 pub one_passed : (spans : Spans) (ids : List ℕ) (from to mask bits new next : ℕ) (left rest : List ℕ) → left ≡ next ∷ rest

@@ -1,6 +1,6 @@
 -- The slots that a history used agree with the spans that are open: each open id was issued, and the next one wasn't.
 use Rattle.std.proofs.Common.{◌≡◌, ℕ, ◌<◌, ◌≤◌, Bool, true, false, cond, leb, List, [], ◌∷◌, length, drop, Option, Some, None, refl, sym, ap, subst, inl, inr, arith, length-append, length-set}
-use Rattle.std.specs.Prelude.{is_some, slice_index}
+use Rattle.std.specs.Prelude.{is_some, slice_index, unwrap_or}
 use Rattle.std.specs.Option.{option_map}
 use Rattle.std.proofs.lemmas.Bool.{cases_lt, lt-ltb, le-ltb, true≢false}
 use Rattle.std.proofs.lemmas.Bool.Decides.{eqb_tells}
@@ -15,7 +15,6 @@ use Rattle.span_forest.specs.Release.{freed_after}
 use Rattle.span_forest.proofs.Adds.{open_back}
 use Rattle.span_forest.proofs.Slotted.{issue_more}
 use Rattle.span_outlet.specs.Request.{made}
-use Rattle.span_core.specs.Happening.{id_at}
 use Rattle.span_core.specs.NextId.{SlotsUsed, with_closed, with_answer, next_id_from}
 
 -- no more slots were used than there are, each freed one was used, and each open id was issued
@@ -120,15 +119,15 @@ module _ (slots last : ℕ) (spans : Spans) (used : SlotsUsed) (agrees : Agrees 
 
 -- the next id, where there is one, isn't open, and a new span under it keeps the slots in agreement
 pub agrees_made : (slots last : ℕ) (spans : Spans) (used : SlotsUsed) → Agrees slots spans used → is_some (next_id_from slots used) ≡ true
-    → (find spans (id_at (next_id_from slots used)) ≡ None)
-    × ((node : Node) → Agrees slots (with_node spans (id_at (next_id_from slots used)) node) (with_answer last used (made (id_at (next_id_from slots used)))))
+    → (find spans (unwrap_or (next_id_from slots used) 0) ≡ None)
+    × ((node : Node) → Agrees slots (with_node spans (unwrap_or (next_id_from slots used) 0) node) (with_answer last used (made (unwrap_or (next_id_from slots used) 0))))
 agrees_made slots last spans used agrees there = by_case (next_slot_of slots (length used.given) used.freed) refl there
   where
     from : Option ℕ → Option ℕ
     from slot = option_map (λ s. id_of s (slice_index used.given s)) slot
 
     by_case : (o : Option ℕ) → next_slot_of slots (length used.given) used.freed ≡ o → is_some (from o) ≡ true
-        → (find spans (id_at (from o)) ≡ None) × ((node : Node) → Agrees slots (with_node spans (id_at (from o)) node) (with_answer last used (made (id_at (from o)))))
+        → (find spans (unwrap_or (from o) 0) ≡ None) × ((node : Node) → Agrees slots (with_node spans (unwrap_or (from o) 0) node) (with_answer last used (made (unwrap_or (from o) 0))))
     by_case None is some = absurd (true≢false (sym some))
     by_case (Some s) is some =
         let low = next_slot_low slots (length used.given) s used.freed agrees.few agrees.freed_used is in

@@ -12,7 +12,7 @@ use Rattle.span_forest.specs.Live.{stands_in}
 use Rattle.span_forest.proofs.Walks.{same_test}
 use Rattle.span_outlet.specs.Batch.{PlainBatch}
 use Rattle.span_core.specs.History.{issued}
-use Rattle.span_core.specs.NextId.{next_id, is_occupied, is_used_up}
+use Rattle.span_core.specs.NextId.{next_id_after, has_open_span, is_used_up}
 use Rattle.span_core.specs.inside.Sound.{IsSound}
 
 below : (a b : ℕ) → nat_lt a b ≡ true → a < b
@@ -36,13 +36,13 @@ module _ (limits : Limits) (rules : List Filter) (forest : ForestView) (stacks :
       (λ t. sound.given id (in_layout slot low) (below _ _ t))
       (λ t. lt-ltb _ _ (sound.counted id t))
 
-  used_up_is : (slot : ℕ) → slot < limits.slots → (is_occupied forest.spans slot || is_retired (table_of forest) slot) ≡ is_used_up limits.last_generation forest.spans sent slot
-  used_up_is slot low = ap (λ b. is_occupied forest.spans slot || b) (retired_is slot low)
+  used_up_is : (slot : ℕ) → slot < limits.slots → (has_open_span forest.spans slot || is_retired (table_of forest) slot) ≡ is_used_up limits.last_generation forest.spans sent slot
+  used_up_is slot low = ap (λ b. has_open_span forest.spans slot || b) (retired_is slot low)
 
   pub full_exactly : (next_span_id forest ≡ None) ↔ IsFull (table_of forest)
-      → (next_id limits.slots limits.last_generation sent ≡ None) ↔ ((slot : ℕ) → slot < limits.slots → is_used_up limits.last_generation forest.spans sent slot ≡ true)
+      → (next_id_after limits.slots limits.last_generation sent ≡ None) ↔ ((slot : ℕ) → slot < limits.slots → is_used_up limits.last_generation forest.spans sent slot ≡ true)
   full_exactly full =
-      let same : next_span_id forest ≡ next_id limits.slots limits.last_generation sent = ap next_span_id sound.forest_is in (
+      let same : next_span_id forest ≡ next_id_after limits.slots limits.last_generation sent = ap next_span_id sound.forest_is in (
         λ nothing slot low. sym (used_up_is slot low) ∙ full.0 (same ∙ nothing) slot (subst (λ (n : ℕ). slot < n) (sym slots_are) low),
         λ used. sym same ∙ full.1 (λ slot low. (let low' : slot < limits.slots = subst (λ (n : ℕ). slot < n) slots_are low in used_up_is slot low' ∙ used slot low')),
       )

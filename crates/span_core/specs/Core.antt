@@ -20,9 +20,9 @@ use Rattle.span_core.specs.Parent.{parent_named}
 use Rattle.span_outlet.specs.Request.{Request, new_span, clone_span, enter, exit, try_close, record_fields, event, Answer}
 use Rattle.span_outlet.specs.Batch.{PlainBatch}
 use Rattle.span_outlet.specs.Outlet.{RingName, one_more}
-use Rattle.span_core.specs.Step.{IsStep, is_wanted, is_open, is_open_parent}
+use Rattle.span_core.specs.Step.{IsStep, is_wanted_meta, is_open, is_open_parent}
 use Rattle.span_core.specs.History.{issued}
-use Rattle.span_core.specs.NextId.{next_id}
+use Rattle.span_core.specs.NextId.{next_id_after}
 
 -- the limits, the filters of the layers, the world, and of the outlet the batches that were sent to it,
 -- how often it had no place for one, the forms in which it writes notes, and the ring that it puts them into, if
@@ -51,7 +51,7 @@ is_named _ = true
 
 -- a new span is wanted
 abbrev pub is_wanted_call : CoreView → Request → Bool
-is_wanted_call core (new_span worker meta fields parent) = is_wanted core.rules meta
+is_wanted_call core (new_span worker meta fields parent) = is_wanted_meta core.rules meta
 is_wanted_call core _ = true
 
 -- the span is open and has a handle
@@ -93,7 +93,7 @@ may_send core = nat_lt (length core.sent) (2 ^ 64 - 1)
 
 -- the id that the next new span gets
 abbrev pub id_after : CoreView → Option ℕ
-id_after core = next_id core.limits.slots core.limits.last_generation core.sent
+id_after core = next_id_after core.limits.slots core.limits.last_generation core.sent
 
 -- a slot is free for a new span
 abbrev pub has_slot : CoreView → Request → Bool

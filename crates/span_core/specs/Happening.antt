@@ -1,5 +1,5 @@
 -- Happenings, and the notes that the layers are told of them.
-use Rattle.std.specs.Prelude.{ℕ, Bool, ◌&&◌, List, [], ◌∷◌, length, map, filter, flat_map, Option, Some, None}
+use Rattle.std.specs.Prelude.{ℕ, Bool, ◌&&◌, List, [], ◌∷◌, length, map, filter, flat_map, Option, Some, None, unwrap_or}
 use Rattle.std.specs.List.{range_with_len, find as first_that}
 use Rattle.std.specs.Option.{option_map_or}
 use Rattle.span_id.specs.Bits.{has_bit}
@@ -11,7 +11,7 @@ use Rattle.span_layers.specs.Note.{Told, PlainNote}
 use Rattle.span_layers.specs.Filter.{Filter, layer_wants, admission_set}
 use Rattle.span_forest.specs.Spans.{Spans, find}
 use Rattle.span_forest.specs.Path.{path, path_text}
-use Rattle.span_stack.specs.Stack.{walk}
+use Rattle.span_stack.specs.Stack.{distinct_from_top}
 use Rattle.span_outlet.specs.declared.batch.ParentOf.{ParentOf}
 use Rattle.span_core.specs.World.{World, stack_of}
 use Rattle.span_core.specs.Parent.{spans_around}
@@ -53,7 +53,7 @@ close_of spans id = at_span spans OnClose id (fields_in spans id)
 
 -- where a layer sees an event: at the topmost of these spans, duplicates skipped, that the layer admits
 abbrev pub contextual_span : Spans → List ℕ → ℕ → Option ℕ
-contextual_span spans stack layer = first_that (λ id. has_bit (bits_in spans id) layer) (walk stack)
+contextual_span spans stack layer = first_that (λ id. has_bit (bits_in spans id) layer) (distinct_from_top stack)
 
 -- an event that these layers admit, told among these spans
 abbrev pub event_at : Spans → List ℕ → ℕ → Level → List ℕ → List KeyValue → Happening
@@ -94,23 +94,18 @@ is_told rules what layer = has_bit what.admitted layer && layer_wants rules laye
 abbrev pub layers_told : List Filter → Happening → List ℕ
 layers_told rules what = filter (is_told rules what) (range_with_len 0 (length rules))
 
--- the id of a place; where there is none, 0
-abbrev pub id_at : Option ℕ → ℕ
-id_at None = 0
-id_at (Some id) = id
-
 -- a layer's path at a place; where there is none, it is empty
 abbrev pub path_at : ℕ → Spans → Option ℕ → List (List ℕ)
 path_at layer spans None = []
 path_at layer spans (Some id) = path layer spans id
 
--- what a layer is told of a happening that this worker caused
+-- what a layer is told of a happening that this worker caused; where it sees no span, the id is 0
 abbrev pub note_of : ℕ → Happening → ℕ → PlainNote
 note_of worker what layer = record {
   layer = layer;
   kind = what.kind;
   worker = worker;
-  id = id_at (what.place layer);
+  id = unwrap_or (what.place layer) 0;
   path = path_text (path_at layer what.spans (what.place layer));
   fields = what.fields;
   tail = what.tail;

@@ -44,14 +44,14 @@ next_id_from slots used =
     option_map (λ slot. id_of slot (slice_index used.given slot)) (next_slot_of slots (length used.given) used.freed)
 
 -- the id of the next new span after this history
-abbrev pub next_id : ℕ → ℕ → List PlainBatch → Option ℕ
-next_id slots last_generation history = next_id_from slots (slots_after last_generation history)
+abbrev pub next_id_after : ℕ → ℕ → List PlainBatch → Option ℕ
+next_id_after slots last_generation history = next_id_from slots (slots_after last_generation history)
 
 -- an open span has the slot
-abbrev pub is_occupied : Spans → ℕ → Bool
-is_occupied spans slot = list_any (λ e. slot_of e.0 == slot) spans
+abbrev pub has_open_span : Spans → ℕ → Bool
+has_open_span spans slot = list_any (λ e. slot_of e.0 == slot) spans
 
 -- the slot can give no id: an open span has it, or the history issued its id of the last generation
 abbrev pub is_used_up : ℕ → Spans → List PlainBatch → ℕ → Bool
 is_used_up last_generation spans history slot =
-    is_occupied spans slot || stands_in (id_of slot last_generation) (issued history)
+    has_open_span spans slot || stands_in (id_of slot last_generation) (issued history)

@@ -1,6 +1,6 @@
 -- What a call does to a core, as a function: the call's faults in their order, else its step. For each core
 -- and each request there is one outcome. (That memory or the outlet may have no place is not in it.)
-use Rattle.std.specs.Prelude.{◌≡◌, ℕ, false, ◌&&◌, not, if◌then◌else◌, List, [], ◌∷◌, ◌++◌, Some, IfSome}
+use Rattle.std.specs.Prelude.{◌≡◌, ℕ, false, ◌&&◌, not, if◌then◌else◌, List, [], ◌∷◌, ◌++◌, Some, IfSome, unwrap_or}
 use Rattle.span_id.specs.declared.fault.Fault.{Fault}
 use Rattle.span_id.specs.declared.fault.Fault.TheVariants.{Unknown, CountFull, Full, NotEntered, BadName}
 use Rattle.span_id.specs.Id.{IsId}
@@ -12,7 +12,7 @@ use Rattle.span_forest.specs.Release.{closing_list}
 use Rattle.span_stack.specs.Stack.{has}
 use Rattle.span_core.specs.World.{World, stack_of}
 use Rattle.span_outlet.specs.Request.{Request, new_span, clone_span, enter, exit, try_close, record_fields, event, Answer, made, cloned, entered, exited, released, recorded, told, worker_of}
-use Rattle.span_core.specs.Happening.{happenings, notes_of_all, id_at}
+use Rattle.span_core.specs.Happening.{happenings, notes_of_all}
 use Rattle.span_core.specs.Step.{world_made, world_cloned, world_entered, world_exited, closed_by_exit, world_released, world_recorded}
 use Rattle.span_core.specs.History.{issued}
 use Rattle.span_core.specs.Core.{CoreView, is_named, is_wanted_call, is_known, may_count, may_send, id_after, has_slot, is_inside, IsAccepted, IsRefused, IsNotWanted}
@@ -60,7 +60,7 @@ core_after core request answer notes new = record core {
 -- what a call does against which nothing stands: one step, and a new span gets the next id
 abbrev pub done : CoreView → Request → Outcome
 done core request =
-    let answer = answer_to core.world (id_at (id_after core)) request in
+    let answer = answer_to core.world (unwrap_or (id_after core) 0) request in
     let new = world_after core.rules core.world request answer in
     let notes = notes_after core.rules core.world request answer new in
     accepted answer notes (core_after core request answer notes new)

@@ -19,8 +19,8 @@ use Rattle.span_outlet.specs.Request.{Request, new_span, clone_span, enter, exit
 use Rattle.span_core.specs.Happening.{happenings, notes_of_all}
 
 -- a span or an event is wanted where there is no layer, or one admits it
-abbrev pub is_wanted : List Filter → PlainMeta → Bool
-is_wanted rules meta = length rules == 0 || not (admission_set rules meta.target meta.level == 0)
+abbrev pub is_wanted_meta : List Filter → PlainMeta → Bool
+is_wanted_meta rules meta = length rules == 0 || not (admission_set rules meta.target meta.level == 0)
 
 -- a new span: one handle of it is out, and its admission set is that of the call's meta
 abbrev pub made_node : List Filter → PlainMeta → List KeyValue → Option ℕ → Node
@@ -94,7 +94,7 @@ pub record MakesSpan
     : Type 0 where
   pub in_layout : IsId id
   pub not_issued : stands_in id issued ≡ false
-  pub wanted : is_wanted rules meta ≡ true
+  pub wanted : is_wanted_meta rules meta ≡ true
   pub parent_open : is_open_parent old.spans parent ≡ true
   pub after : new ≡ world_made rules old meta fields parent id
 

@@ -19,7 +19,7 @@ ghost use Rattle.span_outlet.specs.Request.{Request, new_span, exit, try_close, 
 ghost use Rattle.span_core.specs.Core.{CoreView, IsAccepted};
 ghost use Rattle.span_core.specs.Step.{made_node};
 ghost use Rattle.span_core.specs.History.{issued, IsLegal};
-ghost use Rattle.span_core.specs.NextId.{next_id, is_used_up};
+ghost use Rattle.span_core.specs.NextId.{next_id_after, is_used_up};
 ghost use Rattle.span_core.specs.Handles.{handles_given_out, handles_given_back};
 ghost use Rattle.span_core.specs.ClosedSpans.{closed_by, closed_in, gives_back, spans_before_closing, tells_close, hears_close, notes_in};
 ghost use Rattle.span_core.specs.GivenBack.{ClosesWhatNothingHolds};
@@ -211,7 +211,7 @@ pub fn handles_follow_the_calls<O: Outlet, A>(core: &Core<O, A>)
 /// There is no id for a new span exactly where each slot is used up: an open span has it, or the id of its last
 /// generation was issued.
 pub fn full_where_each_slot_is_used_up<O: Outlet, A>(core: &Core<O, A>)
-    ensures { (next_id core.now.limits.slots core.now.limits.last_generation core.now.sent ≡ None)
+    ensures { (next_id_after core.now.limits.slots core.now.limits.last_generation core.now.sent ≡ None)
         ↔ ((slot : ℕ) → slot < core.now.limits.slots →
         IsTrue (is_used_up core.now.limits.last_generation core.now.world.spans core.now.sent slot)) }
 {

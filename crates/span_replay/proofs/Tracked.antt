@@ -1,12 +1,11 @@
 -- The core of a run, and the labels: what every call keeps.
-use Rattle.std.proofs.Common.{◌≡◌, ℕ, ◌+◌, ◌<◌, ◌≤◌, true, false, List, Option, Some, refl, sym, ap, ◌∙◌, inl, inr, arith}
+use Rattle.std.proofs.Common.{◌≡◌, ℕ, ◌+◌, ◌<◌, ◌≤◌, true, false, List, Option, Some, refl, sym, ap, ◌∙◌, inl, inr, arith, unwrap_or}
 use Rattle.std.proofs.lemmas.Bool.{true≢false}
 use Rattle.span_forest.specs.declared.span.Holder.TheVariants.{Handle}
 use Rattle.span_id.specs.Meta.{KeyValue, PlainMeta}
 use Rattle.span_forest.specs.Holders.{IsHeld}
 use Rattle.span_outlet.specs.Request.{Request, new_span, made, worker_of}
 use Rattle.span_core.specs.Core.{CoreView, id_after, IsDue}
-use Rattle.span_core.specs.Happening.{id_at}
 use Rattle.span_core.specs.Outcome.{done, outcome}
 use Rattle.span_core.proofs.Deciding.{handle_from}
 use Rattle.span_core.proofs.Steady.{IsSteady, answer_in, steady_then}
@@ -81,8 +80,8 @@ made_leads core labels label worker meta fields parent tracked low free =
       tracked = record {
         steady = steady_then core request _ tracked.steady low due;
         named = λ id held. elim (handle_before core request due id held) [
-          | inl before ↦ (let was = tracked.named id before in (was.0, bound_other labels label was.0 (id_at (id_after core)) (apart id before was.0 was.1) ∙ was.1))
-          | inr new ↦ (let same : id_at (id_after core) ≡ id = cc in (label, bound_same labels label (id_at (id_after core)) ∙ ap (λ i. Some i) same))
+          | inl before ↦ (let was = tracked.named id before in (was.0, bound_other labels label was.0 (unwrap_or (id_after core) 0) (apart id before was.0 was.1) ∙ was.1))
+          | inr new ↦ (let same : unwrap_or (id_after core) 0 ≡ id = cc in (label, bound_same labels label (unwrap_or (id_after core) 0) ∙ ap (λ i. Some i) same))
         ];
       };
       limits = refl;

@@ -1,5 +1,5 @@
 -- What a run writes for calls: the notes of each call, and then its answer.
-use Rattle.std.specs.Prelude.{ℕ, nat_lt, List, [], ◌∷◌, ◌++◌, length, map, flat_map, reverse, replicate, codes, Option, Some, None}
+use Rattle.std.specs.Prelude.{ℕ, nat_lt, List, [], ◌∷◌, ◌++◌, length, map, flat_map, reverse, replicate, codes, Option, Some, None, unwrap_or}
 use Rattle.std.specs.Fmt.{decimal}
 use Rattle.span_id.specs.declared.fault.Fault.TheVariants.{Unknown}
 use Rattle.span_forest.specs.declared.span.Holder.TheVariants.{Handle}
@@ -8,7 +8,6 @@ use Rattle.span_forest.specs.Spans.{find}
 use Rattle.span_forest.specs.Count.{reference_count}
 use Rattle.span_forest.specs.Holders.{held_in}
 use Rattle.span_core.specs.World.{stack_of}
-use Rattle.span_core.specs.Happening.{id_at}
 use Rattle.span_outlet.specs.Request as call
 use Rattle.span_outlet.specs.Batch.{PlainBatch}
 use Rattle.span_outlet.specs.Lines.{PlainLine, lines_of_batch}
@@ -83,7 +82,7 @@ calls_written core (request ∷ requests) =
 abbrev pub node_text : CoreView → ℕ → Option Node → List ℕ
 node_text core id None = answer_text (Refused Unknown)
 node_text core id (Some node) =
-    span_text node.name (id_at node.parent) node.handles node.entries (reference_count core.world.spans id)
+    span_text node.name (unwrap_or node.parent 0) node.handles node.entries (reference_count core.world.spans id)
 
 -- the line of the open span with this id; where there is none, the line of a call that is refused as unknown
 abbrev pub find_text : CoreView → ℕ → List ℕ

@@ -7,7 +7,7 @@ use Rattle.std.proofs.lemmas.Slice.{between_is}
 use Rattle.std.proofs.lemmas.List.Elements.{filter-append, filter_agree}
 use Rattle.std.proofs.lemmas.List.Folds.{list_any-append}
 use Rattle.span_stack.specs.declared.entry.Entry.{Entry}
-use Rattle.span_stack.specs.Stack.{has, first_places, walk}
+use Rattle.span_stack.specs.Stack.{has, first_places, distinct_from_top}
 use Rattle.span_stack.specs.inside.Entry.{ids_of, AreFlagged, unflagged}
 use Rattle.span_stack.proofs.Stacks.{by_cases, or_true, eqb-sym, is_other, filter-filter}
 
@@ -93,9 +93,9 @@ ids_of-filter before (entry ∷ above) flagged =
     neither true b = refl
     neither false b = refl
 
--- so the entries that aren't flagged are the walk
-pub unflagged-walk : (entries : List Entry) → AreFlagged [] entries → unflagged entries ≡ walk (ids_of entries)
-unflagged-walk entries flagged = ap reverse (ids_of-filter [] entries flagged ∙ all (first_places (ids_of entries)))
+-- so the entries that aren't flagged are the distinct ones from the top
+pub unflagged-distinct_from_top : (entries : List Entry) → AreFlagged [] entries → unflagged entries ≡ distinct_from_top (ids_of entries)
+unflagged-distinct_from_top entries flagged = ap reverse (ids_of-filter [] entries flagged ∙ all (first_places (ids_of entries)))
   where
     all : (xs : List ℕ) → filter (λ _. true) xs ≡ xs
     all [] = refl
@@ -127,17 +127,17 @@ AreFlagged-below before [] above flagged = tt
 AreFlagged-below before (lowest ∷ below) above flagged =
     (flagged.0, AreFlagged-below (lowest.id ∷ before) below above flagged.1)
 
--- so those of them that aren't flagged are the walk of so many ids
-unflagged-take : (n : ℕ) (entries : List Entry) → AreFlagged [] entries → unflagged (take n entries) ≡ walk (take n (ids_of entries))
+-- so those of them that aren't flagged are the distinct ones of so many ids
+unflagged-take : (n : ℕ) (entries : List Entry) → AreFlagged [] entries → unflagged (take n entries) ≡ distinct_from_top (take n (ids_of entries))
 unflagged-take n entries flagged =
-    unflagged-walk (take n entries)
+    unflagged-distinct_from_top (take n entries)
     (AreFlagged-below [] (take n entries) (drop n entries) (subst (AreFlagged []) (sym (take-append-drop n entries)) flagged))
-    ∙ ap walk (sym (take-map (λ (entry : Entry). entry.id) n entries))
+    ∙ ap distinct_from_top (sym (take-map (λ (entry : Entry). entry.id) n entries))
 
--- the walk of the entries below a place is that of the upper part, and then that of the part below
-pub walk-between : (from to : ℕ) (entries : List Entry) → from ≤ to → AreFlagged [] entries
-    → walk (take to (ids_of entries)) ≡ unflagged (between from to entries) ++ walk (take from (ids_of entries))
-walk-between from to entries order flagged =
+-- the distinct ones below a place are those of the upper part, and then those of the part below
+pub distinct_from_top-between : (from to : ℕ) (entries : List Entry) → from ≤ to → AreFlagged [] entries
+    → distinct_from_top (take to (ids_of entries)) ≡ unflagged (between from to entries) ++ distinct_from_top (take from (ids_of entries))
+distinct_from_top-between from to entries order flagged =
     let lower = take to entries in
     sym (unflagged-take to entries flagged)
     ∙ ap unflagged (sym (take-append-drop from lower))

@@ -1,6 +1,6 @@
 -- Worked cases of the definitions, computed from them alone.
 use Rattle.std.proofs.Common.{◌≡◌, refl, true, false, [], ◌∷◌, Some, None}
-use Rattle.span_stack.specs.Stack.{has, first_places, walk, current, top, without_last}
+use Rattle.span_stack.specs.Stack.{has, first_places, distinct_from_top, current, top, without_last}
 
 -- after entering 1, 2 and 1 again the current span is 2, and the topmost entry is 1
 re_entered : first_places (1 ∷ 2 ∷ 1 ∷ []) ≡ 1 ∷ 2 ∷ []
@@ -12,8 +12,8 @@ current_re_entered = refl
 top_re_entered : top (1 ∷ 2 ∷ 1 ∷ []) ≡ Some 1
 top_re_entered = refl
 
-walk_re_entered : walk (1 ∷ 2 ∷ 1 ∷ []) ≡ 2 ∷ 1 ∷ []
-walk_re_entered = refl
+distinct_re_entered : distinct_from_top (1 ∷ 2 ∷ 1 ∷ []) ≡ 2 ∷ 1 ∷ []
+distinct_re_entered = refl
 
 -- leaving 1 then takes out the entry on top
 left_re_entered : without_last (1 ∷ 2 ∷ 1 ∷ []) 1 ≡ 1 ∷ 2 ∷ []
@@ -37,7 +37,7 @@ stands_not : has (1 ∷ 2 ∷ 1 ∷ []) 3 ≡ false
 stands_not = refl
 
 -- three entries of one span are one and its duplicates
-thrice : walk (5 ∷ 5 ∷ 4 ∷ 5 ∷ []) ≡ 4 ∷ 5 ∷ []
+thrice : distinct_from_top (5 ∷ 5 ∷ 4 ∷ 5 ∷ []) ≡ 4 ∷ 5 ∷ []
 thrice = refl
 
 -- an empty stack has no current span

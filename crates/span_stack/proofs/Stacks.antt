@@ -8,7 +8,7 @@ use Rattle.std.proofs.lemmas.List.{append-nil, length-reverse}
 use Rattle.std.proofs.lemmas.List.Elements.{filter-append, filter_agree}
 use Rattle.std.proofs.lemmas.List.Folds.{list_any-append}
 use Rattle.std.proofs.lemmas.Map.Views.{any-filter_same}
-use Rattle.span_stack.specs.Stack.{has, first_places, walk, current, top, without_last, TakesLast}
+use Rattle.span_stack.specs.Stack.{has, first_places, distinct_from_top, current, top, without_last, TakesLast}
 
 -- the test that `first_places` makes: another id than this
 abbrev pub is_other : ℕ → ℕ → Bool
@@ -213,7 +213,7 @@ has-first (first ∷ others) id is = let same : first ≡ id = cc in ap (λ b. b
 -- the current span and the topmost entry stand in the stack
 pub has-current : (ids : List ℕ) (id : ℕ) → current ids ≡ Some id → has ids id ≡ true
 has-current ids id is =
-    sym (has-reverse (first_places ids) id ∙ has-first_places ids id) ∙ has-first (walk ids) id is
+    sym (has-reverse (first_places ids) id ∙ has-first_places ids id) ∙ has-first (distinct_from_top ids) id is
 
 pub has-top : (ids : List ℕ) (id : ℕ) → top ids ≡ Some id → has ids id ≡ true
 has-top ids id is = sym (has-reverse ids id) ∙ has-first (reverse ids) id is
@@ -232,5 +232,5 @@ length-first_places (lowest ∷ above) =
     let fewer = length-filter_le (is_other lowest) (first_places above) in
     omega arith
 
-pub length-walk : (ids : List ℕ) → length (walk ids) ≤ length ids
-length-walk ids = let step = length-first_places ids in rw length-reverse step
+pub length-distinct_from_top : (ids : List ℕ) → length (distinct_from_top ids) ≤ length ids
+length-distinct_from_top ids = let step = length-first_places ids in rw length-reverse step

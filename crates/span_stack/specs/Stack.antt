@@ -20,12 +20,12 @@ first_places [] = []
 first_places (lowest ∷ above) = lowest ∷ filter (λ id. not (id == lowest)) (first_places above)
 
 -- the entries that are no duplicates, topmost first
-abbrev pub walk : List ℕ → List ℕ
-walk ids = reverse (first_places ids)
+abbrev pub distinct_from_top : List ℕ → List ℕ
+distinct_from_top ids = reverse (first_places ids)
 
 -- the topmost entry that is no duplicate
 abbrev pub current : List ℕ → Option ℕ
-current ids = slice_get (walk ids) 0
+current ids = slice_get (distinct_from_top ids) 0
 
 -- the topmost entry
 abbrev pub top : List ℕ → Option ℕ

@@ -143,7 +143,7 @@ impl SpanStack {
     ///
     /// A walk to its end looks once at each entry.
     pub fn walk(&self) -> Walk<'_>
-        ensures ids { result ≡ words.walk self.now.ids }
+        ensures ids { result ≡ words.distinct_from_top self.now.ids }
         ensures fits { length result < 2 ^ 64 }
         ensures runs { YieldsInOrder (YieldsFirst {A = ℕ} (λ rest. rest)) (λ rest. rest) }
     {
@@ -159,7 +159,8 @@ impl SpanStack {
     pub fn walk_between(&self, from: usize, to: usize) -> Walk<'_>
         requires order { from ≤ to }
         requires within { to ≤ length self.now.ids }
-        ensures ids { words.walk (take to self.now.ids) ≡ result ++ words.walk (take from self.now.ids) }
+        ensures ids { words.distinct_from_top (take to self.now.ids)
+            ≡ result ++ words.distinct_from_top (take from self.now.ids) }
         ensures fits { length result < 2 ^ 64 }
         ensures runs { YieldsInOrder (YieldsFirst {A = ℕ} (λ rest. rest)) (λ rest. rest) }
     {

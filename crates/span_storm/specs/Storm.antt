@@ -12,7 +12,7 @@ use Rattle.span_outlet.specs.Request.{Request, new_span, clone_span, enter, exit
 use Rattle.span_outlet.specs.Batch.{PlainBatch}
 use Rattle.span_outlet.specs.Ring.{places_of}
 use Rattle.span_core.specs.World.{empty_world}
-use Rattle.span_core.specs.Step.{is_wanted}
+use Rattle.span_core.specs.Step.{is_wanted_meta}
 use Rattle.span_core.specs.History.{IsLegal}
 use Rattle.span_core.specs.Core.{CoreView, WhyRefused}
 use Rattle.span_history.specs.Own.{own}
@@ -27,7 +27,7 @@ app_meta name = record { name = name; target = codes "app"; level = Info }
 
 -- there are no layers, or one admits the spans of a storm: their target and their level
 abbrev pub wants_jobs : List Filter → Bool
-wants_jobs rules = is_wanted rules (app_meta (codes "job"))
+wants_jobs rules = is_wanted_meta rules (app_meta (codes "job"))
 
 -- the limits of a storm with so many workers
 abbrev pub storm_limits : ℕ → Limits

@@ -2,7 +2,7 @@
 ghost use Rattle.std.specs.Prelude.{◌≡◌, ◌+◌, ◌*◌, ◌-◌, ◌%◌, ◌^◌, ◌<◌, ◌≤◌, true, codes, length, IfOk, IfErr, OnOk, OnErr};
 ghost use Rattle.span_id.specs.Meta.{plain_meta};
 ghost use Rattle.span_registry.specs.Worker.{after_call};
-ghost use Rattle.span_core.specs.Step.{is_wanted};
+ghost use Rattle.span_core.specs.Step.{is_wanted_meta};
 ghost use Rattle.span_core.specs.World.{World};
 ghost use Rattle.span_core.specs.Parent.{parent_found};
 ghost use Rattle.span_storm.specs.Storm.{IsPlaceOfClose, IsSpanOfRound, app_meta, wants_jobs};
@@ -207,7 +207,7 @@ fn open<H: Ledger, C: Ledger, S: Setup, G: Gate, R: Wait>(
     meta: &Meta,
     parent: ParentOf,
 ) -> Result<DroppableHandle<H, C, S>, Stopped>
-    requires wanted { is_wanted S.rules (plain_meta meta.now) ≡ true }
+    requires wanted { is_wanted_meta S.rules (plain_meta meta.now) ≡ true }
     requires span { (world : World)
         → IsSpanOfRound (worker.old.accepted % 9) (plain_meta meta.now) (parent_found world worker.old.number parent) }
     requires spare { 0 < worker.old.spare }

@@ -1,6 +1,6 @@
 -- What the layers are told, as it can be said before the call is done, for the functions inside this
 -- crate: no public clause cites it.
-use Rattle.std.specs.Prelude.{◌≡◌, ℕ, ◌-◌, List, [], ◌∷◌, ◌++◌, length, map, filter, Option, Some, None, IsTrue, IfSome, All}
+use Rattle.std.specs.Prelude.{◌≡◌, ℕ, ◌-◌, List, [], ◌∷◌, ◌++◌, length, map, filter, Option, Some, None, IsTrue, IfSome, All, unwrap_or}
 use Rattle.std.specs.Arc.{arc_str_bytes}
 use Rattle.std.specs.List.{range_with_len}
 use Rattle.span_id.specs.Bits.{has_bit}
@@ -17,7 +17,7 @@ use Rattle.span_core.specs.declared.notes.events.Around.{Around}
 use Rattle.span_core.specs.declared.notes.events.Around.TheVariants.{Stack, Parent, Nothing}
 use Rattle.span_core.specs.inside.Sound.{hears}
 use Rattle.span_core.specs.inside.Summary.{Summarises}
-use Rattle.span_core.specs.Happening.{contextual_span, id_at, path_at}
+use Rattle.span_core.specs.Happening.{contextual_span, path_at}
 
 -- the spans among which layers look for that of an event
 abbrev pub ids_around : Around → List ℕ
@@ -42,11 +42,11 @@ place_told spans (Span id) layer = Some id
 place_told spans (NewSpan id parent name) layer = parent
 place_told spans (Event around level message) layer = contextual_span spans (ids_around around) layer
 
--- the id that a layer is told, which reads its path at this place
+-- the id that a layer is told, which reads its path at this place; where there is none, 0
 abbrev pub id_told : Subject → Option ℕ → ℕ
-id_told (Span id) place = id_at place
+id_told (Span id) place = unwrap_or place 0
 id_told (NewSpan id parent name) place = id
-id_told (Event around level message) place = id_at place
+id_told (Event around level message) place = unwrap_or place 0
 
 -- the text of the path that it is told, which has these names where it is read; a new span has its own name too
 abbrev pub text_told : Subject → List (List ℕ) → List ℕ

@@ -13,7 +13,7 @@ ghost use Rattle.span_id.specs.Meta.{plain_meta, plain_fields};
 ghost use Rattle.span_outlet.specs.Request.{request_of, new_span, made};
 ghost use Rattle.span_core.specs.Parent.{parent_found};
 ghost use Rattle.span_core.specs.Step.{is_open_parent};
-ghost use Rattle.span_core.specs.NextId.{next_id};
+ghost use Rattle.span_core.specs.NextId.{next_id_after};
 ghost use Rattle.span_core.specs.inside.Given.{meta_given, fields_given};
 ghost use Rattle.span_core.specs.inside.Lent.{first_note_of, span_request};
 ghost use Rattle.span_core.specs.inside.Sound.{hears};
@@ -71,7 +71,7 @@ impl<O: Outlet, A: Admit> Core<O, A> {
             IsAccepted self.old (new_span worker (plain_meta meta.now) (plain_fields fields.now)
             (parent_found self.old.world worker parent)) (made id) self.new)) }
         ensures next { IfOk result (λ made_id. IfSome made_id (λ id.
-            next_id self.old.limits.slots self.old.limits.last_generation self.old.sent ≡ Some id)) }
+            next_id_after self.old.limits.slots self.old.limits.last_generation self.old.sent ≡ Some id)) }
         ensures not_wanted { IfOk result (λ made_id. IfNone made_id (
             IsNotWanted self.old (new_span worker (plain_meta meta.now) (plain_fields fields.now)
             (parent_found self.old.world worker parent)) self.new)) }
@@ -101,7 +101,7 @@ impl<O: Outlet, A: Admit> Core<O, A> {
             IsAccepted self.old (new_span worker meta.now fields.now
             (parent_found self.old.world worker parent)) (made id) self.new)) }
         ensures next { IfOk result (λ made_id. IfSome made_id (λ id.
-            next_id self.old.limits.slots self.old.limits.last_generation self.old.sent ≡ Some id)) }
+            next_id_after self.old.limits.slots self.old.limits.last_generation self.old.sent ≡ Some id)) }
         ensures not_wanted { IfOk result (λ made_id. IfNone made_id (
             IsNotWanted self.old (new_span worker meta.now fields.now
             (parent_found self.old.world worker parent)) self.new)) }
@@ -130,7 +130,7 @@ impl<O: Outlet, A: Admit> Core<O, A> {
             IsAccepted self.old (new_span worker (meta_given meta.now) (fields_given fields.now)
             (parent_found self.old.world worker parent)) (made id) self.new)) }
         ensures next { IfOk result (λ made_id. IfSome made_id (λ id.
-            next_id self.old.limits.slots self.old.limits.last_generation self.old.sent ≡ Some id)) }
+            next_id_after self.old.limits.slots self.old.limits.last_generation self.old.sent ≡ Some id)) }
         ensures not_wanted { IfOk result (λ made_id. IfNone made_id (
             IsNotWanted self.old (new_span worker (meta_given meta.now) (fields_given fields.now)
             (parent_found self.old.world worker parent)) self.new)) }
@@ -172,7 +172,7 @@ impl<O: Outlet, A: Admit> Core<O, A> {
         requires due { IsDue self.old (span_request new.now) }
         requires bits { new.now.bits.0 ≡ admission_set self.old.rules (meta_given new.now.meta).target
             (meta_given new.now.meta).level }
-        requires next { next_id self.old.limits.slots self.old.limits.last_generation self.old.sent ≡ Some new.now.id }
+        requires next { next_id_after self.old.limits.slots self.old.limits.last_generation self.old.sent ≡ Some new.now.id }
         ensures made { OnOk result (IsAccepted self.old (span_request new.now) (made new.now.id) self.new) }
         ensures refused { IfErr result (λ fault. IsRefused self.old (span_request new.now) fault self.new) }
     {

@@ -4,7 +4,7 @@ ghost use Rattle.std.specs.List.{find as first_that};
 ghost use Rattle.span_id.specs.Bits.{has_bit};
 ghost use Rattle.span_layers.specs.Note.{plain_note};
 ghost use Rattle.span_outlet.specs.Request.{request_of};
-ghost use Rattle.span_stack.specs.Stack.{walk, ids_of_each};
+ghost use Rattle.span_stack.specs.Stack.{distinct_from_top, ids_of_each};
 ghost use Rattle.span_core.specs.Happening.{bits_in, contextual_span as seen_in, notes_of};
 ghost use Rattle.span_forest.specs.Spans.{Spans};
 ghost use Rattle.span_core.specs.Parent.{spans_around};
@@ -200,7 +200,8 @@ fn contextual_span(
     in_vain: &mut u64,
 ) -> Option<Id>
     requires { Summarises forest.now.spans stack.now.ids blocks.now }
-    ensures { result ≡ first_that (λ id. has_bit (bits_in forest.now.spans id) layer) (walk stack.now.ids) }
+    ensures { result ≡ first_that (λ id. has_bit (bits_in forest.now.spans id) layer)
+        (distinct_from_top stack.now.ids) }
 {
     let entries = stack.len();
     let summarised = blocks.len() * BLOCK;

@@ -4,7 +4,7 @@ ghost use Rattle.span_forest.specs.Spans.{find, IsOpen};
 ghost use Rattle.span_forest.specs.Count.{reference_count};
 ghost use Rattle.span_registry.specs.Found.{IsFound};
 ghost use Rattle.span_core.specs.Parent.{parent_found};
-ghost use Rattle.span_core.specs.NextId.{next_id};
+ghost use Rattle.span_core.specs.NextId.{next_id_after};
 ghost use Rattle.span_id.specs.declared.fault.Fault.TheVariants.{Unknown, CountFull, BadName};
 ghost use Rattle.span_id.specs.Meta.{plain_meta, plain_fields};
 ghost use Rattle.span_outlet.specs.declared.batch.ParentOf.TheVariants.{Current};
@@ -12,7 +12,7 @@ ghost use Rattle.span_outlet.specs.Request.{event, told, record_fields, recorded
 ghost use Rattle.span_stack.specs.Stack.{without_last};
 ghost use Rattle.span_core.specs.World.{stack_of};
 ghost use Rattle.span_core.specs.GivenBack.{ClosesWhatNothingHolds};
-ghost use Rattle.span_core.specs.Step.{is_wanted, closed_by_exit};
+ghost use Rattle.span_core.specs.Step.{is_wanted_meta, closed_by_exit};
 ghost use Rattle.span_core.specs.Core.{is_named, IsAccepted, IsRefused};
 ghost use mathlib.Core.List.{IsPrefix};
 ghost use Rattle.span_registry.specs.Worker.{after_call, HasOneMore, HasNoMore};
@@ -55,7 +55,7 @@ impl<H: Ledger, C: Ledger, S: Setup, O: Outlet, A: Admit> Registry<H, C, S, O, A
         ensures happened { IfOk result (λ made_one. IfSome made_one (λ handle. Happened S.limits S.rules worker.old worker.new (λ old new.
             IsAccepted old (new_span worker.old.number (plain_meta meta.now) (plain_fields fields.now)
             (parent_found old.world worker.old.number parent)) (made handle.id) new
-            × (next_id old.limits.slots old.limits.last_generation old.sent ≡ Some handle.id)))) }
+            × (next_id_after old.limits.slots old.limits.last_generation old.sent ≡ Some handle.id)))) }
         ensures was_refused { IfErr result (λ fault. 0 < worker.old.spare → Happened S.limits S.rules worker.old worker.new (λ old new.
             IsRefused old (new_span worker.old.number (plain_meta meta.now) (plain_fields fields.now)
             (parent_found old.world worker.old.number parent)) fault new)) }
@@ -64,8 +64,8 @@ impl<H: Ledger, C: Ledger, S: Setup, O: Outlet, A: Admit> Registry<H, C, S, O, A
         ensures no_part { IfErr result (λ fault. worker.old.spare ≡ 0 → fault ≡ CountFull) }
         ensures not_wanted { IfOk result (λ new. IfNone new (
             (is_named (new_span worker.old.number (plain_meta meta.now) (plain_fields fields.now) None) ≡ true)
-            × (is_wanted S.rules (plain_meta meta.now) ≡ false) × (worker.new ≡ worker.old))) }
-        ensures wanted { IfOk result (λ new. OnSome new (is_wanted S.rules (plain_meta meta.now) ≡ true)) }
+            × (is_wanted_meta S.rules (plain_meta meta.now) ≡ false) × (worker.new ≡ worker.old))) }
+        ensures wanted { IfOk result (λ new. OnSome new (is_wanted_meta S.rules (plain_meta meta.now) ≡ true)) }
         ensures unchanged { OnErr result (worker.new ≡ record worker.old { seen = worker.new.seen }) }
     {
         under_lock::new_span(&mut *self.locked.lock(rt), worker, meta, fields, parent)

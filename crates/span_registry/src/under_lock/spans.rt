@@ -6,8 +6,8 @@ ghost use Rattle.span_outlet.specs.Request.{new_span, made};
 ghost use Rattle.span_id.specs.Id.{slot_of};
 ghost use Rattle.span_forest.specs.Spans.{IsOpen};
 ghost use Rattle.span_core.specs.Parent.{parent_found};
-ghost use Rattle.span_core.specs.Step.{is_wanted};
-ghost use Rattle.span_core.specs.NextId.{next_id};
+ghost use Rattle.span_core.specs.Step.{is_wanted_meta};
+ghost use Rattle.span_core.specs.NextId.{next_id_after};
 ghost use Rattle.span_core.specs.Core.{is_named, IsAccepted, IsRefused, IsNotWanted};
 ghost use mathlib.Core.List.{IsPrefix};
 ghost use Rattle.span_registry.specs.Worker.{after_call, HasOneMore, HasNoMore};
@@ -46,7 +46,7 @@ pub fn new_span<H: Ledger, C: Ledger, S: Setup, O: Outlet, A: Admit>(
     ensures happened { IfOk result (λ made_one. IfSome made_one (λ handle. Happened S.limits S.rules worker.old worker.new (λ old new.
         IsAccepted old (new_span worker.old.number (plain_meta meta.now) (plain_fields fields.now)
         (parent_found old.world worker.old.number parent)) (made handle.id) new
-        × (next_id old.limits.slots old.limits.last_generation old.sent ≡ Some handle.id)))) }
+        × (next_id_after old.limits.slots old.limits.last_generation old.sent ≡ Some handle.id)))) }
     ensures was_refused { IfErr result (λ fault. 0 < worker.old.spare → Happened S.limits S.rules worker.old worker.new (λ old new.
         IsRefused old (new_span worker.old.number (plain_meta meta.now) (plain_fields fields.now)
         (parent_found old.world worker.old.number parent)) fault new)) }
@@ -54,15 +54,15 @@ pub fn new_span<H: Ledger, C: Ledger, S: Setup, O: Outlet, A: Admit>(
         (new_span worker.old.number (plain_meta meta.now) (plain_fields fields.now)
         (parent_found locked.old.world worker.old.number parent)) (made handle.id) locked.new)) }
     ensures next { IfOk result (λ new. IfSome new (λ handle.
-        next_id locked.old.limits.slots locked.old.limits.last_generation locked.old.sent ≡ Some handle.id)) }
+        next_id_after locked.old.limits.slots locked.old.limits.last_generation locked.old.sent ≡ Some handle.id)) }
     ensures worker { IfOk result (λ new. OnSome new (worker.new ≡ after_call worker.old (worker.old.spare - 1) locked.new.sent)) }
     ensures not_wanted { IfOk result (λ new. IfNone new (IsNotWanted locked.old
         (new_span worker.old.number (plain_meta meta.now) (plain_fields fields.now)
         (parent_found locked.old.world worker.old.number parent)) locked.new × (worker.new ≡ worker.old))) }
-    ensures wanted { IfOk result (λ new. OnSome new (is_wanted S.rules (plain_meta meta.now) ≡ true)) }
+    ensures wanted { IfOk result (λ new. OnSome new (is_wanted_meta S.rules (plain_meta meta.now) ≡ true)) }
     ensures unwanted { IfOk result (λ new. IfNone new (
         (is_named (new_span worker.old.number (plain_meta meta.now) (plain_fields fields.now) None) ≡ true)
-        × (is_wanted S.rules (plain_meta meta.now) ≡ false))) }
+        × (is_wanted_meta S.rules (plain_meta meta.now) ≡ false))) }
     ensures slot { IfOk result (λ new. IfSome new (λ handle.
         (id : ℕ) → IsOpen locked.old.world.spans id → slot_of id ≢ slot_of handle.id)) }
     ensures part { OnOk result (0 < worker.old.spare) }

@@ -5,7 +5,7 @@ ghost use Rattle.span_id.specs.Id.{slot_of};
 ghost use Rattle.span_forest.specs.Spans.{IsOpen};
 ghost use Rattle.span_outlet.specs.Request.{new_span, made, event, told};
 ghost use Rattle.span_core.specs.Parent.{parent_found};
-ghost use Rattle.span_core.specs.NextId.{next_id};
+ghost use Rattle.span_core.specs.NextId.{next_id_after};
 ghost use Rattle.span_core.specs.Core.{IsRefused, IsNotWanted};
 ghost use Rattle.span_registry.specs.inside.Seated.{AreSeated};
 ghost use Rattle.span_registry.specs.inside.Called.{MayBeCounted};
@@ -34,7 +34,7 @@ pub(crate) fn new_span<T: TableName, O: Outlet, A: Admit>(
         (new_span worker (plain_meta meta.now) (plain_fields fields.now) (parent_found core.old.world worker parent))
         (made n.0) core.new)) }
     ensures next { IfOk result (λ new. IfSome new (λ n.
-        next_id core.old.limits.slots core.old.limits.last_generation core.old.sent ≡ Some n.0)) }
+        next_id_after core.old.limits.slots core.old.limits.last_generation core.old.sent ≡ Some n.0)) }
     ensures slot { IfOk result (λ new. IfSome new (λ n.
         (id : ℕ) → IsOpen core.old.world.spans id → slot_of id ≢ slot_of n.0)) }
     ensures not_wanted { IfOk result (λ new. IfNone new (IsNotWanted core.old

@@ -1,8 +1,7 @@
 //! A script as far as its calls have run: the registry, the labels, and of how many batches the notes were written.
-ghost use Rattle.std.specs.Prelude.{◌≡◌, ◌<◌, ◌≤◌, ◌++◌, [], None, Ok, ℕ, IfOk, IfErr, OnOk};
+ghost use Rattle.std.specs.Prelude.{◌≡◌, ◌<◌, ◌≤◌, ◌++◌, [], None, Ok, ℕ, IfOk, IfErr, OnOk, unwrap_or};
 ghost use Rattle.std.specs.Prelude.{length, flat_map, map, reverse};
 ghost use Rattle.span_core.specs.Details.{plain_details, details_of};
-ghost use Rattle.span_core.specs.Happening.{id_at};
 ghost use Rattle.span_outlet.specs.Latest.{lines_from};
 ghost use Rattle.span_replay.specs.Faults.{id_of_key};
 ghost use Rattle.span_replay.specs.Meaning.{labels_after, made_turn, new_turn};
@@ -419,7 +418,7 @@ fn write_notes<V: Say>(latest: &Latest<V>, written: u64, text: &mut Vec<u8>) -> 
 // What is told of a span that was looked up.
 fn found(span: &Span) -> Found<'_>
     ensures name { result.name.now ≡ span.now.meta.name }
-    ensures parent { result.parent ≡ id_at span.now.parent }
+    ensures parent { result.parent ≡ unwrap_or span.now.parent 0 }
     ensures handles { result.handles ≡ span.now.handles }
     ensures entries { result.entries ≡ span.now.entries }
     ensures count { result.count ≡ span.now.count }

@@ -14,10 +14,10 @@ use Rattle.span_forest.specs.Add.{with_span}
 use Rattle.span_forest.specs.Live.{stands_in}
 use Rattle.span_stack.specs.Stack.{ids_of_each}
 use Rattle.span_core.specs.Happening.{at_span, notes_of_all}
-use Rattle.span_core.specs.Step.{is_wanted, made_node, is_open_parent}
+use Rattle.span_core.specs.Step.{is_wanted_meta, made_node, is_open_parent}
 use Rattle.span_core.specs.History.{issued}
 use Rattle.span_core.specs.inside.Sound.{first_note, hears}
-use Rattle.span_core.specs.NextId.{next_id}
+use Rattle.span_core.specs.NextId.{next_id_after}
 use Rattle.span_core.specs.inside.Given.{meta_given, fields_given}
 use Rattle.span_core.specs.Core.{CoreView}
 use Rattle.span_core.proofs.Legal.{stands_itself}
@@ -30,8 +30,8 @@ use Rattle.span_core.proofs.Core.make.Goals as goal
 use Rattle.span_core.proofs.Core.make.Goals.{After-put}
 
 -- what holds of the core before the call, said of its parts
-wanted : (g : given.Over) (c : After-put g) → is_wanted c.self.inside.rules (meta_given c.args.new.now.meta) ≡ true
-wanted g c = subst (λ (v : CoreView). is_wanted v.rules (meta_given c.args.new.now.meta) ≡ true) (sym c.self.view_is) c.requires.due.wanted
+wanted : (g : given.Over) (c : After-put g) → is_wanted_meta c.self.inside.rules (meta_given c.args.new.now.meta) ≡ true
+wanted g c = subst (λ (v : CoreView). is_wanted_meta v.rules (meta_given c.args.new.now.meta) ≡ true) (sym c.self.view_is) c.requires.due.wanted
 
 parent_open : (g : given.Over) (c : After-put g) → is_open_parent c.self.inside.forest.spans c.args.new.now.parent ≡ true
 parent_open g c = subst (λ (v : CoreView). is_open_parent v.world.spans c.args.new.now.parent ≡ true) (sym c.self.view_is) c.requires.due.known
@@ -46,7 +46,7 @@ within g c = omega (arith, c.requires.within, ap (λ (v : CoreView). v.limits.wo
 next : (g : given.Over) (c : After-put g) → next_span_id c.self.inside.forest ≡ Some c.args.new.now.id
 next g c =
     ap next_span_id c.self.invariant.0.forest_is
-    ∙ ap (λ (v : CoreView). next_id v.limits.slots v.limits.last_generation v.sent) c.self.view_is
+    ∙ ap (λ (v : CoreView). next_id_after v.limits.slots v.limits.last_generation v.sent) c.self.view_is
     ∙ c.requires.next
 
 never : (g : given.Over) (c : After-put g) → IsIssued (table_of c.self.inside.forest) c.args.new.now.id → ⊥
