@@ -73,17 +73,8 @@ one = refl
 """,
     "no_specs/src/lib.rt": "#[tactic(auto, unfolding(low::specs::Rows::rows_in))]\n",
 }
-TWICE = {"Spans": ["high", "low"], "count": ["high", "low"]}
-BOTH = "Spans: low high\ncount: high low\n"
-# A list, and what has to be said of the tree by it.
-ROWS = [
-    (f"# a comment\n{BOTH}", []),
-    ("count: high low\n", ["Spans has 2 definitions: high.Table low.Spans"]),
-    (f"{BOTH}size: high low\n", ["size no longer has two definitions: its line in words_twice.txt goes"]),
-    (f"{BOTH}gone: high\n", ["gone no longer has two definitions: its line in words_twice.txt goes"]),
-    ("Spans: low high\ncount: high low low\n", ["count is defined in high low, and listed for high low low"]),
-    ("Spans: low\ncount: high low\n", ["Spans is defined in high low, and listed for low"]),
-]
+# What has to be said of the words in their order: of the five others, each defined once, nothing.
+SAID = ["Spans has 2 definitions: high.Table low.Spans", "count has 2 definitions: high.Table low.Spans", *[None] * 5]
 # A word, the file that alone may open it, and what has to be said.
 COUNTED, UNSPECIFIED = "crates/low/proofs/Counted.antt", "crates/no_specs/src/lib.rt"
 OPENED = [
@@ -101,11 +92,7 @@ def looks(top):
     where = words.public_words(top)
     yield where.get("marks"), ["low.Spans"]
     yield where.get("Spans"), ["high.Table", "low.Spans"]
-    yield words.twice(where), TWICE
-    for listed, wanted in ROWS:
-        said = list(words.differences(where, words.read_list(listed)))
-        yield [it for it in said if it], wanted
-        yield said.count(None), len({*TWICE, *words.read_list(listed)}) - len(wanted)
+    yield list(words.defined_again(where)), SAID
     for word, home, wanted in OPENED:
         yield list(words.opened(top, {word: home})), [wanted]
     yield sorted(words.same_words(top, where)), SAME

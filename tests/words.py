@@ -1,12 +1,11 @@
 #!/usr/bin/env python3
-"""Lists the public words of specs/ with more than one definition, and says whether they are those of words_twice.txt.
+"""Looks whether each public word of specs/ has one definition.
 
     words.py [--all] [--same]
 
 A public word is one that docs/MODEL.md has. It is counted where it is defined, so one that a crate gives again, by
-`pub use`, counts once. Each line of words_twice.txt is a word with the crates that define it. Such a word has two
-meanings that want two names, or one meaning that wants one place: the list may only get shorter. A word twice that it
-doesn't have fails, and so does one that it has and that is no longer twice, or twice elsewhere.
+`pub use`, counts once. A word with more than one definition fails: it has two meanings that want two names, or one
+meaning that wants one place.
 
 A word of SHUT is opened in one file alone: it fails where another file opens it, or gives it another name.
 
@@ -22,8 +21,6 @@ from pathlib import Path
 from clauses import WORD, Repository
 from model_page import TOP, files_of
 
-LISTED = Path(__file__).resolve().parent / "words_twice.txt"
-
 # What the proofs in one file alone may show.
 SHUT = {"LacksMemory": "crates/span_outlet/proofs/memory/Refused.antt"}
 
@@ -38,29 +35,10 @@ def public_words(top):
     return where
 
 
-def twice(where):
-    """Each word that has more than one definition, with the crates that define it."""
-    return {word: sorted(it.partition(".")[0] for it in modules) for word, modules in where.items() if len(modules) > 1}
-
-
-def read_list(text):
-    """What a list says: a line is `WORD: CRATE CRATE ..`, and one that begins with '#' is a comment."""
-    rows = [line.partition(":") for line in text.splitlines() if line and not line.startswith("#")]
-    return {word: sorted(crates.split()) for word, _, crates in rows}
-
-
-def differences(where, listed):
-    """What a word fails by, for each word that is defined twice or listed: nothing where it is listed as it is."""
-    found = twice(where)
-    for word in sorted({*found, *listed}):
-        if word not in listed:
-            yield f"{word} has {len(where[word])} definitions: {' '.join(where[word])}"
-        elif word not in found:
-            yield f"{word} no longer has two definitions: its line in {LISTED.name} goes"
-        elif found[word] != listed[word]:
-            yield f"{word} is defined in {' '.join(found[word])}, and listed for {' '.join(listed[word])}"
-        else:
-            yield None
+def defined_again(where):
+    """What fails of the public words: nothing for each that has one definition."""
+    for word, modules in sorted(where.items()):
+        yield None if len(modules) == 1 else f"{word} has {len(modules)} definitions: {' '.join(modules)}"
 
 
 def opened(top, shut):
@@ -122,14 +100,14 @@ def main():
     if not {*sys.argv[1:]} <= {"--all", "--same"}:
         sys.exit(__doc__)
     where, passed, failed = public_words(TOP), 0, 0
-    for said in [*differences(where, read_list(LISTED.read_text(encoding="utf-8"))), *opened(TOP, SHUT)]:
+    for said in [*defined_again(where), *opened(TOP, SHUT)]:
         passed, failed = passed + (said is None), failed + (said is not None)
         if said:
             print(f"FAILED {said}")
     if "--all" in sys.argv:
         for crate, number in Counter(it.partition(".")[0] for modules in where.values() for it in modules).items():
             print(f"{crate}: {number}")
-        print(f"in all {len(where)} public words, {len(twice(where))} of them with more than one definition")
+        print(f"in all {len(where)} public words")
     for group in same_words(TOP, where) if "--same" in sys.argv else []:
         print(f"the same: {' '.join(group)}")
     print(f"{passed} passed, {failed} failed")

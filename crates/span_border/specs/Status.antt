@@ -2,7 +2,7 @@
 use Rattle.std.specs.Prelude.{ℕ, ◌==◌, List, [], ◌∷◌, codes, Option}
 use Rattle.std.specs.List.{find as first_that}
 use Rattle.span_id.specs.declared.fault.Fault.TheVariants.{Unknown, CountFull, Full, NotEntered, TooManyLayers, BadName, Backlog, BadLimits, Memory}
-use Rattle.span_id.specs.Fault.{number_of, text_of}
+use Rattle.span_id.specs.Fault.{number_of, fault_text}
 use Rattle.span_border.specs.declared.status.Status.{Status}
 use Rattle.span_border.specs.declared.status.Status.TheVariants.{Done, Refused, BadData, EmptyHandle, HandleInUse, NoSuchWorker, NoLine, ShortBuffer, NoSuchCallsite}
 
@@ -33,7 +33,7 @@ meant number = first_that (λ status. status_number status == number) statuses
 -- a status in words
 abbrev pub status_text : Status → List ℕ
 status_text Done = codes "done"
-status_text (Refused fault) = text_of fault
+status_text (Refused fault) = fault_text fault
 status_text BadData = codes "bad data"
 status_text EmptyHandle = codes "empty handle"
 status_text HandleInUse = codes "handle in use"

@@ -1,7 +1,7 @@
 -- What is written for a call, and at the end.
 use Rattle.std.specs.Prelude.{ℕ, List, ◌++◌, codes, true, false}
 use Rattle.std.specs.Fmt.{decimal}
-use Rattle.span_id.specs.Fault.{text_of}
+use Rattle.span_id.specs.Fault.{fault_text}
 use Rattle.span_replay.specs.declared.run.answer.Answer.{Answer}
 use Rattle.span_replay.specs.declared.run.answer.Answer.TheVariants.{Limits, Layer, Made, NotWanted, Cloned, Closed, Entered, Recorded, Told, Refused}
 use Rattle.span_replay.specs.declared.run.answer.Found as found
@@ -29,7 +29,7 @@ answer_text (Entered true) = codes "= entered\n"
 answer_text (Entered false) = codes "= again\n"
 answer_text Recorded = codes "= recorded\n"
 answer_text Told = codes "= told\n"
-answer_text (Refused fault) = codes "! " ++ (text_of fault ++ codes "\n")
+answer_text (Refused fault) = codes "! " ++ (fault_text fault ++ codes "\n")
 
 -- the last line: how many spans are open
 abbrev pub left_text : ℕ → List ℕ
