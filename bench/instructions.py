@@ -1,11 +1,14 @@
 #!/usr/bin/env python3
 """Counts by valgrind, whose counts no other work changes, what calls take: instructions of the store's calls in C
-(store.c), and instructions and allocations of a round of the Rust package (rust/examples/rounds.rs).
+(store.c), instructions and allocations of a round of the Rust package (rust/examples/rounds.rs), and the instructions
+of a replay by those of an earlier build's, for each kind of script.
 
 usage: instructions.py [--store FILE] [--library FILE] [--figures] [store-calls] [package-round]
+       instructions.py --old PROGRAM [--program PROGRAM] [--figures] replays
 
-With no name both are counted. FILE are the libraries that `rt lib` leaves in crates/span_store_ffi and crates/span_ffi.
-With --figures the counts go to bench/figures/NAME.json, from where tests/figures.py takes them to the pages.
+With no name the first two are counted. FILE are the libraries that `rt lib` leaves in crates/span_store_ffi and
+crates/span_ffi, PROGRAM the tracerun of the earlier build, and that of this checkout if it isn't given. With --figures the
+counts go to bench/figures/NAME.json, from where tests/figures.py takes them to the pages.
 """
 import argparse
 import os
@@ -21,6 +24,7 @@ sys.path.insert(0, str(TOP / "tests"))
 
 import c_interface  # noqa: E402
 import figures  # noqa: E402
+import scripts  # noqa: E402
 
 SPANS = 10_000  # of store.c
 # Of each figure the words of store.c, and the functions whose instructions count.
@@ -30,18 +34,19 @@ CALLS = {
 }
 KINDS = {"callsite": "", "ids": "by_ids_", "span": "span_"}  # of rounds, and what their figures' names begin with
 FEW, MANY = 1_000, 3_000  # rounds: what the start takes is in both
+SIZE = 131_072  # bytes of a script
 
 
-def counted(tool, pattern, words):
-    """What valgrind counted in a run of a program."""
-    done = subprocess.run(["valgrind", *tool, *words], capture_output=True, text=True, check=True)
+def counted(tool, pattern, words, given=""):
+    """What valgrind counted in a run of a program, which gets a text on its standard input."""
+    done = subprocess.run(["valgrind", *tool, *words], input=given, capture_output=True, text=True, check=True)
     return int(re.search(pattern, done.stderr)[1].replace(",", ""))
 
 
-def instructions(words, functions=()):
+def instructions(words, functions=(), given=""):
     """Those that a program takes, or that functions of it take."""
     tool = ["--tool=callgrind", "--callgrind-out-file=/dev/null", *(f"--toggle-collect={name}" for name in functions)]
-    return counted(tool, r"Collected : (\d+)", words)
+    return counted(tool, r"Collected : (\d+)", words, given)
 
 
 def allocations(words):
@@ -71,23 +76,40 @@ def package_rounds(library, folder):
     return found
 
 
+def replays(old, program):
+    """The instructions of a replay by those of another program's, for each kind of script: the least and the most."""
+    found = {}
+    for kind, script in scripts.ALL.items():
+        now, before = (instructions([it, "replay"], given=script(SIZE)) for it in (program, old))
+        found[kind] = now / before
+    return {"least": min(found.values()), "most": max(found.values()), **found}
+
+
 def main():
     parser = argparse.ArgumentParser(description=__doc__, formatter_class=argparse.RawDescriptionHelpFormatter)
     parser.add_argument("names", nargs="*", metavar="NAME", help="store-calls, package-round; none means both")
     parser.add_argument("--store", type=Path, default=TOP / "crates/span_store_ffi/out/libspan_store_ffi.a")
     parser.add_argument("--library", type=Path, default=TOP / "crates/span_ffi/out/libspan_ffi.a")
+    parser.add_argument("--old", type=Path, metavar="PROGRAM")
+    parser.add_argument("--program", type=Path, default=TOP / "crates/tracerun/out/tracerun")
     parser.add_argument("--figures", action="store_true", help="they go to bench/figures")
     asked = parser.parse_args()
+    if asked.names == ["replays"] and asked.old:
+        return tell("replays", replays(asked.old, asked.program), asked.figures)
     counts = {"store-calls": (store_calls, asked.store), "package-round": (package_rounds, asked.library)}
     if not counts.keys() >= set(asked.names):
-        parser.error(f"there are {' and '.join(counts)}")
+        parser.error(f"there are {' and '.join(counts)}, and replays with --old")
     for name in asked.names or counts:
         count, library = counts[name]
         with tempfile.TemporaryDirectory() as folder:
             values = count(library, Path(folder))
-        print(name, *(f"{it} {value:,.2f}" for it, value in values.items()), sep="\n  ")
-        if asked.figures:
-            figures.record(name, values=values)
+        tell(name, values, asked.figures)
+
+
+def tell(name, values, keeps):
+    print(name, *(f"{it} {value:,.2f}" for it, value in values.items()), sep="\n  ")
+    if keeps:
+        figures.record(name, values=values)
 
 
 if __name__ == "__main__":
