@@ -3,7 +3,9 @@ pub mod Data
 pub mod Registry
 pub mod Opening
 pub mod Calls
+pub mod Closing
 pub mod Holding
+pub mod Details
 pub mod Callsites
 pub mod Wants
 pub mod Lines

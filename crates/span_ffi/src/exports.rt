@@ -3,6 +3,8 @@
 mod abi;
 mod callers;
 mod callsites;
+mod closing;
+mod details;
 mod drain;
 mod entries;
 mod events;

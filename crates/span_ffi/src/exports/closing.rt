@@ -1,0 +1,137 @@
+//! The calls that give a holder of a span back and tell which spans closed.
+ghost use Rattle.std.specs.Prelude.{◌≡◌, ◌++◌, Some, length, take, drop};
+ghost use Rattle.span_border.specs.Status.{meant};
+ghost use Rattle.span_border.specs.Ends.{OnHeld, Keeps};
+ghost use Rattle.span_ffi.specs.Registry.{OnCore};
+ghost use Rattle.span_ffi.specs.Closing.{WritesFirst, ExitsClosing, ReleasesClosing};
+
+use crate::exports::callers::{has_worker, id_of};
+use crate::registry::RingCore;
+use crate::registry_handle::SpanRegistry;
+use span_border::{Holds, Status, write_ids};
+use span_core::laws::the_named_span_closes_first;
+use span_id::{Fault, Id};
+use std::alloc::Global;
+
+/// A buffer of C for the ids of the spans that close, and how many they are.
+struct ClosedIds<'b> {
+    into: &'b mut [u64],
+    len: usize,
+}
+
+impl<'b> ClosedIds<'b> {
+    // Writes the first of the ids, as many as there is room for, and keeps how many they are.
+    fn write(&mut self, ids: &[Id])
+        ensures same_buffer { self.new.into.ghost_name ≡ self.old.into.ghost_name }
+        ensures first { WritesFirst ids.now self.old.into.now self.new.into.now self.new.len }
+    {
+        write_first(ids, self.into);
+        self.len = ids.len();
+    }
+}
+
+// Writes the first of the ids to the beginning of a buffer, as many as it has room for.
+fn write_first(ids: &[Id], into: &mut [u64])
+    ensures { into.new ≡ take (length into.old) ids.now ++ drop (length ids.now) into.old }
+{
+    let count = ids.len().min(into.len());
+    let mut written = 0;
+    write_ids(&ids[..count], into, &mut written);
+}
+
+fn exit_closing(core: &mut RingCore, worker: u32, id: u64, into: &mut [u64], len: &mut usize) -> Status
+    ensures exited { ExitsClosing worker id into.old into.new len.new core.old result core.new }
+    ensures into { Keeps (Some result) into.old into.new }
+    ensures len { Keeps (Some result) len.old len.new }
+{
+    if !has_worker(core, worker) {
+        return Status::NoSuchWorker;
+    }
+    let Some(id) = id_of(core, id) else {
+        return Status::Refused(Fault::Unknown);
+    };
+    the_named_span_closes_first(core);
+    let mut closed = ClosedIds { into, len: 0 };
+    match core.exit_with(worker, id, &mut closed, ClosedIds::write) {
+        Ok(_) => {
+            *len = closed.len;
+            Status::Done
+        }
+        Err(fault) => Status::Refused(fault),
+    }
+}
+
+/// A worker leaves a span, as `span_registry_exit` has it. The ids of the spans that closed, child first, are written to
+/// the beginning of a buffer, as many as it has room for, and it tells how many they are: 0 where none closed.
+#[unsafe(no_mangle)]
+pub extern "C" fn span_registry_exit_closing(
+    alloc: Global,
+    registry: &mut SpanRegistry,
+    worker: u32,
+    id: u64,
+    into: &mut [u64],
+    len: &mut usize,
+) -> u32
+    ensures exited { OnHeld registry.old.held (OnCore (ExitsClosing worker id into.old into.new len.new))
+        (meant result) registry.new.held }
+    ensures into { Keeps (meant result) into.old into.new }
+    ensures len { Keeps (meant result) len.old len.new }
+{
+    let Some(mut held) = registry.take(alloc) else {
+        return Status::EmptyHandle.number();
+    };
+    let status = exit_closing(&mut held.core, worker, id, into, len);
+    registry.put(held);
+    status.number()
+}
+
+fn try_close_closing(
+    core: &mut RingCore,
+    worker: u32,
+    id: u64,
+    into: &mut [u64],
+    len: &mut usize,
+) -> Status
+    ensures released { ReleasesClosing worker id into.old into.new len.new core.old result core.new }
+    ensures into { Keeps (Some result) into.old into.new }
+    ensures len { Keeps (Some result) len.old len.new }
+{
+    if !has_worker(core, worker) {
+        return Status::NoSuchWorker;
+    }
+    let Some(id) = id_of(core, id) else {
+        return Status::Refused(Fault::Unknown);
+    };
+    the_named_span_closes_first(core);
+    let mut closed = ClosedIds { into, len: 0 };
+    match core.try_close_with(worker, id, &mut closed, ClosedIds::write) {
+        Ok(_) => {
+            *len = closed.len;
+            Status::Done
+        }
+        Err(fault) => Status::Refused(fault),
+    }
+}
+
+/// Gives a handle of a span back, and tells which spans closed, as `span_registry_exit_closing` does.
+#[unsafe(no_mangle)]
+pub extern "C" fn span_registry_try_close_closing(
+    alloc: Global,
+    registry: &mut SpanRegistry,
+    worker: u32,
+    id: u64,
+    into: &mut [u64],
+    len: &mut usize,
+) -> u32
+    ensures released { OnHeld registry.old.held (OnCore (ReleasesClosing worker id into.old into.new len.new))
+        (meant result) registry.new.held }
+    ensures into { Keeps (meant result) into.old into.new }
+    ensures len { Keeps (meant result) len.old len.new }
+{
+    let Some(mut held) = registry.take(alloc) else {
+        return Status::EmptyHandle.number();
+    };
+    let status = try_close_closing(&mut held.core, worker, id, into, len);
+    registry.put(held);
+    status.number()
+}
