@@ -142,6 +142,14 @@ uint32_t span_registry_exit(SpanRegistry *registry, uint32_t worker, uint64_t id
 /* Gives a handle back. closed: 1 where the span closed, else 0. */
 uint32_t span_registry_try_close(SpanRegistry *registry, uint32_t worker, uint64_t id, uint32_t *closed);
 
+/* As span_registry_exit and span_registry_try_close, and the spans that closed are told: their ids, child first, are
+ * written to the beginning of a buffer that has room for into_len of them. len: how many closed, 0 where none did. What
+ * is done can't be undone: of more than into_len the first ones are written, and the status is SPAN_OK. */
+uint32_t span_registry_exit_closing(SpanRegistry *registry, uint32_t worker, uint64_t id,
+    uint64_t *into, size_t into_len, size_t *len);
+uint32_t span_registry_try_close_closing(SpanRegistry *registry, uint32_t worker, uint64_t id,
+    uint64_t *into, size_t into_len, size_t *len);
+
 /* Appends fields. texts: each key and its value. */
 uint32_t span_registry_record(SpanRegistry *registry, uint32_t worker, uint64_t id,
     const SpanField *fields, size_t fields_len, const uint8_t *texts, size_t texts_len);
@@ -191,6 +199,14 @@ uint32_t span_registry_callsite_wants(SpanRegistry *registry, uint32_t callsite,
 /* SPAN_UNKNOWN where the span isn't open. */
 uint32_t span_registry_find(SpanRegistry *registry, uint64_t id, SpanFound *found);
 
+/* The level and the texts of a span: its name, its target, and the key and the value of each field, one after another,
+ * are written to the beginning of a buffer that has room for into_len bytes, and their lengths to the beginning of
+ * another that has room for lengths_len numbers. count, len: how many lengths and how many bytes they are, also where
+ * either is more than its buffer has room for; then neither is written (SPAN_SHORT_BUFFER). SPAN_UNKNOWN where the span
+ * isn't open. */
+uint32_t span_registry_details(SpanRegistry *registry, uint64_t id, uint32_t *level,
+    size_t *lengths, size_t lengths_len, size_t *count, uint8_t *into, size_t into_len, size_t *len);
+
 /* The ids of the open spans, by ascending slot, written to the beginning of a buffer that has room for into_len of
  * them. len: how many they are, also where they are more than that; then nothing is written (SPAN_SHORT_BUFFER). */
 uint32_t span_registry_open_ids(SpanRegistry *registry, uint64_t *into, size_t into_len, size_t *len);
@@ -209,7 +225,14 @@ uint32_t span_registry_workers_inside(SpanRegistry *registry, uint64_t id, uint3
 /* The topmost span of the worker's stack that it entered first there, and not again. id: 0 where there is none. */
 uint32_t span_registry_current_span(SpanRegistry *registry, uint32_t worker, uint64_t *id);
 
+/* The span at a place of the worker's stack, counted from 0, the one that it entered first; a span that it entered
+ * again stands there again. id: 0 where there is no such place. depth: how many places there are. */
+uint32_t span_registry_entry(SpanRegistry *registry, uint32_t worker, size_t place, uint64_t *id, size_t *depth);
+
 uint32_t span_registry_counts(SpanRegistry *registry, SpanCounts *counts);
+
+/* How often a call was refused with SPAN_BACKLOG. The number stays at its greatest value. */
+uint32_t span_registry_times_full(SpanRegistry *registry, uint64_t *times);
 
 /* The next line, which is UTF-8, without a newline; the rest of the buffer stays as it was. Where none is at hand,
  * batches are taken out of the ring until one is, also where the status is SPAN_NO_LINE or SPAN_SHORT_BUFFER then. A

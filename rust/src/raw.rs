@@ -5,6 +5,7 @@ mod abi;
 mod calls;
 mod lines;
 mod queries;
+mod telling;
 
 pub(crate) use calls::{Core, Start};
 pub(crate) use lines::{Lines, Next};
@@ -161,6 +162,22 @@ unsafe extern "C" {
     fn span_registry_enter(registry: *mut SpanRegistry, worker: u32, id: u64, first: *mut u32) -> u32;
     fn span_registry_exit(registry: *mut SpanRegistry, worker: u32, id: u64, closed: *mut u32) -> u32;
     fn span_registry_try_close(registry: *mut SpanRegistry, worker: u32, id: u64, closed: *mut u32) -> u32;
+    fn span_registry_exit_closing(
+        registry: *mut SpanRegistry,
+        worker: u32,
+        id: u64,
+        into: *mut u64,
+        into_len: usize,
+        len: *mut usize,
+    ) -> u32;
+    fn span_registry_try_close_closing(
+        registry: *mut SpanRegistry,
+        worker: u32,
+        id: u64,
+        into: *mut u64,
+        into_len: usize,
+        len: *mut usize,
+    ) -> u32;
     fn span_registry_record(
         registry: *mut SpanRegistry,
         worker: u32,
@@ -245,7 +262,26 @@ unsafe extern "C" {
     ) -> u32;
     fn span_registry_callsite_wants(registry: *mut SpanRegistry, callsite: u32, wanted: *mut u32) -> u32;
     fn span_registry_find(registry: *mut SpanRegistry, id: u64, found: *mut SpanFound) -> u32;
+    fn span_registry_details(
+        registry: *mut SpanRegistry,
+        id: u64,
+        level: *mut u32,
+        lengths: *mut usize,
+        lengths_len: usize,
+        count: *mut usize,
+        into: *mut u8,
+        into_len: usize,
+        len: *mut usize,
+    ) -> u32;
     fn span_registry_current_span(registry: *mut SpanRegistry, worker: u32, id: *mut u64) -> u32;
+    fn span_registry_entry(
+        registry: *mut SpanRegistry,
+        worker: u32,
+        place: usize,
+        id: *mut u64,
+        depth: *mut usize,
+    ) -> u32;
+    fn span_registry_times_full(registry: *mut SpanRegistry, times: *mut u64) -> u32;
     fn span_registry_counts(registry: *mut SpanRegistry, counts: *mut SpanCounts) -> u32;
     fn span_registry_open_ids(registry: *mut SpanRegistry, into: *mut u64, into_len: usize, len: *mut usize) -> u32;
     fn span_registry_holders_of(

@@ -10,8 +10,8 @@ use Rattle.span_border.specs.declared.status.Status.{Status}
 use Rattle.span_border.specs.Ends.{IfDone}
 use Rattle.span_ffi.specs.Calls.{AnswersWorker}
 
--- The first of some things go into a buffer, as many as it has room for: they stand at its beginning, and the rest of it
--- stays. How many things there are is told, also where they are more than that.
+-- The first of some things go into a buffer, as many as it has room for: they stand at its beginning, and the rest of
+-- it stays. How many things there are is told, also where they are more than that.
 abbrev pub WritesFirst : {X : Type 0} → List X → List X → List X → ℕ → Type 0
 WritesFirst things old new len =
     (new ≡ take (length old) things ++ drop (length things) old) × (len ≡ length things)

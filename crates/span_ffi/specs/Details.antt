@@ -21,14 +21,14 @@ abbrev pub texts_of : Node → List (List ℕ)
 texts_of node = node.name ∷ node.target ∷ field_texts node.fields
 
 -- a buffer before and after a call, and the number that it told
-pub record Told : Type 0 where
+pub record Filling : Type 0 where
   pub old : List ℕ
   pub new : List ℕ
   pub len : ℕ
 
--- Two lists go into two buffers: each stands at its buffer's beginning, and how long it is is told. Where either is longer
--- than its buffer, only that is told of both.
-abbrev pub WritesBoth : List ℕ → List ℕ → Told → Told → Status → Type 0
+-- Two lists go into two buffers: each stands at its buffer's beginning, and its length is told. Where either is longer
+-- than its buffer, only the lengths are told.
+abbrev pub WritesBoth : List ℕ → List ℕ → Filling → Filling → Status → Type 0
 WritesBoth first second one other Done =
     WritesAll first one.old Done one.new one.len × WritesAll second other.old Done other.new other.len
 WritesBoth first second one other ShortBuffer =
@@ -38,10 +38,10 @@ WritesBoth first second one other _ = ⊥
 
 -- The level of an open span is told, its texts go into a buffer, one after another, and their lengths into another; or
 -- memory is refused. A span that isn't open is unknown. Nothing changes.
-abbrev pub TellsDetails : ℕ → ℕ → Told → Told → CoreView → Status → CoreView → Type 0
-TellsDetails id level lengths bytes old (Refused Unknown) new = (find old.world.spans id ≡ None) × (new ≡ old)
-TellsDetails id level lengths bytes old (Refused Memory) new = IsOpen old.world.spans id × (new ≡ old)
-TellsDetails id level lengths bytes old status new =
+abbrev pub TellsTexts : ℕ → ℕ → Filling → Filling → CoreView → Status → CoreView → Type 0
+TellsTexts id level lengths bytes old (Refused Unknown) new = (find old.world.spans id ≡ None) × (new ≡ old)
+TellsTexts id level lengths bytes old (Refused Memory) new = IsOpen old.world.spans id × (new ≡ old)
+TellsTexts id level lengths bytes old status new =
     IsSomeAnd (find old.world.spans id) (λ node.
     WritesBoth (map length (texts_of node)) (concat (texts_of node)) lengths bytes status
     × IfDone status (level ≡ verbosity node.level))

@@ -14,6 +14,7 @@ use span_id::{Fault, Id};
 use std::alloc::Global;
 
 /// A buffer of C for the ids of the spans that close, and how many they are.
+#[derive(Drop)]
 struct ClosedIds<'b> {
     into: &'b mut [u64],
     len: usize,
@@ -31,10 +32,11 @@ impl<'b> ClosedIds<'b> {
 }
 
 // Writes the first of the ids to the beginning of a buffer, as many as it has room for.
+#[tactic(auto, using(crate::proofs::Firsts::first_written))]
 fn write_first(ids: &[Id], into: &mut [u64])
     ensures { into.new ≡ take (length into.old) ids.now ++ drop (length ids.now) into.old }
 {
-    let count = ids.len().min(into.len());
+    let count = into.len().min(ids.len());
     let mut written = 0;
     write_ids(&ids[..count], into, &mut written);
 }
@@ -61,8 +63,8 @@ fn exit_closing(core: &mut RingCore, worker: u32, id: u64, into: &mut [u64], len
     }
 }
 
-/// A worker leaves a span, as `span_registry_exit` has it. The ids of the spans that closed, child first, are written to
-/// the beginning of a buffer, as many as it has room for, and it tells how many they are: 0 where none closed.
+/// A worker leaves a span, as `span_registry_exit` has it. The ids of the spans that closed, child first, are written
+/// to the beginning of a buffer, as many as it has room for, and it tells how many they are: 0 where none closed.
 #[unsafe(no_mangle)]
 pub extern "C" fn span_registry_exit_closing(
     alloc: Global,

@@ -7,7 +7,7 @@ ghost use Rattle.span_border.specs.Status.{meant};
 ghost use Rattle.span_border.specs.Ends.{OnHeld, Keeps};
 ghost use Rattle.span_border.specs.Buffers.{KeepsLength};
 ghost use Rattle.span_ffi.specs.Registry.{OnCore};
-ghost use Rattle.span_ffi.specs.Details.{field_texts, texts_of, WritesBoth, TellsDetails};
+ghost use Rattle.span_ffi.specs.Details.{field_texts, texts_of, WritesBoth, TellsTexts};
 
 use crate::exports::callers::id_of;
 use crate::registry::RingCore;
@@ -103,7 +103,7 @@ fn details(
     into: &mut [u8],
     len: &mut usize,
 ) -> Status
-    ensures details { TellsDetails id level.new (record { old = lengths.old; new = lengths.new; len = count.new })
+    ensures details { TellsTexts id level.new (record { old = lengths.old; new = lengths.new; len = count.new })
         (record { old = into.old; new = into.new; len = len.new }) core.now result core.now }
     ensures level { Keeps (Some result) level.old level.new }
     ensures lengths { Keeps (Some result) lengths.old lengths.new }
@@ -145,7 +145,7 @@ pub extern "C" fn span_registry_details(
     into: &mut [u8],
     len: &mut usize,
 ) -> u32
-    ensures details { OnHeld registry.old.held (OnCore (TellsDetails id level.new
+    ensures details { OnHeld registry.old.held (OnCore (TellsTexts id level.new
         (record { old = lengths.old; new = lengths.new; len = count.new })
         (record { old = into.old; new = into.new; len = len.new }))) (meant result) registry.new.held }
     ensures level { Keeps (meant result) level.old level.new }

@@ -96,8 +96,8 @@ fn entry(core: &RingCore, worker: u32, place: usize, id: &mut u64, depth: &mut u
     Status::Done
 }
 
-/// The span at a place of a worker's stack, counted from the lowest, which is 0; the id is 0 where the stack has no such
-/// place. It also tells how many entries the stack has. A span that was entered again stands there again.
+/// The span at a place of a worker's stack, counted from the lowest, which is 0; the id is 0 where the stack has no
+/// such place. It also tells how many entries the stack has. A span that was entered again stands there again.
 #[unsafe(no_mangle)]
 pub extern "C" fn span_registry_entry(
     alloc: Global,

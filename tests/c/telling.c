@@ -1,0 +1,216 @@
+/* Which spans a call closed, the texts of a span, the places of a stack, and how often the ring was full: what goes
+ * into buffers, and what of them stays. The last line that it prints is 'N passed, M failed'. It is linked with
+ * --wrap=malloc and --wrap=realloc, so that memory can be refused. */
+#include "checks.h"
+#include "span_registry.h"
+
+#include <stdio.h>
+#include <stdlib.h>
+#include <string.h>
+
+static SpanRegistry registry;
+static SpanDrain drain;
+static const SpanLayer no_layers[1];
+static const SpanRule no_rules[1];
+static const SpanField no_fields[1];
+
+static void open_with_ring(uint32_t ring) {
+    const SpanLimits limits = {16, 4294967295u, 4294967295u, 3, ring};
+    CHECK(span_registry_new(&registry, &drain, &limits, no_layers, 0, no_rules, 0,
+        (const uint8_t *)"", 0) == SPAN_OK);
+}
+
+static void close_both(void) {
+    CHECK(span_registry_free(&registry) == SPAN_OK);
+    CHECK(span_drain_free(&drain) == SPAN_OK);
+}
+
+/* a span named `a` of the target `t`, at INFO, under a parent, a root where that is 0 */
+static uint64_t make_span(uint64_t parent) {
+    const SpanMeta meta = {2, 1, 1};
+    uint64_t id = 0;
+    CHECK(span_registry_new_span(&registry, 0, parent == 0 ? SPAN_ROOT : SPAN_UNDER, parent, &meta,
+        no_fields, 0, (const uint8_t *)"at", 2, &id) == SPAN_OK);
+    return id;
+}
+
+/* a root, its child and its grandchild, of which the root and the child are held by what is below them alone */
+static void make_chain(uint64_t ids[3]) {
+    uint32_t closed = 9;
+    ids[0] = make_span(0);
+    ids[1] = make_span(ids[0]);
+    ids[2] = make_span(ids[1]);
+    CHECK(span_registry_try_close(&registry, 0, ids[0], &closed) == SPAN_OK && closed == 0);
+    CHECK(span_registry_try_close(&registry, 0, ids[1], &closed) == SPAN_OK && closed == 0);
+}
+
+/* the ids of the chain, child first, and what stays of a buffer of four */
+static void check_chain(const uint64_t ids[3], const uint64_t into[4], size_t room) {
+    for (size_t at = 0; at < 4; at++)
+        CHECK(into[at] == (at < room && at < 3 ? ids[2 - at] : 91 + at));
+}
+
+static void test_closing_by_a_handle(size_t room) {
+    uint64_t ids[3], into[4] = {91, 92, 93, 94};
+    size_t len = 99;
+    SpanFound found;
+    open_with_ring(64);
+    make_chain(ids);
+    CHECK(span_registry_clone_span(&registry, 0, ids[2]) == SPAN_OK);
+    CHECK(span_registry_try_close_closing(&registry, 0, ids[2], into, room, &len) == SPAN_OK && len == 0);
+    check_chain(ids, into, 0);
+    CHECK(span_registry_try_close_closing(&registry, 0, ids[2], into, room, &len) == SPAN_OK && len == 3);
+    check_chain(ids, into, room);
+    for (int at = 0; at < 3; at++)
+        CHECK(span_registry_find(&registry, ids[at], &found) == SPAN_UNKNOWN);
+    CHECK(span_registry_try_close_closing(&registry, 0, ids[2], into, room, &len) == SPAN_UNKNOWN && len == 3);
+    close_both();
+}
+
+static void test_closing_by_an_exit(size_t room) {
+    uint64_t ids[3], into[4] = {91, 92, 93, 94};
+    uint32_t answer = 9;
+    size_t len = 99;
+    open_with_ring(64);
+    make_chain(ids);
+    for (int again = 0; again < 2; again++)
+        CHECK(span_registry_enter(&registry, 1, ids[2], &answer) == SPAN_OK);
+    CHECK(span_registry_try_close(&registry, 0, ids[2], &answer) == SPAN_OK && answer == 0);
+    CHECK(span_registry_exit_closing(&registry, 0, ids[2], into, room, &len) == SPAN_NOT_ENTERED && len == 99);
+    CHECK(span_registry_exit_closing(&registry, 1, ids[2], into, room, &len) == SPAN_OK && len == 0);
+    check_chain(ids, into, 0);
+    CHECK(span_registry_exit_closing(&registry, 1, ids[2], into, room, &len) == SPAN_OK && len == 3);
+    check_chain(ids, into, room);
+    close_both();
+}
+
+/* a refused call writes nothing, and nothing closes */
+static void test_refused_closing(void) {
+    uint64_t ids[3], into[4] = {91, 92, 93, 94};
+    uint32_t answer = 9;
+    size_t len = 99;
+    SpanFound found;
+    CHECK(span_registry_exit_closing(&registry, 0, 1, into, 4, &len) == SPAN_EMPTY_HANDLE);
+    CHECK(span_registry_try_close_closing(&registry, 0, 1, into, 4, &len) == SPAN_EMPTY_HANDLE);
+    open_with_ring(6);
+    make_chain(ids);
+    CHECK(span_registry_exit_closing(&registry, 3, ids[2], into, 4, &len) == SPAN_NO_SUCH_WORKER);
+    CHECK(span_registry_try_close_closing(&registry, 3, ids[2], into, 4, &len) == SPAN_NO_SUCH_WORKER);
+    CHECK(span_registry_exit_closing(&registry, 0, 0, into, 4, &len) == SPAN_UNKNOWN);
+    CHECK(span_registry_try_close_closing(&registry, 0, ids[2] + 16777216, into, 4, &len) == SPAN_UNKNOWN);
+    allocations_left = 0;
+    CHECK(span_registry_try_close_closing(&registry, 0, ids[2], into, 4, &len) == SPAN_OUT_OF_MEMORY);
+    allocations_left = -1;
+    CHECK(span_registry_enter(&registry, 0, ids[2], &answer) == SPAN_OK);
+    CHECK(span_registry_try_close_closing(&registry, 0, ids[2], into, 4, &len) == SPAN_BACKLOG);
+    CHECK(span_registry_exit_closing(&registry, 0, ids[2], into, 4, &len) == SPAN_BACKLOG);
+    check_chain(ids, into, 0);
+    CHECK(len == 99);
+    CHECK(span_registry_find(&registry, ids[2], &found) == SPAN_OK && found.handles == 1 && found.entries == 1);
+    close_both();
+}
+
+/* a span at WARN with two fields, the second without a value */
+static uint64_t make_told(void) {
+    const SpanMeta meta = {1, 4, 2};
+    const SpanField fields[2] = {{1, 3}, {2, 0}};
+    uint64_t id = 0;
+    CHECK(span_registry_new_span(&registry, 0, SPAN_ROOT, 0, &meta, fields, 2, (const uint8_t *)"nametgkvalke", 12, &id)
+        == SPAN_OK);
+    return id;
+}
+
+static void test_details(void) {
+    const SpanField more = {1, 1};
+    size_t lengths[9] = {7, 7, 7, 7, 7, 7, 7, 7, 7}, count = 98, len = 99;
+    const size_t wanted[9] = {4, 2, 1, 3, 2, 0, 1, 1, 7};
+    uint8_t into[20] = "....................";
+    uint32_t level = 9;
+    uint64_t id;
+    open_with_ring(64);
+    id = make_told();
+#define DETAILS(id, room, bytes) \
+    span_registry_details(&registry, id, &level, lengths, room, &count, into, bytes, &len)
+    CHECK(DETAILS(id, 6, 12) == SPAN_OK && level == 1 && count == 6 && len == 12);
+    CHECK(memcmp(lengths, wanted, 6 * sizeof *lengths) == 0 && lengths[6] == 7);
+    CHECK(memcmp(into, "nametgkvalke........", 20) == 0);
+    /* what was recorded stands behind what it was made with */
+    CHECK(span_registry_record(&registry, 0, id, &more, 1, (const uint8_t *)"xy", 2) == SPAN_OK);
+    level = 9;
+    CHECK(DETAILS(id, 7, 20) == SPAN_SHORT_BUFFER && level == 9 && count == 8 && len == 14 && lengths[6] == 7);
+    count = len = 0;
+    CHECK(DETAILS(id, 9, 13) == SPAN_SHORT_BUFFER && level == 9 && count == 8 && len == 14 && lengths[6] == 7);
+    CHECK(DETAILS(id, 0, 0) == SPAN_SHORT_BUFFER && count == 8 && len == 14);
+    CHECK(memcmp(into, "nametgkvalke........", 20) == 0);
+    CHECK(DETAILS(id, 9, 20) == SPAN_OK && level == 1 && count == 8 && len == 14);
+    CHECK(memcmp(lengths, wanted, sizeof lengths) == 0 && memcmp(into, "nametgkvalkexy......", 20) == 0);
+    level = 9, count = 98, len = 99;
+    for (long left = 0; left < 2; left++) {
+        allocations_left = left;
+        CHECK(DETAILS(id, 9, 20) == SPAN_OUT_OF_MEMORY);
+        allocations_left = -1;
+    }
+    CHECK(DETAILS(0, 9, 20) == SPAN_UNKNOWN && DETAILS(id + 1, 9, 20) == SPAN_UNKNOWN);
+    close_both();
+    CHECK(DETAILS(id, 9, 20) == SPAN_EMPTY_HANDLE);
+    CHECK(level == 9 && count == 98 && len == 99 && lengths[0] == 4 && into[0] == 'n');
+#undef DETAILS
+}
+
+static void test_entries(void) {
+    uint64_t first, second, id = 97;
+    uint32_t answer;
+    size_t depth = 98;
+    open_with_ring(64);
+    first = make_span(0);
+    second = make_span(0);
+    CHECK(span_registry_entry(&registry, 1, 0, &id, &depth) == SPAN_OK && id == 0 && depth == 0);
+    CHECK(span_registry_enter(&registry, 1, first, &answer) == SPAN_OK);
+    CHECK(span_registry_enter(&registry, 1, second, &answer) == SPAN_OK);
+    CHECK(span_registry_enter(&registry, 1, first, &answer) == SPAN_OK && answer == 0);
+    CHECK(span_registry_entry(&registry, 1, 0, &id, &depth) == SPAN_OK && id == first && depth == 3);
+    CHECK(span_registry_entry(&registry, 1, 1, &id, &depth) == SPAN_OK && id == second && depth == 3);
+    CHECK(span_registry_entry(&registry, 1, 2, &id, &depth) == SPAN_OK && id == first && depth == 3);
+    CHECK(span_registry_entry(&registry, 1, 3, &id, &depth) == SPAN_OK && id == 0 && depth == 3);
+    CHECK(span_registry_entry(&registry, 1, SIZE_MAX, &id, &depth) == SPAN_OK && id == 0 && depth == 3);
+    CHECK(span_registry_entry(&registry, 2, 0, &id, &depth) == SPAN_OK && id == 0 && depth == 0);
+    id = 97, depth = 98;
+    CHECK(span_registry_entry(&registry, 3, 0, &id, &depth) == SPAN_NO_SUCH_WORKER);
+    close_both();
+    CHECK(span_registry_entry(&registry, 1, 0, &id, &depth) == SPAN_EMPTY_HANDLE);
+    CHECK(id == 97 && depth == 98);
+}
+
+static void test_times_full(void) {
+    uint64_t id, times = 99;
+    uint32_t closed, layer;
+    uint8_t into[4];
+    size_t len;
+    CHECK(span_registry_times_full(&registry, &times) == SPAN_EMPTY_HANDLE && times == 99);
+    open_with_ring(1);
+    CHECK(span_registry_times_full(&registry, &times) == SPAN_OK && times == 0);
+    id = make_span(0);
+    for (uint64_t more = 1; more < 4; more++) {
+        CHECK(span_registry_try_close(&registry, 0, id, &closed) == SPAN_BACKLOG);
+        CHECK(span_registry_times_full(&registry, &times) == SPAN_OK && times == more);
+    }
+    /* of what is refused for another reason the ring isn't asked */
+    CHECK(span_registry_try_close(&registry, 0, id + 1, &closed) == SPAN_UNKNOWN);
+    CHECK(span_drain_line(&drain, &layer, into, sizeof into, &len) == SPAN_NO_LINE);
+    CHECK(span_registry_try_close(&registry, 0, id, &closed) == SPAN_OK && closed == 1);
+    CHECK(span_registry_times_full(&registry, &times) == SPAN_OK && times == 3);
+    close_both();
+}
+
+int main(void) {
+    for (size_t room = 0; room <= 4; room++) {
+        test_closing_by_a_handle(room);
+        test_closing_by_an_exit(room);
+    }
+    test_refused_closing();
+    test_details();
+    test_entries();
+    test_times_full();
+    printf("%d passed, %d failed\n", passed, failed);
+    return failed == 0 ? EXIT_SUCCESS : EXIT_FAILURE;
+}
