@@ -1,5 +1,5 @@
 -- What the calls on a registry do, by their status.
-use Rattle.std.specs.Prelude.{◌≡◌, ◌≢◌, ℕ, ◌<◌, ◌≤◌, ◌==◌, nat_lt, List, length, take, drop, slice_get, Option, Some, None, is_none, IsSomeAnd}
+use Rattle.std.specs.Prelude.{◌≡◌, ◌≢◌, ℕ, ◌<◌, ◌≤◌, ◌==◌, nat_lt, List, length, take, drop, Option, Some, None, is_none, IsSomeAnd}
 use Rattle.span_id.specs.declared.fault.Fault.TheVariants.{Unknown, Memory}
 use Rattle.span_id.specs.Level.{verbosity}
 use Rattle.span_id.specs.Meta.{PlainMeta, KeyValue}
@@ -151,20 +151,6 @@ SeesCurrent worker id old Done new =
     HasWorker old worker × (id ≡ id_number (current (stack_of old.world worker))) × (new ≡ old)
 SeesCurrent worker id old NoSuchWorker new = LacksWorker old worker new
 SeesCurrent worker id old _ new = ⊥
-
--- the span at a place of a worker's stack, counted from the lowest, 0 where the stack has no such place; and how many
--- entries the stack has
-abbrev pub SeesEntry : ℕ → ℕ → ℕ → ℕ → CoreView → Status → CoreView → Type 0
-SeesEntry worker place id depth old Done new =
-    HasWorker old worker × (id ≡ id_number (slice_get (stack_of old.world worker) place))
-    × (depth ≡ length (stack_of old.world worker)) × (new ≡ old)
-SeesEntry worker place id depth old NoSuchWorker new = LacksWorker old worker new
-SeesEntry worker place id depth old _ new = ⊥
-
--- how often a call found no place in the ring
-abbrev pub TellsTimesFull : ℕ → CoreView → Status → CoreView → Type 0
-TellsTimesFull times old Done new = (times ≡ old.times_full) × (new ≡ old)
-TellsTimesFull times old _ new = ⊥
 
 -- How many spans were made and closed, how many calls were accepted, how many handles and entries all spans have, how
 -- many spans are open, and how many workers there are.

@@ -3,7 +3,8 @@ ghost use Rattle.std.specs.Prelude.{Some};
 ghost use Rattle.span_border.specs.Status.{meant};
 ghost use Rattle.span_ffi.specs.Registry.{OnCore};
 ghost use Rattle.span_border.specs.Ends.{OnHeld, Keeps};
-ghost use Rattle.span_ffi.specs.Calls.{Finds, SeesCurrent, SeesEntry, TellsTimesFull, Counts};
+ghost use Rattle.span_ffi.specs.Calls.{Finds, SeesCurrent, Counts};
+ghost use Rattle.span_ffi.specs.Questions.{SeesEntry, TellsTimesFull};
 
 use crate::data::{SpanCounts, SpanFound};
 use crate::exports::callers::{has_worker, id_of};
