@@ -1,9 +1,14 @@
 //! The calls that give a holder of a span back and tell which spans closed.
-ghost use Rattle.std.specs.Prelude.{◌≡◌, ◌++◌, Some, length, take, drop};
+ghost use Rattle.std.specs.Prelude.{◌≡◌, ◌<◌, ◌++◌, Some, IfErr, OnOk, OnErr, length, take, drop};
+ghost use Rattle.span_forest.specs.declared.span.Holder.TheVariants.{Handle};
+ghost use Rattle.span_forest.specs.Release.{closing_list};
+ghost use Rattle.span_outlet.specs.Request.{exit, exited, try_close, released};
+ghost use Rattle.span_core.specs.Step.{closed_by_exit};
+ghost use Rattle.span_core.specs.Core.{IsAccepted, IsRefused};
 ghost use Rattle.span_border.specs.Status.{meant};
 ghost use Rattle.span_border.specs.Ends.{OnHeld, Keeps};
 ghost use Rattle.span_ffi.specs.Registry.{OnCore};
-ghost use Rattle.span_ffi.specs.Closing.{WritesFirst, ExitsClosing, ReleasesClosing};
+ghost use Rattle.span_ffi.specs.Closing.{WritesFirst, TellsClosed, ExitsClosing, ReleasesClosing};
 
 use crate::exports::callers::{has_worker, id_of};
 use crate::registry::RingCore;
@@ -41,6 +46,24 @@ fn write_first(ids: &[Id], into: &mut [u64])
     write_ids(&ids[..count], into, &mut written);
 }
 
+// A worker leaves a span, and the ids of the spans that close are written.
+fn exit_into(core: &mut RingCore, worker: u32, id: Id, closed: &mut ClosedIds<'_>) -> Result<(), Fault>
+    requires { worker < core.old.limits.workers }
+    ensures same_buffer { closed.new.into.ghost_name ≡ closed.old.into.ghost_name }
+    ensures accepted { OnOk result (IsAccepted core.old (exit worker id)
+        (exited (closed_by_exit core.old.world worker id)) core.new) }
+    ensures told { OnOk result (TellsClosed id (closed_by_exit core.old.world worker id) closed.old.into.now
+        closed.new.into.now closed.new.len core.new) }
+    ensures refused { IfErr result (λ fault. IsRefused core.old (exit worker id) fault core.new) }
+    ensures unwritten { OnErr result (closed.new ≡ closed.old) }
+{
+    the_named_span_closes_first(core);
+    match core.exit_with(worker, id, closed, ClosedIds::write) {
+        Ok(_) => Ok(()),
+        Err(fault) => Err(fault),
+    }
+}
+
 fn exit_closing(core: &mut RingCore, worker: u32, id: u64, into: &mut [u64], len: &mut usize) -> Status
     ensures exited { ExitsClosing worker id into.old into.new len.new core.old result core.new }
     ensures into { Keeps (Some result) into.old into.new }
@@ -52,10 +75,9 @@ fn exit_closing(core: &mut RingCore, worker: u32, id: u64, into: &mut [u64], len
     let Some(id) = id_of(core, id) else {
         return Status::Refused(Fault::Unknown);
     };
-    the_named_span_closes_first(core);
     let mut closed = ClosedIds { into, len: 0 };
-    match core.exit_with(worker, id, &mut closed, ClosedIds::write) {
-        Ok(_) => {
+    match exit_into(core, worker, id, &mut closed) {
+        Ok(()) => {
             *len = closed.len;
             Status::Done
         }
@@ -87,6 +109,24 @@ pub extern "C" fn span_registry_exit_closing(
     status.number()
 }
 
+// A handle of a span is given back, and the ids of the spans that close are written.
+fn try_close_into(core: &mut RingCore, worker: u32, id: Id, closed: &mut ClosedIds<'_>) -> Result<(), Fault>
+    requires { worker < core.old.limits.workers }
+    ensures same_buffer { closed.new.into.ghost_name ≡ closed.old.into.ghost_name }
+    ensures accepted { OnOk result (IsAccepted core.old (try_close worker id)
+        (released (closing_list core.old.world.spans id Handle)) core.new) }
+    ensures told { OnOk result (TellsClosed id (closing_list core.old.world.spans id Handle) closed.old.into.now
+        closed.new.into.now closed.new.len core.new) }
+    ensures refused { IfErr result (λ fault. IsRefused core.old (try_close worker id) fault core.new) }
+    ensures unwritten { OnErr result (closed.new ≡ closed.old) }
+{
+    the_named_span_closes_first(core);
+    match core.try_close_with(worker, id, closed, ClosedIds::write) {
+        Ok(_) => Ok(()),
+        Err(fault) => Err(fault),
+    }
+}
+
 fn try_close_closing(
     core: &mut RingCore,
     worker: u32,
@@ -104,10 +144,9 @@ fn try_close_closing(
     let Some(id) = id_of(core, id) else {
         return Status::Refused(Fault::Unknown);
     };
-    the_named_span_closes_first(core);
     let mut closed = ClosedIds { into, len: 0 };
-    match core.try_close_with(worker, id, &mut closed, ClosedIds::write) {
-        Ok(_) => {
+    match try_close_into(core, worker, id, &mut closed) {
+        Ok(()) => {
             *len = closed.len;
             Status::Done
         }
