@@ -47,7 +47,12 @@ fn write_first(ids: &[Id], into: &mut [u64])
 }
 
 // A worker leaves a span, and the ids of the spans that close are written.
-fn exit_into(core: &mut RingCore, worker: u32, id: Id, closed: &mut ClosedIds<'_>) -> Result<(), Fault>
+fn exit_into(
+    core: &mut RingCore,
+    worker: u32,
+    id: Id,
+    closed: &mut ClosedIds<'_>,
+) -> Result<(), Fault>
     requires { worker < core.old.limits.workers }
     ensures same_buffer { closed.new.into.ghost_name ≡ closed.old.into.ghost_name }
     ensures accepted { OnOk result (IsAccepted core.old (exit worker id)
@@ -64,7 +69,13 @@ fn exit_into(core: &mut RingCore, worker: u32, id: Id, closed: &mut ClosedIds<'_
     }
 }
 
-fn exit_closing(core: &mut RingCore, worker: u32, id: u64, into: &mut [u64], len: &mut usize) -> Status
+fn exit_closing(
+    core: &mut RingCore,
+    worker: u32,
+    id: u64,
+    into: &mut [u64],
+    len: &mut usize,
+) -> Status
     ensures exited { ExitsClosing worker id into.old into.new len.new core.old result core.new }
     ensures into { Keeps (Some result) into.old into.new }
     ensures len { Keeps (Some result) len.old len.new }
@@ -110,7 +121,12 @@ pub extern "C" fn span_registry_exit_closing(
 }
 
 // A handle of a span is given back, and the ids of the spans that close are written.
-fn try_close_into(core: &mut RingCore, worker: u32, id: Id, closed: &mut ClosedIds<'_>) -> Result<(), Fault>
+fn try_close_into(
+    core: &mut RingCore,
+    worker: u32,
+    id: Id,
+    closed: &mut ClosedIds<'_>,
+) -> Result<(), Fault>
     requires { worker < core.old.limits.workers }
     ensures same_buffer { closed.new.into.ghost_name ≡ closed.old.into.ghost_name }
     ensures accepted { OnOk result (IsAccepted core.old (try_close worker id)
