@@ -1,5 +1,4 @@
 pub mod Alike
-pub mod Firsts
 pub mod Found
 pub mod Given
 pub mod Read

@@ -1,33 +1,10 @@
--- Worked cases of what goes into buffers: the first of the closed spans, and the texts of a span with their lengths.
-use Rattle.std.proofs.Common.{◌≡◌, ℕ, refl, ap, List, [], ◌∷◌, length, map, get_or, None, arith}
+-- Worked cases of the texts of a span, and of how they go into buffers with their lengths.
+use Rattle.std.proofs.Common.{◌≡◌, ℕ, refl, List, [], ◌∷◌, length, map, None, arith}
 use Rattle.std.specs.List.{concat}
 use Rattle.span_id.specs.declared.level.Level.TheVariants.{Warn}
 use Rattle.span_forest.specs.Node.{Node, new_node}
 use Rattle.span_border.specs.declared.status.Status.TheVariants.{Done, ShortBuffer, NoLine}
-use Rattle.span_ffi.specs.Closing.{WritesFirst}
 use Rattle.span_ffi.specs.Details.{texts_of, WritesBoth}
-
--- three spans closed, and there is room for two ids
-two_of_three : WritesFirst (5 ∷ 6 ∷ 7 ∷ []) (91 ∷ 92 ∷ []) (5 ∷ 6 ∷ []) 3
-two_of_three = (refl, refl)
-
--- there is room for one more: what stood there stays
-all_of_two : WritesFirst (5 ∷ 6 ∷ []) (91 ∷ 92 ∷ 93 ∷ []) (5 ∷ 6 ∷ 93 ∷ []) 2
-all_of_two = (refl, refl)
-
-none_closed : WritesFirst [] (91 ∷ []) (91 ∷ []) 0
-none_closed = (refl, refl)
-
-no_room : WritesFirst (5 ∷ 6 ∷ []) [] [] 2
-no_room = (refl, refl)
-
--- the last ones aren't the first
-last_two : WritesFirst (5 ∷ 6 ∷ 7 ∷ []) (91 ∷ 92 ∷ []) (6 ∷ 7 ∷ []) 3 → ⊥
-last_two writes = let one = ap (λ (ids : List ℕ). get_or ids 0 0) writes.0 in omega (arith, one)
-
--- it isn't told how many were written
-only_written : WritesFirst (5 ∷ 6 ∷ 7 ∷ []) (91 ∷ 92 ∷ []) (5 ∷ 6 ∷ []) 2 → ⊥
-only_written writes = let len = writes.1 in omega (arith, len)
 
 -- a name of two bytes, an empty target, and a field whose value is empty
 abbrev node : Node

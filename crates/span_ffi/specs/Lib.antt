@@ -4,7 +4,6 @@ pub mod Registry
 pub mod Opening
 pub mod Calls
 pub mod Questions
-pub mod Closing
 pub mod Holding
 pub mod Details
 pub mod Callsites
