@@ -191,14 +191,6 @@ uint32_t span_registry_callsite_wants(SpanRegistry *registry, uint32_t callsite,
 /* SPAN_UNKNOWN where the span isn't open. */
 uint32_t span_registry_find(SpanRegistry *registry, uint64_t id, SpanFound *found);
 
-/* The level and the texts of a span: its name, its target, and the key and the value of each field, one after another,
- * are written to the beginning of a buffer that has room for into_len bytes, and their lengths to the beginning of
- * another that has room for lengths_len numbers. count, len: how many lengths and how many bytes they are, also where
- * either is more than its buffer has room for; then neither is written (SPAN_SHORT_BUFFER). SPAN_UNKNOWN where the span
- * isn't open. */
-uint32_t span_registry_details(SpanRegistry *registry, uint64_t id, uint32_t *level,
-    size_t *lengths, size_t lengths_len, size_t *count, uint8_t *into, size_t into_len, size_t *len);
-
 /* The ids of the open spans, by ascending slot, written to the beginning of a buffer that has room for into_len of
  * them. len: how many they are, also where they are more than that; then nothing is written (SPAN_SHORT_BUFFER). */
 uint32_t span_registry_open_ids(SpanRegistry *registry, uint64_t *into, size_t into_len, size_t *len);

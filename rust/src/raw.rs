@@ -246,17 +246,6 @@ unsafe extern "C" {
     ) -> u32;
     fn span_registry_callsite_wants(registry: *mut SpanRegistry, callsite: u32, wanted: *mut u32) -> u32;
     fn span_registry_find(registry: *mut SpanRegistry, id: u64, found: *mut SpanFound) -> u32;
-    fn span_registry_details(
-        registry: *mut SpanRegistry,
-        id: u64,
-        level: *mut u32,
-        lengths: *mut usize,
-        lengths_len: usize,
-        count: *mut usize,
-        into: *mut u8,
-        into_len: usize,
-        len: *mut usize,
-    ) -> u32;
     fn span_registry_current_span(registry: *mut SpanRegistry, worker: u32, id: *mut u64) -> u32;
     fn span_registry_entry(
         registry: *mut SpanRegistry,

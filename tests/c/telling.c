@@ -1,6 +1,5 @@
-/* The texts of a span, the places of a stack, and how often the ring was full: what goes into buffers, and what of them
- * stays. The last line that it prints is 'N passed, M failed'. It is linked with --wrap=malloc and --wrap=realloc, so
- * that memory can be refused. */
+/* The places of a stack, and how often the ring was full. The last line that it prints is 'N passed, M failed'. It is
+ * linked with --wrap=malloc and --wrap=realloc, so that memory can be refused. */
 #include "checks.h"
 #include "span_registry.h"
 
@@ -32,53 +31,6 @@ static uint64_t make_span(void) {
     CHECK(span_registry_new_span(&registry, 0, SPAN_ROOT, 0, &meta,
         no_fields, 0, (const uint8_t *)"at", 2, &id) == SPAN_OK);
     return id;
-}
-
-/* a span at WARN with two fields, the second without a value */
-static uint64_t make_told(void) {
-    const SpanMeta meta = {1, 4, 2};
-    const SpanField fields[2] = {{1, 3}, {2, 0}};
-    uint64_t id = 0;
-    CHECK(span_registry_new_span(&registry, 0, SPAN_ROOT, 0, &meta, fields, 2, (const uint8_t *)"nametgkvalke", 12, &id)
-        == SPAN_OK);
-    return id;
-}
-
-static void test_details(void) {
-    const SpanField more = {1, 1};
-    size_t lengths[9] = {7, 7, 7, 7, 7, 7, 7, 7, 7}, count = 98, len = 99;
-    const size_t wanted[9] = {4, 2, 1, 3, 2, 0, 1, 1, 7};
-    uint8_t into[20] = "....................";
-    uint32_t level = 9;
-    uint64_t id;
-    open_with_ring(64);
-    id = make_told();
-#define DETAILS(id, room, bytes) \
-    span_registry_details(&registry, id, &level, lengths, room, &count, into, bytes, &len)
-    CHECK(DETAILS(id, 6, 12) == SPAN_OK && level == 1 && count == 6 && len == 12);
-    CHECK(memcmp(lengths, wanted, 6 * sizeof *lengths) == 0 && lengths[6] == 7);
-    CHECK(memcmp(into, "nametgkvalke........", 20) == 0);
-    /* what was recorded stands behind what it was made with */
-    CHECK(span_registry_record(&registry, 0, id, &more, 1, (const uint8_t *)"xy", 2) == SPAN_OK);
-    level = 9;
-    CHECK(DETAILS(id, 7, 20) == SPAN_SHORT_BUFFER && level == 9 && count == 8 && len == 14 && lengths[6] == 7);
-    count = len = 0;
-    CHECK(DETAILS(id, 9, 13) == SPAN_SHORT_BUFFER && level == 9 && count == 8 && len == 14 && lengths[6] == 7);
-    CHECK(DETAILS(id, 0, 0) == SPAN_SHORT_BUFFER && count == 8 && len == 14);
-    CHECK(memcmp(into, "nametgkvalke........", 20) == 0);
-    CHECK(DETAILS(id, 9, 20) == SPAN_OK && level == 1 && count == 8 && len == 14);
-    CHECK(memcmp(lengths, wanted, sizeof lengths) == 0 && memcmp(into, "nametgkvalkexy......", 20) == 0);
-    level = 9, count = 98, len = 99;
-    for (long left = 0; left < 2; left++) {
-        allocations_left = left;
-        CHECK(DETAILS(id, 9, 20) == SPAN_OUT_OF_MEMORY);
-        allocations_left = -1;
-    }
-    CHECK(DETAILS(0, 9, 20) == SPAN_UNKNOWN && DETAILS(id + 1, 9, 20) == SPAN_UNKNOWN);
-    close_both();
-    CHECK(DETAILS(id, 9, 20) == SPAN_EMPTY_HANDLE);
-    CHECK(level == 9 && count == 98 && len == 99 && lengths[0] == 4 && into[0] == 'n');
-#undef DETAILS
 }
 
 static void test_entries(void) {
@@ -127,7 +79,6 @@ static void test_times_full(void) {
 }
 
 int main(void) {
-    test_details();
     test_entries();
     test_times_full();
     printf("%d passed, %d failed\n", passed, failed);

@@ -5,4 +5,3 @@ pub mod Read
 pub mod Told
 mod Examples
 mod DataExamples
-mod TellingExamples

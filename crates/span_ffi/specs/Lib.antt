@@ -5,7 +5,6 @@ pub mod Opening
 pub mod Calls
 pub mod Questions
 pub mod Holding
-pub mod Details
 pub mod Callsites
 pub mod Wants
 pub mod Lines

@@ -3,7 +3,6 @@
 mod abi;
 mod callers;
 mod callsites;
-mod details;
 mod drain;
 mod entries;
 mod events;

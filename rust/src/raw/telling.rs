@@ -1,69 +1,11 @@
-//! What the package itself asks of no registry, since it knows it already: the texts of a span, the places of a stack,
-//! how often the ring was full.
+//! What the package itself asks of no registry, since it knows it already: the places of a stack, how often the ring was
+//! full.
 #![cfg_attr(not(test), allow(dead_code))]
-use super::{span_registry_details, span_registry_entry, span_registry_times_full, Core, SHORT_BUFFER};
+use super::{span_registry_entry, span_registry_times_full, Core};
 use crate::meta::RawId;
-use crate::packed::reserve;
 use crate::refusal::Refusal;
 
-/// How many lengths and bytes there is room for at first.
-const ROOM: (usize, usize) = (16, 256);
-
-/// With what a span was made, and what was recorded of it since.
-#[derive(Debug, PartialEq, Eq)]
-pub(crate) struct Texts {
-    pub(crate) level: u32,
-    lengths: Vec<usize>,
-    bytes: Vec<u8>,
-}
-
-impl Texts {
-    /// The name, the target, and the key and the value of each field.
-    pub(crate) fn all(&self) -> impl Iterator<Item = &str> {
-        let mut left = self.bytes.as_slice();
-        self.lengths.iter().map(move |&length| {
-            let (text, behind) = left.split_at(length);
-            left = behind;
-            std::str::from_utf8(text).expect("the interface gives texts")
-        })
-    }
-}
-
 impl Core {
-    /// With what a span was made, if it is open.
-    pub(crate) fn texts(&mut self, id: RawId) -> Result<Texts, Refusal> {
-        let (mut lengths, mut bytes, mut room) = (Vec::new(), Vec::new(), ROOM);
-        loop {
-            reserve(&mut lengths, room.0)?;
-            reserve(&mut bytes, room.1)?;
-            lengths.resize(room.0, 0);
-            bytes.resize(room.1, 0);
-            let (mut level, mut count, mut length) = (0, 0, 0);
-            // SAFETY: the handle is full and lent to this call alone; both buffers are this call's, with their numbers,
-            // as are the outputs.
-            let status = unsafe {
-                span_registry_details(
-                    &mut self.handle,
-                    id.get(),
-                    &mut level,
-                    lengths.as_mut_ptr(),
-                    lengths.len(),
-                    &mut count,
-                    bytes.as_mut_ptr(),
-                    bytes.len(),
-                    &mut length,
-                )
-            };
-            if status != SHORT_BUFFER {
-                Refusal::of_status(status)?;
-                lengths.truncate(count);
-                bytes.truncate(length);
-                return Ok(Texts { level, lengths, bytes });
-            }
-            room = (room.0.max(count), room.1.max(length));
-        }
-    }
-
     /// The span at a place of a worker's stack, from the lowest on, if there is one; and how many places there are.
     pub(crate) fn entry(&mut self, worker: u32, place: usize) -> Result<(Option<RawId>, usize), Refusal> {
         let (mut id, mut depth) = (0, 0);
@@ -117,24 +59,6 @@ mod tests {
         packed.pack(&[meta.name, meta.target], fields).expect("there is memory");
         let made = core.new_span(0, parent, &meta, &packed);
         made.expect("nothing stands against it").expect("there is no layer")
-    }
-
-    #[test]
-    fn a_span_has_its_texts_also_where_they_are_many_and_long() {
-        let (mut core, _lines) = registry(64);
-        let long = "é".repeat(300);
-        let few = [("key", "value"), ("empty", "")];
-        let many: Vec<(&str, &str)> = (0..20).map(|_| ("key", long.as_str())).collect();
-        for fields in [&[], &few[..], &many[..]] {
-            let id = new_span(&mut core, RawParent::Root, fields);
-            let texts = core.texts(id).expect("it is open");
-            let wanted = ["name", "app::db"].into_iter();
-            let wanted = wanted.chain(fields.iter().flat_map(|&(key, value)| [key, value]));
-            assert!(texts.all().eq(wanted), "{texts:?}");
-            assert_eq!(texts.level, Level::Warn.verbosity());
-            assert_eq!(core.try_close(0, id), Ok(true));
-            assert_eq!(core.texts(id), Err(Refusal::UNKNOWN));
-        }
     }
 
     #[test]
