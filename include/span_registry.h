@@ -209,7 +209,14 @@ uint32_t span_registry_workers_inside(SpanRegistry *registry, uint64_t id, uint3
 /* The topmost span of the worker's stack that it entered first there, and not again. id: 0 where there is none. */
 uint32_t span_registry_current_span(SpanRegistry *registry, uint32_t worker, uint64_t *id);
 
+/* The span at a place of the worker's stack, counted from 0, the one that it entered first; a span that it entered
+ * again stands there again. id: 0 where there is no such place. depth: how many places there are. */
+uint32_t span_registry_entry(SpanRegistry *registry, uint32_t worker, size_t place, uint64_t *id, size_t *depth);
+
 uint32_t span_registry_counts(SpanRegistry *registry, SpanCounts *counts);
+
+/* How often a call was refused with SPAN_BACKLOG. The number stays at its greatest value. */
+uint32_t span_registry_times_full(SpanRegistry *registry, uint64_t *times);
 
 /* The next line, which is UTF-8, without a newline; the rest of the buffer stays as it was. Where none is at hand,
  * batches are taken out of the ring until one is, also where the status is SPAN_NO_LINE or SPAN_SHORT_BUFFER then. A

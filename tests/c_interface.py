@@ -30,6 +30,7 @@ PROGRAMS = [
     ("span_registry", WRAPS, CHECKED),
     ("callsites", WRAPS, CHECKED),
     ("holding", WRAPS, CHECKED),
+    ("telling", WRAPS, CHECKED),
     ("strangers", [], CHECKED),
     ("million", WRAPS, AT_SPEED),
 ]

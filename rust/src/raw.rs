@@ -5,6 +5,7 @@ mod abi;
 mod calls;
 mod lines;
 mod queries;
+mod telling;
 
 pub(crate) use calls::{Core, Start};
 pub(crate) use lines::{Lines, Next};
@@ -246,6 +247,14 @@ unsafe extern "C" {
     fn span_registry_callsite_wants(registry: *mut SpanRegistry, callsite: u32, wanted: *mut u32) -> u32;
     fn span_registry_find(registry: *mut SpanRegistry, id: u64, found: *mut SpanFound) -> u32;
     fn span_registry_current_span(registry: *mut SpanRegistry, worker: u32, id: *mut u64) -> u32;
+    fn span_registry_entry(
+        registry: *mut SpanRegistry,
+        worker: u32,
+        place: usize,
+        id: *mut u64,
+        depth: *mut usize,
+    ) -> u32;
+    fn span_registry_times_full(registry: *mut SpanRegistry, times: *mut u64) -> u32;
     fn span_registry_counts(registry: *mut SpanRegistry, counts: *mut SpanCounts) -> u32;
     fn span_registry_open_ids(registry: *mut SpanRegistry, into: *mut u64, into_len: usize, len: *mut usize) -> u32;
     fn span_registry_holders_of(

@@ -3,6 +3,7 @@ pub mod Data
 pub mod Registry
 pub mod Opening
 pub mod Calls
+pub mod Questions
 pub mod Holding
 pub mod Callsites
 pub mod Wants

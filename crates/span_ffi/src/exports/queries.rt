@@ -4,6 +4,7 @@ ghost use Rattle.span_border.specs.Status.{meant};
 ghost use Rattle.span_ffi.specs.Registry.{OnCore};
 ghost use Rattle.span_border.specs.Ends.{OnHeld, Keeps};
 ghost use Rattle.span_ffi.specs.Calls.{Finds, SeesCurrent, Counts};
+ghost use Rattle.span_ffi.specs.Questions.{SeesEntry, TellsTimesFull};
 
 use crate::data::{SpanCounts, SpanFound};
 use crate::exports::callers::{has_worker, id_of};
@@ -80,6 +81,62 @@ pub extern "C" fn span_registry_current_span(
     let status = current_span(&held.core, worker, id);
     registry.put(held);
     status.number()
+}
+
+fn entry(core: &RingCore, worker: u32, place: usize, id: &mut u64, depth: &mut usize) -> Status
+    ensures entry { SeesEntry worker place id.new depth.new core.now result core.now }
+    ensures id { Keeps (Some result) id.old id.new }
+    ensures depth { Keeps (Some result) depth.old depth.new }
+{
+    if !has_worker(core, worker) {
+        return Status::NoSuchWorker;
+    }
+    let stack = core.stack(worker);
+    *id = id_number(stack.get(place));
+    *depth = stack.len();
+    Status::Done
+}
+
+/// The span at a place of a worker's stack, counted from the lowest, which is 0; the id is 0 where the stack has no
+/// such place. It also tells how many entries the stack has. A span that was entered again stands there again.
+#[unsafe(no_mangle)]
+pub extern "C" fn span_registry_entry(
+    alloc: Global,
+    registry: &mut SpanRegistry,
+    worker: u32,
+    place: usize,
+    id: &mut u64,
+    depth: &mut usize,
+) -> u32
+    ensures entry { OnHeld registry.old.held (OnCore (SeesEntry worker place id.new depth.new)) (meant result)
+        registry.new.held }
+    ensures id { Keeps (meant result) id.old id.new }
+    ensures depth { Keeps (meant result) depth.old depth.new }
+{
+    let Some(held) = registry.take(alloc) else {
+        return Status::EmptyHandle.number();
+    };
+    let status = entry(&held.core, worker, place, id, depth);
+    registry.put(held);
+    status.number()
+}
+
+/// How often a call found no place in the ring. It stays at its greatest value.
+#[unsafe(no_mangle)]
+pub extern "C" fn span_registry_times_full(
+    alloc: Global,
+    registry: &mut SpanRegistry,
+    times: &mut u64,
+) -> u32
+    ensures times { OnHeld registry.old.held (OnCore (TellsTimesFull times.new)) (meant result) registry.new.held }
+    ensures kept { Keeps (meant result) times.old times.new }
+{
+    let Some(held) = registry.take(alloc) else {
+        return Status::EmptyHandle.number();
+    };
+    *times = held.core.outlet().times_full();
+    registry.put(held);
+    Status::Done.number()
 }
 
 fn counts_of(core: &RingCore) -> SpanCounts

@@ -1,0 +1,22 @@
+-- What is told of a worker's stack and of the ring.
+use Rattle.std.specs.Prelude.{◌≡◌, ℕ, length, slice_get}
+use Rattle.span_core.specs.World.{stack_of}
+use Rattle.span_core.specs.Core.{CoreView}
+use Rattle.span_border.specs.declared.status.Status.{Status}
+use Rattle.span_border.specs.declared.status.Status.TheVariants.{Done, NoSuchWorker}
+use Rattle.span_border.specs.Numbers.{id_number}
+use Rattle.span_ffi.specs.Calls.{HasWorker, LacksWorker}
+
+-- the span at a place of a worker's stack, counted from the lowest, 0 where the stack has no such place; and how many
+-- entries the stack has
+abbrev pub SeesEntry : ℕ → ℕ → ℕ → ℕ → CoreView → Status → CoreView → Type 0
+SeesEntry worker place id depth old Done new =
+    HasWorker old worker × (id ≡ id_number (slice_get (stack_of old.world worker) place))
+    × (depth ≡ length (stack_of old.world worker)) × (new ≡ old)
+SeesEntry worker place id depth old NoSuchWorker new = LacksWorker old worker new
+SeesEntry worker place id depth old _ new = ⊥
+
+-- how often a call found no place in the ring
+abbrev pub TellsTimesFull : ℕ → CoreView → Status → CoreView → Type 0
+TellsTimesFull times old Done new = (times ≡ old.times_full) × (new ≡ old)
+TellsTimesFull times old _ new = ⊥

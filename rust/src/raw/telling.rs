@@ -1,0 +1,88 @@
+//! What the package itself asks of no registry, since it knows it already: the places of a stack, how often the ring was
+//! full.
+#![cfg_attr(not(test), allow(dead_code))]
+use super::{span_registry_entry, span_registry_times_full, Core};
+use crate::meta::RawId;
+use crate::refusal::Refusal;
+
+impl Core {
+    /// The span at a place of a worker's stack, from the lowest on, if there is one; and how many places there are.
+    pub(crate) fn entry(&mut self, worker: u32, place: usize) -> Result<(Option<RawId>, usize), Refusal> {
+        let (mut id, mut depth) = (0, 0);
+        // SAFETY: the handle is full and lent to this call alone, and both outputs are this call's.
+        Refusal::of_status(unsafe { span_registry_entry(&mut self.handle, worker, place, &mut id, &mut depth) })?;
+        Ok((RawId::from_u64(id), depth))
+    }
+
+    /// How often a call was refused for want of a place in the ring.
+    pub(crate) fn times_full(&mut self) -> u64 {
+        let mut times = 0;
+        // SAFETY: the handle is full and lent to this call alone, and `times` is this call's.
+        let status = unsafe { span_registry_times_full(&mut self.handle, &mut times) };
+        debug_assert_eq!(status, super::OK);
+        times
+    }
+}
+
+#[cfg(test)]
+mod tests {
+    use super::super::{Core, Lines, SpanLimits, Start};
+    use crate::level::Level;
+    use crate::meta::{Meta, RawId, RawParent};
+    use crate::packed::Packed;
+    use crate::refusal::Refusal;
+
+    fn registry(ring: u32) -> (Core, Lines) {
+        let limits = SpanLimits {
+            slots: 16,
+            last_generation: 9,
+            max_count: 9,
+            workers: 2,
+            ring,
+        };
+        let start = Start {
+            limits,
+            layers: &[],
+            rules: &[],
+            texts: &[],
+        };
+        Core::new(&start).expect("the limits are in their ranges")
+    }
+
+    fn new_span(core: &mut Core, parent: RawParent, fields: &[(&str, &str)]) -> RawId {
+        let meta = Meta {
+            name: "name",
+            target: "app::db",
+            level: Level::Warn,
+        };
+        let mut packed = Packed::default();
+        packed.pack(&[meta.name, meta.target], fields).expect("there is memory");
+        let made = core.new_span(0, parent, &meta, &packed);
+        made.expect("nothing stands against it").expect("there is no layer")
+    }
+
+    #[test]
+    fn a_stack_has_a_place_for_each_entry() {
+        let (mut core, _lines) = registry(64);
+        let first = new_span(&mut core, RawParent::Root, &[]);
+        let second = new_span(&mut core, RawParent::Root, &[]);
+        for id in [first, second, first] {
+            core.enter(1, id).expect("nothing stands against it");
+        }
+        let places = [Some(first), Some(second), Some(first), None];
+        for (place, id) in places.into_iter().enumerate() {
+            assert_eq!(core.entry(1, place), Ok((id, 3)));
+        }
+        assert_eq!(core.entry(0, 0), Ok((None, 0)));
+    }
+
+    #[test]
+    fn each_want_of_a_place_is_counted() {
+        let (mut core, _lines) = registry(1);
+        let id = new_span(&mut core, RawParent::Root, &[]);
+        for times in 0..3 {
+            assert_eq!(core.times_full(), times);
+            assert_eq!(core.try_close(0, id), Err(Refusal::BACKLOG));
+        }
+    }
+}
