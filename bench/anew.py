@@ -1,14 +1,14 @@
 #!/usr/bin/env python3
 """Measures the figures of the pages anew: each file of bench/figures is written by one command, which stands here.
 
-usage: anew.py [--list] [--old CHECKOUT] [--plain PROGRAM] KIND|NAME..
+usage: anew.py [--list] [--old CHECKOUT] [--plain PROGRAM] [--before PROGRAM] KIND|NAME..
 
 NAME is one of the files, without its end, and KIND one of
 - timed: with nothing else at work;
 - counted: whatever else is at work;
 - fresh: in a fresh clone, on a machine that has proved nothing of it, with nothing else at work.
 CHECKOUT and PROGRAM are those of bench/run: the start's checkout, and the workloads in plain Rust, which are no part of
-the repository. A file whose command needs one that isn't given isn't measured, and that is said. With --list the
+the repository; of --before it is the tracerun of d36657c9, before lines shared metas. A file whose command needs one that isn't given isn't measured, and that is said. With --list the
 commands are shown, with about how many minutes each takes. tests/figures.py --write and tests/pictures.py --write then
 take the figures to the pages. The last line is 'N measured, M failed'.
 """
@@ -45,6 +45,7 @@ COMMANDS = [
     Command("tracing", "counted", 10, "bench/tracing.py instructions --figures"),
     Command("tracing-registry", "counted", 2, "bench/tracing.py proved --figures"),
     Command("store-calls package-round", "counted", 1, "bench/instructions.py --figures"),
+    Command("replays", "counted", 2, "bench/instructions.py --old {before} --figures replays"),
     Command("long-run", "counted", 12, "tests/soak.py --minutes 10 --figures"),
     Command("stress stress-original tests-of-the-original", "counted", 75,
             "tests/tracing.py --seconds 3600 --figures"),
@@ -71,7 +72,7 @@ def measured(command, given):
     """Whether a command was run and ended well."""
     line = line_of(command, given)
     if line is None:
-        print(f"anew.py: {command.names}: not measured, for want of --old or --plain: {command.words}", flush=True)
+        print(f"anew.py: {command.names}: not measured, for want of --old, --plain or --before: {command.words}", flush=True)
         return False
     print(f"== {command.names}: {shlex.join(line)}", flush=True)
     begun = time.monotonic()
@@ -86,10 +87,11 @@ def main():
     parser.add_argument("--list", action="store_true")
     parser.add_argument("--old", metavar="CHECKOUT", type=Path)
     parser.add_argument("--plain", metavar="PROGRAM", type=Path)
+    parser.add_argument("--before", metavar="PROGRAM", type=Path)
     asked = parser.parse_args()
     if unknown := set(asked.names) - {*KINDS, *NAMES}:
         parser.error(f"there is no {' and no '.join(sorted(unknown))}")
-    given = {name: at.resolve() for name, at in (("old", asked.old), ("plain", asked.plain)) if at}
+    given = {name: at.resolve() for name, at in (("old", asked.old), ("plain", asked.plain), ("before", asked.before)) if at}
     chosen = [it for it in COMMANDS if {it.kind, *it.names.split()} & set(asked.names)]
     if asked.list:
         for it in chosen or COMMANDS:
