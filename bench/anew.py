@@ -8,8 +8,8 @@ NAME is one of the files, without its end, and KIND one of
 - counted: whatever else is at work;
 - fresh: in a fresh clone, on a machine that has proved nothing of it, with nothing else at work.
 CHECKOUT and PROGRAM are those of bench/run: the start's checkout, and the workloads in plain Rust, which are no part of
-the repository; of --before it is the tracerun of d36657c9, before lines shared metas. A file whose command needs one that isn't given isn't measured, and that is said. With --list the
-commands are shown, with about how many minutes each takes. tests/figures.py --write and tests/pictures.py --write then
+the repository; of --before it is the tracerun of d36657c9, before lines shared metas. A file whose command needs one
+that isn't given isn't measured, and that is said. With --list the commands are shown, with about how many minutes each takes. tests/figures.py --write and tests/pictures.py --write then
 take the figures to the pages. The last line is 'N measured, M failed'.
 """
 import argparse
@@ -72,7 +72,8 @@ def measured(command, given):
     """Whether a command was run and ended well."""
     line = line_of(command, given)
     if line is None:
-        print(f"anew.py: {command.names}: not measured, for want of --old, --plain or --before: {command.words}", flush=True)
+        wanted = "for want of --old, --plain or --before"
+        print(f"anew.py: {command.names}: not measured, {wanted}: {command.words}", flush=True)
         return False
     print(f"== {command.names}: {shlex.join(line)}", flush=True)
     begun = time.monotonic()
@@ -91,7 +92,8 @@ def main():
     asked = parser.parse_args()
     if unknown := set(asked.names) - {*KINDS, *NAMES}:
         parser.error(f"there is no {' and no '.join(sorted(unknown))}")
-    given = {name: at.resolve() for name, at in (("old", asked.old), ("plain", asked.plain), ("before", asked.before)) if at}
+    named = {"old": asked.old, "plain": asked.plain, "before": asked.before}
+    given = {name: at.resolve() for name, at in named.items() if at}
     chosen = [it for it in COMMANDS if {it.kind, *it.names.split()} & set(asked.names)]
     if asked.list:
         for it in chosen or COMMANDS:

@@ -7,8 +7,8 @@ usage: instructions.py [--store FILE] [--library FILE] [--figures] [store-calls]
        instructions.py --old PROGRAM [--program PROGRAM] [--figures] replays
 
 With no name the first two are counted. FILE are the libraries that `rt lib` leaves in crates/span_store_ffi and
-crates/span_ffi, PROGRAM the tracerun of the earlier build, and that of this checkout if it isn't given. With --figures the
-counts go to bench/figures/NAME.json, from where tests/figures.py takes them to the pages.
+crates/span_ffi, PROGRAM the tracerun of the earlier build, and that of this checkout if it isn't given. With --figures
+the counts go to bench/figures/NAME.json, from where tests/figures.py takes them to the pages.
 """
 import argparse
 import os
