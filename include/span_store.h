@@ -77,7 +77,8 @@ uint32_t span_store_new(SpanStore *store, uint32_t slots, uint32_t last_generati
 uint32_t span_store_free(SpanStore *store);
 
 /* Every call from here on is refused with SPAN_STORE_EMPTY_HANDLE where the handle is empty, before all else, and those
- * with an id with SPAN_STORE_UNKNOWN where the number is no id, or the id of a span that ended or never was. */
+ * with an id, but span_store_next, with SPAN_STORE_UNKNOWN where the number is no id, or the id of a span that ended
+ * or never was. */
 
 /* A span with one handle, under a parent, which it holds until it ended, or under none where that is 0. bits and word
  * are the caller's, and stay as they are. Writes its id.

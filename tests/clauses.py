@@ -70,6 +70,10 @@ class Spec:
                     inner = re.match(r"^  ([\w']+) :", line)
                     if inner and current.kind == "data":
                         self.inner[inner.group(1)] = current.name
+            elif line.startswith("}"):
+                # (the end of a record stands behind its last field)
+                if current is not None:
+                    current.lines[-1] += " " + line
             else:
                 m = HEAD.match(line)
                 if not m or line.startswith(("pub mod", "pub use", "mod ")):

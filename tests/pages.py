@@ -146,9 +146,16 @@ def versions(pages):
     version = re.search(r'\.version\("(.*)"\)', of)[1]
     newest = re.search(r"^## (\S+)", pages["CHANGELOG.md"], flags=re.M)[1]
     yield newest == version, f"CHANGELOG.md begins with {newest}, and the version is {version}"
-    for name in ("rust/Cargo.toml", "rust/tracing/Cargo.toml"):
+    for name in ("rust/Cargo.toml", "rust/Cargo.lock", "rust/tracing/Cargo.toml"):
         text = TOP.joinpath(name).read_text(encoding="utf-8")
         yield f'\nversion = "{version}"\n' in text, f"{name}: its version isn't {version}"
+
+
+def first_program(pages):
+    """README's first program is the one that tests/tracing.py runs."""
+    first = re.search(r"^```rust\n(.*?)^```$", pages["README.md"], flags=re.M | re.S)[1]
+    run = TOP.joinpath("tests/tracing/programs/src/bin/readme.rs").read_text(encoding="utf-8")
+    yield first == run, "README.md's first program isn't tests/tracing/programs/src/bin/readme.rs"
 
 
 def show_words(pages):
@@ -165,7 +172,8 @@ def main():
     if sys.argv[1:] not in ([], ["--words"]):
         sys.exit(__doc__)
     pages, passed, failed = read_pages(), 0, 0
-    for is_good, said in (it for look in (lengths, links, repeated, long_sentences, crates, versions) for it in look(pages)):
+    looks = lengths, links, repeated, long_sentences, crates, versions, first_program
+    for is_good, said in (it for look in looks for it in look(pages)):
         passed, failed = passed + is_good, failed + (not is_good)
         if not is_good:
             print(f"FAILED {said}")

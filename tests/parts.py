@@ -29,6 +29,7 @@ from typing import NamedTuple
 TOP = Path(__file__).resolve().parent.parent
 COUNTS = re.compile(r"(\d+) passed, (\d+) failed\b")
 MEMORY_OF_A_CHECK = 5 << 30
+C_COMPILER = os.environ.get("CC", "cc")
 
 
 class Part(NamedTuple):
@@ -79,8 +80,8 @@ PARTS = [
          "python3 tests/refused_calls.py --hostile-use {hostile_use}"),
     Part("the pages' commands on the programs", "tracerun workloads span_benchmark",
          "python3 tests/run_commands.py programs"),
-    Part("the C interface", "span_ffi valgrind", "python3 tests/c_interface.py --library {span_ffi}"),
-    Part("the C interface of the store", "span_store_ffi valgrind",
+    Part("the C interface", f"span_ffi valgrind {C_COMPILER}", "python3 tests/c_interface.py --library {span_ffi}"),
+    Part("the C interface of the store", f"span_store_ffi valgrind {C_COMPILER}",
          "python3 tests/c_store.py --library {span_store_ffi}"),
     Part("tracing over the store and over the registry", "span_store_ffi span_ffi cargo",
          "python3 tests/tracing.py --library {span_store_ffi} --registry-library {span_ffi}"),

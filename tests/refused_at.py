@@ -5,8 +5,8 @@ usage: refused_at.py [--jobs N] crates/NAME/must-fail/WHAT.edit..
 
 Each edit is made in a copy of the sources, where `rt check --only FUNCTION` has to leave the goal open that the line
 `# refused at: FUNCTION GOAL` names. What the check says of an edit that is not refused so is shown: with `?` for the
-goal it tells the goals. The last line is 'N passed, M failed'. No part of `./check`, in which `rt ci` tries the
-edits.
+goal it tells the goals. The last line is 'N passed, M failed'. `./check` runs it on one edit, and tries all by
+`rt ci`.
 """
 import argparse
 import re

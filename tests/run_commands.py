@@ -82,7 +82,7 @@ PROGRAMS = {
     "python3 tests/soak.py --minutes 10": Run("python3 tests/soak.py --minutes 0.01 --storms 1", GOOD),
     "python3 bench/anew.py --list": Run(prints="bench/calls.py --figures"),
     "python3 bench/anew.py timed --old /tmp/old --plain PROGRAM": Run("python3 bench/anew.py timed --list"),
-    "python3 bench/anew.py counted": Run("python3 bench/anew.py counted --list"),
+    "python3 bench/anew.py counted --before BEFORE": Run("python3 bench/anew.py counted --list"),
     "python3 tests/figures.py --write && python3 tests/pictures.py --write": Run(prints=GOOD),
     "tests/figures.py --write": Run("python3 tests/figures.py --write", GOOD),
     "tests/theorem.py --write": Run("python3 tests/theorem.py --write", GOOD),

@@ -42,7 +42,7 @@ BESIDE = [
 END = """## What it does not say
 - That a call returns, that a lock is got, which worker comes first, or that a thread runs. The printing thread takes no
   lock: no function that may wait is called there, which the counts in `crates.txt` show.
-- That memory or a place in the ring was there: a call may be refused for want of either, and changes nothing then.
+- That memory or a place in the ring was there: a call may be refused for want of either, and changes no span then.
 - *Announced* means put into the batch that the call sends. A note of a batch may have no line: where its layer has no
   form, where its number is past the range, or where memory for its text is refused. Such notes are counted.
 - Anything of the toolchain's logic and compiler, the C library and the hardware, which are trusted.

@@ -237,6 +237,8 @@ def compare_texts(original, ours, count):
     text, our_status = run(ours / "texts")
     count.check(status == 0 and our_status == 0 and len(theirs.splitlines()) > 300, "texts runs over both")
     count.check(theirs == text, "fmt, EnvFilter, JSON, reload and tracing-log write the same text over both")
+    theirs, text = (run(side / "readme")[0] for side in (original, ours))
+    count.check(theirs == text and len(text.splitlines()) == 1, f"README's program over both: {theirs!r}, {text!r}")
 
 
 def check_run(count, whose, program, words, seconds, fault=None):

@@ -113,7 +113,7 @@ impl Targets {
     }
 }
 
-/// The text that [`FromStr`] reads to the same targets.
+/// The text that [`FromStr`] reads to the same targets, where no prefix has commas, `=`, `[`, or blanks at its ends.
 impl fmt::Display for Targets {
     fn fmt(&self, f: &mut fmt::Formatter<'_>) -> fmt::Result {
         if self.pairs.is_empty() {

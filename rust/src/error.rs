@@ -4,11 +4,11 @@ use crate::meta::MOST_PARTS;
 use crate::raw;
 use std::fmt;
 
-/// Why a call was refused. A refused call changed nothing.
+/// Why a call was refused. A refused call did nothing of its own.
 ///
 /// Of several reasons the first in the order `BadName`, `Unknown`, `CountFull`, `Full`, `NotEntered`, `Backlog` is
 /// answered; want of memory may come before any of them. While something is owed (see [`Span`](crate::Span)), what
-/// stands in the way of that comes before all others but `OtherRegistry`.
+/// stands in the way of that comes before all others but `OtherRegistry` and a name that is too long to be written.
 ///
 /// Its text begins with the registry's own word for the refusal, and then says what to do.
 #[derive(Clone, Copy, Debug, PartialEq, Eq, Hash)]

@@ -4,7 +4,7 @@
 /// The kind of a field's value, whose text it comes with.
 ///
 /// The macros tell it by the value's type: whole numbers, floating point numbers and `bool`, and references to these.
-/// All else is text, and so is what methods are given.
+/// All else is text, and so is what methods are given, but for the number that `follows_from` tells.
 #[derive(Clone, Copy, Debug, Default, PartialEq, Eq, Hash)]
 pub enum Kind {
     /// Any text.

@@ -392,7 +392,7 @@ impl Registry {
         self.parts().counts()
     }
 
-    /// Does what dropped guards, dropped spans and ended threads left to be done, in order. Each other call does this
+    /// Does what dropped guards, dropped spans and ended threads left to be done, in order. Each call on spans does this
     /// first.
     ///
     /// # Errors

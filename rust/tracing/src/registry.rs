@@ -14,7 +14,7 @@ use tracing_subscriber::Layer;
 
 type Store = tracing_subscriber::Registry;
 
-/// How many spans may be open, and how many threads may call, of a default registry.
+/// How many spans may be open, and how many threads may be inside spans at once, of a default registry.
 const SLOTS: u32 = 65_536;
 const THREADS: u32 = 256;
 /// How many batches the ring holds, and after how many calls it is emptied: there is no layer that reads them.
@@ -88,7 +88,7 @@ impl Drop for Leaving<'_> {
 }
 
 impl Default for ProvedRegistry {
-    /// Room for 65,536 spans at once and for 256 threads.
+    /// Room for 65,536 spans at once, and for 256 threads inside spans at once.
     ///
     /// # Panics
     /// Where there is no memory for it.
@@ -102,7 +102,7 @@ fn slot_of(id: span_registry::Id) -> usize {
 }
 
 impl ProvedRegistry {
-    /// So many spans may be open at once (1 to 2^24), and so many threads may call (1 to 65,536).
+    /// So many spans may be open at once (1 to 2^24), and so many threads may be inside spans at once (1 to 65,536).
     pub fn new(slots: u32, threads: u32) -> Result<ProvedRegistry, Error> {
         let (registry, drain) = Registry::builder().slots(slots).workers(threads).ring(RING).build()?;
         let site = registry.callsite(&Meta::new(Level::Info, "", "span"))?;
