@@ -70,7 +70,7 @@ printf 'fn it: proved\nso far: 2 of 2 functions checked\nlogic=proved functions=
 UNPROVED = "tracerun: this run is unproved: "
 NOT_YET = f"{UNPROVED}the program is not proved on this machine yet"
 PROVES_IT = "; ./tracerun --prove proves it\n"
-TELLS = f"; rt try compiles it first, each time anew{PROVES_IT}"
+TELLS = f"; rt try compiles it first, each time anew, and looks for no races of threads{PROVES_IT}"
 FAULT = "line 1: not JSON\n"
 NO_ANSWER = "tracerun: rt try gives no answer"
 
