@@ -142,6 +142,14 @@ uint32_t span_registry_exit(SpanRegistry *registry, uint32_t worker, uint64_t id
 /* Gives a handle back. closed: 1 where the span closed, else 0. */
 uint32_t span_registry_try_close(SpanRegistry *registry, uint32_t worker, uint64_t id, uint32_t *closed);
 
+/* As span_registry_exit and span_registry_try_close, and the spans that closed are told: their ids, child first, are
+ * written to the beginning of a buffer that has room for into_len of them. len: how many closed, 0 where none did. What
+ * is done can't be undone: of more than into_len the first ones are written, and the status is SPAN_OK. */
+uint32_t span_registry_exit_closing(SpanRegistry *registry, uint32_t worker, uint64_t id,
+    uint64_t *into, size_t into_len, size_t *len);
+uint32_t span_registry_try_close_closing(SpanRegistry *registry, uint32_t worker, uint64_t id,
+    uint64_t *into, size_t into_len, size_t *len);
+
 /* Appends fields. texts: each key and its value. */
 uint32_t span_registry_record(SpanRegistry *registry, uint32_t worker, uint64_t id,
     const SpanField *fields, size_t fields_len, const uint8_t *texts, size_t texts_len);

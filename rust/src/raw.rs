@@ -162,6 +162,22 @@ unsafe extern "C" {
     fn span_registry_enter(registry: *mut SpanRegistry, worker: u32, id: u64, first: *mut u32) -> u32;
     fn span_registry_exit(registry: *mut SpanRegistry, worker: u32, id: u64, closed: *mut u32) -> u32;
     fn span_registry_try_close(registry: *mut SpanRegistry, worker: u32, id: u64, closed: *mut u32) -> u32;
+    fn span_registry_exit_closing(
+        registry: *mut SpanRegistry,
+        worker: u32,
+        id: u64,
+        into: *mut u64,
+        into_len: usize,
+        len: *mut usize,
+    ) -> u32;
+    fn span_registry_try_close_closing(
+        registry: *mut SpanRegistry,
+        worker: u32,
+        id: u64,
+        into: *mut u64,
+        into_len: usize,
+        len: *mut usize,
+    ) -> u32;
     fn span_registry_record(
         registry: *mut SpanRegistry,
         worker: u32,

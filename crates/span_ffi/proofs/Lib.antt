@@ -1,7 +1,9 @@
 pub mod Alike
+pub mod Firsts
 pub mod Found
 pub mod Given
 pub mod Read
 pub mod Told
 mod Examples
 mod DataExamples
+mod TellingExamples

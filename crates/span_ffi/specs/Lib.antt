@@ -4,6 +4,7 @@ pub mod Registry
 pub mod Opening
 pub mod Calls
 pub mod Questions
+pub mod Closing
 pub mod Holding
 pub mod Callsites
 pub mod Wants

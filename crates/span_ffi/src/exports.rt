@@ -3,6 +3,7 @@
 mod abi;
 mod callers;
 mod callsites;
+mod closing;
 mod drain;
 mod entries;
 mod events;
