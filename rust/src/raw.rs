@@ -3,11 +3,13 @@
 //! All unsafe code of this crate is in this module.
 mod abi;
 mod calls;
+mod closing;
 mod lines;
 mod queries;
 mod telling;
 
 pub(crate) use calls::{Core, Start};
+pub(crate) use closing::Closed;
 pub(crate) use lines::{Lines, Next};
 
 use std::ffi::c_void;
@@ -162,6 +164,22 @@ unsafe extern "C" {
     fn span_registry_enter(registry: *mut SpanRegistry, worker: u32, id: u64, first: *mut u32) -> u32;
     fn span_registry_exit(registry: *mut SpanRegistry, worker: u32, id: u64, closed: *mut u32) -> u32;
     fn span_registry_try_close(registry: *mut SpanRegistry, worker: u32, id: u64, closed: *mut u32) -> u32;
+    fn span_registry_exit_closing(
+        registry: *mut SpanRegistry,
+        worker: u32,
+        id: u64,
+        into: *mut u64,
+        into_len: usize,
+        len: *mut usize,
+    ) -> u32;
+    fn span_registry_try_close_closing(
+        registry: *mut SpanRegistry,
+        worker: u32,
+        id: u64,
+        into: *mut u64,
+        into_len: usize,
+        len: *mut usize,
+    ) -> u32;
     fn span_registry_record(
         registry: *mut SpanRegistry,
         worker: u32,
