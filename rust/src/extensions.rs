@@ -15,9 +15,10 @@ use std::sync::Arc;
 ///
 /// The registry lets go of a value exactly when its span has closed, whatever closed it, and before the call ends that
 /// did: a drop, an exit, the close of its last child, the end of a thread, or, where that was owed, the call that came
-/// to it. Who has got an `Arc` of a value keeps that as long as they like. Nothing of the program's runs under a lock: a
-/// value's `Drop` may call the registry, also that of another span's handle. Where it panics, the panic ends there, and
-/// the call goes on.
+/// to it. Who has got an `Arc` of a value keeps that as long as they like.
+///
+/// Nothing of the program's runs under a lock, so a value's `Drop` may call the registry, and drop other spans. Where
+/// it panics, the panic ends there, and the call goes on.
 ///
 /// Values are shared, so one that is to change has a `Mutex` or an atomic inside. One that has a handle of its own span
 /// keeps that open for ever, and one that has a clone of the registry keeps that until the span closes.

@@ -133,7 +133,7 @@ impl Part {
 
     /// Runs a call under the lock. No code of the program's runs there but its global allocator, which must not call
     /// the registry. So where a thread panicked with the lock, it was between two calls of the registry, each of which
-    /// is done whole or refused: the poison says nothing.
+    /// is done whole or refused: the poison says nothing. What spans carried that closed is dropped behind it.
     #[inline(always)]
     pub(crate) fn with<T>(&self, call: impl FnOnce(&mut State) -> T) -> T {
         let mut state = self.lock();
