@@ -48,11 +48,8 @@ impl Drop for Hostile {
             carry(&next, &self.registry, &self.shelf, self.depth - 1, None);
         }
         next.in_scope(|| drop(self.kept.take()));
-        drop((
-            self.registry.counts(),
-            self.registry.current_span(),
-            self.registry.open_spans(),
-        ));
+        let of_next = next.id().map(|id| self.registry.open_span(id));
+        drop((self.registry.counts(), self.registry.current_span(), of_next));
         if self.depth % 2 == 1 {
             panic!("on purpose");
         }
@@ -106,7 +103,10 @@ fn run(registry: &Registry, shelf: &Arc<Shelf>, steps: u32) {
         for seed in 1..=8 {
             scope.spawn(move || {
                 let mut random = Random(seed << 20 | 7);
-                (0..steps).for_each(|_| step(registry, shelf, &mut random));
+                for _ in 0..steps {
+                    // Where the thread itself is the last to have a value, that panics here.
+                    let _may_panic = catch_unwind(AssertUnwindSafe(|| step(registry, shelf, &mut random)));
+                }
             });
         }
     });
@@ -120,14 +120,28 @@ fn run(registry: &Registry, shelf: &Arc<Shelf>, steps: u32) {
     }
 }
 
+/// Threads that have ended, and whoever reads, may be about to drop the last ones.
+fn wait_until_none_is_there(registry: &Registry, shelf: &Shelf) {
+    for _ in 0..24_000 {
+        let counts = registry.counts();
+        if (counts.open, counts.owed, shelf.alive.load(Ordering::Relaxed)) == (0, 0, 0) {
+            break;
+        }
+        thread::sleep(Duration::from_millis(5));
+    }
+    assert_empty(registry);
+    assert_eq!(shelf.alive.load(Ordering::Relaxed), 0);
+}
+
 #[test]
 fn eight_threads_whose_values_are_hostile_leave_nothing() {
     hush();
-    for (parts, ring, on_full) in [
-        (1, 16, OnFull::DropOldest),
-        (3, 4, OnFull::DropOldest),
-        (1, 1, OnFull::Wait),
-        (2, 64, OnFull::Refuse),
+    for (parts, ring, on_full, steps) in [
+        (1, 16, OnFull::DropOldest, 400),
+        (3, 4, OnFull::DropOldest, 400),
+        // Each call waits for the reader.
+        (1, 1, OnFull::Wait, 20),
+        (2, 64, OnFull::Refuse, 400),
     ] {
         let builder = compact()
             .parts(parts)
@@ -137,17 +151,9 @@ fn eight_threads_whose_values_are_hostile_leave_nothing() {
             .on_full(on_full);
         let (registry, mut drain) = builder.build().expect("it fits");
         let reading = thread::spawn(move || drain.run(&mut io::sink()));
-        let shelf = Arc::default();
-        run(&registry, &shelf, many(1000));
-        for _ in 0..24_000 {
-            let counts = registry.counts();
-            if (counts.open, counts.owed, shelf.alive.load(Ordering::Relaxed)) == (0, 0, 0) {
-                break;
-            }
-            thread::sleep(Duration::from_millis(5));
-        }
-        assert_empty(&registry);
-        assert_eq!(shelf.alive.load(Ordering::Relaxed), 0);
+        let shelf: Arc<Shelf> = Arc::default();
+        run(&registry, &shelf, many(steps));
+        wait_until_none_is_there(&registry, &shelf);
         drop((registry, shelf));
         reading.join().expect("no panic").expect("a sink takes all");
     }
@@ -158,7 +164,7 @@ fn a_long_chain_lets_go_of_all_at_once() -> Result<(), Error> {
     hush();
     let spans = many(40_000);
     let (registry, mut drain) = Registry::builder().slots(2 * spans).build()?;
-    let shelf = Arc::default();
+    let shelf: Arc<Shelf> = Arc::default();
     let mut chain = vec![Span::none()];
     for _ in 0..spans {
         let last = &chain[chain.len() - 1];
@@ -171,12 +177,8 @@ fn a_long_chain_lets_go_of_all_at_once() -> Result<(), Error> {
     let last = chain.pop();
     drop(chain);
     drop(last);
-    while registry.counts().owed > 0 {
-        thread::yield_now();
-    }
-    assert_eq!(shelf.alive.load(Ordering::Relaxed), 0);
-    drop(registry);
-    drop(shelf);
+    wait_until_none_is_there(&registry, &shelf);
+    drop((registry, shelf));
     reading.join().expect("no panic").expect("a sink takes all");
     Ok(())
 }
