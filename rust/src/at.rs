@@ -55,15 +55,19 @@ impl<'a> At<'a> {
             workers::reserve_entry()?;
         }
         self.before()?;
-        let enter = |state: &mut State, worker| Ok((state.enter(worker, id)?, worker));
+        let enter = |state: &mut State, worker| {
+            let is_first = state.enter(worker, id)?;
+            if self.several.is_some() {
+                workers::entered(self.part, id, is_first);
+            }
+            Ok((is_first, worker))
+        };
         let (is_first, worker) = self.part.call(State::number_to_enter, enter)?;
-        if self.several.is_some() {
-            workers::entered(self.part, id, is_first);
-        }
         Ok(told(is_first, worker))
     }
 
-    /// The thread left an entry of a span, or owes that.
+    /// The thread left an entry of a span, or owes that. It is said under the lock: what is dropped after that because
+    /// the span closed may ask where the thread is inside.
     #[inline(always)]
     pub(crate) fn left(self, id: RawId) {
         if self.several.is_some() {
@@ -75,12 +79,13 @@ impl<'a> At<'a> {
     /// has left all spans.
     pub(crate) fn exit_or_owe(self, id: RawId, worker: u32) -> Result<(), Refusal> {
         let caller = workers::caller(self.part);
-        self.part.with(|state| match state.worker_of(caller) {
-            Some(number) if number == worker => state.exit_or_owe(worker, id),
-            _ => Ok(()),
-        })?;
-        self.left(id);
-        Ok(())
+        self.part.with(|state| {
+            if state.worker_of(caller) == Some(worker) {
+                state.exit_or_owe(worker, id)?;
+            }
+            self.left(id);
+            Ok(())
+        })
     }
 
     /// Gives a handle back, now or as it is owed. The thread takes no number for it.

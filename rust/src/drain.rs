@@ -7,6 +7,8 @@ use crate::level::Form;
 use crate::note::{Note, Sources};
 use crate::part::Part;
 use crate::parts::Parts;
+use crate::state::State;
+use crate::workers;
 
 /// A line that a layer was told.
 #[derive(Clone, Debug, PartialEq, Eq, Hash)]
@@ -285,13 +287,15 @@ fn settles(part: &Part) -> bool {
 
 #[cold]
 fn settles_now(part: &Part) -> bool {
-    part.with(|state| {
+    let settle = |state: &mut State| {
         let before = state.calls();
         if state.settle().is_ok() {
             part.tell(state);
         }
         state.calls() > before
-    })
+    };
+    // What spans carried that close now may call the registry where it is dropped, and mustn't wait for this reader.
+    workers::writing(part.common(), || part.with(settle))
 }
 
 // Lines are UTF-8, and to look whether they are is quicker than to make them so.

@@ -11,10 +11,13 @@
 
 mod at;
 mod builder;
+mod by_slot;
 mod callsite;
+mod carried;
 mod directives;
 mod drain;
 mod error;
+mod extensions;
 mod follows;
 mod head;
 mod instrument;
@@ -54,6 +57,7 @@ pub use callsite::Callsite;
 pub use directives::{ParseError, Targets};
 pub use drain::{Drain, DrainCounts, Line};
 pub use error::{BadLimit, BadName, Differing, Error, Limit};
+pub use extensions::Extensions;
 pub use instrument::{Instrument, Instrumented};
 pub use kind::Kind;
 pub use level::{FmtSpan, Form, Level, ParseLevelError};

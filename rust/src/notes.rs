@@ -1,5 +1,6 @@
 //! What lines lack of which a tree can be built: kept beside the ring, a call at a time, until its lines are read.
 #![forbid(unsafe_code)]
+use crate::by_slot::BySlot;
 use crate::kind::Kind;
 use crate::level::Level;
 use crate::meta::{Given, Meta, RawId};
@@ -73,9 +74,7 @@ struct Call {
 }
 
 /// A span that was told of.
-#[derive(Clone, Debug)]
 pub(crate) struct Told {
-    id: RawId,
     pub(crate) parent: Option<RawId>,
     pub(crate) known: Known,
 }
@@ -90,8 +89,7 @@ pub(crate) struct Notes {
 #[derive(Default)]
 pub(crate) struct Book {
     calls: VecDeque<Call>,
-    // By slot, the last span that was told of.
-    spans: Vec<Option<Told>>,
+    spans: BySlot<Told>,
 }
 
 impl Notes {
@@ -168,14 +166,9 @@ impl Book {
 
     fn keep(&mut self, what: What) {
         match what {
-            What::Span { id, parent, known } => {
-                if self.spans.len() <= id.slot() {
-                    self.spans.resize(id.slot() + 1, None);
-                }
-                self.spans[id.slot()] = Some(Told { id, parent, known });
-            }
+            What::Span { id, parent, known } => self.spans.put(id, Told { parent, known }),
             What::Record(id, kinds) => {
-                if let Some(told) = self.of_slot(id) {
+                if let Some(told) = self.spans.get_mut(id) {
                     told.known.kinds.extend(kinds);
                 }
             }
@@ -183,13 +176,8 @@ impl Book {
         }
     }
 
-    fn of_slot(&mut self, id: RawId) -> Option<&mut Told> {
-        let told = self.spans.get_mut(id.slot())?.as_mut();
-        told.filter(|told| told.id == id)
-    }
-
     /// A span that was told of, until its slot's next one.
     pub(crate) fn span(&self, id: RawId) -> Option<&Told> {
-        self.spans.get(id.slot())?.as_ref().filter(|told| told.id == id)
+        self.spans.get(id)
     }
 }

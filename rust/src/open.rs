@@ -11,6 +11,7 @@ use crate::raw::SpanFound;
 use crate::refusal::Refusal;
 use crate::registry::Registry;
 use crate::state::State;
+use crate::workers;
 use crate::writer::Guard;
 use std::collections::{HashMap, HashSet};
 use std::fmt;
@@ -44,14 +45,6 @@ impl Open {
         fields.extend(counts.map(|(key, count)| (key, count.to_string())));
         fields
     }
-}
-
-// What is found under the lock of a part, after what is owed, as far as that can be done now.
-fn found<T>(part: &Part, find: impl FnOnce(&mut State) -> Result<T, Refusal>) -> Result<T, Refusal> {
-    part.with(|state| {
-        let _owing = state.settle();
-        find(state)
-    })
 }
 
 /// A span that was open when it was asked for, with what holds it.
@@ -165,7 +158,7 @@ impl OpenSpans {
     }
 
     fn found(part: &Part, find: impl FnOnce(&mut State) -> Result<Vec<Open>, Refusal>) -> Result<OpenSpans, Error> {
-        let open = found(part, find)?;
+        let open = part.settled(find)?;
         let told = open.into_iter().filter_map(|span| OpenSpan::of(part, span));
         Ok(OpenSpans(told.collect()))
     }
@@ -270,7 +263,7 @@ impl Registry {
     /// ```
     pub fn open_span(&self, id: Id) -> Result<OpenSpan, Error> {
         let (at, id) = self.own(id)?;
-        let open = found(at.part, |state| state.open_span(id))?;
+        let open = at.part.settled(|state| state.open_span(id))?;
         OpenSpan::of(at.part, open).ok_or(Error::Unknown)
     }
 
@@ -294,7 +287,8 @@ impl Drain {
     /// # Errors
     /// [`OutOfMemory`](Error::OutOfMemory).
     pub fn open_spans(&self) -> Result<OpenSpans, Error> {
-        OpenSpans::of_all(self.parts())
+        // As where it looks for lines.
+        workers::writing(self.parts().common(), || OpenSpans::of_all(self.parts()))
     }
 }
 

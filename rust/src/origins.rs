@@ -1,5 +1,6 @@
 //! With what spans were made, and where: what lists of open spans tell of them.
 #![forbid(unsafe_code)]
+use crate::by_slot::BySlot;
 use crate::level::Level;
 use crate::meta::{Given, Meta, RawId};
 use crate::names::read;
@@ -48,7 +49,6 @@ impl Names {
 /// The last span of a slot, with its texts as they were packed.
 #[derive(Default)]
 struct Made {
-    id: Option<RawId>,
     // None: the name and the target stand before the fields.
     callsite: Option<u32>,
     names: Names,
@@ -73,7 +73,7 @@ pub(crate) struct Origins {
     // The numbers of the places of macros, by their addresses.
     sites: HashMap<usize, u32>,
     // Of each slot that was ever used.
-    spans: Vec<Made>,
+    spans: BySlot<Made>,
     // What is kept of the texts of the span that is being made, where it isn't all of them.
     cut: Option<(Names, Packed)>,
 }
@@ -123,7 +123,7 @@ impl Origins {
     /// Room for one more span, whose texts these are, beginning with these names.
     #[inline(always)]
     pub(crate) fn reserve_span(&mut self, names: Names, packed: &Packed) -> Result<(), Refusal> {
-        reserve(&mut self.spans, 1)?;
+        self.spans.reserve_next()?;
         if packed.is_below(KEPT) {
             return Ok(());
         }
@@ -136,12 +136,8 @@ impl Origins {
     #[inline(always)]
     pub(crate) fn made(&mut self, id: RawId, callsite: Option<u32>, names: Names, packed: &mut Packed) {
         // The registry uses its slots in ascending order, so there is room.
-        if id.slot() == self.spans.len() {
-            self.add_slot();
-        }
-        let made = &mut self.spans[id.slot()];
-        (made.id, made.callsite) = (Some(id), callsite);
-        (made.names, made.is_cut) = (names, false);
+        let made = self.spans.hand_over(id);
+        (made.callsite, made.names, made.is_cut) = (callsite, names, false);
         if packed.is_below(KEPT) {
             std::mem::swap(&mut made.packed, packed);
         } else {
@@ -150,26 +146,17 @@ impl Origins {
     }
 
     #[cold]
-    fn add_slot(&mut self) {
-        self.spans.push(Made::default());
-    }
-
-    #[cold]
     fn made_cut(&mut self, id: RawId, packed: &Packed) {
-        let made = &mut self.spans[id.slot()];
-        if let Some((kept, texts)) = self.cut.take() {
+        let cut = self.cut.take();
+        if let Some((made, (kept, texts))) = self.spans.get_mut(id).zip(cut) {
             made.is_cut = kept != made.names || texts.fields().len() < packed.fields().len();
             (made.names, made.packed) = (kept, texts);
         }
     }
 
-    fn of(&mut self, id: RawId) -> Option<&mut Made> {
-        self.spans.get_mut(id.slot()).filter(|made| made.id == Some(id))
-    }
-
     /// Room for these fields of a span.
     pub(crate) fn reserve_record(&mut self, id: RawId, packed: &Packed) -> Result<(), Refusal> {
-        self.of(id).map_or(Ok(()), |made| {
+        self.spans.get_mut(id).map_or(Ok(()), |made| {
             let (fields, bytes) = made.fitting(packed);
             made.packed.reserve(fields, bytes)
         })
@@ -177,7 +164,7 @@ impl Origins {
 
     /// These fields were recorded, for which there is room.
     pub(crate) fn recorded(&mut self, id: RawId, packed: &Packed) {
-        if let Some(made) = self.of(id) {
+        if let Some(made) = self.spans.get_mut(id) {
             let (fields, bytes) = made.fitting(packed);
             made.packed.add(&packed.fields()[..fields], &packed.texts()[..bytes]);
             made.is_cut |= fields < packed.fields().len();
@@ -186,7 +173,7 @@ impl Origins {
 
     /// What is known of a span that is the last of its slot.
     pub(crate) fn details(&mut self, id: RawId) -> Result<Option<Details>, Refusal> {
-        let Some(made) = self.spans.get(id.slot()).filter(|made| made.id == Some(id)) else {
+        let Some(made) = self.spans.get(id) else {
             return Ok(None);
         };
         let Names { name, target } = made.names;

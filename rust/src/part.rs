@@ -133,10 +133,23 @@ impl Part {
 
     /// Runs a call under the lock. No code of the program's runs there but its global allocator, which must not call
     /// the registry. So where a thread panicked with the lock, it was between two calls of the registry, each of which
-    /// is done whole or refused: the poison says nothing.
+    /// is done whole or refused: the poison says nothing. What spans carried that closed is dropped behind it.
     #[inline(always)]
     pub(crate) fn with<T>(&self, call: impl FnOnce(&mut State) -> T) -> T {
-        call(&mut self.lock())
+        let mut state = self.lock();
+        let answer = call(&mut state);
+        if state.has_closed() {
+            let_go(state);
+        }
+        answer
+    }
+
+    /// Runs what takes no place in the ring, after what is owed, as far as that can be done now.
+    pub(crate) fn settled<T>(&self, call: impl FnOnce(&mut State) -> T) -> T {
+        self.with(|state| {
+            let _owing = state.settle();
+            call(state)
+        })
     }
 
     #[inline(always)]
@@ -192,15 +205,16 @@ impl Part {
         call: &impl Fn(&mut State, u32) -> Result<T, Refusal>,
     ) -> Result<T, Refusal> {
         let caller = workers::caller(self);
-        let mut state = self.lock();
-        state.settle()?;
-        let worker = match state.worker_of(caller) {
-            Some(worker) => worker,
-            None => self.numbered(&mut state, caller, number)?,
-        };
-        let answer = call(&mut state, worker)?;
-        self.tell(&mut state);
-        Ok(answer)
+        self.with(|state| {
+            state.settle()?;
+            let worker = match state.worker_of(caller) {
+                Some(worker) => worker,
+                None => self.numbered(state, caller, number)?,
+            };
+            let answer = call(state, worker)?;
+            self.tell(state);
+            Ok(answer)
+        })
     }
 
     // As which worker a thread calls that has no number.
@@ -273,6 +287,14 @@ impl Part {
     pub(crate) fn owes(&self) -> bool {
         self.debt.is_there()
     }
+}
+
+/// What closed spans carried is dropped once the lock isn't held, since that may call the registry.
+#[cold]
+fn let_go(mut state: MutexGuard<'_, State>) {
+    let closed = state.take_closed();
+    drop(state);
+    drop(closed);
 }
 
 /// Lets other threads run: at the first turns only that, since a line or a place may be on its way, and then for half

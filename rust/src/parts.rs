@@ -120,12 +120,7 @@ impl Parts {
 
     /// Those of all parts. What is owed and can't be done now counts as not done.
     pub(crate) fn counts(&self) -> Counts {
-        let counts = |part: &Arc<Part>| {
-            part.with(|state| {
-                let _owing = state.settle();
-                state.counts()
-            })
-        };
+        let counts = |part: &Arc<Part>| part.settled(State::counts);
         let others = self.others.iter().map(counts);
         others.fold(counts(&self.first), Counts::and)
     }

@@ -3,11 +3,13 @@
 //! All unsafe code of this crate is in this module.
 mod abi;
 mod calls;
+mod closing;
 mod lines;
 mod queries;
 mod telling;
 
 pub(crate) use calls::{Core, Start};
+pub(crate) use closing::Closed;
 pub(crate) use lines::{Lines, Next};
 
 use std::ffi::c_void;

@@ -295,9 +295,11 @@ impl Registry {
     /// [`Backlog`](Error::Backlog), [`OutOfMemory`](Error::OutOfMemory).
     pub fn exit(&self, id: Id) -> Result<bool, Error> {
         let (at, id) = self.own(id)?;
-        let closed = at.call(move |state, worker| state.exit(worker, id))?;
-        at.left(id);
-        Ok(closed)
+        Ok(at.call(move |state, worker| {
+            let closed = state.exit(worker, id)?;
+            at.left(id);
+            Ok(closed)
+        })?)
     }
 
     /// One more handle of a span, which the caller has to give back by [`try_close`](Registry::try_close).
@@ -329,12 +331,10 @@ impl Registry {
     pub fn exit_or_owe(&self, id: Id) -> Result<(), Error> {
         let (at, id) = self.own(id)?;
         let caller = workers::caller(at.part);
-        at.part.with(|state| {
+        Ok(at.part.with(|state| {
             let worker = state.worker_of(caller).ok_or(Refusal::NOT_ENTERED)?;
-            state.exit_or_owe(worker, id)
-        })?;
-        at.left(id);
-        Ok(())
+            state.exit_or_owe(worker, id).map(|()| at.left(id))
+        })?)
     }
 
     /// [`try_close`](Registry::try_close) for callers that can't make it again: what can't be done now is owed, as
@@ -373,10 +373,7 @@ impl Registry {
     #[must_use]
     pub fn find(&self, id: Id) -> Option<Found> {
         let (at, id) = self.own(id).ok()?;
-        let found = at.part.with(|state| {
-            let _owing = state.settle();
-            state.find(id)
-        })?;
+        let found = at.part.settled(|state| state.find(id))?;
         Some(Found {
             parent: RawId::from_u64(found.parent).map(|raw| self.id_of(at.part, raw)),
             handles: found.handles,

@@ -2,6 +2,7 @@
 #![forbid(unsafe_code)]
 use crate::at::At;
 use crate::error::Error;
+use crate::extensions::Extensions;
 use crate::meta::{Fields, Id, RawId};
 use crate::part::Part;
 use crate::registry::Registry;
@@ -184,6 +185,13 @@ impl Span {
             (Some(handle), Some(other)) => handle.registry.follows_from(handle.id(), other),
             _ => Ok(()),
         }
+    }
+
+    /// What the span carries of the program's own.
+    #[must_use]
+    pub fn extensions(&self) -> Extensions<'_> {
+        let handle = self.0.as_deref();
+        Extensions::of(handle.map(|handle| (&handle.registry, handle.id())))
     }
 
     // None of a disabled span, and where it is refused.

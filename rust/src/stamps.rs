@@ -5,6 +5,7 @@
 //! no batch takes a stamp too, which none has.
 #![forbid(unsafe_code)]
 use crate::meta::RawId;
+use crate::raw::Closed;
 use crate::refusal::Refusal;
 use std::hint;
 use std::sync::atomic::{AtomicU64, Ordering};
@@ -44,6 +45,7 @@ pub(crate) trait Answer {
 
 impl Answer for () {}
 impl Answer for bool {}
+impl Answer for Closed {}
 
 /// Of a new span. One that no layer wants isn't made.
 impl Answer for Option<RawId> {

@@ -1,7 +1,9 @@
 //! What lies under the lock: the proved registry, what is owed to it, and which threads have which numbers.
 #![forbid(unsafe_code)]
+mod carrying;
 mod open;
 
+use crate::carried::Carried;
 use crate::level::Level;
 use crate::lost::{Lost, TARGET};
 use crate::meta::{Counts, Fields, Given, Meta, RawId, RawParent};
@@ -38,6 +40,7 @@ pub(crate) struct State {
     // The core has one worker more, the outsider, which is inside of no span.
     seats: Seats,
     origins: Origins,
+    carried: Carried,
     // Whether batches have notes or stamps.
     has_more: bool,
 }
@@ -55,6 +58,7 @@ impl State {
             owing: Owing::new(workers as usize, debt)?,
             seats: Seats::new(workers)?,
             origins: Origins::default(),
+            carried: Carried::default(),
         })
     }
 
@@ -309,7 +313,11 @@ impl State {
 
     #[inline(always)]
     fn give_back_entry(&mut self, worker: u32, id: RawId) -> Result<bool, Refusal> {
-        let closed = self.placed(|_| Ok(What::Other), move |core, _| core.exit(worker, id))?;
+        let closed = if self.carried.is_nothing() {
+            self.placed(|_| Ok(What::Other), move |core, _| core.exit(worker, id))?
+        } else {
+            self.closing(Core::exit_closing, worker, id)?
+        };
         self.seats.left(worker);
         self.owing.given_back();
         Ok(closed)
@@ -317,7 +325,11 @@ impl State {
 
     #[inline(always)]
     pub(crate) fn try_close(&mut self, worker: u32, id: RawId) -> Result<bool, Refusal> {
-        let closed = self.placed(|_| Ok(What::Other), move |core, _| core.try_close(worker, id))?;
+        let closed = if self.carried.is_nothing() {
+            self.placed(|_| Ok(What::Other), move |core, _| core.try_close(worker, id))?
+        } else {
+            self.closing(Core::try_close_closing, worker, id)?
+        };
         self.owing.given_back();
         Ok(closed)
     }

@@ -12,6 +12,7 @@ use std::sync::{Arc, Weak};
 /// A part in which this thread may have a number, to be given back when it ends.
 struct Place {
     part: Weak<Part>,
+    registry: u64,
     // The number that it had last, or none.
     worker: u32,
 }
@@ -94,6 +95,7 @@ fn looked_up(part: &Arc<Part>) -> Caller {
         places.parts.try_reserve(1).ok()?;
         places.parts.push(Place {
             part: Arc::downgrade(part),
+            registry: part.common().number(),
             worker: NONE,
         });
         Some(NONE)
@@ -131,17 +133,12 @@ fn keep(part: &Arc<Part>, caller: Caller) {
 }
 
 impl Places {
-    // Of registries that are gone.
+    // Of registries that are gone. It comes to own none, which might be the last there, and would be dropped here.
     fn forget_the_gone(&mut self) {
         self.parts.retain(|place| place.part.strong_count() > 0);
         let parts = &self.parts;
-        self.inside.retain(|inside| {
-            let is_there = |place: &Place| {
-                let part = place.part.upgrade();
-                part.is_some_and(|part| part.common().number() == inside.registry)
-            };
-            parts.iter().any(is_there)
-        });
+        let is_there = |inside: &Inside| parts.iter().any(|place| place.registry == inside.registry);
+        self.inside.retain(is_there);
     }
 
     fn place_of(&self, part: &Part, id: RawId) -> Option<usize> {

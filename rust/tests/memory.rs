@@ -8,7 +8,7 @@ use common::{assert_empty, compact, info, Ids};
 use span_registry::{Drain, Error, Layer, Parent, Registry};
 use std::fs;
 use std::sync::atomic::{AtomicU64, Ordering};
-use std::sync::{Barrier, Mutex, MutexGuard, PoisonError};
+use std::sync::{Arc, Barrier, Mutex, MutexGuard, PoisonError};
 use std::thread;
 
 /// Only one test at a time, since memory is the whole process's.
@@ -48,6 +48,9 @@ fn round(registry: &Registry, drain: &mut Drain) {
     let _in_outer = reading(drain, || outer.try_enter());
     let inner = reading(drain, || registry.span(&info("inner"), Parent::Current, &[]));
     reading(drain, || inner.try_record(&[("key", "value")]));
+    for span in [&outer, &inner] {
+        assert_eq!(span.extensions().insert(Arc::new([7_u8; 200])), Ok(true));
+    }
     reading(drain, || Ids(registry.clone()).event("message"));
     let _shared = inner.clone();
     drop(reading(drain, || outer.try_clone()));
@@ -98,6 +101,7 @@ fn memory_stays_level_while_four_threads_call_four_parts() {
             let a = registry
                 .span(&info("a"), Parent::Root, &[("k", "v")])
                 .expect("it waits");
+            assert_eq!(a.extensions().insert(Arc::new([7_u8; 200])), Ok(true));
             a.in_scope(|| Ids(registry.clone()).event("message")).expect("it waits");
         }
         // While the threads' own memory is there.

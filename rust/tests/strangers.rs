@@ -44,6 +44,7 @@ fn each_call_refuses_an_id_of_another_registry() -> Result<(), Error> {
         assert_refused(registry.close_or_owe(stranger));
         assert_eq!(registry.find(stranger), None);
         assert_refused(registry.open_span(stranger));
+        assert_refused(registry.extensions(stranger).contains::<u8>());
         assert_ne!(Some(stranger), a.id());
     }
     assert_eq!(registry.counts(), before);

@@ -31,7 +31,7 @@ fn list<T: Copy + Default>(mut call: impl FnMut(*mut T, usize, *mut usize) -> u3
 }
 
 impl Core {
-    fn handle(&mut self) -> *mut SpanRegistry {
+    pub(super) fn handle(&mut self) -> *mut SpanRegistry {
         &mut self.handle
     }
 

@@ -1,51 +1,11 @@
-//! What the package itself asks of no registry, since it knows it already or needs less: which spans a call closed, the
-//! places of a stack, how often the ring was full.
+//! What the package itself asks of no registry, since it knows it already: the places of a stack, how often the ring was
+//! full.
 #![cfg_attr(not(test), allow(dead_code))]
-use super::{
-    span_registry_entry, span_registry_exit_closing, span_registry_times_full, span_registry_try_close_closing, Core,
-};
+use super::{span_registry_entry, span_registry_times_full, Core};
 use crate::meta::RawId;
 use crate::refusal::Refusal;
 
 impl Core {
-    /// As `exit`. How many spans closed: the first of them are put into `into`, child first, as many as it has room for.
-    pub(crate) fn exit_closing(&mut self, worker: u32, id: RawId, into: &mut [u64]) -> Result<usize, Refusal> {
-        let mut closed = 0;
-        // SAFETY: the handle is full and lent to this call alone, as are the ids of `into` with their number, and
-        // `closed` is this call's.
-        let status = unsafe {
-            span_registry_exit_closing(
-                &mut self.handle,
-                worker,
-                id.get(),
-                into.as_mut_ptr(),
-                into.len(),
-                &mut closed,
-            )
-        };
-        Refusal::of_status(status)?;
-        Ok(closed)
-    }
-
-    /// As `try_close`, with the same answer.
-    pub(crate) fn try_close_closing(&mut self, worker: u32, id: RawId, into: &mut [u64]) -> Result<usize, Refusal> {
-        let mut closed = 0;
-        // SAFETY: the handle is full and lent to this call alone, as are the ids of `into` with their number, and
-        // `closed` is this call's.
-        let status = unsafe {
-            span_registry_try_close_closing(
-                &mut self.handle,
-                worker,
-                id.get(),
-                into.as_mut_ptr(),
-                into.len(),
-                &mut closed,
-            )
-        };
-        Refusal::of_status(status)?;
-        Ok(closed)
-    }
-
     /// The span at a place of a worker's stack, from the lowest on, if there is one; and how many places there are.
     pub(crate) fn entry(&mut self, worker: u32, place: usize) -> Result<(Option<RawId>, usize), Refusal> {
         let (mut id, mut depth) = (0, 0);
@@ -66,7 +26,7 @@ impl Core {
 
 #[cfg(test)]
 mod tests {
-    use super::super::{Core, Lines, SpanLimits, Start};
+    use super::super::{Closed, Core, Lines, SpanLimits, Start};
     use crate::level::Level;
     use crate::meta::{Meta, RawId, RawParent};
     use crate::packed::Packed;
@@ -102,22 +62,17 @@ mod tests {
     }
 
     #[test]
-    fn closed_spans_are_told_child_first_as_far_as_there_is_room() {
+    fn closed_spans_are_told_child_first() {
         let (mut core, _lines) = registry(64);
         let parent = new_span(&mut core, RawParent::Root, &[]);
         let child = new_span(&mut core, RawParent::Of(parent), &[]);
-        let mut into = [91, 92, 93];
-        assert_eq!(core.try_close_closing(0, parent, &mut into), Ok(0));
+        let told = |closed: Closed| closed.ids().map(|ids| ids.collect::<Vec<_>>());
+        assert_eq!(core.try_close_closing(0, parent).map(told), Ok(Some(vec![])));
         assert_eq!(core.enter(1, child), Ok(true));
-        assert_eq!(core.try_close_closing(0, child, &mut into), Ok(0));
-        assert_eq!(core.exit_closing(0, child, &mut into), Err(Refusal::NOT_ENTERED));
-        assert_eq!(into, [91, 92, 93]);
-        assert_eq!(core.exit_closing(1, child, &mut into[..1]), Ok(2));
-        assert_eq!(into, [child.get(), 92, 93]);
-        let alone = new_span(&mut core, RawParent::Root, &[]);
-        assert_eq!(core.try_close_closing(0, alone, &mut into), Ok(1));
-        assert_eq!(into, [alone.get(), 92, 93]);
-        assert_eq!(core.try_close_closing(0, alone, &mut into), Err(Refusal::UNKNOWN));
+        assert_eq!(core.try_close_closing(0, child).map(told), Ok(Some(vec![])));
+        assert_eq!(core.exit_closing(0, child).map(told), Err(Refusal::NOT_ENTERED));
+        assert_eq!(core.exit_closing(1, child).map(told), Ok(Some(vec![child, parent])));
+        assert_eq!(core.try_close_closing(0, child).map(told), Err(Refusal::UNKNOWN));
     }
 
     #[test]

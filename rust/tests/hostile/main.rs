@@ -1,6 +1,7 @@
 //! Programs that do what they shouldn't: nothing that they do is undefined, breaks a promise, or goes on for ever.
 //!
 //! Where there is valgrind, `memcheck` runs them once more under it, with smaller numbers.
+mod carrying;
 #[path = "../common/mod.rs"]
 mod common;
 mod edges;

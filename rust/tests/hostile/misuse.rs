@@ -4,10 +4,11 @@ use crate::common::{assert_empty, compact, info, span, texts};
 use crate::{many, Random};
 use span_registry::{event, Error, Id, Level, Parent, Registry, Span};
 use std::io::{self, Write};
+use std::sync::Arc;
 use std::thread;
 
 /// Each call that takes an id.
-fn of_all_calls(registry: &Registry, id: Id) -> [Result<(), Error>; 9] {
+fn of_all_calls(registry: &Registry, id: Id) -> [Result<(), Error>; 10] {
     [
         registry.new_span(&info("b"), Parent::Of(id), &[]).map(drop),
         registry.span(&info("b"), Parent::Of(id), &[]).map(drop),
@@ -18,6 +19,7 @@ fn of_all_calls(registry: &Registry, id: Id) -> [Result<(), Error>; 9] {
         registry.record(id, &[("k", "v")]),
         registry.exit_or_owe(id),
         registry.close_or_owe(id),
+        registry.extensions(id).insert(Arc::new(7)).map(drop),
     ]
 }
 
@@ -43,7 +45,7 @@ fn forged_ids_in(parts: u32) -> Result<(), Error> {
             continue;
         };
         assert_eq!(registry.find(id), None);
-        assert_eq!(of_all_calls(&registry, id), [Err(Error::Unknown); 9], "{id}");
+        assert_eq!(of_all_calls(&registry, id), [Err(Error::Unknown); 10], "{id}");
     }
     assert_eq!(still(registry.counts()), before);
     assert_eq!(texts(&mut drain).len(), 6);
@@ -65,7 +67,7 @@ fn the_ids_of_a_thousand_registries_are_told_apart() -> Result<(), Error> {
         if number % 2 == 0 {
             kept.push((b, drain));
         }
-        assert_eq!(of_all_calls(&registry, id), [Err(Error::OtherRegistry); 9]);
+        assert_eq!(of_all_calls(&registry, id), [Err(Error::OtherRegistry); 10]);
         assert_eq!((registry.find(id), Some(id) == a.id()), (None, false));
     }
     assert_eq!(registry.counts(), before);

@@ -1,0 +1,148 @@
+//! What is kept of spans, by their slots.
+#![forbid(unsafe_code)]
+use crate::meta::RawId;
+use crate::packed::reserve;
+use crate::refusal::Refusal;
+
+/// Of each slot, up to the greatest that there is something of, what is kept of one of its spans: mostly the last one.
+pub(crate) struct BySlot<T>(Vec<Option<(RawId, T)>>);
+
+impl<T> Default for BySlot<T> {
+    fn default() -> BySlot<T> {
+        BySlot(Vec::new())
+    }
+}
+
+impl<T> BySlot<T> {
+    /// Room for one slot more.
+    #[inline(always)]
+    pub(crate) fn reserve_next(&mut self) -> Result<(), Refusal> {
+        reserve(&mut self.0, 1)
+    }
+
+    /// Room for this span.
+    pub(crate) fn reserve(&mut self, id: RawId) -> Result<(), Refusal> {
+        let missing = (id.slot() + 1).saturating_sub(self.0.len());
+        reserve(&mut self.0, missing)
+    }
+
+    #[inline(always)]
+    fn slot(&mut self, id: RawId) -> &mut Option<(RawId, T)> {
+        if id.slot() >= self.0.len() {
+            self.grow(id);
+        }
+        &mut self.0[id.slot()]
+    }
+
+    #[cold]
+    fn grow(&mut self, id: RawId) {
+        self.0.resize_with(id.slot() + 1, || None);
+    }
+
+    /// Keeps this of a span, in place of what its slot has. It takes no memory where there is room.
+    pub(crate) fn put(&mut self, id: RawId, kept: T) {
+        *self.slot(id) = Some((id, kept));
+    }
+
+    /// What its slot has becomes this span's. It takes no memory where there is room.
+    #[inline(always)]
+    pub(crate) fn hand_over(&mut self, id: RawId) -> &mut T
+    where
+        T: Default,
+    {
+        let (owner, kept) = self.slot(id).get_or_insert_with(|| (id, T::default()));
+        *owner = id;
+        kept
+    }
+
+    /// What is kept of a span.
+    pub(crate) fn get(&self, id: RawId) -> Option<&T> {
+        let (owner, kept) = self.0.get(id.slot())?.as_ref()?;
+        (*owner == id).then_some(kept)
+    }
+
+    pub(crate) fn get_mut(&mut self, id: RawId) -> Option<&mut T> {
+        let (owner, kept) = self.0.get_mut(id.slot())?.as_mut()?;
+        (*owner == id).then_some(kept)
+    }
+
+    /// Takes what is kept of a span away.
+    pub(crate) fn take(&mut self, id: RawId) -> Option<T> {
+        let slot = self.0.get_mut(id.slot())?;
+        slot.take_if(|(owner, _)| *owner == id).map(|(_, kept)| kept)
+    }
+
+    /// The first span from this slot on of which something is kept.
+    pub(crate) fn first_from(&self, slot: usize) -> Option<RawId> {
+        let mut kept = self.0.get(slot..)?.iter().flatten();
+        kept.next().map(|&(owner, _)| owner)
+    }
+}
+
+#[cfg(test)]
+mod tests {
+    use super::BySlot;
+    use crate::meta::RawId;
+    use crate::refusal::Refusal;
+
+    fn id(number: u64) -> RawId {
+        RawId::from_u64(number).expect("not 0")
+    }
+
+    #[test]
+    fn one_span_of_a_slot_is_kept() {
+        let (first, other, next) = (id(1), id(5), id((1 << 24) + 1));
+        let mut spans = BySlot::default();
+        assert_eq!(spans.take(first), None);
+        assert_eq!((spans.get(first), spans.first_from(0)), (None, None));
+        spans.put(other, 'b');
+        spans.put(first, 'a');
+        assert_eq!((spans.get(first), spans.get(other)), (Some(&'a'), Some(&'b')));
+        // Of another slot, and of another span of the same one.
+        for missing in [id(2), next] {
+            assert_eq!(spans.get(missing), None);
+            assert_eq!(spans.get_mut(missing), None);
+            assert_eq!(spans.take(missing), None);
+        }
+        spans.put(next, 'c');
+        spans.get_mut(other).into_iter().for_each(|kept| *kept = 'd');
+        assert_eq!(
+            (spans.get(first), spans.get(next), spans.get(other)),
+            (None, Some(&'c'), Some(&'d'))
+        );
+        let firsts = [0, 1, 4, 5].map(|slot| spans.first_from(slot));
+        assert_eq!(firsts, [Some(next), Some(other), Some(other), None]);
+        assert_eq!([first, next, next].map(|id| spans.take(id)), [None, Some('c'), None]);
+        assert_eq!((spans.first_from(0), spans.first_from(9)), (Some(other), None));
+    }
+
+    #[test]
+    fn what_a_slot_has_is_handed_over() {
+        let mut spans = BySlot::<String>::default();
+        spans.hand_over(id(2)).push('a');
+        spans.hand_over(id((1 << 24) + 2)).push('b');
+        assert_eq!(
+            (spans.get(id(2)), spans.get(id((1 << 24) + 2))),
+            (None, Some(&"ab".to_owned()))
+        );
+        assert_eq!(spans.get(id(1)), None);
+    }
+
+    #[test]
+    fn to_keep_it_takes_no_memory_where_there_is_room() -> Result<(), Refusal> {
+        let mut spans = BySlot::default();
+        spans.reserve(id(100))?;
+        let room = spans.0.capacity();
+        assert!(room >= 100);
+        spans.put(id(100), ());
+        while spans.0.len() < room {
+            spans.reserve_next()?;
+            spans.hand_over(id(spans.0.len() as u64 + 1));
+        }
+        spans.reserve(id(1))?;
+        assert_eq!(spans.0.capacity(), room);
+        spans.reserve_next()?;
+        assert!(spans.0.capacity() > room);
+        Ok(())
+    }
+}
