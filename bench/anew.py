@@ -1,5 +1,6 @@
 #!/usr/bin/env python3
-"""Measures the figures of the pages anew: each file of bench/figures is written by one command, which stands here.
+"""Measures the figures of the pages anew: each file of bench/figures, but those of past changes, is written by one
+command, which stands here.
 
 usage: anew.py [--list] [--old CHECKOUT] [--plain PROGRAM] [--before PROGRAM] KIND|NAME..
 
@@ -53,7 +54,6 @@ COMMANDS = [
     Command("unproved-start", "fresh", 1,
             "bench/times.py unproved-start sh -c './tracerun replay < examples/first.jsonl'"),
     Command("prove", "fresh", 30, "bench/times.py prove ./tracerun --prove"),
-    Command("library", "fresh", 30, "bench/times.py library sh -c 'cd crates/span_ffi && rt lib'"),
     Command("gate whole-gate", "fresh", 90, "bench/gate.py"),
 ]
 KINDS = list(dict.fromkeys(it.kind for it in COMMANDS))

@@ -48,7 +48,9 @@ def values_of(lines, clone):
 
 def run_in(clone):
     """The status of ./check in a clone, and its lines."""
-    run = subprocess.Popen([clone / "check", "--anew"], stdout=subprocess.PIPE, encoding="utf-8", errors="replace")
+    places = {**os.environ, "XDG_CACHE_HOME": str(clone.parent / "cache")}
+    run = subprocess.Popen([clone / "check", "--anew"], env=places, stdout=subprocess.PIPE, encoding="utf-8",
+                           errors="replace")
     lines = []
     for line in run.stdout:
         print(line, end="", flush=True)

@@ -29,7 +29,8 @@ typedef struct SpanDrain {
 enum {
     SPAN_OK = 0,
     SPAN_UNKNOWN = 1,          /* no open span has the id; where the call needs a handle of it: or none is out */
-    SPAN_COUNT_FULL = 2,       /* a count that would rise stands at its greatest value */
+    SPAN_COUNT_FULL = 2,       /* a count that would rise stands at its greatest value, or a length is too great for
+                                  its number */
     SPAN_FULL = 3,             /* no slot is free */
     SPAN_NOT_ENTERED = 4,      /* the span doesn't stand in the worker's stack */
     SPAN_TOO_MANY_LAYERS = 5,  /* there are more than 64 */
@@ -154,6 +155,10 @@ uint32_t span_registry_try_close_closing(SpanRegistry *registry, uint32_t worker
 uint32_t span_registry_record(SpanRegistry *registry, uint32_t worker, uint64_t id,
     const SpanField *fields, size_t fields_len, const uint8_t *texts, size_t texts_len);
 
+/* Tells that a span follows from another, which may have closed: span_registry_record of the one field `follows_from`,
+ * whose value is the number `followed`, in decimal. Any number is taken. */
+uint32_t span_registry_follows_from(SpanRegistry *registry, uint32_t worker, uint64_t id, uint64_t followed);
+
 /* texts: name, target, message, then each key and its value. Each layer sees it in the topmost span, of those that the
  * worker is inside, that it admits. */
 uint32_t span_registry_event(SpanRegistry *registry, uint32_t worker, const SpanMeta *meta, uint32_t message_len,
@@ -196,8 +201,22 @@ uint32_t span_registry_wants(SpanRegistry *registry, uint32_t level, const uint8
 /* The same of the target and the level of a callsite. It takes no memory. */
 uint32_t span_registry_callsite_wants(SpanRegistry *registry, uint32_t callsite, uint32_t *wanted);
 
+/* levels: what is wanted has a level below this number. It counts the levels from ERROR up to the most verbose one that
+ * a layer's rule has, also one that a later rule of the same prefix overrides: 0 where there are layers and none has a
+ * rule, 5 where there is no layer, since spans are made then. It never changes either. */
+uint32_t span_registry_max_level(SpanRegistry *registry, uint32_t *levels);
+
 /* SPAN_UNKNOWN where the span isn't open. */
 uint32_t span_registry_find(SpanRegistry *registry, uint64_t id, SpanFound *found);
+
+/* What was said of an open span, as span_registry_new_span takes it: meta, one SpanField for each field, and texts:
+ * name, target, then each key and its value. What was recorded stands behind what the span was made with. fields and
+ * texts are buffers that have room for fields_room of them and for texts_room bytes; the rest of them stays as it was.
+ * fields_len, texts_len: how many they are, also where either is more than there is room for; then nothing else is
+ * written (SPAN_SHORT_BUFFER). SPAN_UNKNOWN where the span isn't open; SPAN_COUNT_FULL where a text has 2^32 bytes or
+ * more, or all together 2^64 or more, as none have that came through this interface. It takes no memory. */
+uint32_t span_registry_details(SpanRegistry *registry, uint64_t id, SpanMeta *meta,
+    SpanField *fields, size_t fields_room, size_t *fields_len, uint8_t *texts, size_t texts_room, size_t *texts_len);
 
 /* The ids of the open spans, by ascending slot, written to the beginning of a buffer that has room for into_len of
  * them. len: how many they are, also where they are more than that; then nothing is written (SPAN_SHORT_BUFFER). */

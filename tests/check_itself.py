@@ -68,6 +68,7 @@ class Clone:
         for name in LISTED:
             os.makedirs(f"{self.at}/crates/{name}/must-fail")
             self.write(f"{self.at}/crates/{name}/must-fail/low.edit", "")
+            self.write(f"{self.at}/crates/{name}/README.md", "")
         self.write(f"{self.at}/rust/test", "#!/bin/sh\necho 4 passed, 0 failed\n")
         for name, text in (("rt", FAKE_RT), ("valgrind", ""), ("cargo", "")):
             self.write(f"{folder}/bin/{name}", text or "#!/bin/sh\n")
@@ -83,7 +84,7 @@ class Clone:
         self.write(f"{self.fake}/ci", said or ci())
         self.write(f"{self.fake}/calls", "")
         return {**os.environ, "PATH": path or self.path, "FAKE": self.fake, "TMPDIR": self.room, "MAKES": makes,
-                "STATUS": str(status), "HANGS": hangs, "HELPS": helps}
+                "XDG_CACHE_HOME": f"{self.fake}/cache", "STATUS": str(status), "HANGS": hangs, "HELPS": helps}
 
     def start(self, *words, **how):
         for name in LISTED:
@@ -98,8 +99,9 @@ class Clone:
         return run.returncode, said.splitlines()[-1], said
 
     def calls(self):
+        """What rt was called for; some of it at the same time."""
         with open(f"{self.fake}/calls", encoding="utf-8") as file:
-            return file.read().splitlines()
+            return sorted(file.read().splitlines())
 
 
 class Rows:
@@ -121,6 +123,16 @@ def wholes(rows, clone):
     found = clone.run()
     rows.wants("all is well", found, 0, f"{good} passed, 0 failed", "the C interface: 4 passed, 0 failed")
     rows.wants("the calls of rt", (0, "", str(clone.calls())), 0, "", str(["ci in clone", *(f"lib in {it}" for it in LIBRARIES)]))
+    copies = f"{clone.fake}/cache/kozhumir/libraries"
+    copy = f"{copies}/{os.listdir(copies)[0]}/crates/low"
+    clone.write(f"{clone.at}/crates/low/README.md", "new")
+    for name in ("old", "out"):
+        os.makedirs(f"{copy}/{name}")
+        clone.write(f"{copy}/{name}/old.rt", "")
+    rows.wants("all is well with a copy that is there", clone.run(), 0, f"{good} passed, 0 failed")
+    with open(f"{copy}/README.md", encoding="utf-8") as file:
+        found = file.read(), os.path.exists(f"{copy}/old/old.rt"), os.path.exists(f"{copy}/out/old.rt")
+    rows.wants("the copy is brought up to date", (0, str(found), ""), 0, "('new', False, True)")
     program, begun = f"{clone.at}/crates/tracerun/out/tracerun", f"{clone.fake}/begun"
     is_older = os.stat(program).st_mtime <= os.stat(begun).st_mtime
     rows.wants("what is made is as old as its sources", (0, str(is_older), ""), 0, "True")
@@ -142,6 +154,12 @@ def wholes(rows, clone):
     clone.write(f"{clone.at}/tests/storms.py", "")
     rows.wants("a part that counts nothing", clone.run(), 1, f"{good - 4} passed, 1 failed")
     clone.write(f"{clone.at}/tests/storms.py", PASSES)
+    os.rename(f"{clone.at}/crates/span_ffi", f"{clone.fake}/span_ffi")
+    shutil.rmtree(copies)
+    on_libraries = [it for it in PARTS if LIBRARIES.keys() & {*it.needs.split()}]
+    passed = good - len(LIBRARIES) - 4 * len(on_libraries)
+    rows.wants("what can't begin", clone.run(), 1, f"{passed} passed, 2 failed", "what ran beside: 0 passed, 1 failed")
+    os.rename(f"{clone.fake}/span_ffi", f"{clone.at}/crates/span_ffi")
 
 
 def parts_left_out(rows, clone):
@@ -167,12 +185,17 @@ def others(rows, clone):
     found = clone.run("--quick")
     rows.wants("what needs no proof", found, 0, f"{4 * len(QUICK)} passed, 0 failed", "nothing was proved")
     rows.wants("what needs no proof: the calls of rt", (0, "", str(clone.calls())), 0, "", "[]")
+    clone.run()
+    copies = f"{clone.fake}/cache/kozhumir/libraries"
+    kept = f"{copies}/{os.listdir(copies)[0]}/crates/low/out"
     for helps, wanted in (("rt ci --anew", "ci --anew in clone"), ("rt ci", "ci in clone")):
+        os.mkdir(kept)
         found = clone.run("--anew", helps=helps)
-        rows.wants(f"no earlier proof, with {helps}", (found[0], "", clone.calls()[1]), 0, "", wanted)
+        rows.wants(f"no earlier proof in the copy, with {helps}", (0, str(os.path.isdir(kept)), ""), 0, "False")
+        rows.wants(f"no earlier proof, with {helps}", (found[0], "", clone.calls()[0]), 0, "", wanted)
     rows.wants("no such option", clone.run("--old"), 2, "check: there is no crate --old")
     rows.wants("named crates", clone.run("low", "tracerun"), 0, "2 passed, 0 failed")
-    wanted = "['check in low', 'test in low', 'check in tracerun', 'test in tracerun']"
+    wanted = "['check in low', 'check in tracerun', 'test in low', 'test in tracerun']"
     rows.wants("named crates: the calls", (0, "", str(clone.calls())), 0, "", wanted)
     rows.wants("no such crate", clone.run("high"), 2, "check: there is no crate high")
     run = clone.start(hangs="1")
@@ -193,7 +216,8 @@ def measured(rows, clone):
         with patch.dict(os.environ, clone.places(**how)), redirect_stdout(said), redirect_stderr(said):
             status = gate.measured(clone.at, lambda name, values, _: found.update({name: values}))
         rows.wants(f"measured: {name}, the status", (status, "", said.getvalue()), wanted, "", "low")
-        rows.wants(f"measured: {name}, its call", (0, "", str(clone.calls())), 0, "", "'ci --anew in clone', 'lib in")
+        called = "'ci --anew in clone', 'help in clone', 'lib in"
+        rows.wants(f"measured: {name}, its call", (0, "", str(clone.calls())), 0, "", called)
         if how:
             rows.wants(f"measured: {name}, nothing is kept", (0, str(found), ""), 0, "{}")
         else:

@@ -39,14 +39,14 @@ FIGURE = re.compile(
     r"(?<![\w.,/^-])\d[\d,]*(?:\.\d+)? ?(?:ns|ms|s|%|MB|GB|min|minutes?|hours?|seconds?|times|instructions)(?!\w)"
     r"|(?<![\w.,/])\d[\d,]*\.\d+(?![\w.]\d|\w)|\| \d[\d,]* (?=\|)"
     r"|\b(?:an?|some|two|three|four|five|six|seven|eight|nine|ten|\w+teen|\w+ty) "
-    r"(?:minutes?|hours?|(?:milli|micro|nano)second|\w*seconds|[MG]B|times as)\b")
+    r"(?:minutes?|hours?|(?:milli|micro|nano)second|\w*seconds|[MG]B|times as)\b"
+    r"|\b(?:twice|half) the (?:time|CPU|memory|instructions)\b")
 VERSION = re.compile(r"\b(?:Python|Rust|rustc|glibc|Linux|tracing-subscriber)`? [\d.]+\d")
 # What looks like a figure, by page: an input, a wish, a bound that is set or part of a format.
 NOT_MEASURED = {
-    "bench/README.md": ["2 GB of memory", "over 1.2 where"],
+    "bench/README.md": ["2 GB of memory"],
     "crates/span_benchmark/README.md": ["15 MB each"],
-    "docs/BENCHMARKS.md": ["53 times the script"],
-    "docs/DECISIONS.md": ["at most 75 minutes"],
+    "docs/CONTRIBUTING.md": ["at most 75 minutes"],
     "docs/FORMATS.md": ["60 seconds"],
     "rust/README.md": ["(1.82 or later)"], "rust/tracing/README.md": ["| 4,096"],
     "rust/tracing-subscriber/README.md": ["| 8,191", "| 51,380,224", "| 4,294,967,295"],
@@ -106,7 +106,7 @@ def said_of(data):
     """When and where it was measured, and who says so."""
     machine = "machine not known" if data["machine"] == "not known" else data["machine"]
     place = f"{data['date']}, {machine}, {data['processors']} processors"
-    return f"{place}, commit {data['commit']}; {data['source']}"
+    return f"{place}, commit {data['commit']}; {data['source'].replace(MEASURED, 'measured by a script')}"
 
 
 def block(name, data, page):

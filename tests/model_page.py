@@ -3,9 +3,10 @@
 
     model_page.py [--write]
 
-Crates stand in the order of crates.txt, files in that of the crate's Lib.antt, words in that of their file. What only
-the proofs of a crate need, in specs/inside/, is left out. A word with no comment of its own fails. Without --write
-nothing is changed; the last line is 'N passed, M failed', and the status is 0 where nothing failed.
+Crates stand in the order of crates.txt, files in that of the crate's Lib.antt, but behind those that they use, words
+in that of their file. What only the proofs of a crate need, in specs/inside/, is left out. A word with no comment of
+its own fails. Without --write nothing is changed; the last line is 'N passed, M failed', and the status is 0 where
+nothing failed.
 """
 import re
 import sys
@@ -75,12 +76,23 @@ def files_of(crate, top=TOP):
     return [(name, read(specs / f"{name}.antt")) for name in named if name != "inside"]
 
 
+def in_reading_order(crate, files):
+    """The files, each behind those of the crate whose words it uses, else in the order of Lib.antt."""
+    of, left = dict(files), [name for name, _ in files]
+    uses = {name: {*re.findall(rf"^use Rattle\.{crate}\.specs\.(\w+)\.", TOP.joinpath(
+        f"crates/{crate}/specs/{name}.antt").read_text(encoding="utf-8"), flags=re.M)} for name in left}
+    while left:
+        first = next((name for name in left if not uses[name] & {*left} - {name}), left[0])
+        left.remove(first)
+        yield first, of[first]
+
+
 def page():
     """The page, and the words with no comment, as CRATE.FILE.WORD."""
     text, silent = [HEAD], []
     for line in (TOP / "crates.txt").read_text(encoding="utf-8").splitlines():
         crate = re.match(r"\w*", line)[0]
-        files = [(name, file) for name, file in files_of(crate) if file.words] if crate else []
+        files = [(name, file) for name, file in in_reading_order(crate, files_of(crate)) if file.words] if crate else []
         text += [f"## `{crate}`\n"] if files else []
         for name, file in files:
             text += [f"**{name}**: {file.said}\n", "".join(f"- `{word}`: {said}\n" for word, said in file.words)]

@@ -1,17 +1,19 @@
 #!/usr/bin/env python3
-"""Runs all that `./check` is: `rt ci`, then `rt lib` of the static libraries, then the other parts that PARTS lists.
+"""Runs all that `./check` is: `rt ci`, `rt lib` of the static libraries, and the other parts that PARTS lists.
 
 usage: parts.py [--quick|--anew]
 
-A part that needs nothing begins beside `rt ci`. Those on the programs that it leaves in crates/NAME/out/ run beside
-`rt lib`, and those on the libraries after it, each kind one after the other. A part whose program or library wasn't
-made failed; one whose tool isn't on the PATH isn't run, and says so. With --quick nothing is proved, and the parts that
-QUICK lists run side by side; with --anew `rt ci` takes no proof of an earlier run. The last line is 'N passed, M
-failed', the sums of what the parts say in such a line.
+`rt ci` has the crates to itself. Beside it run the parts that need nothing, one after the other, and `rt lib`, in a
+copy of the sources in kozhumir/libraries of the user's cache, and then the parts on the libraries. Those on the programs
+that `rt ci` leaves in crates/NAME/out/ run after it, side by side, and the libraries are copied there. A part whose
+program or library wasn't made failed; one whose tool isn't on the PATH isn't run, and says so. With --quick nothing is
+proved, and the parts that QUICK lists run side by side; with --anew neither `rt ci` nor the copy takes a proof of an
+earlier run. The last line is 'N passed, M failed', the sums of what the parts say in such a line.
 `rt` proves as many crates at once as RT_JOBS says, which is set here where it isn't: one for each processor, as far as
 memory goes.
 """
 import contextlib
+import filecmp
 import os
 import re
 import resource
@@ -27,6 +29,8 @@ from pathlib import Path
 from typing import NamedTuple
 
 TOP = Path(__file__).resolve().parent.parent
+CACHE = Path(os.environ.get("XDG_CACHE_HOME") or Path.home() / ".cache") / "kozhumir"
+COPY = CACHE / "libraries" / str(TOP).strip("/").replace("/", "-")
 COUNTS = re.compile(r"(\d+) passed, (\d+) failed\b")
 MEMORY_OF_A_CHECK = 5 << 30
 C_COMPILER = os.environ.get("CC", "cc")
@@ -42,7 +46,7 @@ class Part(NamedTuple):
 
 
 GATE = Part("the gate", "", "rt ci")
-LIBRARIES = {it: Part(f"the static library {it}", "", "rt lib", f"crates/{it}")
+LIBRARIES = {it: Part(f"the static library {it}", "", "rt lib", f"{COPY}/crates/{it}")
              for it in ("span_ffi", "span_store_ffi")}
 ALONE = [
     Part("the page of the theorem", "", "python3 tests/theorem.py"),
@@ -59,6 +63,8 @@ ALONE = [
     Part("the runner of the parts", "", "python3 tests/check_itself.py"),
     Part("the launcher", "", "python3 tests/launcher.py"),
 ]
+# On the libraries where they are in the end.
+LAST = Part("the pages' commands on the libraries", "span_ffi span_store_ffi", "python3 tests/run_commands.py libraries")
 PARTS = [
     *ALONE,
     Part("the model on a script of 16 MiB", "", "python3 tests/long_script.py --make {room}/long --seed 1"),
@@ -87,7 +93,7 @@ PARTS = [
          "python3 tests/tracing.py --library {span_store_ffi} --registry-library {span_ffi}"),
     Part("the Rust package", "span_ffi cargo",
          "env SPAN_REGISTRY_LIB={library} CARGO_TARGET_DIR={room}/target rust/test"),
-    Part("the pages' commands on the libraries", "span_ffi span_store_ffi", "python3 tests/run_commands.py libraries"),
+    LAST,
 ]
 # (an archive of nothing stands for the library, which these tests don't call)
 RUST_ALONE = """sh -c 'mkdir {room}/nothing && echo "!<arch>" > {room}/nothing/libspan_ffi.a &&
@@ -100,7 +106,7 @@ QUICK = [
 ]
 # What parts need of crates.
 BUILT = {it: TOP / f"crates/{it}/out/{it}" for it in ("tracerun", "hostile_use", "workloads", "span_benchmark")}
-BUILT.update({it: TOP / f"crates/{it}/out/lib{it}.a" for it in LIBRARIES})
+BUILT.update({it: COPY / f"crates/{it}/out/lib{it}.a" for it in LIBRARIES})
 
 
 class Ended(NamedTuple):
@@ -137,6 +143,27 @@ def end_of(process):
     return process.returncode, used.ru_utime + used.ru_stime
 
 
+class Beside:
+    """A thread in which parts run one after the other."""
+
+    def __init__(self, parts):
+        self.parts, self.ended = parts, []
+        self.thread = threading.Thread(target=self.run, daemon=True)
+        self.thread.start()
+
+    def run(self):
+        try:
+            for ended in self.parts:
+                self.ended.append(ended)
+        except Exception as error:  # (else all that is left would count for nothing)
+            self.ended.append(Ended("what ran beside", [f"FAILED: {error!r}\n"], 0, 1))
+
+    def all_ended(self):
+        """What ended, when all has."""
+        self.thread.join()
+        return self.ended
+
+
 class Runs:
     """Runs parts, and ends those that run when it ends itself."""
 
@@ -162,18 +189,17 @@ class Runs:
         counts = (int(status == 0), int(status != 0)) if is_library else counted(lines, status)
         return Ended(part.name, lines, *counts, time.monotonic() - start, cpu)
 
-    def beside(self, parts):
-        """Runs parts one after the other beside what else runs, and answers where they come, and what to wait for."""
-        ended = []
+    def each(self, parts):
+        """Runs parts one after the other, as long as all isn't ended."""
+        for part in parts:
+            if self.is_over:
+                return
+            yield self.run(part, shows=False)
 
-        def run_all():
-            for part in parts:
-                if not self.is_over:
-                    ended.append(self.run(part, shows=False))
-
-        thread = threading.Thread(target=run_all, daemon=True)
-        thread.start()
-        return ended, thread
+    def beside(self, parts, lanes=1):
+        """Runs parts beside what else runs, as many at once as there are lanes."""
+        left = iter(parts)
+        return [Beside(self.each(left)) for _ in range(lanes)]
 
     def end(self):
         self.is_over = True
@@ -251,37 +277,76 @@ def anew():
     return ["--anew"] if "--anew" in told else []
 
 
-def all_parts(runs, words):
-    """Runs each part, and gives it when it has ended and been shown. What needs no library runs beside the others."""
-    beside, thread = runs.beside([it for it in PARTS if not it.needs])
+def sources():
+    """What rt reads of the sources, by where it is."""
+    folders = [it for it in (TOP / "crates").glob("*/*") if it.name not in ("out", "must-fail")]
+    files = [TOP / "HANDLES", TOP / "crates.txt", *folders, *(file for it in folders for file in it.rglob("*"))]
+    return {it.relative_to(TOP): it for it in files if it.is_file()}
+
+
+def lay_copy(is_anew):
+    """Brings the copy of the sources up to date; what rt kept there of proofs stays, unless it is to begin anew."""
+    if is_anew:
+        shutil.rmtree(COPY, ignore_errors=True)
+    wanted = sources()
+    for there in [*COPY.glob("crates/*/*"), *COPY.glob("crates/*/*/**/*")]:
+        place = there.relative_to(COPY)
+        if place.parts[2] != "out" and there.is_file() and place not in wanted:
+            there.unlink()
+    for place, file in wanted.items():
+        if not ((COPY / place).is_file() and filecmp.cmp(file, COPY / place, shallow=False)):
+            (COPY / place).parent.mkdir(parents=True, exist_ok=True)
+            shutil.copy(file, COPY / place)
+
+
+def on_libraries(runs, are_made):
+    """Makes the libraries, and then runs the parts on those that are made, whose names it adds."""
+    for name, part in LIBRARIES.items():
+        begun = time.time()
+        for ended in runs.each([part]):
+            if not ended.failed:
+                are_made.add(name)
+                made([name], begun)
+            yield ended
+    parts, left_out = able([it for it in PARTS if is_on_library(it) and it != LAST], are_made)
+    yield from left_out
+    yield from runs.each(parts)
+
+
+def is_on_library(part):
+    return bool(LIBRARIES.keys() & {*part.needs.split()})
+
+
+def hand_over(names):
+    """Copies the libraries from where they were made to where they are looked for, as old as their sources."""
+    for name in names:
+        place = TOP / f"crates/{name}/out"
+        place.mkdir(exist_ok=True)
+        shutil.copy2(BUILT[name], place)
+
+
+def all_parts(runs, is_anew):
+    """Runs each part, and gives it when it has ended and been shown."""
+    are_made = set()
+    (alone,) = runs.beside([it for it in PARTS if not it.needs])
+    lay_copy(is_anew)
+    with_libraries = Beside(on_libraries(runs, are_made))
     print(f"== {GATE.name}", flush=True)
     begun = time.time()
-    gate = runs.run(GATE._replace(command=" ".join([GATE.command, *words])))
+    gate = runs.run(GATE._replace(command=" ".join([GATE.command, *(anew() if is_anew else [])])))
     proved, kept = stand_after(gate.lines)
     yield gate
-    yield from map(shown, (edits_made(gate.lines), who_may_wait(proved, kept)))
-    built = {*proved, *kept}
-    made(built - {*LIBRARIES}, begun)
-    needing = [it for it in PARTS if it.needs]
-    on_libraries = [it for it in needing if set(LIBRARIES) & set(it.needs.split())]
-    on_programs, left_out = able([it for it in needing if it not in on_libraries], built)
+    yield from map(shown, (edits_made(gate.lines), who_may_wait(proved, kept), *alone.all_ended()))
+    built = {*proved, *kept} - {*LIBRARIES}
+    made(built, begun)
+    on_programs, left_out = able([it for it in PARTS if it.needs and not is_on_library(it)], built)
     yield from map(shown, left_out)
-    ended, other_thread = runs.beside(on_programs)
-    for name, part in LIBRARIES.items():
-        print(f"== {part.name}", flush=True)
-        begun = time.time()
-        library = runs.run(part)
-        yield library
-        if library.failed:
-            built -= {name}
-        else:
-            made([name], begun)
-    for it in (thread, other_thread):
-        it.join()
-    yield from map(shown, beside + ended)
-    on_libraries, left_out = able(on_libraries, built)
+    for lane in (*runs.beside(on_programs, jobs()), with_libraries):
+        yield from map(shown, lane.all_ended())
+    hand_over(are_made)
+    last, left_out = able([LAST], are_made)
     yield from map(shown, left_out)
-    for part in on_libraries:
+    for part in last:
         print(f"== {part.name}", flush=True)
         yield runs.run(part)
 
@@ -289,11 +354,9 @@ def all_parts(runs, words):
 def quick_parts(runs):
     """The parts that need no proof."""
     parts, left_out = able(QUICK, ())
-    begun = [runs.beside([part]) for part in parts]
+    begun = runs.beside(parts, len(parts))
     yield from map(shown, left_out)
-    for ended, thread in begun:
-        thread.join()
-        yield from map(shown, ended)
+    yield from (shown(ended) for it in begun for ended in it.all_ended())
 
 
 def shown(ended):
@@ -316,7 +379,7 @@ def main():
     with tempfile.TemporaryDirectory(prefix="check-") as room:
         runs = Runs(room)
         try:
-            ended = list(quick_parts(runs) if is_quick else all_parts(runs, anew() if sys.argv[1:] else []))
+            ended = list(quick_parts(runs) if is_quick else all_parts(runs, bool(sys.argv[1:])))
         finally:
             runs.end()
     for it in ended:

@@ -202,7 +202,7 @@ def call():
     picture.box(838, 186, 166, 50, ["another thread", "takes no lock"], "free")
     picture.line((838, 211), (700, 211))
     picture.text(690, 216, "L0 enter 1 w0 request", "count", "end")
-    picture.line((400, 140), (400, 211), (192, 211))
+    picture.line((494, 140), (494, 211), (192, 211))
     picture.text(16, 206, "the answer, and what the")
     picture.text(16, 222, "worker has then seen")
     return picture

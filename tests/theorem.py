@@ -71,8 +71,9 @@ def page():
     text = ["# The theorem\n", "<!-- tests/theorem.py --write makes this page. -->\n",
             "What the registry promises, sentence by sentence, each beside the clauses that say it. A check proves that "
             "the function meets them; the functions of `under_lock` are what the calls of their names run under the "
-            "lock. The %d definitions of `specs/` that the clauses cite, %d lines, follow in the order in which they are "
-            "to be read.\n" % (len(words), lines)]
+            "lock. The %d definitions of `specs/` that the clauses cite, %d lines without comments, follow in the order in "
+            "which they are to be read, with %d types of the code. Of a record only the fields that are read there are "
+            "followed, and no word of the toolchain's library.\n" % (len(words), lines, len(definitions) - len(words))]
     for sentence, clauses in said:
         text += ["> %s\n" % sentence] + [shown(it) for it in clauses]
     text.append("## The definitions\n")

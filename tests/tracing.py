@@ -149,7 +149,7 @@ def suite_counts(yard, name):
 
 
 def run_suites(yard, count):
-    """Runs the crate's own tests over both, and answers how many pass over the copy, as a figure."""
+    """Runs the crate's own tests over both, and answers how many there are, as a figure: the copy has some of ours too."""
     original, said = suite_counts(yard, "original")
     if sum(passed for passed, _ in original.values()) == 0:
         print(said)
@@ -163,7 +163,7 @@ def run_suites(yard, count):
     if count.failed:
         print(said[-20000:])
     count.check(bool(original) and sum(passed for passed, _ in original.values()) > 0, "the original's own tests run")
-    for name, counts in (("the original", original), ("the copy", ours)):
+    for name, counts in (("the copy", ours), ("the original", original)):
         units = sum(passed for file, (passed, _) in counts.items() if file != "doc tests")
         documented = counts.get("doc tests", (0, 0))[0]
         print(f"tracing-subscriber's own tests over {name}: {units} passed, and {documented} doc tests")

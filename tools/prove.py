@@ -195,11 +195,13 @@ def begin_those_that_can(proofs, jobs):
 
     The one with the longest way of all gets a job for each processor and goes before the others, each of which has half
     as many, for what that one leaves: no proof gets more jobs later, and none has work for all of them all the time.
+    At once are three for each four processors: so those with short ways run beside the last ones, which leave the most.
     """
     proved = {it.name for it in proofs if it.is_proved()}
     ways = ways_through(proofs)
     ready = sorted((it for it in proofs if not it.process and it.needs <= proved), key=lambda it: -ways[it.name])
-    for proof in ready[: jobs - sum(it.is_at_work() for it in proofs)]:
+    most = max(jobs * 3 // 4, min(jobs, 2))
+    for proof in ready[: max(most - sum(it.is_at_work() for it in proofs), 0)]:
         lay_room(proof, proofs)
         if all(ways[proof.name] >= ways[it.name] for it in proofs if it.is_at_work()):
             proof.begin(jobs, 0)
@@ -255,6 +257,12 @@ def stands_on(proof, proofs):
     return found
 
 
+def give_up(proof, proofs):
+    """Clears the room of a crate that is proved but for what rt kept of it: at the end that would take its time."""
+    for crate in stands_on(proof, proofs):
+        shutil.rmtree(room_of(proof.name) / "crates" / crate, ignore_errors=True)
+
+
 def move(kept, place):
     """Moves what rt kept, so that no part of it stands there where that is broken off."""
     part = place.with_name(".out")
@@ -299,6 +307,7 @@ def prove(proofs, progress):
             if not proof.is_proved():
                 return proof
             progress.tells("", f"  {proof.name} is proved ({progress.so_far()})")
+            threading.Thread(target=give_up, args=(proof, proofs), daemon=True).start()
     return None
 
 

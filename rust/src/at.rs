@@ -1,7 +1,7 @@
 //! The part that a call goes to, and what is done there for calls of it.
 #![forbid(unsafe_code)]
 use crate::meta::RawId;
-use crate::part::Part;
+use crate::part::{Calling, Part};
 use crate::parts::Parts;
 use crate::refusal::Refusal;
 use crate::state::State;
@@ -42,28 +42,51 @@ impl<'a> At<'a> {
 
     /// A call as the worker whose number the thread has there.
     #[inline(always)]
-    pub(crate) fn call<T>(self, call: impl Fn(&mut State, u32) -> Result<T, Refusal>) -> Result<T, Refusal> {
+    pub(crate) fn call<T>(self, call: impl Calling<T>) -> Result<T, Refusal> {
         self.before()?;
         self.part.call(State::number, call)
     }
 
-    /// The thread enters a span. `told` is given whether it wasn't inside of it already, and as which worker it entered.
-    /// Each way has a copy of its own.
+    /// The thread enters a span: whether it wasn't inside of it already, and as which worker it entered. Each way has
+    /// a copy of its own.
     #[inline(always)]
-    pub(crate) fn enter<T>(self, id: RawId, told: impl FnOnce(bool, u32) -> T) -> Result<T, Refusal> {
+    pub(crate) fn enter(self, id: RawId) -> Result<(bool, u32), Refusal> {
         if self.several.is_some() {
-            workers::reserve_entry()?;
+            return self.enter_one_of_several(id);
         }
+        let enter = move |state: &mut State, worker| Ok((state.enter(worker, id)?, worker));
+        self.part.call(State::number_to_enter, enter)
+    }
+
+    #[inline(never)]
+    fn enter_one_of_several(self, id: RawId) -> Result<(bool, u32), Refusal> {
+        workers::reserve_entry()?;
         self.before()?;
-        let enter = |state: &mut State, worker| {
+        let enter = move |state: &mut State, worker| {
             let is_first = state.enter(worker, id)?;
-            if self.several.is_some() {
-                workers::entered(self.part, id, is_first);
-            }
+            workers::entered(self.part, id, is_first);
             Ok((is_first, worker))
         };
-        let (is_first, worker) = self.part.call(State::number_to_enter, enter)?;
-        Ok(told(is_first, worker))
+        self.part.call(State::number_to_enter, enter)
+    }
+
+    /// The thread leaves its topmost entry of a span. Whether the span closed.
+    #[inline(always)]
+    pub(crate) fn exit(self, id: RawId) -> Result<bool, Refusal> {
+        if self.several.is_some() {
+            return self.exit_one_of_several(id);
+        }
+        self.part
+            .call(State::number, move |state, worker| state.exit(worker, id))
+    }
+
+    #[inline(never)]
+    fn exit_one_of_several(self, id: RawId) -> Result<bool, Refusal> {
+        self.call(move |state, worker| {
+            let closed = state.exit(worker, id)?;
+            self.left(id);
+            Ok(closed)
+        })
     }
 
     /// The thread left an entry of a span, or owes that. It is said under the lock: what is dropped after that because

@@ -318,3 +318,63 @@ impl PackedLayers {
         Ok(())
     }
 }
+
+#[cfg(test)]
+mod tests {
+    use super::*;
+
+    /// The most verbose level with a layer for each of these targets: what the package tells without a lock, and what
+    /// the proved registry does.
+    fn max_levels(targets: &[&str]) -> (Option<Level>, Option<Level>) {
+        let layer = |text: &&str| Layer::compact().with_targets(text.parse().expect("targets"));
+        let layers: Vec<Layer> = targets.iter().map(layer).collect();
+        let interest = Interest::of(layers.iter().map(|layer| layer.targets.clone()));
+        let packed = PackedLayers::of(&layers).expect("there is memory");
+        let (mut core, _lines) = Core::new(&Start {
+            limits: SpanLimits {
+                slots: 1,
+                last_generation: 0,
+                max_count: 1,
+                workers: 1,
+                ring: 1,
+            },
+            layers: &packed.layers,
+            rules: &packed.rules,
+            texts: &packed.texts,
+        })
+        .expect("the limits are in their ranges");
+        (interest.max_level(), core.max_level())
+    }
+
+    #[test]
+    fn the_most_verbose_level_is_that_of_the_proved_registry() {
+        let cases: [(&[&str], Option<Level>); 12] = [
+            (&["off"], None),
+            (&["off", "off"], None),
+            (&["error"], Some(Level::Error)),
+            (&["warn"], Some(Level::Warn)),
+            (&["app=info"], Some(Level::Info)),
+            (&["debug", "off"], Some(Level::Debug)),
+            (&["app"], Some(Level::Trace)),
+            (&["warn,app=debug"], Some(Level::Debug)),
+            (&["app=debug,warn"], Some(Level::Debug)),
+            (&["app=error,app::db=info,web=warn"], Some(Level::Info)),
+            (&["error", "app=trace", "warn"], Some(Level::Trace)),
+            (&["web=warn", "app=error"], Some(Level::Warn)),
+        ];
+        for (targets, most) in cases {
+            assert_eq!(max_levels(targets), (most, most), "{targets:?}");
+        }
+    }
+
+    /// The proved registry counts a level too which a later one of the same prefix overrides, and without a layer each
+    /// level, since spans are made then.
+    #[test]
+    fn the_proved_registry_never_tells_a_less_verbose_level() {
+        assert_eq!(
+            max_levels(&["app=debug,app=error"]),
+            (Some(Level::Error), Some(Level::Debug))
+        );
+        assert_eq!(max_levels(&[]), (None, Some(Level::Trace)));
+    }
+}

@@ -14,45 +14,18 @@ impl<T> Default for BySlot<T> {
 }
 
 impl<T> BySlot<T> {
-    /// Room for one slot more.
-    #[inline(always)]
-    pub(crate) fn reserve_next(&mut self) -> Result<(), Refusal> {
-        reserve(&mut self.0, 1)
-    }
-
     /// Room for this span.
     pub(crate) fn reserve(&mut self, id: RawId) -> Result<(), Refusal> {
         let missing = (id.slot() + 1).saturating_sub(self.0.len());
         reserve(&mut self.0, missing)
     }
 
-    #[inline(always)]
-    fn slot(&mut self, id: RawId) -> &mut Option<(RawId, T)> {
-        if id.slot() >= self.0.len() {
-            self.grow(id);
-        }
-        &mut self.0[id.slot()]
-    }
-
-    #[cold]
-    fn grow(&mut self, id: RawId) {
-        self.0.resize_with(id.slot() + 1, || None);
-    }
-
     /// Keeps this of a span, in place of what its slot has. It takes no memory where there is room.
     pub(crate) fn put(&mut self, id: RawId, kept: T) {
-        *self.slot(id) = Some((id, kept));
-    }
-
-    /// What its slot has becomes this span's. It takes no memory where there is room.
-    #[inline(always)]
-    pub(crate) fn hand_over(&mut self, id: RawId) -> &mut T
-    where
-        T: Default,
-    {
-        let (owner, kept) = self.slot(id).get_or_insert_with(|| (id, T::default()));
-        *owner = id;
-        kept
+        if id.slot() >= self.0.len() {
+            self.0.resize_with(id.slot() + 1, || None);
+        }
+        self.0[id.slot()] = Some((id, kept));
     }
 
     /// What is kept of a span.
@@ -117,31 +90,18 @@ mod tests {
     }
 
     #[test]
-    fn what_a_slot_has_is_handed_over() {
-        let mut spans = BySlot::<String>::default();
-        spans.hand_over(id(2)).push('a');
-        spans.hand_over(id((1 << 24) + 2)).push('b');
-        assert_eq!(
-            (spans.get(id(2)), spans.get(id((1 << 24) + 2))),
-            (None, Some(&"ab".to_owned()))
-        );
-        assert_eq!(spans.get(id(1)), None);
-    }
-
-    #[test]
     fn to_keep_it_takes_no_memory_where_there_is_room() -> Result<(), Refusal> {
         let mut spans = BySlot::default();
         spans.reserve(id(100))?;
         let room = spans.0.capacity();
         assert!(room >= 100);
         spans.put(id(100), ());
-        while spans.0.len() < room {
-            spans.reserve_next()?;
-            spans.hand_over(id(spans.0.len() as u64 + 1));
+        for last in [1, room as u64] {
+            spans.reserve(id(last))?;
+            spans.put(id(last), ());
+            assert_eq!(spans.0.capacity(), room);
         }
-        spans.reserve(id(1))?;
-        assert_eq!(spans.0.capacity(), room);
-        spans.reserve_next()?;
+        spans.reserve(id(room as u64 + 1))?;
         assert!(spans.0.capacity() > room);
         Ok(())
     }

@@ -2,9 +2,8 @@
 #![forbid(unsafe_code)]
 use crate::error::Error;
 use crate::meta::{Fields, Given, Id, Meta, Parent, RawId};
-use crate::names::{are_marked, is_marked, with_written, NO_NAME};
+use crate::names::{named, NO_NAME};
 use crate::part::Part;
-use crate::refusal::Refusal;
 use crate::registry::Registry;
 use crate::span::Span;
 
@@ -59,14 +58,7 @@ impl Registry {
     /// # }
     /// ```
     pub fn callsite(&self, meta: &Meta<'_>) -> Result<Callsite, Error> {
-        let add = |meta: &Meta<'_>| self.parts().add_callsite(meta);
-        let number = if is_marked(meta.name) {
-            Err(Refusal::BAD_NAME)
-        } else {
-            add(meta)
-        };
-        let number = number
-            .or_else(|refusal| with_written(refusal, meta.name, Given::NONE, |name, _| add(&Meta { name, ..*meta })))?;
+        let number = named(meta, &Given::NONE, move |meta, _| self.parts().add_callsite(meta))?;
         Ok(Callsite {
             registry: self.number(),
             number,
@@ -89,10 +81,10 @@ impl Registry {
     /// Those of [`span`](Registry::span) but for the name, and [`OtherRegistry`](Error::OtherRegistry) for the
     /// callsite.
     pub fn span_at(&self, callsite: &Callsite, parent: Parent, fields: Fields<'_>) -> Result<Span, Error> {
-        self.span_at_number(callsite.number_in(self)?, parent, fields.into())
+        self.span_at_number(callsite.number_in(self)?, parent, &fields.into())
     }
 
-    pub(crate) fn span_at_number(&self, number: u32, parent: Parent, fields: Given<'_>) -> Result<Span, Error> {
+    pub(crate) fn span_at_number(&self, number: u32, parent: Parent, fields: &Given<'_>) -> Result<Span, Error> {
         let span = self.made_at(number, parent, fields, |part, id| Span::of(self, part, id))?;
         Ok(span.unwrap_or_default())
     }
@@ -103,7 +95,7 @@ impl Registry {
     /// Those of [`span_at`](Registry::span_at).
     pub fn new_span_at(&self, callsite: &Callsite, parent: Parent, fields: Fields<'_>) -> Result<Option<Id>, Error> {
         let number = callsite.number_in(self)?;
-        self.made_at(number, parent, fields.into(), |part, id| self.id_of(part, id))
+        self.made_at(number, parent, &fields.into(), |part, id| self.id_of(part, id))
     }
 
     // What is told of the span that is made. Each way has a copy of its own.
@@ -112,20 +104,12 @@ impl Registry {
         &self,
         number: u32,
         parent: Parent,
-        fields: Given<'_>,
+        fields: &Given<'_>,
         told: impl FnOnce(&Part, RawId) -> T,
     ) -> Result<Option<T>, Error> {
         let (at, parent) = self.own_parent(parent)?;
-        let given = &fields;
-        let made = if are_marked(NO_NAME, fields.fields) {
-            Err(Refusal::BAD_NAME)
-        } else {
+        let made = named(NO_NAME, fields, move |_, given| {
             at.call(move |state, worker| state.new_span_at(worker, number, parent, given))
-        };
-        let made = made.or_else(move |refusal| {
-            with_written(refusal, NO_NAME, fields, move |_, given| {
-                at.call(|state, worker| state.new_span_at(worker, number, parent, &given))
-            })
         })?;
         Ok(made.map(|id| told(at.part, id)))
     }
@@ -151,7 +135,7 @@ impl Registry {
         message: &str,
         fields: Fields<'_>,
     ) -> Result<(), Error> {
-        self.event_at_number(callsite.number_in(self)?, parent, message, fields.into())
+        self.event_at_number(callsite.number_in(self)?, parent, message, &fields.into())
     }
 
     pub(crate) fn event_at_number(
@@ -159,19 +143,11 @@ impl Registry {
         number: u32,
         parent: Parent,
         message: &str,
-        fields: Given<'_>,
+        fields: &Given<'_>,
     ) -> Result<(), Error> {
         let (at, parent) = self.own_parent(parent)?;
-        let given = &fields;
-        let told = if are_marked(NO_NAME, fields.fields) {
-            Err(Refusal::BAD_NAME)
-        } else {
+        named(NO_NAME, fields, move |_, given| {
             at.call(move |state, worker| state.event_at(worker, number, parent, message, given))
-        };
-        told.or_else(move |refusal| {
-            with_written(refusal, NO_NAME, fields, move |_, given| {
-                at.call(|state, worker| state.event_at(worker, number, parent, message, &given))
-            })
         })
     }
 }

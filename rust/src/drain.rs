@@ -161,7 +161,7 @@ impl Drain {
     }
 
     // Reads the next line of each part where it isn't read. Whether there is any.
-    #[inline]
+    #[inline(always)]
     fn look(&mut self) -> bool {
         if self.parts.are_several() {
             self.look_at_all()
@@ -170,6 +170,7 @@ impl Drain {
         }
     }
 
+    #[inline(never)]
     fn look_at_all(&mut self) -> bool {
         for at in 0..self.heads.len() {
             if self.heads[at].ready.is_none() {
@@ -199,7 +200,7 @@ impl Drain {
         self.parts.part(at as u32)
     }
 
-    #[inline]
+    #[inline(always)]
     fn look_at(&mut self, at: usize) -> bool {
         let part = self.parts.part(at as u32);
         let head = &mut self.heads[at];
@@ -230,14 +231,19 @@ impl Drain {
     }
 
     // Whether something was owed or lost, and some of it was done or told now.
-    #[inline]
+    #[inline(always)]
     fn settles(&self) -> bool {
         if self.parts.are_several() {
-            // Each of them does.
-            self.parts.all().filter(|part| settles(part)).count() > 0
+            self.settles_all()
         } else {
             settles(self.parts.part(0))
         }
+    }
+
+    #[inline(never)]
+    fn settles_all(&self) -> bool {
+        // Each of them does.
+        self.parts.all().filter(|part| settles(part)).count() > 0
     }
 }
 

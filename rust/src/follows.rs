@@ -50,6 +50,6 @@ impl Registry {
             fields: &fields,
             kinds: &[Kind::Integer],
         };
-        Ok(at.call(move |state, worker| state.record(worker, id, given))?)
+        Ok(at.call(move |state, worker| state.record(worker, id, &given))?)
     }
 }

@@ -41,7 +41,7 @@ impl Head {
     }
 
     /// Reads the next line of the part. Whether there is one.
-    #[inline]
+    #[inline(always)]
     pub(crate) fn look(&mut self, part: &Part) -> bool {
         let stamps = part.ring().stamps();
         let mut owes = true;

@@ -2,7 +2,8 @@
 //! [`Meta::name`](crate::Meta::name) states. Whoever undoes it gets the same bytes.
 #![forbid(unsafe_code)]
 use crate::error::Error;
-use crate::meta::{Fields, Given};
+use crate::level::Level;
+use crate::meta::{Fields, Given, Meta};
 use crate::packed::reserve;
 use crate::refusal::Refusal;
 use std::borrow::Cow;
@@ -14,8 +15,8 @@ const MARK: &str = "--";
 /// How a text of this kind begins.
 const SIGN: u8 = b'-';
 
-/// The name where a call has only keys.
-pub(crate) const NO_NAME: &str = "";
+/// Of a call that has only keys.
+pub(crate) const NO_NAME: &Meta<'_> = &Meta::new(Level::Trace, "", "");
 
 /// Whether it begins as one that is written otherwise than it stands.
 #[inline]
@@ -25,7 +26,7 @@ pub(crate) fn is_marked(text: &str) -> bool {
 
 /// Whether this name or one of these keys does.
 #[inline]
-pub(crate) fn are_marked(name: &str, fields: Fields<'_>) -> bool {
+fn are_marked(name: &str, fields: Fields<'_>) -> bool {
     is_marked(name) || fields.iter().any(|(key, _)| is_marked(key))
 }
 
@@ -88,14 +89,28 @@ fn bytes_of(rest: &str) -> Vec<u8> {
     bytes
 }
 
-/// Makes a call again that was refused for its names, with the name and the keys as they are written.
+/// A call with a name and keys, which are any texts. It may be made again.
+pub(crate) trait Named<T>: Fn(&Meta<'_>, &Given<'_>) -> Result<T, Refusal> + Copy {}
+impl<T, F: Fn(&Meta<'_>, &Given<'_>) -> Result<T, Refusal> + Copy> Named<T> for F {}
+
+/// Makes a call with the name and the keys as they are, or, where they are no names, as they are written.
+#[inline(always)]
+pub(crate) fn named<T>(meta: &Meta<'_>, given: &Given<'_>, call: impl Named<T>) -> Result<T, Error> {
+    let made = if are_marked(meta.name, given.fields) {
+        Err(Refusal::BAD_NAME)
+    } else {
+        call(meta, given)
+    };
+    match made {
+        Ok(answer) => Ok(answer),
+        Err(refusal) => Ok(with_written(refusal, meta, given, call)?),
+    }
+}
+
+// Makes a call again that was refused for its names, with the name and the keys as they are written.
 #[cold]
-pub(crate) fn with_written<T>(
-    refusal: Refusal,
-    name: &str,
-    given: Given<'_>,
-    call: impl FnOnce(&str, Given<'_>) -> Result<T, Refusal>,
-) -> Result<T, Error> {
+#[inline(never)]
+fn with_written<T>(refusal: Refusal, meta: &Meta<'_>, given: &Given<'_>, call: impl Named<T>) -> Result<T, Error> {
     if refusal != Refusal::BAD_NAME {
         return Err(refusal.into());
     }
@@ -103,7 +118,7 @@ pub(crate) fn with_written<T>(
         Refusal::BAD_NAME => Error::bad_name(text),
         other => other.into(),
     };
-    let name = written(name).map_err(|refusal| naming(name, refusal))?;
+    let name = &written(meta.name).map_err(|refusal| naming(meta.name, refusal))?;
     let (mut keys, mut fields) = (Vec::new(), Vec::new());
     reserve(&mut keys, given.fields.len())?;
     reserve(&mut fields, given.fields.len())?;
@@ -115,7 +130,7 @@ pub(crate) fn with_written<T>(
         fields: &fields,
         kinds: given.kinds,
     };
-    Ok(call(&name, given)?)
+    Ok(call(&Meta { name, ..*meta }, &given)?)
 }
 
 #[cfg(test)]

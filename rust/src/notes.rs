@@ -22,7 +22,7 @@ pub(crate) struct Known {
 }
 
 /// What is known of what has this meta.
-pub(crate) fn known(meta: &Meta<'_>, given: Given<'_>) -> Result<Known, Refusal> {
+pub(crate) fn known(meta: &Meta<'_>, given: &Given<'_>) -> Result<Known, Refusal> {
     Ok(Known {
         level: meta.level,
         target: copied(meta.target)?,
@@ -32,7 +32,7 @@ pub(crate) fn known(meta: &Meta<'_>, given: Given<'_>) -> Result<Known, Refusal>
 }
 
 /// The same, where the name is as lines write it.
-pub(crate) fn known_as_written(meta: &Meta<'_>, given: Given<'_>) -> Result<Known, Refusal> {
+pub(crate) fn known_as_written(meta: &Meta<'_>, given: &Given<'_>) -> Result<Known, Refusal> {
     let name = &read(meta.name);
     known(&Meta { name, ..*meta }, given)
 }

@@ -221,7 +221,7 @@ impl fmt::Display for OpenSpans {
 impl Registry {
     /// All spans that are open, of one moment. What is owed and can't be done now counts as not done.
     ///
-    /// It looks at each slot that was ever used, under the lock.
+    /// It looks at each slot that was ever used, and reads all texts of each open span, under the lock.
     ///
     /// # Errors
     /// [`OutOfMemory`](Error::OutOfMemory).

@@ -1,11 +1,12 @@
-//! With what spans were made, and where: what lists of open spans tell of them.
+//! Where spans were made, which the proved registry doesn't know; and what lists of open spans tell of one, with what
+//! that does.
 #![forbid(unsafe_code)]
-use crate::by_slot::BySlot;
 use crate::level::Level;
 use crate::meta::{Given, Meta, RawId};
-use crate::names::read;
-use crate::notes::{known, Known};
-use crate::packed::{copied, reserve, Packed};
+use crate::names::{is_marked, read};
+use crate::notes::{known, known_as_written, Known};
+use crate::packed::{copied, reserve, Names, Packed};
+use crate::raw::SpanField;
 use crate::refusal::Refusal;
 use crate::site::Site;
 use std::collections::HashMap;
@@ -13,48 +14,14 @@ use std::collections::HashMap;
 /// A file and a line, where these are known.
 pub(crate) type Place = Option<(&'static str, u32)>;
 
-/// How many bytes of a span's texts are kept at most.
-const KEPT: usize = 4096;
+/// How many bytes of a span's texts are told at most.
+const TOLD: usize = 4096;
 
 /// A callsite.
 struct Source {
-    level: Level,
-    name: String,
-    target: String,
     place: Place,
-}
-
-/// How many bytes the name and the target take before the fields.
-#[derive(Clone, Copy, Debug, Default, PartialEq, Eq)]
-pub(crate) struct Names {
-    name: usize,
-    target: usize,
-}
-
-impl Names {
-    /// Those of a span that is made by meta.
-    #[inline]
-    pub(crate) fn of(meta: &Meta<'_>) -> Names {
-        Names {
-            name: meta.name.len(),
-            target: meta.target.len(),
-        }
-    }
-
-    fn bytes(self) -> usize {
-        self.name + self.target
-    }
-}
-
-/// The last span of a slot, with its texts as they were packed.
-#[derive(Default)]
-struct Made {
-    // None: the name and the target stand before the fields.
-    callsite: Option<u32>,
-    names: Names,
-    packed: Packed,
-    // Whether there were more fields.
-    is_cut: bool,
+    // Where calls are noted.
+    known: Option<Known>,
 }
 
 /// What is known of an open span.
@@ -66,28 +33,36 @@ pub(crate) struct Details {
     pub(crate) is_cut: bool,
 }
 
-#[derive(Default)]
 pub(crate) struct Origins {
+    // Whether calls are noted: before they are made, so the proved registry can't be asked for what they make.
+    is_noted: bool,
     // By the callsites' numbers.
     sources: Vec<Source>,
     // The numbers of the places of macros, by their addresses.
     sites: HashMap<usize, u32>,
-    // Of each slot that was ever used.
-    spans: BySlot<Made>,
-    // What is kept of the texts of the span that is being made, where it isn't all of them.
-    cut: Option<(Names, Packed)>,
+    // By slot, up to the greatest that was ever used: the callsite of its last span, where that was made at one.
+    callsites: Vec<Option<u32>>,
 }
 
 impl Origins {
+    /// Of a registry whose calls are noted or not.
+    pub(crate) fn new(is_noted: bool) -> Origins {
+        Origins {
+            is_noted,
+            sources: Vec::new(),
+            sites: HashMap::new(),
+            callsites: Vec::new(),
+        }
+    }
+
     /// Room for one more callsite, and its texts.
     fn source(&mut self, meta: &Meta<'_>, place: Place) -> Result<Source, Refusal> {
         reserve(&mut self.sources, 1)?;
         self.sites.try_reserve(1).map_err(|_| Refusal::OUT_OF_MEMORY)?;
+        let known = self.is_noted.then(|| known_as_written(meta, &Given::NONE));
         Ok(Source {
-            level: meta.level,
-            name: copied(&read(meta.name))?,
-            target: copied(meta.target)?,
             place,
+            known: known.transpose()?,
         })
     }
 
@@ -113,129 +88,66 @@ impl Origins {
         self.sites.get(&address(site)).copied()
     }
 
-    /// What is known of what is made at a callsite.
-    pub(crate) fn known(&self, callsite: u32, given: Given<'_>) -> Result<Known, Refusal> {
+    /// What is known of what is made at a callsite, where calls are noted.
+    pub(crate) fn known(&self, callsite: u32, given: &Given<'_>) -> Result<Known, Refusal> {
         let source = self.sources.get(callsite as usize);
-        let meta = source.map(|source| Meta::new(source.level, &source.target, &source.name));
+        let kept = source.and_then(|source| source.known.as_ref());
+        let meta = kept.map(|kept| Meta::new(kept.level, &kept.target, &kept.name));
         known(&meta.unwrap_or(Meta::event(Level::Trace, "")), given)
     }
 
-    /// Room for one more span, whose texts these are, beginning with these names.
+    /// Room for one more span.
     #[inline(always)]
-    pub(crate) fn reserve_span(&mut self, names: Names, packed: &Packed) -> Result<(), Refusal> {
-        self.spans.reserve_next()?;
-        if packed.is_below(KEPT) {
-            return Ok(());
-        }
-        self.cut = Some(cut(names, packed)?);
-        Ok(())
+    pub(crate) fn reserve_span(&mut self) -> Result<(), Refusal> {
+        reserve(&mut self.callsites, 1)
     }
 
-    /// The span was made that room was made for last. Its texts stay in its slot, whose last one's memory is used for
-    /// the next call's.
+    /// The span was made that room was made for last, at this callsite, if at one.
     #[inline(always)]
-    pub(crate) fn made(&mut self, id: RawId, callsite: Option<u32>, names: Names, packed: &mut Packed) {
-        // The registry uses its slots in ascending order, so there is room.
-        let made = self.spans.hand_over(id);
-        (made.callsite, made.names, made.is_cut) = (callsite, names, false);
-        if packed.is_below(KEPT) {
-            std::mem::swap(&mut made.packed, packed);
-        } else {
-            self.made_cut(id, packed);
+    pub(crate) fn made(&mut self, id: RawId, callsite: Option<u32>) {
+        match self.callsites.get_mut(id.slot()) {
+            Some(last) => *last = callsite,
+            // The registry uses its slots in ascending order, so it is the next one, and there is room.
+            None => self.callsites.push(callsite),
         }
     }
 
-    #[cold]
-    fn made_cut(&mut self, id: RawId, packed: &Packed) {
-        let cut = self.cut.take();
-        if let Some((made, (kept, texts))) = self.spans.get_mut(id).zip(cut) {
-            made.is_cut = kept != made.names || texts.fields().len() < packed.fields().len();
-            (made.names, made.packed) = (kept, texts);
-        }
-    }
-
-    /// Room for these fields of a span.
-    pub(crate) fn reserve_record(&mut self, id: RawId, packed: &Packed) -> Result<(), Refusal> {
-        self.spans.get_mut(id).map_or(Ok(()), |made| {
-            let (fields, bytes) = made.fitting(packed);
-            made.packed.reserve(fields, bytes)
-        })
-    }
-
-    /// These fields were recorded, for which there is room.
-    pub(crate) fn recorded(&mut self, id: RawId, packed: &Packed) {
-        if let Some(made) = self.spans.get_mut(id) {
-            let (fields, bytes) = made.fitting(packed);
-            made.packed.add(&packed.fields()[..fields], &packed.texts()[..bytes]);
-            made.is_cut |= fields < packed.fields().len();
-        }
-    }
-
-    /// What is known of a span that is the last of its slot.
-    pub(crate) fn details(&mut self, id: RawId) -> Result<Option<Details>, Refusal> {
-        let Some(made) = self.spans.get(id) else {
-            return Ok(None);
-        };
-        let Names { name, target } = made.names;
-        let source = made.callsite.and_then(|number| self.sources.get(number as usize));
-        let mut texts = made.packed.texts();
-        let (own_name, own_target) = (taken(&mut texts, name)?, taken(&mut texts, target)?);
+    /// What is known of an open span, of which the proved registry says these texts.
+    pub(crate) fn details(&self, id: RawId, names: Names, said: &Packed) -> Result<Details, Refusal> {
+        let callsite = self.callsites.get(id.slot()).copied().flatten();
+        let source = callsite.and_then(|number| self.sources.get(number as usize));
+        // The names of a callsite count for nothing.
+        let before = if callsite.is_none() { names.bytes() } else { 0 };
+        let (told, is_cut) = fitting(before, said.fields());
+        let mut texts = said.texts();
+        let name = unmarked(taken(&mut texts, names.name)?);
+        let target = taken(&mut texts, names.target)?;
         let mut fields = Vec::new();
-        reserve(&mut fields, made.packed.fields().len())?;
-        for field in made.packed.fields() {
-            let key = taken(&mut texts, field.key_len as usize)?;
-            fields.push((read(&key).into_owned(), taken(&mut texts, field.value_len as usize)?));
+        reserve(&mut fields, told.len())?;
+        for field in told {
+            let key = unmarked(taken(&mut texts, field.key_len as usize)?);
+            fields.push((key, taken(&mut texts, field.value_len as usize)?));
         }
-        Ok(Some(Details {
-            name: source.map_or_else(|| Ok(read(&own_name).into_owned()), |source| copied(&source.name))?,
-            target: source.map_or(Ok(own_target), |source| copied(&source.target))?,
+        Ok(Details {
+            name,
+            target: if before > TOLD { String::new() } else { target },
             place: source.and_then(|source| source.place),
             fields,
-            is_cut: made.is_cut,
-        }))
+            is_cut,
+        })
     }
 }
 
-impl Made {
-    // How many of the packed fields are kept, and how many bytes of theirs.
-    fn fitting(&self, packed: &Packed) -> (usize, usize) {
-        if self.is_cut {
-            return (0, 0);
-        }
-        fitting(self.packed.texts().len(), packed)
-    }
-}
-
-// How many fields fit behind so many bytes, and how many bytes of theirs.
-fn fitting(before: usize, packed: &Packed) -> (usize, usize) {
-    let (mut fields, mut bytes) = (0, 0);
-    for field in packed.fields() {
-        let more = field.key_len as usize + field.value_len as usize;
-        if before + bytes + more > KEPT {
-            break;
-        }
-        (fields, bytes) = (fields + 1, bytes + more);
-    }
-    (fields, bytes)
-}
-
-// What is kept of the texts of a new span: as many of the fields as have room, and none where the target hasn't. No
-// span has a name that hasn't.
-#[cold]
-fn cut(names: Names, packed: &Packed) -> Result<(Names, Packed), Refusal> {
-    let name = if names.name > KEPT { 0 } else { names.name };
-    let target = if name + names.target > KEPT { 0 } else { names.target };
-    let kept = Names { name, target };
-    let (fields, bytes) = if kept == names {
-        fitting(kept.bytes(), packed)
-    } else {
-        (0, 0)
+// The fields that are told behind so many bytes, and whether there is more: all up to the first that has no room. None
+// has where what stands before them hasn't.
+fn fitting(before: usize, fields: &[SpanField]) -> (&[SpanField], bool) {
+    let mut left = TOLD.checked_sub(before);
+    let has_room = |field: &&SpanField| {
+        left = left.and_then(|left| left.checked_sub(field.bytes()));
+        left.is_some()
     };
-    let texts = &packed.texts()[..kept.bytes() + bytes];
-    let mut copy = Packed::default();
-    copy.reserve(fields, texts.len())?;
-    copy.add(&packed.fields()[..fields], texts);
-    Ok((kept, copy))
+    let count = fields.iter().take_while(has_room).count();
+    (&fields[..count], before > TOLD || count < fields.len())
 }
 
 fn address(site: &'static Site) -> usize {
@@ -246,85 +158,113 @@ fn address(site: &'static Site) -> usize {
 fn taken(texts: &mut &[u8], bytes: usize) -> Result<String, Refusal> {
     let (text, rest) = texts.split_at(bytes);
     *texts = rest;
-    // They were texts before they were packed.
+    // The proved registry says texts.
     copied(std::str::from_utf8(text).unwrap_or_default())
+}
+
+// The name or key that is written so.
+fn unmarked(written: String) -> String {
+    if is_marked(&written) {
+        read(&written).into_owned()
+    } else {
+        written
+    }
 }
 
 #[cfg(test)]
 mod tests {
-    use super::{Names, Origins, KEPT};
+    use super::{Details, Names, Origins, TOLD};
     use crate::level::Level;
-    use crate::meta::{Fields, Meta, RawId};
+    use crate::meta::{Fields, Given, Meta, RawId};
     use crate::packed::Packed;
     use crate::refusal::Refusal;
+    use crate::site::Site;
 
     fn id(number: u64) -> RawId {
         RawId::from_u64(number).expect("not 0")
     }
 
-    fn make(origins: &mut Origins, number: u64, fields: Fields<'_>) -> Result<(), Refusal> {
+    fn details(origins: &Origins, number: u64, names: [&str; 2], fields: Fields<'_>) -> Result<Details, Refusal> {
+        let mut said = Packed::default();
+        said.pack(&names, fields)?;
+        let [name, target] = names.map(str::len);
+        origins.details(id(number), Names { name, target }, &said)
+    }
+
+    #[test]
+    fn the_last_span_of_a_slot_has_its_place() -> Result<(), Refusal> {
+        static SITE: Site = Site::span(Level::Info, "app", "a", "main.rs", 7);
+        let mut origins = Origins::new(false);
         let meta = Meta::new(Level::Info, "app", "a");
-        let mut packed = Packed::default();
-        packed.pack(&[meta.name, meta.target], fields)?;
-        origins.reserve_span(Names::of(&meta), &packed)?;
-        origins.made(id(number), None, Names::of(&meta), &mut packed);
-        Ok(())
-    }
-
-    fn record(origins: &mut Origins, number: u64, fields: Fields<'_>) -> Result<(), Refusal> {
-        let mut packed = Packed::default();
-        packed.pack(&[], fields)?;
-        origins.reserve_record(id(number), &packed)?;
-        origins.recorded(id(number), &packed);
-        Ok(())
-    }
-
-    #[test]
-    fn the_last_span_of_a_slot_is_known() -> Result<(), Refusal> {
-        let mut origins = Origins::default();
-        make(&mut origins, 1, &[("k", "v")])?;
-        make(&mut origins, 2, &[])?;
-        record(&mut origins, 1, &[("l", ""), ("m", "w")])?;
-        record(&mut origins, 3, &[("l", "")])?;
-        let details = origins.details(id(1))?.expect("known");
-        assert_eq!((&*details.name, &*details.target), ("a", "app"));
-        assert_eq!(
-            details.fields,
-            [("k", "v"), ("l", ""), ("m", "w")].map(|(key, value)| (key.into(), value.into()))
-        );
-        // The slot's next one.
-        make(&mut origins, (1 << 24) + 1, &[("n", "x")])?;
-        assert!(origins.details(id(1))?.is_none() && origins.details(id(9))?.is_none());
-        let details = origins.details(id((1 << 24) + 1))?.expect("known");
-        assert_eq!(details.fields, [("n".to_owned(), "x".to_owned())]);
-        assert!(!details.is_cut);
-        Ok(())
-    }
-
-    #[test]
-    fn a_target_that_is_too_long_is_left_out() -> Result<(), Refusal> {
-        let (mut origins, mut packed) = (Origins::default(), Packed::default());
-        for (number, target, is_cut) in [(1, "app".to_owned(), false), (2, "t".repeat(KEPT), true)] {
-            let meta = Meta::new(Level::Info, &target, "a");
-            packed.pack(&[meta.name, meta.target], &[("k", "v")])?;
-            origins.reserve_span(Names::of(&meta), &packed)?;
-            origins.made(id(number), None, Names::of(&meta), &mut packed);
-            let details = origins.details(id(number))?.expect("known");
-            assert_eq!((&*details.name, details.fields.len()), ("a", usize::from(!is_cut)));
-            assert_eq!((details.target == target, details.is_cut), (!is_cut, is_cut));
-            assert_eq!(packed.texts().is_empty(), !is_cut);
+        assert_eq!(origins.add(&meta, None, || Ok(0)), Ok(0));
+        assert_eq!(origins.add(&meta, Some(&SITE), || Ok(1)), Ok(1));
+        let refused = origins.add(&meta, None, || Err(Refusal::OUT_OF_MEMORY));
+        assert_eq!(refused, Err(Refusal::OUT_OF_MEMORY));
+        assert_eq!(origins.number(&SITE), Some(1));
+        for (number, callsite) in [(1, Some(1)), (2, None), (3, Some(0)), ((1 << 24) + 2, Some(1))] {
+            origins.reserve_span()?;
+            origins.made(id(number), callsite);
+            let told = details(&origins, number, ["a", "app"], &[("k", "v"), ("--", "")])?;
+            assert_eq!((&*told.name, &*told.target), ("a", "app"));
+            assert_eq!(told.place, (callsite == Some(1)).then_some(("main.rs", 7)));
+            assert_eq!(
+                told.fields,
+                [("k", "v"), ("", "")].map(|(key, value)| (key.into(), value.into()))
+            );
+            assert!(!told.is_cut);
         }
         Ok(())
     }
 
     #[test]
     fn long_texts_are_cut() -> Result<(), Refusal> {
-        let mut origins = Origins::default();
-        let long = "x".repeat(KEPT / 2);
-        make(&mut origins, 1, &[("k", &long), ("l", &long), ("m", "")])?;
-        record(&mut origins, 1, &[("n", "")])?;
-        let details = origins.details(id(1))?.expect("known");
-        assert_eq!((details.fields.len(), details.is_cut), (1, true));
+        let mut origins = Origins::new(false);
+        origins.made(id(1), None);
+        origins.made(id(2), Some(0));
+        let long = "x".repeat(TOLD / 2);
+        let fields = [("", &*long), ("", &long[2..]), ("", "y"), ("", "")];
+        // Behind two bytes, and behind none.
+        let told = [
+            details(&origins, 1, ["a", "t"], &fields)?,
+            details(&origins, 2, ["a", "t"], &fields)?,
+        ];
+        assert_eq!(
+            told.each_ref().map(|told| (told.fields.len(), told.is_cut)),
+            [(2, true), (4, false)]
+        );
+        let told = [
+            details(&origins, 1, ["a", &long], &fields)?,
+            details(&origins, 2, ["a", &long], &fields)?,
+        ];
+        assert_eq!(
+            told.each_ref().map(|told| (told.fields.len(), told.is_cut)),
+            [(0, true), (4, false)]
+        );
+        let long = "t".repeat(TOLD);
+        let told = [
+            details(&origins, 1, ["a", &long], &[])?,
+            details(&origins, 2, ["a", &long], &[])?,
+        ];
+        assert_eq!(
+            told.each_ref().map(|told| (told.target == long, told.is_cut)),
+            [(false, true), (true, false)]
+        );
+        Ok(())
+    }
+
+    #[test]
+    fn where_calls_are_noted_callsites_are_known() -> Result<(), Refusal> {
+        for is_noted in [false, true] {
+            let mut origins = Origins::new(is_noted);
+            origins.add(&Meta::new(Level::Warn, "app", "--a-20b"), None, || Ok(0))?;
+            let known = origins.known(0, &Given::NONE)?;
+            let wanted = if is_noted {
+                (Level::Warn, "app", "a b")
+            } else {
+                (Level::Trace, "", "event")
+            };
+            assert_eq!((known.level, &*known.target, &*known.name), wanted);
+        }
         Ok(())
     }
 }

@@ -1,6 +1,7 @@
 //! What is owed: what drops and ends of threads could not do because the ring was full or memory was refused.
 #![forbid(unsafe_code)]
 use crate::meta::RawId;
+use crate::packed::reserve;
 use crate::refusal::Refusal;
 use std::collections::VecDeque;
 use std::sync::atomic::{AtomicBool, AtomicU32, Ordering};
@@ -91,8 +92,15 @@ impl Owing {
     fn reserve(&mut self, more: usize) -> Result<(), Refusal> {
         let room = self.inside.len() + self.held + more;
         if room <= self.list.capacity() {
-            return Ok(());
+            Ok(())
+        } else {
+            self.grow(room)
         }
+    }
+
+    #[cold]
+    #[inline(never)]
+    fn grow(&mut self, room: usize) -> Result<(), Refusal> {
         let missing = room - self.list.len();
         self.list.try_reserve(missing).map_err(|_| Refusal::OUT_OF_MEMORY)
     }
@@ -100,7 +108,7 @@ impl Owing {
     /// Room for the handle of a new span, whose slot may be one that no span had before.
     #[inline]
     pub(crate) fn reserve_span(&mut self) -> Result<(), Refusal> {
-        self.closes.try_reserve(1).map_err(|_| Refusal::OUT_OF_MEMORY)?;
+        reserve(&mut self.closes, 1)?;
         self.reserve(1)
     }
 
@@ -112,8 +120,7 @@ impl Owing {
     /// Room for one entry more of a worker.
     #[inline]
     pub(crate) fn reserve_entry(&mut self, worker: u32) -> Result<(), Refusal> {
-        let inside = &mut self.inside[worker as usize];
-        inside.try_reserve(1).map_err(|_| Refusal::OUT_OF_MEMORY)?;
+        reserve(&mut self.inside[worker as usize], 1)?;
         self.reserve(1)
     }
 

@@ -4,13 +4,25 @@ use crate::meta::Fields;
 use crate::raw::SpanField;
 use crate::refusal::Refusal;
 
-/// A buffer of texts that grew past this is given back before the next call, so that slots of spans keep only small
-/// ones.
+/// A buffer of texts that grew past this is given back before the next call.
 const KEPT: usize = 8 * 1024;
 /// The same of one of fields.
 const KEPT_FIELDS: usize = KEPT / 16;
 
-/// The texts of one call. Its memory is used again for the next call.
+/// How many bytes the name and the target take before the fields.
+#[derive(Clone, Copy, Debug, PartialEq, Eq)]
+pub(crate) struct Names {
+    pub(crate) name: usize,
+    pub(crate) target: usize,
+}
+
+impl Names {
+    pub(crate) fn bytes(self) -> usize {
+        self.name + self.target
+    }
+}
+
+/// The texts of one call, or of what one says. Its memory is used again for the next call.
 #[derive(Default)]
 pub(crate) struct Packed {
     fields: Vec<SpanField>,
@@ -21,9 +33,7 @@ impl Packed {
     /// Packs `first`, then the keys and values.
     #[inline(always)]
     pub(crate) fn pack(&mut self, first: &[&str], fields: Fields<'_>) -> Result<(), Refusal> {
-        if self.texts.capacity() > KEPT || self.fields.capacity() > KEPT_FIELDS {
-            *self = Packed::default();
-        }
+        self.give_back();
         self.texts.clear();
         self.fields.clear();
         for text in first {
@@ -41,6 +51,14 @@ impl Packed {
         Ok(())
     }
 
+    /// Its memory, where that has grown past what is kept.
+    #[inline(always)]
+    pub(crate) fn give_back(&mut self) {
+        if self.texts.capacity() > KEPT || self.fields.capacity() > KEPT_FIELDS {
+            *self = Packed::default();
+        }
+    }
+
     #[inline]
     fn push(&mut self, text: &str) -> Result<(), Refusal> {
         reserve(&mut self.texts, text.len())?;
@@ -48,22 +66,26 @@ impl Packed {
         Ok(())
     }
 
-    /// Room for so many more fields and bytes.
-    pub(crate) fn reserve(&mut self, fields: usize, bytes: usize) -> Result<(), Refusal> {
+    /// The buffers, for what the interface says. Each has room for what stands in it.
+    pub(crate) fn room(&mut self) -> (&mut [SpanField], &mut [u8]) {
+        (&mut self.fields, &mut self.texts)
+    }
+
+    /// Room for so many fields and bytes.
+    pub(crate) fn grow(&mut self, fields: usize, bytes: usize) -> Result<(), Refusal> {
+        self.fields.clear();
+        self.texts.clear();
+        reserve(&mut self.fields, fields)?;
         reserve(&mut self.texts, bytes)?;
-        reserve(&mut self.fields, fields)
+        self.fields.resize(fields, SpanField::default());
+        self.texts.resize(bytes, 0);
+        Ok(())
     }
 
-    /// Adds these, for which there is room.
-    pub(crate) fn add(&mut self, fields: &[SpanField], texts: &[u8]) {
-        self.texts.extend_from_slice(texts);
-        self.fields.extend_from_slice(fields);
-    }
-
-    /// Whether it has at most so many bytes of texts, and its memory is kept for the next call.
-    #[inline]
-    pub(crate) fn is_below(&self, bytes: usize) -> bool {
-        self.texts.len() <= bytes && self.texts.capacity() <= KEPT && self.fields.capacity() <= KEPT_FIELDS
+    /// So many fields and bytes are what was said.
+    pub(crate) fn truncate(&mut self, fields: usize, bytes: usize) {
+        self.fields.truncate(fields);
+        self.texts.truncate(bytes);
     }
 
     pub(crate) fn fields(&self) -> &[SpanField] {
@@ -81,7 +103,19 @@ pub(crate) fn length(text: &str) -> Result<u32, Refusal> {
 }
 
 /// Room for so many more, or want of memory.
+#[inline(always)]
 pub(crate) fn reserve<T>(list: &mut Vec<T>, more: usize) -> Result<(), Refusal> {
+    if more <= list.capacity() - list.len() {
+        Ok(())
+    } else {
+        grow(list, more)
+    }
+}
+
+// What happens seldom isn't among what always does.
+#[cold]
+#[inline(never)]
+fn grow<T>(list: &mut Vec<T>, more: usize) -> Result<(), Refusal> {
     list.try_reserve(more).map_err(|_| Refusal::OUT_OF_MEMORY)
 }
 
@@ -96,6 +130,7 @@ pub(crate) fn copied(text: &str) -> Result<String, Refusal> {
 #[cfg(test)]
 mod tests {
     use super::{Packed, KEPT};
+    use crate::refusal::Refusal;
 
     #[test]
     fn texts_stand_one_after_another() {
@@ -120,5 +155,25 @@ mod tests {
         packed.pack(&[&"x".repeat(KEPT * 4)], &[]).unwrap();
         packed.pack(&["x"], &[]).unwrap();
         assert!(packed.texts.capacity() <= KEPT);
+    }
+
+    #[test]
+    fn what_is_said_takes_the_place_of_what_was_packed() {
+        let mut packed = Packed::default();
+        packed.pack(&["name"], &[("k", "value")]).unwrap();
+        packed.grow(3, 40).unwrap();
+        let (fields, texts) = packed.room();
+        assert_eq!((fields.len(), texts.len()), (3, 40));
+        texts[..4].copy_from_slice(b"name");
+        packed.truncate(0, 4);
+        assert_eq!((packed.texts(), packed.fields().len()), (&b"name"[..], 0));
+        packed.grow(0, KEPT * 4).unwrap();
+        packed.give_back();
+        assert_eq!((packed.texts.capacity(), packed.texts().len()), (0, 0));
+        for (fields, bytes) in [(usize::MAX, 0), (0, usize::MAX)] {
+            assert_eq!(packed.grow(fields, bytes), Err(Refusal::OUT_OF_MEMORY));
+        }
+        packed.pack(&["name"], &[]).unwrap();
+        assert_eq!(packed.texts(), b"name");
     }
 }

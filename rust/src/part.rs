@@ -101,6 +101,11 @@ impl Common {
     }
 }
 
+/// A call as a worker. It may be made again, and is copied for that: so where it is done at once, nothing of it has to
+/// stand in memory.
+pub(crate) trait Calling<T>: Fn(&mut State, u32) -> Result<T, Refusal> + Copy {}
+impl<T, F: Fn(&mut State, u32) -> Result<T, Refusal> + Copy> Calling<T> for F {}
+
 /// A proved registry with its lock and its ring. No two parts have a line of the processors' caches in common, and
 /// neither have the lock's word, the [`State`] and what is only read here.
 #[repr(align(128))]
@@ -138,9 +143,7 @@ impl Part {
     pub(crate) fn with<T>(&self, call: impl FnOnce(&mut State) -> T) -> T {
         let mut state = self.lock();
         let answer = call(&mut state);
-        if state.has_closed() {
-            let_go(state);
-        }
+        unlock(state);
         answer
     }
 
@@ -186,35 +189,65 @@ impl Part {
     pub(crate) fn call<T>(
         self: &Arc<Part>,
         number: fn(&mut State, Caller) -> Result<u32, Refusal>,
-        call: impl Fn(&mut State, u32) -> Result<T, Refusal>,
+        call: impl Calling<T>,
     ) -> Result<T, Refusal> {
-        let mut turn: u32 = 0;
-        loop {
-            let result = self.call_now(number, &call);
-            if !matches!(result, Err(Refusal::BACKLOG)) || !self.has_waited(turn) {
-                return result;
-            }
-            turn = turn.saturating_add(1);
+        match self.call_now(number, call) {
+            Ok(answer) => Ok(answer),
+            Err(refusal) => Ok(self.call_later(refusal, number, call)?),
         }
     }
 
+    // It was refused for this. It is made again once it has waited for a place.
+    #[cold]
+    #[inline(never)]
+    fn call_later<T>(
+        self: &Arc<Part>,
+        refusal: Refusal,
+        number: fn(&mut State, Caller) -> Result<u32, Refusal>,
+        call: impl Calling<T>,
+    ) -> Result<T, Refusal> {
+        let (mut result, mut turn) = (Err(refusal), 0_u32);
+        while matches!(result, Err(Refusal::BACKLOG)) && self.has_waited(turn) {
+            result = self.call_now(number, call);
+            turn = turn.saturating_add(1);
+        }
+        result
+    }
+
+    // Done and refused calls go different ways from here on, so that one that is done isn't asked what it was refused
+    // for.
     #[inline(always)]
     fn call_now<T>(
         self: &Arc<Part>,
         number: fn(&mut State, Caller) -> Result<u32, Refusal>,
-        call: &impl Fn(&mut State, u32) -> Result<T, Refusal>,
+        call: impl Calling<T>,
     ) -> Result<T, Refusal> {
         let caller = workers::caller(self);
-        self.with(|state| {
-            state.settle()?;
-            let worker = match state.worker_of(caller) {
-                Some(worker) => worker,
-                None => self.numbered(state, caller, number)?,
-            };
-            let answer = call(state, worker)?;
-            self.tell(state);
-            Ok(answer)
-        })
+        let mut state = self.lock();
+        match self.called(&mut state, caller, number, call) {
+            Ok(answer) => {
+                self.tell(&mut state);
+                unlock(state);
+                Ok(answer)
+            }
+            Err(refusal) => Err(refused(state, refusal)),
+        }
+    }
+
+    #[inline(always)]
+    fn called<T>(
+        self: &Arc<Part>,
+        state: &mut State,
+        caller: Caller,
+        number: fn(&mut State, Caller) -> Result<u32, Refusal>,
+        call: impl Calling<T>,
+    ) -> Result<T, Refusal> {
+        state.settle()?;
+        let worker = match state.worker_of(caller) {
+            Some(worker) => worker,
+            None => self.numbered(state, caller, number)?,
+        };
+        call(state, worker)
     }
 
     // As which worker a thread calls that has no number.
@@ -287,6 +320,21 @@ impl Part {
     pub(crate) fn owes(&self) -> bool {
         self.debt.is_there()
     }
+}
+
+#[inline(always)]
+fn unlock(state: MutexGuard<'_, State>) {
+    if state.has_closed() {
+        let_go(state);
+    }
+}
+
+/// The same, where a call was refused for this.
+#[cold]
+#[inline(never)]
+fn refused(state: MutexGuard<'_, State>, refusal: Refusal) -> Refusal {
+    unlock(state);
+    refusal
 }
 
 /// What closed spans carried is dropped once the lock isn't held, since that may call the registry.

@@ -59,6 +59,7 @@ pub(crate) struct SpanRule {
 }
 
 #[repr(C)]
+#[derive(Default)]
 struct SpanMeta {
     level: u32,
     name_len: u32,
@@ -66,10 +67,17 @@ struct SpanMeta {
 }
 
 #[repr(C)]
-#[derive(Clone, Copy, Debug)]
+#[derive(Clone, Copy, Debug, Default, PartialEq, Eq)]
 pub(crate) struct SpanField {
     pub(crate) key_len: u32,
     pub(crate) value_len: u32,
+}
+
+impl SpanField {
+    /// How many bytes its key and its value have.
+    pub(crate) fn bytes(self) -> usize {
+        self.key_len as usize + self.value_len as usize
+    }
 }
 
 #[repr(C)]
@@ -189,6 +197,7 @@ unsafe extern "C" {
         texts: *const u8,
         texts_len: usize,
     ) -> u32;
+    fn span_registry_follows_from(registry: *mut SpanRegistry, worker: u32, id: u64, followed: u64) -> u32;
     // The same as the next one with CURRENT, which is called in its place.
     #[allow(dead_code)]
     fn span_registry_event(
@@ -263,7 +272,19 @@ unsafe extern "C" {
         wanted: *mut u32,
     ) -> u32;
     fn span_registry_callsite_wants(registry: *mut SpanRegistry, callsite: u32, wanted: *mut u32) -> u32;
+    fn span_registry_max_level(registry: *mut SpanRegistry, levels: *mut u32) -> u32;
     fn span_registry_find(registry: *mut SpanRegistry, id: u64, found: *mut SpanFound) -> u32;
+    fn span_registry_details(
+        registry: *mut SpanRegistry,
+        id: u64,
+        meta: *mut SpanMeta,
+        fields: *mut SpanField,
+        fields_room: usize,
+        fields_len: *mut usize,
+        texts: *mut u8,
+        texts_room: usize,
+        texts_len: *mut usize,
+    ) -> u32;
     fn span_registry_current_span(registry: *mut SpanRegistry, worker: u32, id: *mut u64) -> u32;
     fn span_registry_entry(
         registry: *mut SpanRegistry,

@@ -5,7 +5,7 @@ use crate::builder::RegistryBuilder;
 use crate::error::Error;
 use crate::level::Level;
 use crate::meta::{Counts, Fields, Found, Id, Meta, Parent, RawId, RawParent};
-use crate::names::{are_marked, with_written, NO_NAME};
+use crate::names::{named, NO_NAME};
 use crate::part::{wait, Part};
 use crate::parts::Parts;
 use crate::refusal::Refusal;
@@ -199,16 +199,8 @@ impl Registry {
 
     fn made(&self, meta: &Meta<'_>, parent: Parent, fields: Fields<'_>) -> Result<Option<(&Part, RawId)>, Error> {
         let (at, parent) = self.own_parent(parent)?;
-        let made = if are_marked(meta.name, fields) {
-            Err(Refusal::BAD_NAME)
-        } else {
-            at.call(move |state, worker| state.new_span(worker, meta, parent, fields.into()))
-        };
-        let made = made.or_else(move |refusal| {
-            with_written(refusal, meta.name, fields.into(), move |name, given| {
-                let meta = Meta { name, ..*meta };
-                at.call(|state, worker| state.new_span(worker, &meta, parent, given))
-            })
+        let made = named(meta, &fields.into(), move |meta, given| {
+            at.call(move |state, worker| state.new_span(worker, meta, parent, given))
         })?;
         Ok(made.map(|id| (&**at.part, id)))
     }
@@ -220,15 +212,8 @@ impl Registry {
     /// [`Backlog`](Error::Backlog), [`OutOfMemory`](Error::OutOfMemory), [`BadData`](Error::BadData).
     pub fn record(&self, id: Id, fields: Fields<'_>) -> Result<(), Error> {
         let (at, id) = self.own(id)?;
-        let recorded = if are_marked(NO_NAME, fields) {
-            Err(Refusal::BAD_NAME)
-        } else {
-            at.call(move |state, worker| state.record(worker, id, fields.into()))
-        };
-        recorded.or_else(move |refusal| {
-            with_written(refusal, NO_NAME, fields.into(), move |_, given| {
-                at.call(move |state, worker| state.record(worker, id, given))
-            })
+        named(NO_NAME, &fields.into(), move |_, given| {
+            at.call(move |state, worker| state.record(worker, id, given))
         })
     }
 
@@ -264,16 +249,8 @@ impl Registry {
     /// ```
     pub fn event_in(&self, meta: &Meta<'_>, parent: Parent, message: &str, fields: Fields<'_>) -> Result<(), Error> {
         let (at, parent) = self.own_parent(parent)?;
-        let told = if are_marked(meta.name, fields) {
-            Err(Refusal::BAD_NAME)
-        } else {
-            at.call(move |state, worker| state.event(worker, meta, parent, message, fields.into()))
-        };
-        told.or_else(move |refusal| {
-            with_written(refusal, meta.name, fields.into(), move |name, given| {
-                let meta = Meta { name, ..*meta };
-                at.call(|state, worker| state.event(worker, &meta, parent, message, given))
-            })
+        named(meta, &fields.into(), move |meta, given| {
+            at.call(move |state, worker| state.event(worker, meta, parent, message, given))
         })
     }
 
@@ -285,7 +262,8 @@ impl Registry {
     /// [`OutOfMemory`](Error::OutOfMemory).
     pub fn enter(&self, id: Id) -> Result<bool, Error> {
         let (at, id) = self.own(id)?;
-        Ok(at.enter(id, |is_first, _| is_first)?)
+        let (is_first, _) = at.enter(id)?;
+        Ok(is_first)
     }
 
     /// The calling thread leaves its topmost entry of a span. True where the span closed.
@@ -295,11 +273,7 @@ impl Registry {
     /// [`Backlog`](Error::Backlog), [`OutOfMemory`](Error::OutOfMemory).
     pub fn exit(&self, id: Id) -> Result<bool, Error> {
         let (at, id) = self.own(id)?;
-        Ok(at.call(move |state, worker| {
-            let closed = state.exit(worker, id)?;
-            at.left(id);
-            Ok(closed)
-        })?)
+        Ok(at.exit(id)?)
     }
 
     /// One more handle of a span, which the caller has to give back by [`try_close`](Registry::try_close).

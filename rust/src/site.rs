@@ -4,8 +4,7 @@ use crate::error::Error;
 use crate::kind::Kind;
 use crate::level::Level;
 use crate::meta::{Given, Meta, Parent};
-use crate::names::{is_marked, with_written};
-use crate::refusal::Refusal;
+use crate::names::named;
 use crate::registry::Registry;
 use crate::span::Span;
 use std::sync::atomic::{AtomicU64, Ordering};
@@ -100,17 +99,8 @@ impl Site {
     }
 
     fn callsite_in(&'static self, registry: &Registry) -> Result<u32, Error> {
-        let callsite = |meta: &Meta<'_>| registry.parts().callsite_of(self, meta);
-        let name = self.meta.name;
-        let found = if is_marked(name) {
-            Err(Refusal::BAD_NAME)
-        } else {
-            callsite(&self.meta)
-        };
-        found.or_else(|refusal| {
-            with_written(refusal, name, Given::NONE, |name, _| {
-                callsite(&Meta { name, ..self.meta })
-            })
+        named(&self.meta, &Given::NONE, move |meta, _| {
+            registry.parts().callsite_of(self, meta)
         })
     }
 
@@ -135,10 +125,10 @@ type Field = (&'static str, String, Kind);
 
 impl Wanted<'_> {
     // What is given as keys with values and beside these as kinds.
-    fn given<T, const N: usize>(fields: [Field; N], call: impl FnOnce(Given<'_>) -> T) -> T {
+    fn given<T, const N: usize>(fields: [Field; N], call: impl FnOnce(&Given<'_>) -> T) -> T {
         let texts = fields.each_ref().map(|(key, value, _)| (*key, &**value));
         let kinds = fields.each_ref().map(|&(_, _, kind)| kind);
-        call(Given {
+        call(&Given {
             fields: &texts,
             kinds: &kinds,
         })

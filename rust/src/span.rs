@@ -242,9 +242,8 @@ impl Handle {
     }
 
     fn enter(&self) -> Result<Entry, Error> {
-        Ok(self
-            .at()
-            .enter(self.id, |is_first, worker| Entry { worker, is_first })?)
+        let (is_first, worker) = self.at().enter(self.id)?;
+        Ok(Entry { worker, is_first })
     }
 
     fn inside(&self) -> Result<(&Handle, Entry), Error> {

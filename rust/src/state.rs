@@ -8,7 +8,7 @@ use crate::level::Level;
 use crate::lost::{Lost, TARGET};
 use crate::meta::{Counts, Fields, Given, Meta, RawId, RawParent};
 use crate::notes::{known_as_written, What};
-use crate::origins::{Names, Origins};
+use crate::origins::Origins;
 use crate::owed::{Debt, Owed, Owing};
 use crate::packed::Packed;
 use crate::raw::{Core, SpanFound};
@@ -52,12 +52,12 @@ impl State {
         Ok(State {
             core,
             first_worker,
+            origins: Origins::new(ring.notes().is_some()),
             has_more: ring.notes().is_some() || ring.stamps().is_some(),
             ring,
             packed: Packed::default(),
             owing: Owing::new(workers as usize, debt)?,
             seats: Seats::new(workers)?,
-            origins: Origins::default(),
             carried: Carried::default(),
         })
     }
@@ -166,19 +166,33 @@ impl State {
     // be noted of it.
     #[inline(always)]
     fn placed<T: Answer>(&mut self, what: impl Noting, call: impl Sending<T>) -> Result<T, Refusal> {
-        loop {
-            match self.sent(what, call) {
-                Err(Refusal::BACKLOG) if self.ring.makes_place() => {}
-                answer => return answer,
-            }
+        match self.sent(what, call) {
+            Ok(answer) => Ok(answer),
+            Err(refusal) => Ok(self.placed_later(refusal, what, call)?),
         }
+    }
+
+    // It was refused for this. It is made again where lines were thrown away.
+    #[cold]
+    #[inline(never)]
+    fn placed_later<T: Answer>(
+        &mut self,
+        refusal: Refusal,
+        what: impl Noting,
+        call: impl Sending<T>,
+    ) -> Result<T, Refusal> {
+        let mut result = Err(refusal);
+        while matches!(result, Err(Refusal::BACKLOG)) && self.ring.makes_place() {
+            result = self.sent(what, call);
+        }
+        result
     }
 
     // A call that may put a batch into the ring.
     #[inline(always)]
     fn sent<T: Answer>(&mut self, what: impl Noting, call: impl Sending<T>) -> Result<T, Refusal> {
         if self.has_more {
-            self.sent_with_more(what, call)
+            Ok(self.sent_with_more(what, call)?)
         } else {
             call(&mut self.core, &self.packed)
         }
@@ -230,18 +244,17 @@ impl State {
         worker: u32,
         meta: &Meta<'_>,
         parent: RawParent,
-        given: Given<'_>,
+        given: &Given<'_>,
     ) -> Result<Option<RawId>, Refusal> {
-        let names = Names::of(meta);
         self.owing.reserve_span()?;
         self.packed.pack(&[meta.name, meta.target], given.fields)?;
-        self.origins.reserve_span(names, &self.packed)?;
+        self.origins.reserve_span()?;
         let id = self.placed(
             move |_| Ok(What::Made(known_as_written(meta, given)?)),
             move |core, packed| core.new_span(worker, parent, meta, packed),
         )?;
         if let Some(id) = id {
-            self.made(id, None, names);
+            self.made(id, None);
         }
         Ok(id)
     }
@@ -268,24 +281,23 @@ impl State {
         parent: RawParent,
         given: &Given<'_>,
     ) -> Result<Option<RawId>, Refusal> {
-        let names = Names::default();
         self.owing.reserve_span()?;
         self.packed.pack(&[], given.fields)?;
-        self.origins.reserve_span(names, &self.packed)?;
+        self.origins.reserve_span()?;
         let id = self.placed(
-            move |origins| Ok(What::Made(origins.known(callsite, *given)?)),
+            move |origins| Ok(What::Made(origins.known(callsite, given)?)),
             move |core, packed| core.new_span_at(worker, parent, callsite, packed),
         )?;
         if let Some(id) = id {
-            self.made(id, Some(callsite), names);
+            self.made(id, Some(callsite));
         }
         Ok(id)
     }
 
     #[inline(always)]
-    fn made(&mut self, id: RawId, callsite: Option<u32>, names: Names) {
+    fn made(&mut self, id: RawId, callsite: Option<u32>) {
         self.owing.made(id);
-        self.origins.made(id, callsite, names, &mut self.packed);
+        self.origins.made(id, callsite);
     }
 
     pub(crate) fn clone_span(&mut self, worker: u32, id: RawId) -> Result<(), Refusal> {
@@ -334,15 +346,12 @@ impl State {
         Ok(closed)
     }
 
-    pub(crate) fn record(&mut self, worker: u32, id: RawId, given: Given<'_>) -> Result<(), Refusal> {
+    pub(crate) fn record(&mut self, worker: u32, id: RawId, given: &Given<'_>) -> Result<(), Refusal> {
         self.packed.pack(&[], given.fields)?;
-        self.origins.reserve_record(id, &self.packed)?;
         self.placed(
             move |_| Ok(What::Record(id, given.all_kinds()?)),
             move |core, packed| core.record(worker, id, packed),
-        )?;
-        self.origins.recorded(id, &self.packed);
-        Ok(())
+        )
     }
 
     pub(crate) fn event(
@@ -351,7 +360,7 @@ impl State {
         meta: &Meta<'_>,
         parent: RawParent,
         message: &str,
-        given: Given<'_>,
+        given: &Given<'_>,
     ) -> Result<(), Refusal> {
         self.packed.pack(&[meta.name, meta.target, message], given.fields)?;
         self.placed(
@@ -370,7 +379,7 @@ impl State {
     ) -> Result<(), Refusal> {
         self.packed.pack(&[message], given.fields)?;
         self.placed(
-            move |origins| Ok(What::Made(origins.known(callsite, *given)?)),
+            move |origins| Ok(What::Made(origins.known(callsite, given)?)),
             move |core, packed| core.event_at(worker, parent, callsite, message, packed),
         )
     }
@@ -381,7 +390,7 @@ impl State {
         self.packed.pack(&[meta.name, meta.target, message], fields)?;
         let outsider = self.seats.outsider();
         self.sent(
-            |_| Ok(What::Made(known_as_written(&meta, fields.into())?)),
+            |_| Ok(What::Made(known_as_written(&meta, &fields.into())?)),
             |core, packed| core.event(outsider, RawParent::Root, &meta, message, packed),
         )
     }

@@ -116,7 +116,7 @@ fn structs_of_rust(raw: &str) -> Declared {
 #[test]
 fn the_functions_are_those_of_the_header() {
     let wanted = functions_of_c(&header());
-    assert_eq!(wanted.len(), 32, "{:?}", wanted.keys());
+    assert_eq!(wanted.len(), 35, "{:?}", wanted.keys());
     assert_eq!(functions_of_rust(&raw()), wanted);
 }
 

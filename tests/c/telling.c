@@ -1,5 +1,5 @@
-/* Which spans a call closed, the places of a stack, and how often the ring was full: what goes into buffers, and what
- * of them stays. The last line that it prints is 'N passed, M failed'. It is linked with --wrap=malloc and
+/* Which spans a call closed, the places of a stack, how often the ring was full, up to which level something is wanted,
+ * which span follows from which, and what was said of a span: what goes into buffers, and what of them stays. The last line that it prints is 'N passed, M failed'. It is linked with --wrap=malloc and
  * --wrap=realloc, so that memory can be refused. */
 #include "checks.h"
 #include "span_registry.h"
@@ -155,6 +155,156 @@ static void test_times_full(void) {
     close_both();
 }
 
+/* how many levels a registry with these layers tells, which takes no memory */
+static void check_levels(const SpanLayer *layers, size_t layers_len, const SpanRule *rules, size_t rules_len,
+    uint32_t wanted) {
+    const SpanLimits limits = {1, 0, 1, 1, 1};
+    uint32_t levels = 9;
+    CHECK(span_registry_new(&registry, &drain, &limits, layers, layers_len, rules, rules_len,
+        (const uint8_t *)"", 0) == SPAN_OK);
+    allocations_left = 0;
+    CHECK(span_registry_max_level(&registry, &levels) == SPAN_OK && levels == wanted);
+    allocations_left = -1;
+    close_both();
+}
+
+static void test_max_level(void) {
+    const SpanLayer layers[] = {{0, 0, 2}, {1, 0, 0}, {0, 15, 1}};
+    const SpanRule rules[] = {{0, 1}, {0, 3}, {0, 0}};
+    uint32_t levels = 9;
+    CHECK(span_registry_max_level(&registry, &levels) == SPAN_EMPTY_HANDLE && levels == 9);
+    check_levels(layers, 0, rules, 0, 5);
+    check_levels(layers + 1, 1, rules, 0, 0);
+    check_levels(layers + 1, 2, rules + 2, 1, 1);
+    check_levels(layers, 3, rules, 3, 4);
+    for (uint32_t level = 0; level < 5; level++) {
+        const SpanRule rule = {0, level};
+        check_levels(layers + 2, 1, &rule, 1, level + 1);
+    }
+}
+
+/* a compact layer that lets everything in, and wants no notes of spans but those of records */
+static void open_told(void) {
+    const SpanLimits limits = {16, 4294967295u, 4294967295u, 2, 64};
+    const SpanLayer layer = {0, 0, 1};
+    const SpanRule rule = {0, 4};
+    CHECK(span_registry_new(&registry, &drain, &limits, &layer, 1, &rule, 1, (const uint8_t *)"", 0) == SPAN_OK);
+}
+
+static void check_line(const char *text) {
+    uint8_t into[64];
+    uint32_t layer = 9;
+    size_t len = 0;
+    CHECK(span_drain_line(&drain, &layer, into, sizeof into, &len) == SPAN_OK && layer == 0);
+    CHECK(len == strlen(text) && memcmp(into, text, len) == 0);
+}
+
+static void test_follows_from(void) {
+    uint64_t first, second;
+    uint32_t closed, layer, status = SPAN_OUT_OF_MEMORY;
+    uint8_t into[1];
+    size_t len;
+    long refused = 0;
+    CHECK(span_registry_follows_from(&registry, 0, 1, 2) == SPAN_EMPTY_HANDLE);
+    open_told();
+    first = make_span(0), second = make_span(0);
+    CHECK(first == 1 && second == 2);
+    CHECK(span_registry_try_close(&registry, 0, first, &closed) == SPAN_OK && closed == 1);
+    CHECK(span_registry_follows_from(&registry, 1, second, first) == SPAN_OK);
+    check_line("record 2 w1 a follows_from=1");
+    /* any number is taken, also that of the span itself */
+    CHECK(span_registry_follows_from(&registry, 0, second, UINT64_MAX) == SPAN_OK);
+    check_line("record 2 w0 a follows_from=18446744073709551615");
+    CHECK(span_registry_follows_from(&registry, 0, second, 0) == SPAN_OK);
+    check_line("record 2 w0 a follows_from=0");
+    CHECK(span_registry_follows_from(&registry, 0, second, second) == SPAN_OK);
+    check_line("record 2 w0 a follows_from=2");
+    CHECK(span_registry_follows_from(&registry, 0, first, second) == SPAN_UNKNOWN);
+    CHECK(span_registry_follows_from(&registry, 0, 0, second) == SPAN_UNKNOWN);
+    CHECK(span_registry_follows_from(&registry, 0, UINT64_MAX, second) == SPAN_UNKNOWN);
+    CHECK(span_registry_follows_from(&registry, 2, second, first) == SPAN_NO_SUCH_WORKER);
+    while (status == SPAN_OUT_OF_MEMORY) {
+        CHECK(span_drain_line(&drain, &layer, into, sizeof into, &len) == SPAN_NO_LINE);
+        allocations_left = refused++;
+        status = span_registry_follows_from(&registry, 0, second, 7);
+        allocations_left = -1;
+    }
+    CHECK(status == SPAN_OK && refused > 3);
+    check_line("record 2 w0 a follows_from=7");
+    close_both();
+}
+
+static SpanMeta told_meta;
+static SpanField told_fields[5];
+static uint8_t told_texts[40];
+static size_t told_count, told_len;
+
+static uint32_t tell(uint64_t id, size_t room, size_t texts_room) {
+    return span_registry_details(&registry, id, &told_meta, told_fields, room, &told_count, told_texts, texts_room,
+        &told_len);
+}
+
+static void clear_told(void) {
+    memset(&told_meta, 7, sizeof told_meta);
+    memset(told_fields, 7, sizeof told_fields);
+    memset(told_texts, 7, sizeof told_texts);
+    told_count = 98, told_len = 99;
+}
+
+/* whether so many fields and bytes were told and written, with these texts, and nothing behind them */
+static void check_told(const SpanMeta *meta, const SpanField *fields, size_t count, const char *texts) {
+    const size_t len = strlen(texts);
+    CHECK(memcmp(&told_meta, meta, sizeof *meta) == 0 && told_count == count && told_len == len);
+    CHECK(memcmp(told_fields, fields, count * sizeof *fields) == 0 && memcmp(told_texts, texts, len) == 0);
+    CHECK(told_fields[count].key_len == 0x07070707 && told_texts[len] == 7);
+}
+
+/* whether nothing was written */
+static void check_unwritten(void) {
+    CHECK(told_meta.level == 0x07070707 && told_fields[0].key_len == 0x07070707 && told_texts[0] == 7);
+}
+
+static void test_details(void) {
+    const SpanMeta meta = {1, 4, 2}, bare = {4, 1, 0};
+    const SpanField fields[4] = {{1, 3}, {2, 0}, {1, 1}, {12, 1}};
+    uint64_t id, other;
+    clear_told();
+    CHECK(tell(1, 4, 40) == SPAN_EMPTY_HANDLE);
+    open_with_ring(64);
+    CHECK(span_registry_new_span(&registry, 0, SPAN_ROOT, 0, &meta, fields, 2, (const uint8_t *)"nametgkvalke", 12, &id)
+        == SPAN_OK);
+    CHECK(span_registry_new_span(&registry, 0, SPAN_UNDER, id, &bare, no_fields, 0, (const uint8_t *)"b", 1, &other)
+        == SPAN_OK);
+    CHECK(tell(0, 4, 40) == SPAN_UNKNOWN && tell(other + 1, 4, 40) == SPAN_UNKNOWN);
+    CHECK(told_count == 98 && told_len == 99);
+    check_unwritten();
+    CHECK(tell(id, 1, 12) == SPAN_SHORT_BUFFER && told_count == 2 && told_len == 12);
+    CHECK(tell(id, 2, 11) == SPAN_SHORT_BUFFER && told_count == 2 && told_len == 12);
+    check_unwritten();
+    allocations_left = 0;
+    CHECK(tell(id, 2, 12) == SPAN_OK);
+    allocations_left = -1;
+    check_told(&meta, fields, 2, "nametgkvalke");
+    clear_told();
+    CHECK(tell(other, 0, 1) == SPAN_OK);
+    check_told(&bare, fields, 0, "b");
+    /* what was recorded stands behind what it was made with */
+    CHECK(span_registry_record(&registry, 0, id, fields + 2, 1, (const uint8_t *)"xy", 2) == SPAN_OK);
+    CHECK(span_registry_follows_from(&registry, 0, id, 9) == SPAN_OK);
+    clear_told();
+    CHECK(tell(id, 0, 0) == SPAN_SHORT_BUFFER && told_count == 4 && told_len == 27);
+    check_unwritten();
+    CHECK(tell(id, 5, 40) == SPAN_OK);
+    check_told(&meta, fields, 4, "nametgkvalkexyfollows_from9");
+    /* a span that is made of it has the same said of it */
+    CHECK(span_registry_new_span(&registry, 0, SPAN_ROOT, 0, &told_meta, told_fields, told_count, told_texts, told_len,
+        &other) == SPAN_OK);
+    clear_told();
+    CHECK(tell(other, 4, 27) == SPAN_OK);
+    check_told(&meta, fields, 4, "nametgkvalkexyfollows_from9");
+    close_both();
+}
+
 int main(void) {
     for (size_t room = 0; room <= 4; room++) {
         test_closing_by_a_handle(room);
@@ -163,6 +313,9 @@ int main(void) {
     test_refused_closing();
     test_entries();
     test_times_full();
+    test_max_level();
+    test_follows_from();
+    test_details();
     printf("%d passed, %d failed\n", passed, failed);
     return failed == 0 ? EXIT_SUCCESS : EXIT_FAILURE;
 }

@@ -51,25 +51,18 @@ pub(crate) fn shared_fields_of(
     Fields::copy_of(alloc, fields.as_slice()).map_err(|_| AllocError)
 }
 
-/// The rule that admits everything.
-pub(crate) fn everything(alloc: Global) -> Result<Rule, AllocError> {
-    let mut pairs = Vec::with_capacity(alloc, 1)?;
-    pairs.push_reserved((String::from_str(alloc, "")?, Level::Trace));
-    Ok(Rule { pairs })
-}
-
 /// The tellers of one layer that has no closures and writes plain text.
 pub(crate) fn plain_tellers(alloc: Global) -> Result<Tellers<ByForm>, AllocError> {
-    let mut layers = Layers::<ByRule, ByForm>::new(alloc);
     let style = Style {
         form: Form::Compact,
         spans: FmtSpan::FULL,
     };
     let layer = Layer {
         style,
-        rule: everything(alloc)?,
+        rule: Rule::everything(alloc)?,
         hooks: Hooks::by_rule_and_form(),
     };
+    let mut layers = Layers::<ByRule, ByForm>::new(alloc);
     match layers.add(layer) {
         Ok(_) => Ok(layers.split().1),
         Err(_) => Err(AllocError),

@@ -29,6 +29,7 @@ use Rattle.span_core.specs.NextId.{next_id_after}
 use Rattle.span_core.specs.ClosedSpans.{closed_by, closed_in, gives_back, spans_before_closing, tells_close, hears_close}
 use Rattle.span_outlet.specs.Lines.{lines_of}
 use Rattle.span_core.specs.Core.{CoreView}
+use Rattle.span_core.specs.Wanted.{IsMaxLevel}
 use Rattle.span_core.specs.Outcome.{outcome, refused, not_wanted, accepted}
 
 -- two layers: one lets everything in and wants all kinds, one lets in what begins with `app` up to INFO and wants new spans alone
@@ -99,6 +100,19 @@ unwanted = refl
 
 wanted_without_layers : is_wanted_meta [] (meta (codes "b") (codes "lib")) ≡ true
 wanted_without_layers = refl
+
+-- up to which level: everything without layers, and nothing where no layer has a rule
+trace_without_layers : IsMaxLevel [] (Some Trace)
+trace_without_layers = refl
+
+none_without_layers : IsMaxLevel [] None → ⊥
+none_without_layers is = cc
+
+none_without_rules : IsMaxLevel (record { pairs = []; spans = 15 } ∷ []) None
+none_without_rules = refl
+
+trace_without_rules : IsMaxLevel (record { pairs = []; spans = 15 } ∷ []) (Some Trace) → ⊥
+trace_without_rules is = let place = is.0.1 in absurd (omega arith)
 
 -- an exit that causes closes is told before them, and the closes child first, each with the path of its own layer
 abbrev entered_alone : World

@@ -39,3 +39,4 @@ pub mod KeptOpen
 pub mod OneWorld
 pub mod Detailed
 pub mod Listened
+pub mod ListenedUpTo

@@ -27,11 +27,15 @@ plain_details details = record {
   children = details.children;
 }
 
+-- the name, the target and the level of a span
+abbrev pub meta_of : Node → PlainMeta
+meta_of node = record { name = node.name; target = node.target; level = node.level }
+
 -- what is told of an open span in a world
 abbrev pub details_of : World → ℕ × Node → PlainDetails
 details_of world e = record {
   id = e.0;
-  meta = record { name = e.1.name; target = e.1.target; level = e.1.level };
+  meta = meta_of e.1;
   parent = e.1.parent;
   handles = e.1.handles;
   workers = workers_with world.stacks e.0;

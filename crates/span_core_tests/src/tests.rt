@@ -8,6 +8,7 @@ mod compare;
 mod deep_stack;
 mod holding;
 mod hooks;
+mod levels;
 mod missed;
 mod on_a_ring;
 mod owners;

@@ -2,8 +2,10 @@ pub mod Alike
 pub mod Firsts
 pub mod Found
 pub mod Given
+pub mod Packing
 pub mod Read
 pub mod Told
 mod Examples
 mod DataExamples
+mod DetailsExamples
 mod TellingExamples

@@ -1,13 +1,25 @@
--- Worked cases of what is told of closed spans, of a worker's stack and of the ring.
-use Rattle.std.proofs.Common.{◌≡◌, ℕ, refl, ap, List, [], ◌∷◌, get_or, None, arith}
+-- Worked cases of what is told of closed spans, of a worker's stack, of the ring and of levels, and of which span is
+-- followed.
+use Rattle.std.proofs.Common.{◌≡◌, ℕ, ◌<◌, ◌≤◌, true, refl, sym, ap, List, [], ◌∷◌, get_or, codes, Option, Some, None, arith}
 use Rattle.std.proofs.lemmas.Bool.{true≢false}
+use Rattle.std.proofs.lemmas.List.Elements.{All-nil, All-cons}
 use Rattle.span_forest.specs.Node.{Node}
 use Rattle.span_forest.specs.Spans.{Spans}
-use Rattle.span_id.specs.declared.level.Level.TheVariants.{Info}
+use Rattle.std.specs.Fmt.{digits}
+use Rattle.span_id.specs.declared.fault.Fault.TheVariants.{Unknown}
+use Rattle.span_id.specs.declared.level.Level.{Level}
+use Rattle.span_id.specs.declared.level.Level.TheVariants.{Error, Warn, Info, Debug, Trace}
+use Rattle.span_id.specs.Level.{verbosity}
+use Rattle.span_layers.specs.Rule.{is_admitted}
 use Rattle.span_core.specs.Core.{CoreView}
-use Rattle.span_border.specs.declared.status.Status.TheVariants.{Done, NoSuchWorker}
+use Rattle.span_core.specs.Step.{is_wanted_meta}
+use Rattle.span_core.specs.Wanted.{IsMaxLevel}
+use Rattle.span_border.specs.declared.status.Status.TheVariants.{Done, Refused, BadData, NoSuchWorker}
 use Rattle.span_ffi.specs.Closing.{WritesFirst, TellsClosed}
+use Rattle.span_ffi.specs.Data.{said_fields}
+use Rattle.span_ffi.specs.Follows.{follows_field, FollowsFrom}
 use Rattle.span_ffi.specs.Questions.{SeesEntry, TellsTimesFull}
+use Rattle.span_ffi.specs.Wants.{levels_up_to, TellsLevels}
 
 -- ---- buffers
 
@@ -95,3 +107,92 @@ another_number tells = let times = tells.0 in omega (arith, times)
 
 refused : TellsTimesFull 3 (core []) NoSuchWorker (core []) → ⊥
 refused tells = tells
+
+-- ---- levels
+
+up_to_trace : (level : Level) → verbosity level < 5
+up_to_trace Error = omega arith
+up_to_trace Warn = omega arith
+up_to_trace Info = omega arith
+up_to_trace Debug = omega arith
+up_to_trace Trace = omega arith
+
+-- without a layer each level is wanted
+all_levels : TellsLevels 5 (core []) Done (core [])
+all_levels = ((Some Trace, refl, refl), λ meta wanted. up_to_trace meta.level, refl)
+
+without_trace : TellsLevels 4 (core []) Done (core []) → ⊥
+without_trace tells = let below : 4 < 4 = tells.1 (record { name = []; target = []; level = Trace }) refl in absurd (omega arith)
+
+more_than_there_are : TellsLevels 6 (core []) Done (core []) → ⊥
+more_than_there_are tells =
+    let most : levels_up_to tells.0.0 ≡ 5 = ap levels_up_to tells.0.1 in
+    let six : 6 ≡ levels_up_to tells.0.0 = tells.0.2 in
+    absurd (omega (arith, most, six))
+
+-- one layer, which has no rule
+abbrev deaf : CoreView
+deaf = record (core []) { rules = record { pairs = []; spans = 15 } ∷ [] }
+
+no_level : TellsLevels 0 deaf Done deaf
+unfolding is_admitted
+no_level = ((None, refl, refl), λ meta wanted. absurd (true≢false (sym wanted)), refl)
+
+errors_for_nobody : TellsLevels 1 deaf Done deaf → ⊥
+errors_for_nobody tells = by_most tells.0.0 tells.0.1 tells.0.2
+  where
+    by_most : (most : Option Level) → IsMaxLevel deaf.rules most → 1 ≡ levels_up_to most → ⊥
+    by_most None is levels = absurd (omega (arith, levels))
+    by_most (Some level) is levels = let place = is.0.1 in absurd (omega arith)
+
+-- one layer, whose rule names a level between
+abbrev curious : CoreView
+curious = record (core []) { rules = record { pairs = ([], Info) ∷ []; spans = 15 } ∷ [] }
+
+abbrev is_up_to_info : Level → Type 0
+is_up_to_info level = verbosity level ≤ verbosity Info
+
+three_levels : TellsLevels 3 curious Done curious
+unfolding is_admitted
+three_levels = (
+  (Some Info, ((0, omega arith, refl), All-cons is_up_to_info Info [] (omega arith) (All-nil is_up_to_info)), refl),
+  λ meta wanted. below meta.name meta.target meta.level wanted,
+  refl,
+)
+  where
+    below : (name target : List ℕ) (level : Level) → is_wanted_meta curious.rules (record { name = name; target = target; level = level }) ≡ true → verbosity level < 3
+    below name target Error wanted = omega arith
+    below name target Warn wanted = omega arith
+    below name target Info wanted = omega arith
+    below name target Debug wanted = absurd (true≢false (sym wanted))
+    below name target Trace wanted = absurd (true≢false (sym wanted))
+
+-- ---- which span is followed
+
+field_of_seven : follows_field 7 ≡ (codes "follows_from", codes "7")
+unfolding digits
+field_of_seven = refl
+
+field_of_zero : follows_field 0 ≡ (codes "follows_from", codes "0")
+unfolding digits
+field_of_zero = refl
+
+-- it is what these data say, of a key of 12 bytes and a value of 2
+data_of_a_record : said_fields (record { key_len = 12; value_len = 2 } ∷ []) (codes "follows_from42") ≡ follows_field 42 ∷ []
+unfolding digits
+data_of_a_record = refl
+
+-- the span that follows isn't open, and the one that is followed is
+follower_unknown : FollowsFrom 0 9 5 (core ((5, root) ∷ [])) (Refused Unknown) (core ((5, root) ∷ []))
+follower_unknown = (tt, (omega arith, record { why = (refl, refl, refl); unchanged = refl }))
+
+-- the one that is followed may have closed
+followed_unknown : FollowsFrom 0 5 7 (core ((5, root) ∷ [])) (Refused Unknown) (core ((5, root) ∷ [])) → ⊥
+followed_unknown answers = true≢false answers.1.1.why.2
+
+-- a number can't be bad
+no_bad_number : FollowsFrom 0 9 7 (core []) BadData (core []) → ⊥
+no_bad_number answers = answers.1 tt
+
+follower_of_no_worker : FollowsFrom 2 5 7 (core []) NoSuchWorker (core [])
+follower_of_no_worker = (omega arith, refl)

@@ -1,5 +1,5 @@
 -- What the calls on a registry do, by their status.
-use Rattle.std.specs.Prelude.{◌≡◌, ◌≢◌, ℕ, ◌<◌, ◌≤◌, ◌==◌, nat_lt, List, length, take, drop, Option, Some, None, is_none, IsSomeAnd}
+use Rattle.std.specs.Prelude.{◌≡◌, ◌≢◌, ℕ, ◌<◌, ◌≤◌, ◌==◌, nat_lt, List, length, take, drop, Some, None, is_none, IsSomeAnd}
 use Rattle.span_id.specs.declared.fault.Fault.TheVariants.{Unknown, Memory}
 use Rattle.span_id.specs.Level.{verbosity}
 use Rattle.span_id.specs.Meta.{PlainMeta, KeyValue}

@@ -5,7 +5,9 @@ pub mod Opening
 pub mod Calls
 pub mod Questions
 pub mod Closing
+pub mod Follows
 pub mod Holding
+pub mod Details
 pub mod Callsites
 pub mod Wants
 pub mod Lines

@@ -12,7 +12,7 @@ WritesIfSome text old None new len = ⊥
 WritesIfSome None old (Some status) new len = (status ≡ BadData) × (new ≡ old)
 WritesIfSome (Some text) old (Some status) new len = WritesAll text old status new len
 
--- batches were taken, perhaps none, and none where a line waited already; where none waited, the ring was looked into; no
+-- batches were taken, perhaps none, and none where a line waited already; where none waited, batches were asked for; no
 -- line was given out
 pub record Fills (old new : LineReaderView) : Type 0 where
   pub taken : TakesBatches old new

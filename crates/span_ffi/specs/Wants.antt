@@ -1,9 +1,12 @@
--- What the calls do that tell whether anything listens.
-use Rattle.std.specs.Prelude.{◌≡◌, ℕ, ◌≤◌, List, slice_get, None, IsSomeAnd}
+-- What the calls do that tell whether anything listens, and above which level nothing does.
+use Rattle.std.specs.Prelude.{◌≡◌, ℕ, ◌+◌, ◌<◌, ◌≤◌, true, List, slice_get, Option, Some, None, IsSomeAnd}
 use Rattle.std.specs.Str.{IsUtf8}
 use Rattle.span_id.specs.declared.fault.Fault.TheVariants.{Memory}
+use Rattle.span_id.specs.declared.level.Level.{Level}
+use Rattle.span_id.specs.Level.{verbosity}
 use Rattle.span_id.specs.Meta.{PlainMeta}
-use Rattle.span_core.specs.Wanted.{some_rule_admits}
+use Rattle.span_core.specs.Step.{is_wanted_meta}
+use Rattle.span_core.specs.Wanted.{some_rule_admits, IsMaxLevel}
 use Rattle.span_core.specs.Core.{CoreView}
 use Rattle.span_border.specs.declared.status.Status.{Status}
 use Rattle.span_border.specs.declared.status.Status.TheVariants.{Done, Refused, BadData, NoSuchCallsite}
@@ -29,3 +32,16 @@ TellsWantedAt callsite wanted callsites old Done new =
     × (new ≡ old)
 TellsWantedAt callsite wanted callsites old NoSuchCallsite new = (slice_get callsites callsite ≡ None) × (new ≡ old)
 TellsWantedAt callsite wanted callsites old _ new = ⊥
+
+-- how many levels there are from ERROR up to this one, and 0 where there is none
+abbrev pub levels_up_to : Option Level → ℕ
+levels_up_to None = 0
+levels_up_to (Some level) = verbosity level + 1
+
+-- It is told how many levels there are from ERROR up to the one above which nothing is wanted (`IsMaxLevel`). A span or
+-- an event that is wanted has one of these.
+abbrev pub TellsLevels : ℕ → CoreView → Status → CoreView → Type 0
+TellsLevels levels old Done new =
+    ((most : Option Level) × IsMaxLevel old.rules most × (levels ≡ levels_up_to most))
+    × ((meta : PlainMeta) → is_wanted_meta old.rules meta ≡ true → verbosity meta.level < levels) × (new ≡ old)
+TellsLevels levels old _ new = ⊥

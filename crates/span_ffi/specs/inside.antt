@@ -4,3 +4,4 @@ pub mod ReaderHeld
 pub mod Parents
 pub mod Adding
 pub mod Giving
+pub mod Packing

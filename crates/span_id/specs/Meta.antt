@@ -33,6 +33,6 @@ plain_fields fields = map key_value fields
 abbrev pub is_same_pair : KeyValue → KeyValue → Bool
 is_same_pair = eq_of_both (on (λ pair. pair.0) (pointwise nat_eq)) (on (λ pair. pair.1) (pointwise nat_eq))
 
--- what a pair feeds a hasher
+-- what stands for a pair where pairs are told apart: its key, and then its value
 abbrev pub pair_input : KeyValue → fed.HashWrites
 pair_input pair = fed.str pair.0 ++ fed.str pair.1

@@ -1,4 +1,4 @@
--- A value over borrowed text, as data: each number has its value, and each key its last value.
+-- A JSON value as data: each number has its value, and each key its last value.
 use Rattle.std.specs.Prelude.{ℕ, List, [], ◌∷◌, map}
 use Rattle.std.specs.Borrow.{Bor}
 use Rattle.serde_json.specs.Data.{Num, unsigned, negative, float, Data, null, boolean, number, string, array, object, Items, Members, no_members, put}
@@ -36,7 +36,7 @@ view = fold-Value Data view_step
 abbrev pub items_view : List Value → Items
 items_view values = items_of (map view values)
 
--- a value over borrowed text
+-- a value as it was read
 abbrev pub Given : Type 0
 Given = Value
 

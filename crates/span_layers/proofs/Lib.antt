@@ -3,5 +3,6 @@ pub mod Blocks
 pub mod Deciding
 mod Examples
 pub mod Masks
+pub mod MaxLevel
 pub mod Texts
 pub mod Tokens

@@ -2,6 +2,7 @@ pub mod Filter
 pub mod FmtSpan
 pub mod Hooks
 pub mod Layers
+pub mod MaxLevel
 pub mod Note
 pub mod Rule
 pub mod Text

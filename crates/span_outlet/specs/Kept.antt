@@ -31,11 +31,12 @@ numbered_in batch =
 abbrev pub numbered : List PlainBatch → List NumberedNote
 numbered history = flat_map numbered_in (enumerate_from 0 history)
 
--- Memory was refused for the text or for the line of the note at this place of the batch of this number. No clause of an
--- allocator tells of that. So this is shut: the proofs of the functions that ask for that memory alone open it, where an
--- error is answered.
+-- Memory was refused for the text or for the line of the note at this place of the batch of this number.
 unfoldable pub LacksMemory : ℕ → ℕ → Type 0
 LacksMemory batch place = AllocError
+
+-- (No clause of an allocator tells of it. So it is shut: the proofs of the functions that ask for that memory alone open
+-- it, where an error is answered.)
 
 -- Why a note is missed: its layer has no form, more than 2^32 - 1 notes stand before it in its batch, or it lacks memory.
 pub data WhyMissed (forms : List Form) (note : NumberedNote) : Type 0 where
@@ -55,14 +56,14 @@ pub data AreTold (forms : List Form) : List NumberedNote → List PlainLine → 
       → WhyMissed forms note → AreTold forms notes lines missed
       → AreTold forms (note ∷ notes) lines (note ∷ missed)
 
--- the lines of these notes, but for those that were missed, which are counted; the count stays at the greatest `u64`
+-- the lines of these notes, but for those that were missed, which are counted; the count stays at 2^64 - 1
 pub record AreKept (forms : List Form) (notes : List NumberedNote) (lines : List PlainLine) (refused : ℕ) : Type 0 where
   pub missed : List NumberedNote
   pub each : AreTold forms notes lines missed
   pub counted : refused ≡ min (2 ^ 64 - 1) (length missed)
 
 -- More notes: after the lines so far stand those of these notes, but for the ones that were missed, which are
--- counted; the count stays at the greatest `u64`.
+-- counted; the count stays at 2^64 - 1.
 pub record GainsLines
     (forms : List Form) (notes : List NumberedNote)
     (lines : List PlainLine) (refused : ℕ) (new_lines : List PlainLine) (new_refused : ℕ)

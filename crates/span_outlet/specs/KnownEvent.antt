@@ -1,4 +1,4 @@
--- An event that is known and not kept.
+-- An event without its notes.
 use Rattle.std.specs.Prelude.{List, map}
 use Rattle.span_id.specs.Meta.{plain_meta, plain_fields}
 use Rattle.span_layers.specs.declared.note.Note.{Note}

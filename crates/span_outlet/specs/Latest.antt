@@ -6,7 +6,7 @@ use Rattle.span_outlet.specs.Batch.{PlainBatch}
 use Rattle.span_outlet.specs.Lines.{PlainLine, lines_of_batch}
 
 -- the forms in which it writes, the batches that were sent to it, the lines that it has of the last one, how many
--- notes were missed, and whether the last `room` answered true and nothing was sent since
+-- notes were missed, and whether it is ready for one more batch
 pub record LatestView : Type 0 where
   pub forms : List Form
   pub sent : List PlainBatch

@@ -7,7 +7,7 @@ use Rattle.span_outlet.specs.Outlet.{RingName, one_more}
 use Rattle.span_outlet.specs.Lines.{PlainLine}
 use Rattle.span_outlet.specs.Kept.{AreKept, GainsLines, NumberedNote, numbered, numbered_in}
 
--- the name of its ring, how often it looked there for batches, the forms in which it writes, the batches that it took,
+-- the name of its ring, how often it asked it for batches, the forms in which it writes, the batches that it took,
 -- the lines of their notes that it gave out and those that wait, both in order, and how many notes were missed
 pub record LineReaderView : Type 0 where
   pub name : RingName
@@ -30,7 +30,7 @@ pub record TakesBatches (old new : LineReaderView) : Type 0 where
   pub gains : GainsLines old.forms (numbered_from (length old.taken) batches)
       old.waiting old.refused new.waiting new.refused
 
--- a look at the ring is due where no line waits, and it is counted; the number stays at the greatest `u64`
+-- batches are asked for where no line waits, and this is counted; the number stays at 2^64 - 1
 abbrev pub looks_of_fill : List PlainLine → ℕ → ℕ
 looks_of_fill [] looks = one_more looks
 looks_of_fill (_ ∷ _) looks = looks

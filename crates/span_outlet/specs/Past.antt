@@ -1,4 +1,4 @@
--- A history that is known and not kept.
+-- The history that went into an outlet.
 use Rattle.std.specs.Prelude.{List, [], ◌∷◌, ◌++◌}
 use Rattle.span_outlet.specs.Batch.{PlainBatch}
 use Rattle.span_outlet.specs.declared.past.Past.{Past, Nothing, After'}

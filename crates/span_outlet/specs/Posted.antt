@@ -1,4 +1,4 @@
--- A batch of which the notes alone are kept: its call and its reply are known and have no bytes.
+-- A batch as a ring has it.
 use Rattle.std.specs.Prelude.{map}
 use Rattle.span_layers.specs.Note.{plain_note}
 use Rattle.span_outlet.specs.declared.posted.Posted.{Posted}
@@ -8,7 +8,7 @@ use Rattle.span_outlet.specs.Batch.{PlainBatch}
 use Rattle.span_outlet.specs.KnownEvent.{request_of_known}
 use Rattle.span_outlet.specs.Request.{Request, Answer, request_of, answer_of, told}
 
--- the call that is known
+-- the call
 abbrev pub request_said : Said → Request
 request_said (Call call reply) = request_of call.value
 request_said (Event known) = request_of_known known

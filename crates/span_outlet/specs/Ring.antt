@@ -7,8 +7,8 @@ use Rattle.span_outlet.specs.Outlet.{RingName}
 abbrev pub places_of : RingName → ℕ
 places_of name = name.names.0
 
--- its name, the batches sent so far, how many places it knows to be free, whether the last `room` answered true and
--- nothing was sent since, and how often `room` answered false
+-- its name, the batches sent so far, how many places are known to be free, whether it has a place for one more batch,
+-- and how often it had none
 pub record RingView : Type 0 where
   pub name : RingName
   pub sent : List PlainBatch

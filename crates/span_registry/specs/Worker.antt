@@ -3,8 +3,8 @@ use Rattle.std.specs.Prelude.{◌≡◌, ℕ, ◌+◌, ◌^◌, ◌≤◌, List,
 use Rattle.span_outlet.specs.Batch.{PlainBatch}
 use Rattle.span_history.specs.Own.{own, FrontView}
 
--- its number, how many calls were accepted of it, and how many more handles it may make: its free parts of the ledger
--- of handles; and what it has seen of the registry's one history
+-- its number, how many calls were accepted of it, how many more handles it may make, and what it has seen of the
+-- registry's one history
 pub record WorkerView : Type 0 where
   pub number : ℕ
   pub accepted : ℕ

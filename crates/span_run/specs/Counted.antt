@@ -2,7 +2,7 @@
 use Rattle.std.specs.Prelude.{Bool, ℕ, ◌+◌, ◌-◌, ◌^◌, min}
 use Rattle.span_run.specs.declared.counted.Counted.{Counted}
 
--- the reader or writer inside
+-- the reader or writer that is counted
 abbrev pub inner_of : {T : Type 0} → Counted T → T
 inner_of c = c.inner
 

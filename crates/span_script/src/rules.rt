@@ -21,9 +21,7 @@ pub fn rule<'v, V: JsonValue<'v>>(alloc: Global, line: V) -> Result<Rule, Stop>
     ensures { AnswersOrStops pairs_of result (optional Key.Rule rule_in all_targets (V.json line)) }
 {
     let Some(value) = line.member(Key::Rule.text()) else {
-        let mut pairs = Vec::new(alloc);
-        pairs.push((String::new(alloc), Level::Trace))?;
-        return Ok(Rule { pairs });
+        return Ok(Rule::everything(alloc)?);
     };
     all_pairs(alloc, value)
 }

@@ -1,15 +1,15 @@
--- What the root knows: the id and the number of each handle, and the word of each slot.
+-- What the root knows: the id and the number of each handle, and the mark of each slot.
 use Rattle.std.specs.Prelude.{◌≡◌, ◌≢◌, ℕ, ◌+◌, ◌-◌, ◌<◌, List, [], ◌∷◌, length, replicate, slice_index, slice_set}
 use Rattle.std.specs.Prelude.{Bool, true, false, ◌&&◌, ◌||◌, if◌then◌else◌, ◌==◌}
 use Rattle.span_id.specs.Id.{id_of, slot_of, generation_of}
 use Rattle.span_seats.specs.declared.view.HandleView.{HandleView}
 use Rattle.span_seats.specs.declared.view.RootView.{RootView}
 
--- a table in which no span is open: no handle, and each word 0
+-- no span is open: no handle, and each mark 0
 abbrev pub empty_table : ℕ → RootView
 empty_table slots = record { handles = []; next_number = 0; words = replicate slots 0; split_id = 0 }
 
--- the span of this id is open: its slot's word is its generation plus 1
+-- the span of this id is open: its slot's mark is its generation plus 1
 abbrev pub IsOpenIn : List ℕ → ℕ → Type 0
 IsOpenIn words id = slice_index words (slot_of id) ≡ generation_of id + 1
 
@@ -32,17 +32,17 @@ handle_count id (h ∷ hs) = (if h.id == id then 1 else 0) + handle_count id hs
 abbrev pub HasNoHandle : List HandleView → ℕ → Type 0
 HasNoHandle handles slot = (id number : ℕ) → has_number id number handles ≡ true → slot_of id ≢ slot
 
--- a slot's word is stored, and the next split is of the id that slot and word name
+-- a slot gets another mark, and the next handle is of the id that both name
 abbrev pub stored : RootView → ℕ → ℕ → RootView
 stored root slot word = record root { words = slice_set root.words slot word; split_id = id_of slot (word - 1) }
 
--- a split: the next number joins the id's set
+-- one handle more: the next number joins the id's set
 abbrev pub with_number : RootView → RootView
 with_number root =
     let handle : HandleView = record { id = root.split_id; number = root.next_number } in
     record root { handles = handle ∷ root.handles; next_number = root.next_number + 1 }
 
--- a join: the number leaves the id's set, and the next split is of that id
+-- one handle less: the number leaves the id's set, and the next handle is of that id
 abbrev pub without_number : RootView → ℕ → ℕ → RootView
 without_number root id number = record root { handles = without id number root.handles; split_id = id }
 
@@ -51,12 +51,12 @@ abbrev pub among : ℕ → List ℕ → Bool
 among id [] = false
 among id (x ∷ xs) = (x == id) || among id xs
 
--- the slots of these ids are in the table, and no id of them has a handle
+-- the slots of these ids are there, and no id of them has a handle
 abbrev pub MayClose : RootView → List ℕ → Type 0
 MayClose root ids =
     (id : ℕ) → among id ids ≡ true → (slot_of id < length root.words) × HasNoHandle root.handles (slot_of id)
 
--- the words after the slots of these ids are set to 0
+-- the marks after those of these ids are set to 0
 abbrev pub closed_words : List ℕ → List ℕ → List ℕ
 closed_words words [] = words
 closed_words words (id ∷ ids) = closed_words (slice_set words (slot_of id) 0) ids

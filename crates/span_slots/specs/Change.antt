@@ -2,7 +2,7 @@
 use Rattle.std.specs.Prelude.{ℕ, List, [], ◌∷◌, Option, Some, None}
 use Rattle.span_slots.specs.Table.{Table, next_slot, table_inserted, table_removed, with_value}
 
--- a call of `insert`, a call of `remove`, and a write through what `get_mut` gave
+-- a value more, a value less, and another value under an id
 pub data Change (T : Type 0) : Type 0 where
   Insert : T → Change T
   Remove : ℕ → Change T

@@ -17,7 +17,7 @@ pub record Table (T : Type 0) : Type 0 where
   pub given : List ℕ
   pub freed : List ℕ
 
--- a table is coded as the tuple of its fields
+-- a table and the tuple of its fields stand for each other
 abbrev pub table_code : {T : Type 0} → Coded T → Coded (Table T)
 table_code {T} code =
     code_by

@@ -1,6 +1,9 @@
 //! The program `tracerun`, which runs scripts of calls, and storms of workers, on the span registry.
 #![tactic(auto)]
 
+ghost use Rattle.std.specs.Prelude.{IfOk};
+ghost use Rattle.tracerun_command_line.specs.Order.{IsInRange};
+
 mod storms;
 
 use clap::Error;
@@ -14,17 +17,7 @@ use tracerun_command_line::orders::Order;
 use tracerun_command_line::{order_of, status};
 
 fn main(rt: HostRuntime) -> io::Result<ExitCode> {
-    let order = match words(&rt) {
-        Ok(words) => order_of(rt.alloc(), words.as_slice()),
-        Err(error) if matches!(error.kind(), ErrorKind::OutOfMemory) => {
-            return status_of(&rt, Err(RunFault::Memory));
-        }
-        Err(_) => {
-            eprintln!(rt; "error: a word of the command line isn't UTF-8")?;
-            return Ok(ExitCode::from(2));
-        }
-    };
-    match order {
+    match order(&rt) {
         Ok(Order::Replay) => status_of(&rt, replay(&rt)),
         Ok(Order::Why { span }) => status_of(&rt, why(&rt, &span)),
         Ok(Order::Storm { workers, rounds }) => {
@@ -34,7 +27,32 @@ fn main(rt: HostRuntime) -> io::Result<ExitCode> {
                 storms::run(&rt, rt.alloc(), workers, rounds, &mut output),
             )
         }
-        Err(error) => no_order(&rt, &error),
+        Err(none) => no_order(&rt, &none),
+    }
+}
+
+/// Why the command line gives no order.
+#[derive(Drop)]
+enum NoOrder {
+    /// Memory for its words was refused.
+    Memory,
+    /// A word isn't UTF-8.
+    NoText,
+    /// What is wrong with its words, or what they ask to be told.
+    Words(Error),
+}
+
+/// The order that the command line gives.
+fn order(rt: &HostRuntime) -> Result<Order, NoOrder>
+    ensures { IfOk result IsInRange }
+{
+    match words(rt) {
+        Ok(words) => match order_of(rt.alloc(), words.as_slice()) {
+            Ok(order) => Ok(order),
+            Err(error) => Err(NoOrder::Words(error)),
+        },
+        Err(error) if matches!(error.kind(), ErrorKind::OutOfMemory) => Err(NoOrder::Memory),
+        Err(_) => Err(NoOrder::NoText),
     }
 }
 
@@ -44,14 +62,21 @@ fn words(rt: &HostRuntime) -> io::Result<Vec<String>> {
     Ok(words)
 }
 
-/// Tells on standard error why the words give no order.
-fn no_order(rt: &HostRuntime, error: &Error) -> io::Result<ExitCode> {
-    match status(error) {
-        3 => status_of(rt, Err(RunFault::Memory)),
-        status => {
-            rt.eprint(error)?;
-            Ok(ExitCode::from(status))
+/// Tells on standard error why there is no order.
+fn no_order(rt: &HostRuntime, none: &NoOrder) -> io::Result<ExitCode> {
+    match none {
+        NoOrder::Memory => status_of(rt, Err(RunFault::Memory)),
+        NoOrder::NoText => {
+            eprintln!(rt; "error: a word of the command line isn't UTF-8")?;
+            Ok(ExitCode::from(2))
         }
+        NoOrder::Words(error) => match status(error) {
+            3 => status_of(rt, Err(RunFault::Memory)),
+            status => {
+                rt.eprint(error)?;
+                Ok(ExitCode::from(status))
+            }
+        },
     }
 }
 

@@ -1,13 +1,14 @@
 //! A storm whose one layer is told of everything.
-ghost use Rattle.std.specs.Prelude.{◌≡◌, ◌^◌, ◌<◌, ◌≤◌, [], ◌∷◌, IfOk, string_bytes};
+ghost use Rattle.std.specs.Prelude.{◌≡◌, ◌^◌, ◌<◌, ◌≤◌, true, IfOk, string_bytes};
 ghost use Rattle.std.specs.Result.{ForOk};
-ghost use Rattle.span_id.specs.declared.level.Level.TheVariants.{Trace};
 ghost use Rattle.span_layers.specs.Note.{plain_note};
 ghost use Rattle.span_layers.specs.Rule.{pairs_of, is_admitted};
 ghost use Rattle.span_layers.specs.Text.{text_of};
+ghost use Rattle.span_layers.specs.Layers.{filters_in};
 ghost use Rattle.span_run.specs.Counted.{failed_of};
+ghost use Rattle.span_storm.specs.Storm.{wants_jobs};
 
-use span_id::{Fault, Level, Meta, copy_text};
+use span_id::{Fault, Meta};
 use span_layers::{FmtSpan, Form, Hooks, Layer, Layers, Note, Rule, Style, admits, text};
 use span_run::{Counted, RunFault, flush};
 use span_storm::{Open, show, storm};
@@ -45,19 +46,23 @@ pub fn run<R: Threads + Wait + Sync, W: Write>(
     ) else {
         return Err(RunFault::Memory);
     };
-    let Ok(rule) = everything(alloc) else {
-        return Err(RunFault::Memory);
-    };
-    let layer = Layer {
-        style: Style {
-            form: Form::Compact,
-            spans: FmtSpan::FULL,
-        },
-        rule,
-        hooks: Hooks::new(admit, say),
-    };
-    let mut layers = Layers::new(alloc);
-    let Ok(_) = layers.add(layer) else {
+    run_with(rt, alloc, workers, rounds, Hooks::new(admit, say), output)
+}
+
+// The same with these hooks.
+fn run_with<R: Threads + Wait + Sync, W: Write>(
+    rt: &R,
+    alloc: Global,
+    workers: u32,
+    rounds: u32,
+    hooks: Hooks,
+    output: &mut Counted<W>,
+) -> Result<(), RunFault>
+    requires workers { (1 ≤ workers) × (workers ≤ 16) }
+    requires rounds { (1 ≤ rounds) × (rounds ≤ 400) }
+    requires failed { failed_of output.old < 2 ^ 63 }
+{
+    let Ok(layers) = layers_of_all(alloc, hooks) else {
         return Err(RunFault::Memory);
     };
     let report = storm(rt, alloc, workers, rounds, layers, &Open)?;
@@ -65,11 +70,18 @@ pub fn run<R: Threads + Wait + Sync, W: Write>(
     flush(output)
 }
 
-// The rule that admits everything.
-fn everything(alloc: Global) -> Result<Rule, Fault>
-    ensures { IfOk result (λ rule. pairs_of rule ≡ ([], Trace) ∷ []) }
+// The layers of the storm: one, which admits everything and writes in the compact form.
+fn layers_of_all(alloc: Global, hooks: Hooks) -> Result<Layers, Fault>
+    ensures { IfOk result (λ layers. wants_jobs (filters_in layers) ≡ true) }
 {
-    let mut pairs = Vec::with_capacity(alloc, 1)?;
-    pairs.push_reserved((copy_text(alloc, "")?, Level::Trace));
-    Ok(Rule { pairs })
+    let rule = Rule::everything(alloc)?;
+    let style = Style {
+        form: Form::Compact,
+        spans: FmtSpan::FULL,
+    };
+    let mut layers = Layers::new(alloc);
+    match layers.add(Layer { style, rule, hooks }) {
+        Ok(_) => Ok(layers),
+        Err((_, fault)) => Err(fault),
+    }
 }

@@ -48,20 +48,13 @@ fn add(
 ) -> Result<(), Fault> {
     let layer = Layer {
         style: Style { form, spans },
-        rule: everything(alloc)?,
+        rule: Rule::everything(alloc)?,
         hooks: Hooks::by_rule_and_form(),
     };
     match layers.add(layer) {
         Ok(_number) => Ok(()),
         Err((_layer, fault)) => Err(fault),
     }
-}
-
-// The rule that admits everything.
-fn everything(alloc: Global) -> Result<Rule, Fault> {
-    let mut pairs = Vec::with_capacity(alloc, 1)?;
-    pairs.push_reserved((copy_text(alloc, "")?, Level::Trace));
-    Ok(Rule { pairs })
 }
 
 // How a registry of three workers with these layers ended. The three names in its type are picked here.

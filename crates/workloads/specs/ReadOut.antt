@@ -11,7 +11,7 @@ use Rattle.span_registry.specs.Share.{ShareView}
 use Rattle.span_registry.specs.Report.{HasEnded, AreCounts}
 use Rattle.workloads.specs.declared.ended.Ended.{Ended}
 
--- lines more were given out, behind those before them, and they were counted; the number stays at the greatest `u64`
+-- lines more were given out, behind those before them, and they were counted; the number stays at 2^64 - 1
 pub record GivesLines (old new : LineReaderView) (lines : ℕ) : Type 0 where
   pub more : List PlainLine
   pub given : new.given ≡ old.given ++ more

@@ -4,24 +4,17 @@ ghost use Rattle.std.specs.Result.{ForOk};
 ghost use Rattle.span_layers.specs.Note.{plain_note};
 ghost use Rattle.span_layers.specs.Text.{text_of};
 
-use span_id::{Fault, Level, copy_text};
+use span_id::Fault;
 use span_layers::{Form, Hooks, Layer, Layers, Note, Rule, Style, text};
 use std::alloc::{AllocError, Global};
 
 /// Adds a layer that admits everything.
 pub fn add(alloc: Global, layers: &mut Layers, style: Style, hooks: Hooks) -> Result<(), Fault> {
-    let rule = everything(alloc)?;
+    let rule = Rule::everything(alloc)?;
     match layers.add(Layer { style, rule, hooks }) {
         Ok(_number) => Ok(()),
         Err((_layer, fault)) => Err(fault),
     }
-}
-
-// The rule that admits everything.
-fn everything(alloc: Global) -> Result<Rule, Fault> {
-    let mut pairs = Vec::with_capacity(alloc, 1)?;
-    pairs.push_reserved((copy_text(alloc, "")?, Level::Trace));
-    Ok(Rule { pairs })
 }
 
 /// The text of a note, made so many times more, so that it takes longer.

@@ -1,11 +1,11 @@
-//! What a registry is asked that its calls don't answer: whether anything listens, and lists.
+//! What a registry is asked that its calls don't answer: whether anything listens, what was said of a span, and lists.
 use super::{
-    span_registry_callsite_wants, span_registry_holders_of, span_registry_open_ids, span_registry_wants,
-    span_registry_workers_inside, Core, SpanHeld, SpanRegistry, SHORT_BUFFER,
+    span_registry_callsite_wants, span_registry_details, span_registry_holders_of, span_registry_open_ids,
+    span_registry_wants, span_registry_workers_inside, Core, SpanHeld, SpanMeta, SpanRegistry, SHORT_BUFFER,
 };
 use crate::level::Level;
 use crate::meta::RawId;
-use crate::packed::reserve;
+use crate::packed::{reserve, Names, Packed};
 use crate::refusal::Refusal;
 
 /// How many values a list has room for at first.
@@ -28,6 +28,14 @@ fn list<T: Copy + Default>(mut call: impl FnMut(*mut T, usize, *mut usize) -> u3
         }
         room = length;
     }
+}
+
+/// What was answered of a span, with how many fields and bytes it has.
+struct Said {
+    status: u32,
+    meta: SpanMeta,
+    fields: usize,
+    texts: usize,
 }
 
 impl Core {
@@ -60,6 +68,49 @@ impl Core {
         let status = unsafe { span_registry_callsite_wants(self.handle(), callsite, &mut wanted) };
         Refusal::of_status(status)?;
         Ok(wanted == 1)
+    }
+
+    /// What was said of an open span comes into `into`: its name and its target, which are so long, and then each key
+    /// and its value.
+    pub(crate) fn details(&mut self, id: RawId, into: &mut Packed) -> Result<Names, Refusal> {
+        let mut said = self.said(id, into);
+        if said.status == SHORT_BUFFER {
+            into.grow(said.fields, said.texts)?;
+            said = self.said(id, into);
+        }
+        Refusal::of_status(said.status)?;
+        into.truncate(said.fields, said.texts);
+        Ok(Names {
+            name: said.meta.name_len as usize,
+            target: said.meta.target_len as usize,
+        })
+    }
+
+    // The same, where `into` has room for it.
+    fn said(&mut self, id: RawId, into: &mut Packed) -> Said {
+        let (mut meta, mut fields_len, mut texts_len) = (SpanMeta::default(), 0, 0);
+        let (fields, texts) = into.room();
+        // SAFETY: the handle is full and lent to this call alone; both buffers are this call's, with their lengths, as
+        // are the outputs.
+        let status = unsafe {
+            span_registry_details(
+                self.handle(),
+                id.get(),
+                &mut meta,
+                fields.as_mut_ptr(),
+                fields.len(),
+                &mut fields_len,
+                texts.as_mut_ptr(),
+                texts.len(),
+                &mut texts_len,
+            )
+        };
+        Said {
+            status,
+            meta,
+            fields: fields_len,
+            texts: texts_len,
+        }
     }
 
     /// The ids of the open spans, by ascending slot.

@@ -1,7 +1,8 @@
 //! What the package itself asks of no registry, since it knows it already: the places of a stack, how often the ring was
-//! full.
+//! full, above which level nothing is wanted. And that a span follows from another, of which it keeps the kind too.
 #![cfg_attr(not(test), allow(dead_code))]
-use super::{span_registry_entry, span_registry_times_full, Core};
+use super::{span_registry_entry, span_registry_follows_from, span_registry_max_level, span_registry_times_full, Core};
+use crate::level::Level;
 use crate::meta::RawId;
 use crate::refusal::Refusal;
 
@@ -22,6 +23,22 @@ impl Core {
         debug_assert_eq!(status, super::OK);
         times
     }
+
+    /// Nothing is wanted at a level above this one: TRACE where there is no layer, else the most verbose one that a
+    /// layer's rule has, also one that a later rule of the same prefix overrides; none where no layer has a rule.
+    pub(crate) fn max_level(&mut self) -> Option<Level> {
+        let mut levels = 0;
+        // SAFETY: the handle is full and lent to this call alone, and `levels` is this call's.
+        let status = unsafe { span_registry_max_level(&mut self.handle, &mut levels) };
+        debug_assert_eq!(status, super::OK);
+        Level::ALL.into_iter().take(levels as usize).next_back()
+    }
+
+    /// Tells that a span follows from the one of this number, by a record.
+    pub(crate) fn follows_from(&mut self, worker: u32, id: RawId, followed: u64) -> Result<(), Refusal> {
+        // SAFETY: the handle is full and lent to this call alone.
+        Refusal::of_status(unsafe { span_registry_follows_from(&mut self.handle, worker, id.get(), followed) })
+    }
 }
 
 #[cfg(test)]
@@ -29,7 +46,7 @@ mod tests {
     use super::super::{Closed, Core, Lines, SpanLimits, Start};
     use crate::level::Level;
     use crate::meta::{Meta, RawId, RawParent};
-    use crate::packed::Packed;
+    use crate::packed::{Names, Packed};
     use crate::refusal::Refusal;
 
     fn registry(ring: u32) -> (Core, Lines) {
@@ -76,6 +93,29 @@ mod tests {
     }
 
     #[test]
+    fn a_span_is_told_as_it_was_made() {
+        let (mut core, _lines) = registry(64);
+        let long = "é".repeat(300);
+        let few = [("key", "value"), ("empty", "")];
+        let many: Vec<(&str, &str)> = (0..20).map(|_| ("key", long.as_str())).collect();
+        let (mut told, mut wanted) = (Packed::default(), Packed::default());
+        // The buffer has no room, then more than enough, and then what the last one left.
+        for fields in [&[], &many[..], &few[..], &few[..]] {
+            let id = new_span(&mut core, RawParent::Root, fields);
+            assert_eq!(core.details(id, &mut told), Ok(Names { name: 4, target: 7 }));
+            wanted.pack(&["name", "app::db"], fields).expect("there is memory");
+            assert_eq!((told.texts(), told.fields()), (wanted.texts(), wanted.fields()));
+            wanted.pack(&[], &[("later", "")]).expect("there is memory");
+            assert_eq!(core.record(0, id, &wanted), Ok(()));
+            assert_eq!(core.details(id, &mut told), Ok(Names { name: 4, target: 7 }));
+            assert_eq!(told.fields().len(), fields.len() + 1);
+            assert!(told.texts().ends_with(b"later"));
+            assert_eq!(core.try_close(0, id), Ok(true));
+            assert_eq!(core.details(id, &mut told), Err(Refusal::UNKNOWN));
+        }
+    }
+
+    #[test]
     fn a_stack_has_a_place_for_each_entry() {
         let (mut core, _lines) = registry(64);
         let first = new_span(&mut core, RawParent::Root, &[]);
@@ -88,6 +128,17 @@ mod tests {
             assert_eq!(core.entry(1, place), Ok((id, 3)));
         }
         assert_eq!(core.entry(0, 0), Ok((None, 0)));
+    }
+
+    #[test]
+    fn a_span_follows_from_any_number() {
+        let (mut core, _lines) = registry(64);
+        let id = new_span(&mut core, RawParent::Root, &[]);
+        for followed in [0, id.get(), u64::MAX] {
+            assert_eq!(core.follows_from(1, id, followed), Ok(()));
+        }
+        assert_eq!(core.try_close(0, id), Ok(true));
+        assert_eq!(core.follows_from(1, id, 7), Err(Refusal::UNKNOWN));
     }
 
     #[test]

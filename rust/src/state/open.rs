@@ -50,11 +50,14 @@ impl State {
             Vec::new()
         };
         inside.iter_mut().for_each(|worker| *worker += self.first_worker);
-        let details = self.origins.details(id)?.ok_or(Refusal::UNKNOWN)?;
+        let names = self.core.details(id, &mut self.packed);
+        let details = names.and_then(|names| self.origins.details(id, names, &self.packed));
+        // A long text is not kept until the next call.
+        self.packed.give_back();
         Ok(Open {
             id,
             found,
-            details,
+            details: details?,
             inside,
         })
     }

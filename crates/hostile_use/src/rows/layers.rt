@@ -3,7 +3,7 @@
 use crate::answer::Answer;
 use crate::stage::{Memory, Stage, TRIES};
 use crate::stop::Stop;
-use crate::texts::{everything, meta_of, note_of, shown};
+use crate::texts::{meta_of, note_of, shown};
 use crate::trial::made;
 use span_id::{Fault, Level, Meta};
 use span_layers::{Filters, Form, Kind, Layer, Layers, Note, Rule, Style, Tellers, admits, text};
@@ -105,7 +105,7 @@ fn tell_parts<R: Print>(
 // Asks the filters, which takes no memory.
 fn ask<R: Print>(stage: &Stage<R>, alloc: Global, filters: &Filters) -> Result<(), Stop> {
     let meta = meta_of(alloc, "a", Level::Info)?;
-    match everything(alloc) {
+    match Rule::everything(alloc) {
         Ok(rule) => {
             ask_of(stage, filters, &meta, &rule);
             Ok(())

@@ -79,12 +79,22 @@ pub(crate) fn run_latest<R: Print>(stage: &Stage<R>, alloc: Global) -> Result<()
     stage.begin(Memory::Untouched);
     let mut latest = Latest::new(alloc, tellers);
     stage.over();
-    let before = Sent::to(&latest);
-    put(stage, alloc, Memory::Untouched, &mut latest)?;
-    tell_last(stage, &latest, before);
-    tell_event(stage, alloc, &mut latest)?;
-    tell_event(stage, alloc, &mut latest)?;
-    tell_spare(stage, &mut latest);
+    put_in_latest(stage, alloc, &mut latest)
+}
+
+fn put_in_latest<V: Say, R: Print>(
+    stage: &Stage<R>,
+    alloc: Global,
+    latest: &mut Latest<V>,
+) -> Result<(), Stop>
+    requires { latest.old.sent ≡ [] }
+{
+    let before = Sent::to(latest);
+    put(stage, alloc, Memory::Untouched, latest)?;
+    tell_last(stage, latest, before);
+    tell_event(stage, alloc, latest)?;
+    tell_event(stage, alloc, latest)?;
+    tell_spare(stage, latest);
     Ok(())
 }
 

@@ -9,7 +9,6 @@ use crate::rows::acts::Names;
 use crate::rows::{Row, appended, kept, layers, on_core, on_latest, outlets, ring};
 use crate::stage::Stage;
 use crate::stop::Stop;
-use crate::texts::everything;
 use span_id::Meta;
 use span_layers::{FmtSpan, Form, Hooks, Layer, Layers, Note, Rule, Style, admits, text};
 use std::alloc::{AllocError, Global};
@@ -61,7 +60,7 @@ fn add<R: Print>(
     layers: &mut Layers,
     hooks: Hooks,
 ) -> Result<(), Stop> {
-    match everything(alloc) {
+    match Rule::everything(alloc) {
         Ok(rule) => {
             let layer = Layer {
                 style: style(row, number),

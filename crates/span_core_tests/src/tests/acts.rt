@@ -21,13 +21,8 @@ pub(crate) enum Act<'a> {
     New(&'a str),
     /// The same under the span of this id; under 0 a root.
     Child(&'a str, u64),
-    /// A new span whose parent is the current span.
-    NewWith {
-        name: &'a str,
-        target: &'a str,
-        level: Level,
-        fields: Fields<'a>,
-    },
+    /// A new span of this name, target and level, with these fields, whose parent is the current span.
+    NewWith(&'a str, &'a str, Level, Fields<'a>),
     Clone(u64),
     Enter(u64),
     Exit(u64),
@@ -36,12 +31,8 @@ pub(crate) enum Act<'a> {
     ExitShown(u64),
     CloseShown(u64),
     Record(u64, Fields<'a>),
-    Event {
-        target: &'a str,
-        level: Level,
-        message: &'a str,
-        fields: Fields<'a>,
-    },
+    /// An event of this target and level, with this message and these fields.
+    Event(&'a str, Level, &'a str, Fields<'a>),
     /// An event of the target `app` at INFO with this message, under the span of this id; under 0 in none.
     EventIn(u64, &'a str),
     Find(u64),
@@ -159,18 +150,8 @@ fn given(
 fn given_by(rt: &impl Abort, alloc: Global, act: &Act) -> Parts {
     match act {
         Act::New(name) | Act::Child(name, _) => given(rt, alloc, name, "app", Level::Info, &[]),
-        Act::NewWith {
-            name,
-            target,
-            level,
-            fields,
-        } => given(rt, alloc, name, target, *level, fields),
-        Act::Event {
-            target,
-            level,
-            message: _,
-            fields,
-        } => given(rt, alloc, "event", target, *level, fields),
+        Act::NewWith(name, target, level, fields) => given(rt, alloc, name, target, *level, fields),
+        Act::Event(target, level, _, fields) => given(rt, alloc, "event", target, *level, fields),
         Act::EventIn(..) => given(rt, alloc, "event", "app", Level::Info, &[]),
         Act::Record(_, fields) => given(rt, alloc, "", "", Level::Info, fields),
         _ => given(rt, alloc, "", "", Level::Info, &[]),
@@ -227,10 +208,10 @@ fn pass<O: Outlet>(
     requires { worker < core.old.limits.workers }
 {
     match act {
-        Act::New(_) | Act::NewWith { .. } => make(core, worker, ParentOf::Current, given),
+        Act::New(_) | Act::NewWith(..) => make(core, worker, ParentOf::Current, given),
         Act::Child(_, 0) => make(core, worker, ParentOf::Root, given),
         Act::Child(_, parent) => make(core, worker, ParentOf::Of(id(rt, *parent)), given),
-        Act::Event { message, .. } => tell(core, worker, message, given),
+        Act::Event(_, _, message, _) => tell(core, worker, message, given),
         Act::EventIn(0, message) => tell_in(core, worker, message, given, ParentOf::Root),
         Act::EventIn(parent, message) => {
             tell_in(core, worker, message, given, ParentOf::Of(id(rt, *parent)))

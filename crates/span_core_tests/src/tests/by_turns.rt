@@ -90,19 +90,14 @@ const LIB: Plan<'static> = (Form::Json, Wanted::All, "lib", Level::Trace);
 // One layer admits everything, and two more what begins with `lib`.
 static PLANS: [Plan<'static>; 3] = [EVERYTHING, LIB, LIB];
 
-const EVENT_OF_ONE: Act<'static> = Act::Event {
-    target: "app",
-    level: Level::Info,
-    message: "one",
-    fields: &[("a", "1")],
-};
+const EVENT_OF_ONE: Act<'static> = Act::Event("app", Level::Info, "one", &[("a", "1")]);
 
-const EVENT_OF_THREE: Act<'static> = Act::Event {
-    target: "lib",
-    level: Level::Info,
-    message: "three",
-    fields: &[("a", "1"), ("b", "2")],
-};
+const EVENT_OF_THREE: Act<'static> = Act::Event(
+    "lib",
+    Level::Info,
+    "three",
+    &[("a", "1"), ("b", "2")],
+);
 
 // Calls of no, one and three notes, and how many batches are taken after each: at most four are in the ring.
 static CALLS: [(Act<'static>, u32); 11] = [
@@ -197,21 +192,11 @@ fn tells<V: Say>(rt: &impl Abort, alloc: Global, both: &mut Both<V>, number: usi
     for _ in 0..fields {
         pairs.push(("key", value.as_str())).expect(rt, "memory");
     }
-    let event = Act::Event {
-        target: "app",
-        level: Level::Info,
-        message: "told",
-        fields: pairs.as_slice(),
-    };
+    let event = Act::Event("app", Level::Info, "told", pairs.as_slice());
     turn(rt, alloc, both, &(event, 1));
 }
 
-const LOOK: Act<'static> = Act::Event {
-    target: "app",
-    level: Level::Info,
-    message: "look",
-    fields: &[],
-};
+const LOOK: Act<'static> = Act::Event("app", Level::Info, "look", &[]);
 
 // A span under the current one, which the worker enters, and two events in it.
 fn goes_into<V: Say>(rt: &impl Abort, alloc: Global, both: &mut Both<V>, (name, id): (&str, u64)) {

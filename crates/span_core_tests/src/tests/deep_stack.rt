@@ -78,33 +78,13 @@ pub(crate) fn come_up<O: Outlet>(
     right
 }
 
-const ROOT: Act<'static> = Act::NewWith {
-    name: "root",
-    target: "root",
-    level: Level::Info,
-    fields: &[],
-};
+const ROOT: Act<'static> = Act::NewWith("root", "root", Level::Info, &[]);
 
-const MID: Act<'static> = Act::NewWith {
-    name: "mid",
-    target: "mid",
-    level: Level::Info,
-    fields: &[],
-};
+const MID: Act<'static> = Act::NewWith("mid", "mid", Level::Info, &[]);
 
-const SEEK_ROOT: Act<'static> = Act::Event {
-    target: "root",
-    level: Level::Info,
-    message: "seek",
-    fields: &[],
-};
+const SEEK_ROOT: Act<'static> = Act::Event("root", Level::Info, "seek", &[]);
 
-const SEEK_MID: Act<'static> = Act::Event {
-    target: "mid",
-    level: Level::Info,
-    message: "seek",
-    fields: &[],
-};
+const SEEK_MID: Act<'static> = Act::Event("mid", Level::Info, "seek", &[]);
 
 // The first layer admits most spans, the second and the third one each; of an event only the layer of its target is
 // told.
@@ -192,11 +172,8 @@ fn a_layer_sees_through_a_deep_stack(rt: HostRuntime) {
 }
 
 const TWO_WORKERS: Limits = Limits {
-    slots: 400,
-    last_generation: 0,
-    max_count: 400,
     workers: 2,
-    ring: 1,
+    ..LIMITS
 };
 
 // In the stack of the worker 0 the span 1 is the lowest, and the span 129 stands above 128 entries; in that of the

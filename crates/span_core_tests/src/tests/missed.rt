@@ -4,7 +4,7 @@ ghost use Rattle.std.specs.Prelude.{◌≡◌, []};
 use crate::tests::acts::{Act, perform};
 use crate::tests::compare::same;
 use crate::tests::hooks::{add_plan, layers};
-use crate::tests::play::keeping;
+use crate::tests::play::{SMALL, keeping};
 use span_core::Core;
 use span_id::Limits;
 use span_layers::{Filters, Kind, Layers, Say};
@@ -15,13 +15,7 @@ use span_parts_tests::watch::Refused;
 use std::alloc::Global;
 use std::process::Abort;
 
-const LIMITS: Limits = Limits {
-    slots: 1,
-    last_generation: 1,
-    max_count: 8,
-    workers: 1,
-    ring: 1,
-};
+const LIMITS: Limits = Limits { slots: 1, ..SMALL };
 
 // The numbers and the texts of these lines.
 fn are_lines(rt: &impl Abort, alloc: Global, lines: &[Line], expected: &str) {

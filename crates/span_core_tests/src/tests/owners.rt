@@ -48,12 +48,7 @@ fn noted_at(
     watch.number()
 }
 
-const HI: Act<'static> = Act::Event {
-    target: "app",
-    level: Level::Info,
-    message: "hi",
-    fields: &[],
-};
+const HI: Act<'static> = Act::Event("app", Level::Info, "hi", &[]);
 
 // While a span is open its path has one owner beside the note, and where it closed none: at last two notes share it. The
 // span 16777217 gets the slot of the first one.
@@ -90,12 +85,7 @@ fn room_of(
     size: usize,
 ) -> u64 {
     let value = "v".repeat(alloc, size).expect(rt, "memory");
-    let event = Act::Event {
-        target: "app",
-        level: Level::Info,
-        message: "hi",
-        fields: &[("k", value.as_str())],
-    };
+    let event = Act::Event("app", Level::Info, "hi", &[("k", value.as_str())]);
     noted_at(rt, alloc, core, drain, watch, &event)
 }
 

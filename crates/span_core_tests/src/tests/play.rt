@@ -17,6 +17,21 @@ use span_parts_tests::plans::Plan;
 use std::alloc::Global;
 use std::process::Abort;
 
+/// The limits of a core with few spans and one worker.
+pub(crate) const SMALL: Limits = Limits {
+    slots: 8,
+    last_generation: 1,
+    max_count: 8,
+    workers: 1,
+    ring: 1,
+};
+
+/// The same with three workers.
+pub(crate) const THREE_WORKERS: Limits = Limits {
+    workers: 3,
+    ..SMALL
+};
+
 /// The limits and the layers of a new core, the calls on it, each made by the worker beside it, and what is answered:
 /// for each call first the lines of its notes, then `= ` and its answer, or `! ` and its refusal.
 #[derive(Clone, Copy)]

@@ -1,20 +1,12 @@
 //! Scripts of calls, with what is answered and which lines are told.
 use crate::tests::acts::Act;
-use crate::tests::play::{Play, plays};
+use crate::tests::play::{Play, THREE_WORKERS, plays};
 use span_id::{Level, Limits};
 use span_layers::Form;
 use span_parts_tests::plans::{EVERYTHING, Plan, Wanted};
 
-const ROOMY: Limits = Limits {
-    slots: 8,
-    last_generation: 1,
-    max_count: 8,
-    workers: 3,
-    ring: 1,
-};
-
 const MADE_AND_CLOSED: Play<'static> = Play {
-    limits: ROOMY,
+    limits: THREE_WORKERS,
     plans: &[EVERYTHING],
     acts: &[(0, Act::New("a")), (0, Act::Close(1))],
     expected: "L0 new 1 w0 a\n= 1\nL0 close 1 w0 a\n= closed\n",
@@ -26,7 +18,7 @@ fn a_span_is_made_and_closed(rt: HostRuntime) {
 }
 
 const CHILD_FIRST: Play<'static> = Play {
-    limits: ROOMY,
+    limits: THREE_WORKERS,
     plans: &[EVERYTHING],
     acts: &[
         (0, Act::New("a")),
@@ -43,7 +35,7 @@ fn closes_come_child_first(rt: HostRuntime) {
 }
 
 const CLOSES_ALONE: Play<'static> = Play {
-    limits: ROOMY,
+    limits: THREE_WORKERS,
     plans: &[(Form::Compact, Wanted::Close, "", Level::Trace)],
     acts: &[
         (0, Act::New("a")),
@@ -62,7 +54,7 @@ fn closes_alone(rt: HostRuntime) {
 }
 
 const TWICE: Play<'static> = Play {
-    limits: ROOMY,
+    limits: THREE_WORKERS,
     plans: &[EVERYTHING],
     acts: &[
         (0, Act::New("a")),
@@ -82,7 +74,7 @@ fn enters_twice_and_leaves(rt: HostRuntime) {
 
 // A span of another target below the first one, and an event and a span below it.
 const TWO_TARGETS: Play<'static> = Play {
-    limits: ROOMY,
+    limits: THREE_WORKERS,
     plans: &[
         (Form::Compact, Wanted::New, "", Level::Trace),
         (Form::Compact, Wanted::New, "app", Level::Info),
@@ -90,26 +82,10 @@ const TWO_TARGETS: Play<'static> = Play {
     acts: &[
         (0, Act::New("a")),
         (0, Act::Enter(1)),
-        (
-            0,
-            Act::NewWith {
-                name: "q",
-                target: "lib",
-                level: Level::Info,
-                fields: &[],
-            },
-        ),
+        (0, Act::NewWith("q", "lib", Level::Info, &[])),
         (0, Act::Enter(2)),
         (0, Act::New("c")),
-        (
-            0,
-            Act::Event {
-                target: "app",
-                level: Level::Info,
-                message: "hi",
-                fields: &[("k", "v")],
-            },
-        ),
+        (0, Act::Event("app", Level::Info, "hi", &[("k", "v")])),
         (0, Act::Exit(2)),
         (0, Act::Exit(1)),
         (0, Act::Close(1)),
@@ -128,11 +104,8 @@ fn each_layer_has_its_own_path(rt: HostRuntime) {
 // greatest is told and holds nothing, and under a closed one none is told.
 const EVENTS_IN: Play<'static> = Play {
     limits: Limits {
-        slots: 8,
-        last_generation: 1,
         max_count: 3,
-        workers: 3,
-        ring: 1,
+        ..THREE_WORKERS
     },
     plans: &[
         (Form::Compact, Wanted::None, "", Level::Trace),
@@ -147,15 +120,7 @@ const EVENTS_IN: Play<'static> = Play {
         (0, Act::Exit(1)),
         (0, Act::Child("b", 0)),
         (0, Act::Enter(2)),
-        (
-            0,
-            Act::NewWith {
-                name: "q",
-                target: "lib",
-                level: Level::Info,
-                fields: &[],
-            },
-        ),
+        (0, Act::NewWith("q", "lib", Level::Info, &[])),
         (0, Act::Exit(2)),
         (0, Act::Enter(1)),
         (0, Act::EventIn(3, "refused")),
@@ -178,19 +143,11 @@ fn an_event_is_told_under_its_parent(rt: HostRuntime) {
 }
 
 const UNWANTED: Play<'static> = Play {
-    limits: ROOMY,
+    limits: THREE_WORKERS,
     plans: &[(Form::Compact, Wanted::All, "app", Level::Warn)],
     acts: &[
         (0, Act::New("a")),
-        (
-            0,
-            Act::NewWith {
-                name: "b",
-                target: "app",
-                level: Level::Error,
-                fields: &[],
-            },
-        ),
+        (0, Act::NewWith("b", "app", Level::Error, &[])),
         (0, Act::Close(1)),
     ],
     expected: "= not wanted\nL0 new 1 w0 b\n= 1\nL0 close 1 w0 b\n= closed\n",
@@ -202,7 +159,7 @@ fn unwanted_spans_are_not_made(rt: HostRuntime) {
 }
 
 const TWO_WORKERS: Play<'static> = Play {
-    limits: ROOMY,
+    limits: THREE_WORKERS,
     plans: &[(Form::Compact, Wanted::ExitAndClose, "", Level::Trace)],
     acts: &[
         (0, Act::New("b")),
@@ -223,7 +180,7 @@ fn notes_name_the_worker_that_calls(rt: HostRuntime) {
 const NO_KIND: Plan<'static> = (Form::Compact, Wanted::None, "", Level::Trace);
 
 const NAMES: Play<'static> = Play {
-    limits: ROOMY,
+    limits: THREE_WORKERS,
     plans: &[NO_KIND; 64],
     acts: &[
         (
@@ -247,28 +204,12 @@ fn names_have_at_most_64_bytes(rt: HostRuntime) {
 }
 
 const BOTH_FORMS: Play<'static> = Play {
-    limits: ROOMY,
+    limits: THREE_WORKERS,
     plans: &[(Form::Json, Wanted::All, "", Level::Trace), EVERYTHING],
     acts: &[
-        (
-            0,
-            Act::NewWith {
-                name: "a",
-                target: "app",
-                level: Level::Info,
-                fields: &[("k", "1")],
-            },
-        ),
+        (0, Act::NewWith("a", "app", Level::Info, &[("k", "1")])),
         (0, Act::Record(1, &[("k", "2")])),
-        (
-            0,
-            Act::Event {
-                target: "app",
-                level: Level::Warn,
-                message: "x\ny",
-                fields: &[],
-            },
-        ),
+        (0, Act::Event("app", Level::Warn, "x\ny", &[])),
         (0, Act::Close(1)),
     ],
     expected: "L0 {\"fields\":[[\"k\",\"1\"]],\"id\":1,\"kind\":\"new\",\"path\":\"a\",\"worker\":0}\nL1 new 1 w0 a k=1\n= 1\nL0 {\"fields\":[[\"k\",\"2\"]],\"id\":1,\"kind\":\"record\",\"path\":\"a\",\"worker\":0}\nL1 record 1 w0 a k=2\n= recorded\nL0 {\"fields\":[],\"id\":0,\"kind\":\"event\",\"level\":\"WARN\",\"message\":\"x\\ny\",\"path\":\"-\",\"worker\":0}\nL1 event 0 w0 - WARN x\\ny\n= told\nL0 {\"fields\":[[\"k\",\"1\"],[\"k\",\"2\"]],\"id\":1,\"kind\":\"close\",\"path\":\"a\",\"worker\":0}\nL1 close 1 w0 a k=1 k=2\n= closed\n",
@@ -281,10 +222,8 @@ fn both_forms_with_fields(rt: HostRuntime) {
 
 const FEW: Limits = Limits {
     slots: 1,
-    last_generation: 1,
     max_count: 1,
-    workers: 3,
-    ring: 1,
+    ..THREE_WORKERS
 };
 
 const REFUSALS: Play<'static> = Play {

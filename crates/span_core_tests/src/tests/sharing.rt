@@ -1,22 +1,14 @@
 //! What the notes of a call share, by how many owners it has.
 use crate::tests::acts::Act;
 use crate::tests::compare::holds;
-use crate::tests::play::{Play, played, plays};
-use span_id::{Level, Limits};
+use crate::tests::play::{Play, SMALL, played, plays};
+use span_id::Level;
 use span_layers::{Form, Note};
 use span_outlet::{Batch, Call};
 use span_parts_tests::plans::{EVERYTHING, Plan, Wanted};
 use std::alloc::Global;
 use std::process::Abort;
 use std::sync::ArcStr;
-
-const LIMITS: Limits = Limits {
-    slots: 8,
-    last_generation: 1,
-    max_count: 8,
-    workers: 1,
-    ring: 1,
-};
 
 // How many notes share the text of the first one's path.
 fn path_owners(notes: &[Note]) -> usize {
@@ -52,33 +44,13 @@ pub(crate) fn are_shared(batches: &[Batch], owners: &[(usize, usize)]) -> bool {
 }
 
 // New spans of another target, under the current one.
-const B: Act<'static> = Act::NewWith {
-    name: "b",
-    target: "lib",
-    level: Level::Info,
-    fields: &[],
-};
+const B: Act<'static> = Act::NewWith("b", "lib", Level::Info, &[]);
 
-const B_WITH_FIELDS: Act<'static> = Act::NewWith {
-    name: "b",
-    target: "lib",
-    level: Level::Info,
-    fields: &[("k", "2")],
-};
+const B_WITH_FIELDS: Act<'static> = Act::NewWith("b", "lib", Level::Info, &[("k", "2")]);
 
-const X: Act<'static> = Act::NewWith {
-    name: "x",
-    target: "lib",
-    level: Level::Info,
-    fields: &[],
-};
+const X: Act<'static> = Act::NewWith("x", "lib", Level::Info, &[]);
 
-const EVENT: Act<'static> = Act::Event {
-    target: "app",
-    level: Level::Info,
-    message: "hi",
-    fields: &[("k", "3")],
-};
+const EVENT: Act<'static> = Act::Event("app", Level::Info, "hi", &[("k", "3")]);
 
 const APP: Plan<'static> = (Form::Compact, Wanted::All, "app", Level::Trace);
 
@@ -101,7 +73,7 @@ const OWNERS: [(usize, usize); 10] = [
 ];
 
 const SHARED: Play<'static> = Play {
-    limits: LIMITS,
+    limits: SMALL,
     plans: &[EVERYTHING, EVERYTHING, APP, EVERYTHING],
     acts: &[
         (0, Act::New("a")),
@@ -133,7 +105,7 @@ const CLOSING_OWNERS: [(usize, usize); 8] = [
 ];
 
 const SHARED_AT_AN_EXIT: Play<'static> = Play {
-    limits: LIMITS,
+    limits: SMALL,
     plans: &[EVERYTHING, APP, EVERYTHING],
     acts: &[
         (0, Act::New("a")),
@@ -167,7 +139,7 @@ fn an_exit_shares_with_its_closes(rt: HostRuntime) {
 }
 
 const DASH: Play<'static> = Play {
-    limits: LIMITS,
+    limits: SMALL,
     plans: &[EVERYTHING, LIB],
     acts: &[
         (0, Act::New("-")),

@@ -2,18 +2,12 @@
 use crate::tests::acts::Act;
 use crate::tests::hooks::layers;
 use crate::tests::on_a_ring::played_on_ring;
-use crate::tests::play::{Play, ends, plays};
+use crate::tests::play::{Play, SMALL, ends, plays};
 use span_id::{Level, Limits};
 use span_layers::Form;
 use span_parts_tests::plans::{EVERYTHING, Plan, Wanted};
 
-const LIMITS: Limits = Limits {
-    slots: 8,
-    last_generation: 1,
-    max_count: 8,
-    workers: 1,
-    ring: 16,
-};
+const LIMITS: Limits = Limits { ring: 16, ..SMALL };
 
 const ALL: Plan<'static> = (Form::Compact, Wanted::New, "", Level::Trace);
 
@@ -23,19 +17,9 @@ const APP: Plan<'static> = (Form::Compact, Wanted::New, "app", Level::Trace);
 const SIX: [Plan<'static>; 6] = [ALL, APP, ALL, APP, APP, ALL];
 
 // A span that not all layers admit.
-const Q: Act<'static> = Act::NewWith {
-    name: "q",
-    target: "lib",
-    level: Level::Info,
-    fields: &[],
-};
+const Q: Act<'static> = Act::NewWith("q", "lib", Level::Info, &[]);
 
-const HI: Act<'static> = Act::Event {
-    target: "app",
-    level: Level::Info,
-    message: "hi",
-    fields: &[],
-};
+const HI: Act<'static> = Act::Event("app", Level::Info, "hi", &[]);
 
 const KEPT: Play<'static> = Play {
     limits: LIMITS,
@@ -92,26 +76,11 @@ const SEVEN: [Plan<'static>; 7] = [
     APP,
 ];
 
-const R: Act<'static> = Act::NewWith {
-    name: "r",
-    target: "lib",
-    level: Level::Info,
-    fields: &[],
-};
+const R: Act<'static> = Act::NewWith("r", "lib", Level::Info, &[]);
 
-const C: Act<'static> = Act::NewWith {
-    name: "c",
-    target: "lib",
-    level: Level::Info,
-    fields: &[],
-};
+const C: Act<'static> = Act::NewWith("c", "lib", Level::Info, &[]);
 
-const E: Act<'static> = Act::NewWith {
-    name: "e",
-    target: "lib",
-    level: Level::Info,
-    fields: &[],
-};
+const E: Act<'static> = Act::NewWith("e", "lib", Level::Info, &[]);
 
 const THREE_SLOTS: Limits = Limits {
     slots: 3,

@@ -1,39 +1,16 @@
 //! Several workers and layers with rules of their own.
 use crate::tests::acts::Act;
-use crate::tests::play::{Play, plays};
-use span_id::{Level, Limits};
+use crate::tests::play::{Play, THREE_WORKERS, plays};
+use span_id::Level;
 use span_layers::Form;
 use span_parts_tests::plans::{EVERYTHING, Wanted};
 
-const LIMITS: Limits = Limits {
-    slots: 8,
-    last_generation: 1,
-    max_count: 8,
-    workers: 3,
-    ring: 1,
-};
-
 // The second layer admits spans of `app` up to INFO, the third those of `app.db` up to DEBUG.
-const QUERY: Act<'static> = Act::NewWith {
-    name: "query",
-    target: "app.db",
-    level: Level::Debug,
-    fields: &[],
-};
+const QUERY: Act<'static> = Act::NewWith("query", "app.db", Level::Debug, &[]);
 
-const SLOW: Act<'static> = Act::Event {
-    target: "app.db",
-    level: Level::Debug,
-    message: "slow",
-    fields: &[("ms", "12")],
-};
+const SLOW: Act<'static> = Act::Event("app.db", Level::Debug, "slow", &[("ms", "12")]);
 
-const LATE: Act<'static> = Act::Event {
-    target: "app",
-    level: Level::Warn,
-    message: "late",
-    fields: &[],
-};
+const LATE: Act<'static> = Act::Event("app", Level::Warn, "late", &[]);
 
 const ANSWERS: &str = "\
 L0 new 1 w0 serve
@@ -79,7 +56,7 @@ L1 close 1 w2 serve user=ann
 
 // What each worker calls, in turn.
 const PLAY: Play<'static> = Play {
-    limits: LIMITS,
+    limits: THREE_WORKERS,
     plans: &[
         EVERYTHING,
         (Form::Compact, Wanted::NewAndClose, "app", Level::Info),

@@ -1,9 +1,9 @@
-//! Whether anything listens.
+//! Whether anything listens, and above which level nothing does.
 ghost use Rattle.std.specs.Prelude.{◌≡◌, Some, IfOk, string_bytes};
 ghost use Rattle.span_border.specs.Status.{meant};
 ghost use Rattle.span_border.specs.Ends.{OnHeld, Keeps};
 ghost use Rattle.span_ffi.specs.Registry.{OnCore, WithCallsites};
-ghost use Rattle.span_ffi.specs.Wants.{TellsWanted, TellsWantedAt};
+ghost use Rattle.span_ffi.specs.Wants.{TellsWanted, TellsWantedAt, levels_up_to, TellsLevels};
 
 use crate::callsites::Callsites;
 use crate::reading::read_level;
@@ -97,4 +97,40 @@ pub extern "C" fn span_registry_callsite_wants(
     let status = callsite_wants(&held.core, &held.callsites, callsite, wanted);
     registry.put(held);
     status.number()
+}
+
+// How many levels there are up to this one, and 0 where there is none.
+fn levels_up_to(level: Option<Level>) -> u32
+    ensures { result ≡ levels_up_to level }
+{
+    match level {
+        Some(level) => u32::from(level.verbosity()) + 1,
+        None => 0,
+    }
+}
+
+fn levels_of(core: &RingCore) -> u32
+    ensures { TellsLevels result core.now Status.Done core.now }
+{
+    levels_up_to(core.max_level())
+}
+
+/// What is wanted has a level below this number. It counts the levels from ERROR up to the most verbose one that a
+/// layer's rule has, also one that a later rule of the same prefix overrides: 0 where there are layers and none has a
+/// rule, 5 where there is no layer, since spans are made then. It never changes either.
+#[unsafe(no_mangle)]
+pub extern "C" fn span_registry_max_level(
+    alloc: Global,
+    registry: &mut SpanRegistry,
+    levels: &mut u32,
+) -> u32
+    ensures levels { OnHeld registry.old.held (OnCore (TellsLevels levels.new)) (meant result) registry.new.held }
+    ensures kept { Keeps (meant result) levels.old levels.new }
+{
+    let Some(held) = registry.take(alloc) else {
+        return Status::EmptyHandle.number();
+    };
+    *levels = levels_of(&held.core);
+    registry.put(held);
+    Status::Done.number()
 }

@@ -1,4 +1,4 @@
-//! What each test compares with, and ids by their numbers.
+//! What each test compares with, ids by their numbers, and what may go to another thread.
 //!
 //! An assertion is a branch of the function in which it stands, and each branch drops what that function owns. A call
 //! of these is no branch, and they own nothing, so tests call them.
@@ -24,4 +24,9 @@ pub(crate) fn holds<D: Display + Copy>(rt: &impl Abort, fact: bool, of: D) {
 /// The id of this number.
 pub(crate) fn id(rt: &impl Abort, number: u64) -> Id {
     Id::from_u64(number).expect(rt, "an id")
+}
+
+/// What it is given may go to another thread.
+pub(crate) fn crosses_threads<T: Send>(value: T) -> T {
+    value
 }

@@ -1,5 +1,6 @@
 //! Ids in both layouts, limits, names, and shared fields.
 use crate::tests::compare::{holds, same};
+use crate::values;
 use crate::values::field;
 use span_id::{Bits, Field, Fields, Id, Level, Limits, Meta, SharedMeta};
 use std::alloc::Global;
@@ -262,11 +263,7 @@ fn makes_sets_of_others(rt: HostRuntime) {
 }
 
 fn meta(rt: &impl Abort, alloc: Global, name: &str) -> Meta {
-    Meta {
-        name: String::from_str(alloc, name).expect(rt, "memory"),
-        target: String::from_str(alloc, "app::db").expect(rt, "memory"),
-        level: Level::Info,
-    }
+    values::meta(alloc, name, "app::db", Level::Info).expect(rt, "memory")
 }
 
 // Fields with the key `k`, and these values.

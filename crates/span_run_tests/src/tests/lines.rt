@@ -309,15 +309,8 @@ fn a_line_of_no_utf8_is_the_same_over_its_own_text(rt: HostRuntime) {
 
 /// A line with so many lists in one another under a key that is not looked at.
 fn line_of_lists(alloc: Global, depth: usize) -> Result<String, AllocError> {
-    let mut line = String::from_str(alloc, "{\"op\":\"find\",\"span\":\"a\",\"x\":")?;
-    for _ in 0..depth {
-        line.push_str("[")?;
-    }
-    for _ in 0..depth {
-        line.push_str("]")?;
-    }
-    line.push_str("}")?;
-    Ok(line)
+    let (open, shut) = ("[".repeat(alloc, depth)?, "]".repeat(alloc, depth)?);
+    format!(in alloc; "{{\"op\":\"find\",\"span\":\"a\",\"x\":{open}{shut}}}")
 }
 
 #[test]

@@ -144,12 +144,8 @@ fn digits(
     count: usize,
     after: &str,
 ) -> Result<String, AllocError> {
-    let mut text = String::from_str(alloc, before)?;
-    for _ in 0..count {
-        text.push_str(digit)?;
-    }
-    text.push_str(after)?;
-    Ok(text)
+    let digits = digit.repeat(alloc, count)?;
+    format!(in alloc; "{before}{digits}{after}")
 }
 
 /// What stands before the digits, the digit, how many, what stands after them, and whether the number is in range.

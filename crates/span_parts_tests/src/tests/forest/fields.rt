@@ -1,6 +1,7 @@
 //! Fields of spans, and who owns them.
 use crate::tests::compare::{id, same};
 use crate::tests::forest::fixtures::{named, pair};
+use crate::values;
 use span_forest::Forest;
 use span_id::{Bits, Field, Fields, Id};
 use std::alloc::Global;
@@ -8,10 +9,7 @@ use std::process::Abort;
 
 // The field `k=1`.
 fn field(rt: &impl Abort, alloc: Global) -> Field {
-    Field {
-        key: String::from_str(alloc, "k").expect(rt, "memory"),
-        value: String::from_str(alloc, "1").expect(rt, "memory"),
-    }
+    values::field(alloc, "k", "1").expect(rt, "memory")
 }
 
 // Writes the field `k=1` to a span.

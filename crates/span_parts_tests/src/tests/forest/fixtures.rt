@@ -1,7 +1,8 @@
 //! Forests, and what is asked of each.
 use crate::tests::compare::{holds, id, same};
+use crate::values::meta;
 use span_forest::{Forest, Held, Holder};
-use span_id::{Bits, Fault, Fields, Id, Level, Limits, Meta, SharedMeta};
+use span_id::{Bits, Fault, Fields, Id, Level, Limits, SharedMeta};
 use std::alloc::{AllocError, Global};
 use std::process::Abort;
 
@@ -35,11 +36,7 @@ pub(crate) fn pair(rt: &impl Abort, alloc: Global) -> Forest {
 
 /// What a span of this name is made with.
 pub(crate) fn named(rt: &impl Abort, alloc: Global, name: &str) -> SharedMeta {
-    let meta = Meta {
-        name: String::from_str(alloc, name).expect(rt, "memory"),
-        target: String::from_str(alloc, "app").expect(rt, "memory"),
-        level: Level::Info,
-    };
+    let meta = meta(alloc, name, "app", Level::Info).expect(rt, "memory");
     SharedMeta::copy_of(alloc, &meta).expect(rt, "memory")
 }
 

@@ -1,14 +1,10 @@
 //! Hooks and what is made of them go from thread to thread.
 
 use crate::plans::Wanted;
-use crate::tests::compare::same;
+use crate::tests::compare::{crosses_threads, same};
 use crate::tests::layers::fixtures::{add_layer, layer};
 use span_id::Level;
 use span_layers::{Form, Layer, Layers};
-
-fn crosses_threads<T: Send>(value: T) -> T {
-    value
-}
 
 fn with_crossed_hooks(layer: Layer) -> Layer {
     Layer {

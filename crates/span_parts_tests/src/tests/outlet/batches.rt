@@ -2,16 +2,19 @@
 ghost use Rattle.std.specs.Prelude.{◌≡◌, ◌+◌, ◌-◌, ◌^◌, ◌<◌, ◌≤◌, [], length};
 
 use crate::lines::{push_line, shown};
-use crate::plans::{Wanted, add};
+use crate::plans::{EVERYTHING, Plan, Wanted, plain_layers};
 use crate::tests::compare::{id, same};
 use crate::tests::hooks::add_plan;
 use crate::watch::Refused;
 use span_id::{Fields, Level, Limits};
-use span_layers::{ByForm, ByRule, Form, Hooks, Kind, Layers, Note, Tellers};
+use span_layers::{ByForm, Form, Kind, Layers, Note, Tellers};
 use span_outlet::{Batch, Call, Drain, Outlet, Reply, Ring, Tap};
 use std::alloc::Global;
 use std::process::Abort;
 use std::sync::ArcStr;
+
+/// The forms of two layers.
+pub(crate) const FORMS: [Form; 2] = [Form::Json, Form::Compact];
 
 /// Tellers of layers with these forms. Notes of new spans are refused memory.
 pub(crate) fn tellers(rt: &impl Abort, alloc: Global, forms: &[Form]) -> Tellers {
@@ -24,14 +27,12 @@ pub(crate) fn tellers(rt: &impl Abort, alloc: Global, forms: &[Form]) -> Tellers
     layers.split().1
 }
 
-/// Tellers of layers with these forms and no closures.
-pub(crate) fn plain_tellers(rt: &impl Abort, alloc: Global, forms: &[Form]) -> Tellers<ByForm> {
-    let mut layers: Layers<ByRule, ByForm> = Layers::new(alloc);
-    for form in forms {
-        let plan = (*form, Wanted::All, "", Level::Trace);
-        let hooks = Hooks::by_rule_and_form();
-        add(alloc, &mut layers, &plan, hooks).expect(rt, "a layer");
-    }
+// The layers that have no closures.
+static PLAIN: [Plan<'static>; 2] = [(Form::Json, Wanted::All, "", Level::Trace), EVERYTHING];
+
+/// Tellers of two layers that write in `FORMS` and have no closures.
+pub(crate) fn plain_tellers(rt: &impl Abort, alloc: Global) -> Tellers<ByForm> {
+    let layers = plain_layers(alloc, &PLAIN).expect(rt, "layers");
     layers.split().1
 }
 

@@ -2,8 +2,8 @@
 ghost use Rattle.std.specs.Prelude.{◌≡◌, ◌+◌, ◌-◌, ◌^◌, ◌<◌, ◌≤◌, [], length};
 
 use crate::tests::compare::{holds, same};
-use crate::tests::outlet::batches::{batch_of, send, tellers};
-use crate::tests::outlet::latest::{FORMS, event, send_texts};
+use crate::tests::outlet::batches::{FORMS, batch_of, send, tellers};
+use crate::tests::outlet::latest::{event, send_texts};
 use span_layers::{Form, Note, Say, text};
 use span_outlet::{Latest, Line, Outlet};
 use std::alloc::{AllocError, Global};

@@ -2,14 +2,12 @@
 ghost use Rattle.std.specs.Prelude.{◌≡◌, []};
 
 use crate::lines::shown;
-use crate::tests::compare::same;
-use crate::tests::outlet::batches::{are_lines, are_lines_of, opened, sends, tellers};
+use crate::tests::compare::{crosses_threads, same};
+use crate::tests::outlet::batches::{FORMS, are_lines, are_lines_of, opened, sends, tellers};
 use span_layers::{Form, Kind, Say};
 use span_outlet::{Drain, Kept, Outlet, Ring, Step};
 use std::alloc::Global;
 use std::process::Abort;
-
-static FORMS: [Form; 2] = [Form::Json, Form::Compact];
 
 // Sends an entry that two layers are told of, one that none is told of, and an exit.
 fn send_three<O: Outlet>(rt: &impl Abort, alloc: Global, outlet: &mut O)
@@ -219,11 +217,6 @@ fn takes_the_last(rt: &impl Abort, drain: &mut Drain, ring: &mut Ring, taken: u6
 {
     drain.last(ring);
     same(rt, counts(drain).0, taken, "taken");
-}
-
-// What it is given may go to another thread.
-fn crosses_threads<T: Send>(value: T) -> T {
-    value
 }
 
 #[test]

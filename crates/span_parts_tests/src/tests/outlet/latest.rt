@@ -3,16 +3,13 @@ ghost use Rattle.std.specs.Prelude.{◌≡◌, ◌+◌, ◌-◌, ◌^◌, ◌<�
 
 use crate::lines::shown;
 use crate::tests::compare::{holds, same};
-use crate::tests::outlet::batches::{batch_of, plain_tellers, send, sends, tellers};
+use crate::tests::outlet::batches::{FORMS, batch_of, plain_tellers, send, sends, tellers};
 use span_id::{Fields, Level};
 use span_layers::{Form, Kind, Note, Say, text};
 use span_outlet::{Kept, Latest, Line, Outlet};
 use std::alloc::{AllocError, Global};
 use std::process::Abort;
 use std::sync::ArcStr;
-
-/// The forms of the layers.
-pub(crate) static FORMS: [Form; 2] = [Form::Json, Form::Compact];
 
 // The lines that are kept from this one on.
 fn from<'a>(rt: &impl Abort, lines: &'a [Line], first: usize) -> &'a [Line] {
@@ -206,8 +203,8 @@ fn long_texts_and_many_notes(rt: HostRuntime) {
 #[test]
 fn long_texts_and_many_notes_without_closures(rt: HostRuntime) {
     let alloc = rt.alloc();
-    let mut kept = Kept::new(alloc, plain_tellers(&rt, alloc, &FORMS));
-    let mut latest = Latest::new(alloc, plain_tellers(&rt, alloc, &FORMS));
+    let mut kept = Kept::new(alloc, plain_tellers(&rt, alloc));
+    let mut latest = Latest::new(alloc, plain_tellers(&rt, alloc));
     send_all_to_both(&rt, alloc, &mut kept, &mut latest);
 }
 

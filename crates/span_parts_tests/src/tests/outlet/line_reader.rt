@@ -2,16 +2,12 @@
 ghost use Rattle.std.specs.Prelude.{◌≡◌, []};
 
 use crate::lines::push_line;
-use crate::plans::{Plan, Wanted, plain_layers};
-use crate::tests::compare::same;
-use crate::tests::outlet::batches::{pair, sends, tellers};
-use span_id::Level;
+use crate::tests::compare::{crosses_threads, same};
+use crate::tests::outlet::batches::{FORMS, pair, plain_tellers, sends, tellers};
 use span_layers::{ByForm, Form, Formatters, Kind, Say};
 use span_outlet::{LineReader, Ring};
 use std::alloc::Global;
 use std::process::Abort;
-
-const FORMS: [Form; 2] = [Form::Json, Form::Compact];
 
 // A ring of so many places, and a reader of it that writes in these forms.
 fn opened(rt: &impl Abort, alloc: Global, places: u32, forms: &[Form]) -> (Ring, LineReader)
@@ -254,12 +250,6 @@ fn both_ends_in_one_thread(rt: HostRuntime) {
     stands_at(&rt, &mut reader, 2, 1);
 }
 
-// Layers of both forms.
-static PLANS: [Plan<'static>; 2] = [
-    (Form::Json, Wanted::All, "", Level::Trace),
-    (Form::Compact, Wanted::All, "", Level::Trace),
-];
-
 type PlainReader = LineReader<Formatters<ByForm>>;
 
 // A ring of so many places, and a reader of it whose layers have no closures.
@@ -267,8 +257,7 @@ fn plain(rt: &impl Abort, alloc: Global, places: u32) -> (Ring, PlainReader)
     ensures new { result.0.sent ≡ [] }
 {
     let (ring, tap) = pair(rt, alloc, places);
-    let (_, tellers) = plain_layers(alloc, &PLANS).expect(rt, "layers").split();
-    (ring, LineReader::new(alloc, tap, tellers))
+    (ring, LineReader::new(alloc, tap, plain_tellers(rt, alloc)))
 }
 
 const PLAIN_LINES: &str = r#"0 0 1 new 1 w0 a
@@ -285,11 +274,6 @@ static PLAIN_ACTS: [Act<'static>; 3] = [
 fn lines_of_layers_without_closures(rt: HostRuntime) {
     let (mut ring, mut reader) = plain(&rt, rt.alloc(), 2);
     plays(&rt, rt.alloc(), &mut ring, &mut reader, &PLAIN_ACTS);
-}
-
-// What it is given may go to another thread.
-fn crosses_threads<T: Send>(value: T) -> T {
-    value
 }
 
 #[test]

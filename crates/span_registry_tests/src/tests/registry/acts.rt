@@ -20,22 +20,15 @@ pub(crate) enum Act<'a> {
     New(&'a str),
     /// A new span of this name under the span of this id; where the number is no id, a root.
     Child(&'a str, u64),
-    /// A new span whose parent is the current span.
-    Make {
-        name: &'a str,
-        target: &'a str,
-        fields: Fields<'a>,
-    },
+    /// A new span of this name and target, with these fields, whose parent is the current span.
+    Make(&'a str, &'a str, Fields<'a>),
     Clone(u64),
     Enter(u64),
     Exit(u64),
     Close(u64),
     Record(u64, Fields<'a>),
-    Event {
-        level: Level,
-        message: &'a str,
-        fields: Fields<'a>,
-    },
+    /// An event of this level, with this message and these fields.
+    Event(Level, &'a str, Fields<'a>),
     /// An event with this message under the span of this id; where the number is no id, under none.
     EventIn(u64, &'a str),
     Find(u64),
@@ -53,48 +46,22 @@ pub(crate) fn said_by(rt: &impl Abort, alloc: Global, act: &Act) -> Said {
         Act::New(name) | Act::Child(name, _) => {
             said_of(rt, alloc, (name, "app"), Level::Info, &[])
         }
-        Act::Make {
-            name,
-            target,
-            fields,
-        } => said_of(rt, alloc, (name, target), Level::Info, fields),
-        Act::Event {
-            level,
-            message: _,
-            fields,
-        } => said_of(rt, alloc, ("event", "app"), *level, fields),
+        Act::Make(name, target, fields) => said_of(rt, alloc, (name, target), Level::Info, fields),
+        Act::Event(level, _, fields) => said_of(rt, alloc, ("event", "app"), *level, fields),
         Act::EventIn(..) => said_of(rt, alloc, ("event", "app"), Level::Info, &[]),
         Act::Record(_, fields) => said_of(rt, alloc, ("", ""), Level::Info, fields),
-        Act::Clone(_)
-        | Act::Enter(_)
-        | Act::Exit(_)
-        | Act::Close(_)
-        | Act::Find(_)
-        | Act::Ask(_)
-        | Act::Count
-        | Act::Step => said_of(rt, alloc, ("", ""), Level::Info, &[]),
+        _ => said_of(rt, alloc, ("", ""), Level::Info, &[]),
     }
 }
 
-/// The parent of a new span or an event.
+/// The parent of a new span or an event: the current span, unless the call names one.
 pub(crate) fn parent_of(act: &Act) -> ParentOf {
     match act {
         Act::Child(_, number) | Act::EventIn(number, _) => match Id::from_u64(*number) {
             Some(id) => ParentOf::Of(id),
             None => ParentOf::Root,
         },
-        Act::New(_)
-        | Act::Make { .. }
-        | Act::Clone(_)
-        | Act::Enter(_)
-        | Act::Exit(_)
-        | Act::Close(_)
-        | Act::Record(..)
-        | Act::Event { .. }
-        | Act::Find(_)
-        | Act::Ask(_)
-        | Act::Count
-        | Act::Step => ParentOf::Current,
+        _ => ParentOf::Current,
     }
 }
 
@@ -123,6 +90,30 @@ pub(crate) enum Answer {
     NoWorker,
 }
 
+/// What a call answers that is accepted with no value, or refused.
+pub(crate) fn accepted(answer: Result<(), Fault>, done: Answer) -> Answer {
+    match answer {
+        Ok(()) => done,
+        Err(fault) => Answer::Refused(fault),
+    }
+}
+
+/// What a call answers by which a worker enters a span.
+pub(crate) fn entered(answer: Result<bool, Fault>) -> Answer {
+    match answer {
+        Ok(first) => Answer::Entered(first),
+        Err(fault) => Answer::Refused(fault),
+    }
+}
+
+/// What a call answers by which a span closes or stays open.
+pub(crate) fn closed(answer: Result<bool, Fault>) -> Answer {
+    match answer {
+        Ok(closed) => Answer::Closed(closed),
+        Err(fault) => Answer::Refused(fault),
+    }
+}
+
 // An answer that has no number.
 fn word(answer: &Answer) -> &'static str {
     match answer {
@@ -149,14 +140,7 @@ fn answer_text(alloc: Global, answer: &Answer) -> Result<String, AllocError> {
         Answer::Stepped(Some(Step { told, refused })) => {
             format!(in alloc; "= told {told} refused {refused}\n")
         }
-        Answer::NotWanted
-        | Answer::Cloned
-        | Answer::Entered(_)
-        | Answer::Closed(_)
-        | Answer::Recorded
-        | Answer::Told
-        | Answer::Stepped(None)
-        | Answer::NoWorker => String::from_str(alloc, word(answer)),
+        _ => String::from_str(alloc, word(answer)),
     }
 }
 

@@ -19,11 +19,7 @@ fn ends<R: Wait + Abort>(rt: &R, alloc: Global, ending: &Ending) {
 }
 
 // An event without fields.
-const EVENT: Act = Act::Event {
-    level: Level::Info,
-    message: "m",
-    fields: &[],
-};
+const EVENT: Act = Act::Event(Level::Info, "m", &[]);
 
 // A layer that admits no call of these tests.
 const ELSEWHERE: Plan = (Form::Compact, FmtSpan::FULL, &[("elsewhere", Level::Trace)]);

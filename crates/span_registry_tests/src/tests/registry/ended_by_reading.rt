@@ -19,6 +19,16 @@ use std::sync::ledger::Ledger;
 // No case has more lines.
 const MOST_LINES: u32 = 100;
 
+// Reads a line, if one waits.
+fn read_one<V: Say>(rt: &impl Abort, reader: &mut LineReader<V>, lines: &mut Vec<Line>)
+    ensures { reader.new.name ≡ reader.old.name }
+{
+    if reader.fill() {
+        let line = reader.next().expect(rt, "a line that waits");
+        lines.push(line).expect(rt, "memory");
+    }
+}
+
 // Reads the lines that are left, in the ring and before it.
 fn read_rest<V: Say>(
     rt: &impl Abort,
@@ -83,10 +93,7 @@ fn named<H: Ledger, C: Ledger, S: Setup, R: Wait + Abort>(
     let whole = all_calls(rt, alloc, &registry, workers, acts, transcript);
     let mut reader = reader;
     let mut lines = Vec::new(alloc);
-    if reader.fill() {
-        let line = reader.next().expect(rt, "a line that waits");
-        lines.push(line).expect(rt, "memory");
-    }
+    read_one(rt, &mut reader, &mut lines);
     let (counts, mut ring) = counted(rt, registry, number, whole, &mut reader);
     read_rest(rt, &mut reader, &mut ring, &mut lines);
     report(counts, lines, reader.refused())

@@ -83,14 +83,7 @@ const EVERY_CALL: Ending = Ending {
         (0, Act::Clone(1)),
         (0, Act::Enter(1)),
         (0, Act::Record(1, &[("k", "v")])),
-        (
-            0,
-            Act::Event {
-                level: Level::Info,
-                message: "m",
-                fields: &[],
-            },
-        ),
+        (0, Act::Event(Level::Info, "m", &[])),
         (0, Act::Find(1)),
         (0, Act::Close(1)),
         (0, Act::Exit(1)),

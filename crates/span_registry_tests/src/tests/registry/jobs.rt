@@ -39,11 +39,7 @@ fn visit(job: Id) -> [Act<'static>; 7] {
     [
         Act::Clone(job.get()),
         Act::Enter(job.get()),
-        Act::Event {
-            level: Level::Info,
-            message: "tick",
-            fields: &[],
-        },
+        Act::Event(Level::Info, "tick", &[]),
         Act::New("step"),
         Act::Close(NEWEST),
         Act::Exit(job.get()),
@@ -51,11 +47,7 @@ fn visit(job: Id) -> [Act<'static>; 7] {
     ]
 }
 
-const TOCK: Act = Act::Event {
-    level: Level::Info,
-    message: "tock",
-    fields: &[],
-};
+const TOCK: Act = Act::Event(Level::Info, "tock", &[]);
 
 // How many spans a call closed, which has to be accepted, and a new span wanted.
 fn closed_by(answer: Answer) -> Result<u32, Fault> {

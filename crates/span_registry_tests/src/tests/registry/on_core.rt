@@ -2,7 +2,8 @@
 ghost use Rattle.std.specs.Prelude.{◌≡◌, ◌<◌, []};
 
 use crate::tests::registry::acts::{
-    Act, Answer, Sight, Transcript, lines_text, looked_for, parent_of, push_sight, said_by,
+    Act, Answer, Sight, Transcript, accepted, closed, entered, lines_text, looked_for, parent_of,
+    push_sight, said_by,
 };
 use crate::tests::registry::asked::{Asked, push_asked};
 use crate::tests::registry::layers::{Plan, Said, layers};
@@ -19,22 +20,10 @@ fn hold<O: Outlet>(core: &mut Core<O>, worker: u32, act: &Act, id: Id) -> Answer
     requires { worker < core.old.limits.workers }
 {
     match act {
-        Act::Clone(_) => match core.clone_span(worker, id) {
-            Ok(()) => Answer::Cloned,
-            Err(fault) => Answer::Refused(fault),
-        },
-        Act::Enter(_) => match core.enter(worker, id) {
-            Ok(first) => Answer::Entered(first),
-            Err(fault) => Answer::Refused(fault),
-        },
-        Act::Exit(_) => match core.exit(worker, id) {
-            Ok(closed) => Answer::Closed(closed),
-            Err(fault) => Answer::Refused(fault),
-        },
-        _ => match core.try_close(worker, id) {
-            Ok(closed) => Answer::Closed(closed),
-            Err(fault) => Answer::Refused(fault),
-        },
+        Act::Clone(_) => accepted(core.clone_span(worker, id), Answer::Cloned),
+        Act::Enter(_) => entered(core.enter(worker, id)),
+        Act::Exit(_) => closed(core.exit(worker, id)),
+        _ => closed(core.try_close(worker, id)),
     }
 }
 
@@ -60,10 +49,8 @@ fn make<O: Outlet>(core: &mut Core<O>, worker: u32, parent: ParentOf, said: &Sai
 fn tell<O: Outlet>(core: &mut Core<O>, worker: u32, message: &str, said: &Said) -> Answer
     requires { worker < core.old.limits.workers }
 {
-    match core.event(worker, &said.meta, message, said.fields.as_slice()) {
-        Ok(()) => Answer::Told,
-        Err(fault) => Answer::Refused(fault),
-    }
+    let told = core.event(worker, &said.meta, message, said.fields.as_slice());
+    accepted(told, Answer::Told)
 }
 
 fn tell_in<O: Outlet>(
@@ -75,10 +62,8 @@ fn tell_in<O: Outlet>(
 ) -> Answer
     requires { worker < core.old.limits.workers }
 {
-    match core.event_in(worker, &said.meta, message, said.fields.as_slice(), parent) {
-        Ok(()) => Answer::Told,
-        Err(fault) => Answer::Refused(fault),
-    }
+    let told = core.event_in(worker, &said.meta, message, said.fields.as_slice(), parent);
+    accepted(told, Answer::Told)
 }
 
 fn record<O: Outlet>(core: &mut Core<O>, worker: u32, number: u64, said: &Said) -> Answer
@@ -87,10 +72,8 @@ fn record<O: Outlet>(core: &mut Core<O>, worker: u32, number: u64, said: &Said) 
     let Some(id) = Id::from_u64(number) else {
         return Answer::Refused(Fault::Unknown);
     };
-    match core.record(worker, id, said.fields.as_slice()) {
-        Ok(()) => Answer::Recorded,
-        Err(fault) => Answer::Refused(fault),
-    }
+    let recorded = core.record(worker, id, said.fields.as_slice());
+    accepted(recorded, Answer::Recorded)
 }
 
 // A call that is told something else than a worker and a span.
@@ -98,21 +81,12 @@ fn pass<O: Outlet>(core: &mut Core<O>, worker: u32, act: &Act, said: &Said) -> A
     requires { worker < core.old.limits.workers }
 {
     match act {
-        Act::Event { message, .. } => tell(core, worker, message, said),
+        Act::Event(_, message, _) => tell(core, worker, message, said),
         Act::EventIn(_, message) => tell_in(core, worker, parent_of(act), message, said),
         Act::Record(number, _) => record(core, worker, *number, said),
-        Act::New(_) | Act::Child(..) | Act::Make { .. } => {
-            make(core, worker, parent_of(act), said)
-        }
+        Act::New(_) | Act::Child(..) | Act::Make(..) => make(core, worker, parent_of(act), said),
         // The other calls are told no more.
-        Act::Clone(_)
-        | Act::Enter(_)
-        | Act::Exit(_)
-        | Act::Close(_)
-        | Act::Find(_)
-        | Act::Ask(_)
-        | Act::Count
-        | Act::Step => Answer::Refused(Fault::Unknown),
+        _ => Answer::Refused(Fault::Unknown),
     }
 }
 
@@ -146,12 +120,7 @@ fn call<O: Outlet>(
         // A look that names no id.
         Act::Find(_) | Act::Ask(_) => Answer::Refused(Fault::Unknown),
         Act::Step | Act::Count => Answer::Stepped(None),
-        Act::New(_)
-        | Act::Child(..)
-        | Act::Make { .. }
-        | Act::Record(..)
-        | Act::Event { .. }
-        | Act::EventIn(..) => give(rt, alloc, core, worker, act),
+        _ => give(rt, alloc, core, worker, act),
     }
 }
 

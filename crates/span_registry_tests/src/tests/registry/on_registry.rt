@@ -2,7 +2,8 @@
 ghost use Rattle.std.specs.Prelude.{◌≡◌};
 
 use crate::tests::registry::acts::{
-    Act, Answer, NEWEST, Sight, Transcript, looked_for, parent_of, push_sight, said_by,
+    Act, Answer, NEWEST, Sight, Transcript, accepted, closed, entered, looked_for, parent_of,
+    push_sight, said_by,
 };
 use crate::tests::registry::asked::{Asked, push_asked};
 use crate::tests::registry::layers::Said;
@@ -55,10 +56,9 @@ fn tell<H: Ledger, C: Ledger, S: Setup, O: Outlet, R: Wait>(
     message: &str,
     said: &Said,
 ) -> Answer {
-    match registry.event(rt, worker, &said.meta, message, said.fields.as_slice()) {
-        Ok(()) => Answer::Told,
-        Err(fault) => Answer::Refused(fault),
-    }
+    let fields = said.fields.as_slice();
+    let told = registry.event(rt, worker, &said.meta, message, fields);
+    accepted(told, Answer::Told)
 }
 
 // An event under this parent.
@@ -71,10 +71,8 @@ fn tell_in<H: Ledger, C: Ledger, S: Setup, O: Outlet, R: Wait>(
     said: &Said,
 ) -> Answer {
     let fields = said.fields.as_slice();
-    match registry.event_in(rt, worker, &said.meta, message, fields, parent) {
-        Ok(()) => Answer::Told,
-        Err(fault) => Answer::Refused(fault),
-    }
+    let told = registry.event_in(rt, worker, &said.meta, message, fields, parent);
+    accepted(told, Answer::Told)
 }
 
 // The place of a handle of this id.
@@ -114,10 +112,8 @@ fn record<H: Ledger, C: Ledger, S: Setup, O: Outlet, R: Wait>(
     let Some(one) = lent(held, number) else {
         return Answer::Refused(Fault::Unknown);
     };
-    match registry.record(rt, worker, &mut one.handle, said.fields.as_slice()) {
-        Ok(()) => Answer::Recorded,
-        Err(fault) => Answer::Refused(fault),
-    }
+    let recorded = registry.record(rt, worker, &mut one.handle, said.fields.as_slice());
+    accepted(recorded, Answer::Recorded)
 }
 
 // A handle more of the span of a handle.
@@ -148,10 +144,7 @@ fn enter<H: Ledger, C: Ledger, S: Setup, O: Outlet, R: Wait>(
     let Some(one) = lent(held, number) else {
         return Answer::Refused(Fault::Unknown);
     };
-    match registry.enter(rt, worker, &mut one.handle) {
-        Ok(first) => Answer::Entered(first),
-        Err(fault) => Answer::Refused(fault),
-    }
+    entered(registry.enter(rt, worker, &mut one.handle))
 }
 
 // Gives a handle back, which is kept where that is refused.
@@ -206,10 +199,7 @@ fn leave<H: Ledger, C: Ledger, S: Setup, O: Outlet, R: Wait>(
     let Some(id) = id else {
         return Answer::Refused(Fault::Unknown);
     };
-    match registry.exit(rt, worker, id) {
-        Ok(closed) => Answer::Closed(closed),
-        Err(fault) => Answer::Refused(fault),
-    }
+    closed(registry.exit(rt, worker, id))
 }
 
 // What was counted of a worker.
@@ -228,21 +218,14 @@ fn pass<H: Ledger, C: Ledger, S: Setup, O: Outlet, R: Wait>(
     said: &Said,
 ) -> Answer {
     match act {
-        Act::Event { message, .. } => tell(rt, registry, worker, message, said),
+        Act::Event(_, message, _) => tell(rt, registry, worker, message, said),
         Act::EventIn(_, message) => tell_in(rt, registry, worker, parent_of(act), message, said),
         Act::Record(number, _) => record(rt, registry, worker, held, *number, said),
-        Act::New(_) | Act::Child(..) | Act::Make { .. } => {
+        Act::New(_) | Act::Child(..) | Act::Make(..) => {
             make(rt, registry, worker, held, parent_of(act), said)
         }
         // The other calls are told no more.
-        Act::Clone(_)
-        | Act::Enter(_)
-        | Act::Exit(_)
-        | Act::Close(_)
-        | Act::Find(_)
-        | Act::Ask(_)
-        | Act::Count
-        | Act::Step => Answer::Refused(Fault::Unknown),
+        _ => Answer::Refused(Fault::Unknown),
     }
 }
 
@@ -264,12 +247,7 @@ pub(crate) fn call<H: Ledger, C: Ledger, S: Setup, O: Outlet, R: Wait + Abort>(
         // A look that names no id.
         Act::Find(_) | Act::Ask(_) => Answer::Refused(Fault::Unknown),
         Act::Step => Answer::Stepped(None),
-        Act::New(_)
-        | Act::Child(..)
-        | Act::Make { .. }
-        | Act::Record(..)
-        | Act::Event { .. }
-        | Act::EventIn(..) => {
+        _ => {
             let said = said_by(rt, alloc, act);
             pass(rt, registry, worker, held, act, &said)
         }

@@ -195,24 +195,10 @@ const OWN_PATHS: Script = Script {
     acts: &[
         (0, Act::New("a")),
         (0, Act::Enter(1)),
-        (
-            0,
-            Act::Make {
-                name: "q",
-                target: "lib",
-                fields: &[],
-            },
-        ),
+        (0, Act::Make("q", "lib", &[])),
         (0, Act::Enter(2)),
         (0, Act::New("c")),
-        (
-            0,
-            Act::Event {
-                level: Level::Info,
-                message: "hi",
-                fields: &[("k", "v")],
-            },
-        ),
+        (0, Act::Event(Level::Info, "hi", &[("k", "v")])),
         (1, Act::EventIn(3, "of c")),
         (0, Act::EventIn(2, "of q")),
         (0, Act::EventIn(0, "of none")),
@@ -287,23 +273,9 @@ fn notes_name_the_worker_that_enters(rt: HostRuntime) {
 
 const BOTH_FORMS: Script = Script {
     acts: &[
-        (
-            0,
-            Act::Make {
-                name: "a",
-                target: "app",
-                fields: &[("k", "1")],
-            },
-        ),
+        (0, Act::Make("a", "app", &[("k", "1")])),
         (0, Act::Record(1, &[("k", "2")])),
-        (
-            0,
-            Act::Event {
-                level: Level::Warn,
-                message: "x\ny",
-                fields: &[],
-            },
-        ),
+        (0, Act::Event(Level::Warn, "x\ny", &[])),
         (0, Act::Close(1)),
     ],
     answers: "= 1\n= recorded\n= told\n= closed\n",
@@ -331,14 +303,7 @@ const EACH_WORKER: Script = Script {
         (1, Act::New("b")),
         (1, Act::Clone(2)),
         (1, Act::Record(2, &[("k", "v")])),
-        (
-            1,
-            Act::Event {
-                level: Level::Info,
-                message: "m",
-                fields: &[],
-            },
-        ),
+        (1, Act::Event(Level::Info, "m", &[])),
         (1, Act::Close(2)),
         (1, Act::Close(2)),
         (0, Act::Close(1)),

@@ -6,7 +6,7 @@ ghost use Rattle.span_layers.specs.Note.{plain_note};
 ghost use Rattle.span_layers.specs.Rule.{pairs_of, is_admitted};
 ghost use Rattle.span_layers.specs.Text.{text_of};
 
-use span_id::{Fault, Level, Meta, copy_text};
+use span_id::{Fault, Meta};
 use span_layers::{FmtSpan, Form, Hooks, Layer, Layers, Note, Rule, Style, admits, text};
 use span_registry::Report;
 use span_run::RunFault;
@@ -47,7 +47,7 @@ fn hooks(alloc: Global, said: Arc<AtomicU64>) -> Result<Hooks, AllocError> {
 fn counting_layer(alloc: Global, said: Arc<AtomicU64>) -> Result<Layer, Fault>
     ensures { IfOk result (λ layer. pairs_of layer.rule ≡ ([], Trace) ∷ []) }
 {
-    let rule = everything(alloc)?;
+    let rule = Rule::everything(alloc)?;
     let hooks = hooks(alloc, said)?;
     let style = Style {
         form: Form::Compact,
@@ -75,13 +75,4 @@ pub(crate) fn storm_of_all<G: Gate + Sync, R: Threads + Wait + Sync>(
         return Err(RunFault::Memory);
     };
     storm(rt, alloc, workers, rounds, layers, gate)
-}
-
-// The rule that admits everything.
-fn everything(alloc: Global) -> Result<Rule, Fault>
-    ensures { IfOk result (λ rule. pairs_of rule ≡ ([], Trace) ∷ []) }
-{
-    let mut pairs = Vec::with_capacity(alloc, 1)?;
-    pairs.push_reserved((copy_text(alloc, "")?, Level::Trace));
-    Ok(Rule { pairs })
 }

@@ -8,7 +8,7 @@ use span_layers::Layers;
 use span_registry::{Line, Report};
 use span_run::{Counted, RunFault};
 use span_storm::{Gate, Open, show, storm};
-use std::alloc::Global;
+use std::alloc::{AllocError, Global};
 use std::process::Abort;
 use std::sync::atomic::{AtomicU64, Ordering};
 use std::sync::{Arc, Wait};
@@ -207,31 +207,19 @@ const TWO_ROUNDS: &str = "\
 ";
 
 // The number of the batch, the place, the layer and the text of each line.
-fn numbered(rt: &impl Abort, alloc: Global, lines: &[Line]) -> Vec<u8> {
-    let mut text = Vec::new(alloc);
+fn numbered(alloc: Global, lines: &[Line]) -> Result<String, AllocError> {
+    let mut all = String::new(alloc);
     for line in lines {
-        let Line {
-            batch,
-            place,
-            layer,
-            text: _,
-        } = line;
-        let numbers = format!(in alloc; "{batch} {place} {layer} ").expect(rt, "memory");
-        push_line(rt, &mut text, numbers.as_str(), line);
+        add_line(&mut all, line)?;
     }
-    text
+    Ok(all)
 }
 
-// The text of a line after these numbers, as the next line.
-fn push_line(rt: &impl Abort, text: &mut Vec<u8>, numbers: &str, line: &Line) {
-    push(rt, text, numbers.as_bytes());
-    push(rt, text, line.text.as_slice());
-    push(rt, text, b"\n");
-}
-
-// More of a text.
-fn push(rt: &impl Abort, text: &mut Vec<u8>, more: &[u8]) {
-    text.extend_from_slice(more).expect(rt, "memory");
+// The numbers and the text of a line, as the next line.
+fn add_line(all: &mut String, line: &Line) -> Result<(), AllocError> {
+    let (batch, place, layer) = (line.batch, line.place, line.layer);
+    let text = str::from_utf8(line.text.as_slice()).unwrap_or("no text");
+    write!(all, "{batch} {place} {layer} {text}\n")
 }
 
 #[test]
@@ -245,6 +233,6 @@ fn the_calls_of_two_rounds(rt: HostRuntime) {
 // A storm ended with these lines.
 fn has_lines(rt: &impl Abort, alloc: Global, ended: &Result<Report, RunFault>, expected: &str) {
     let report = ended.as_ref().expect(rt, "a report");
-    let text = numbered(rt, alloc, report.lines.as_slice());
-    is_text(rt, text.as_slice(), expected);
+    let text = numbered(alloc, report.lines.as_slice()).expect(rt, "memory");
+    equal(rt, text.as_str(), expected);
 }

@@ -1,5 +1,4 @@
 fn main() {
     tracing_subscriber::fmt().without_time().init();
-    let _request = tracing::info_span!("request", path = "/users").entered();
-    tracing::info!(rows = 3, "read");
+    tracing::info_span!("request", path = "/users").in_scope(|| tracing::info!(rows = 3, "read"));
 }

@@ -1,0 +1,24 @@
+use Rattle.std.proofs.Common.{◌≡◌, ◌∙◌, length, map, ap, sym}
+use Rattle.std.proofs.lemmas.List.{length-map}
+use Rattle.span_id.specs.Level.{verbosity}
+use Rattle.span_id.specs.Meta.{PlainMeta, key_value}
+use Rattle.span_forest.specs.Node.{node_of}
+use Rattle.span_ffi.specs.inside.Packing.{field_lengths}
+use Rattle.span_ffi.proofs.Packing.{meta_lengths, same_numbers, tells_said}
+use Rattle.span_ffi.proofs.exports.details.tell_span.Goals as goal
+
+pub returns-clause-said : goal.returns-clause-said
+returns-clause-said c =
+    let node = node_of c.args.span.now in
+    let list = c.as_slice-list.result.now in
+    let meta = c.as_meta.ensures in
+    let meta_is : c.meta_lengths.result ≡ meta_lengths node =
+    same_numbers c.meta_lengths.result (verbosity node.level) (length node.name) (length node.target)
+    (c.meta_lengths.ensures.level ∙ ap (λ (m : PlainMeta). verbosity m.level) meta)
+    (c.meta_lengths.ensures.name ∙ ap (λ (m : PlainMeta). length m.name) meta)
+    (c.meta_lengths.ensures.target ∙ ap (λ (m : PlainMeta). length m.target) meta) in
+    let count_is : length list ≡ length node.fields = sym (length-map list key_value) ∙ ap length c.as_slice-list.ensures in
+    tells_said node c.meta_lengths.result c.args.fields.now c.write_lengths.new.into c.args.into.now c.write_texts.new.into (length list) c.in-Some.texts
+    (sym c.in-Some.ensures.exact) meta_is count_is c.in-Some.ensures.len c.if-list-fields.false c.if-texts-into.false
+    (c.write_lengths.ensures.lengths ∙ ap (map field_lengths) c.as_slice-list.ensures) c.write_lengths.ensures.behind
+    c.write_texts.ensures.written c.write_texts.ensures.utf8

@@ -1,0 +1,12 @@
+use Rattle.std.proofs.Common.{◌≡◌, ◌^◌, drop}
+use Rattle.span_id.specs.Meta.{plain_fields}
+use Rattle.span_forest.specs.Node.{node_of}
+use Rattle.span_ffi.specs.Details.{text_pairs}
+use Rattle.span_ffi.proofs.Packing.{measured}
+use Rattle.span_ffi.proofs.exports.details.texts_len.Given as goal
+
+-- the pass over what is left ends as the pass over all pairs does
+abbrev pub invariant-loop-field : goal.invariant-loop-field
+invariant-loop-field l = record {
+  left : measured (2 ^ 64) l.len (plain_fields (drop l.field-index l.field-items)) ≡ measured (2 ^ 64) 0 (text_pairs (node_of l.span));
+}
