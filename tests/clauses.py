@@ -209,9 +209,13 @@ class Clause:
     def text(self):
         return "\n".join("%s %s" % item for item in self.clauses.items())
 
+    def signature(self):
+        """What stands before the clauses: the function's name, its arguments and its answer."""
+        return self.head[: re.compile(r"^ *(?:requires|ensures)", re.M).search(self.head).start()]
+
     def types(self):
         """The types of the arguments and of the answer, and the traits of the parameters that the clauses name."""
-        signature = self.head[: re.compile(r"^ *(?:requires|ensures)", re.M).search(self.head).start()]
+        signature = self.signature()
         text = self.text()
         arguments = signature[re.search(r"\(", signature).start() :]
         named = []
@@ -308,12 +312,25 @@ class Closure:
                         self.add(other)
 
 
+    def types_of_unread(self):
+        """The definitions of the repository that the fields have which nothing reads, in the order of these."""
+        unread = OrderedDict()
+        for definition in [it for it in self.found.values() if it.is_data()]:
+            types = Closure(self.repository)
+            for name, text in definition.fields():
+                if name not in self.read:
+                    types.follow_type(definition, text, self.repository.specs.get(definition.module), ())
+            unread.update((key, it) for key, it in types.found.items() if key not in self.found)
+        return list(unread.values())
+
+
 CRATES = set()
 
 
 def definitions_of(repository, clauses):
-    """The definitions that the clauses cite, in reading order, and the names that were found nowhere."""
+    """The definitions that the clauses cite, in reading order; those that their unread fields have; and the names that
+    were found nowhere."""
     CRATES.update(crate for crate, _ in repository.sources)
     closure = Closure(repository)
     closure.take(clauses)
-    return list(closure.found.values()), sorted(closure.lost)
+    return list(closure.found.values()), closure.types_of_unread(), sorted(closure.lost)

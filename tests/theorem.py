@@ -7,6 +7,7 @@ Without --write nothing is changed; the last line is 'N passed, M failed', and t
 """
 import os
 import sys
+import textwrap
 
 from clauses import Clause, Repository, definitions_of
 
@@ -39,6 +40,12 @@ BESIDE = [
      ["span_forest::forest::laws::a_span_closes_with_the_last_that_keeps_it"]),
 ]
 
+HOW_TO_READ = (
+    "A `Locked` is what lies under the lock while that is free. In a clause `result` is what the function answers "
+    "(`result.0` its first part), `x.now` what is lent to it, `x.old` and `x.new` what it may change, before and after. "
+    "`IfSome`, `IfNone` and `OnOk` say what holds of such an answer, `IsTrue` that a test succeeds. `S` is the setup "
+    "that a registry's type names, `H` and `C` are its ledgers of handles and of calls.\n")
+
 END = """## What it does not say
 - That a call returns, that a lock is got, which worker comes first, or that a thread runs. The printing thread takes no
   lock: no function that may wait is called there, which the counts in `crates.txt` show.
@@ -58,22 +65,26 @@ def quoted(text):
 
 
 def shown(clause):
-    return "`%s` (%s)\n\n%s" % (clause.name, where(clause.path), quoted(clause.text()))
+    signature = textwrap.dedent(clause.signature()).rstrip()
+    return "`%s` (%s)\n\n%s" % (clause.name, where(clause.path), quoted(signature + "\n" + clause.text()))
 
 
 def page():
     """The page, and how many definitions and lines the headline cites."""
     repository = Repository(TOP)
     said = [(sentence, [Clause(repository, it) for it in names]) for sentence, names in HEADLINE]
-    definitions, lost = definitions_of(repository, [it for _, clauses in said for it in clauses])
+    definitions, unread, lost = definitions_of(repository, [it for _, clauses in said for it in clauses])
     words = [it for it in definitions if it.kind not in ("view", "code")]
     lines = sum(it.size() for it in words)
     text = ["# The theorem\n", "<!-- tests/theorem.py --write makes this page. -->\n",
             "What the registry promises, sentence by sentence, each beside the clauses that say it. A check proves that "
             "the function meets them; the functions of `under_lock` are what the calls of their names run under the "
-            "lock. The %d definitions of `specs/` that the clauses cite, %d lines without comments, follow in the order in "
-            "which they are to be read, with %d types of the code. Of a record only the fields that are read there are "
-            "followed, and no word of the toolchain's library.\n" % (len(words), lines, len(definitions) - len(words))]
+            "lock.\n", HOW_TO_READ,
+            "The %d definitions of `specs/` that the clauses cite, %d lines without comments, follow in the order in "
+            "which they are to be read, with %d types of the code. Words of the toolchain's library aren't followed, nor "
+            "what fields are that nothing reads: %s.\n" % (
+                len(words), lines, len(definitions) - len(words),
+                ", ".join("`%s` (%s)" % (it.name, where(it.path)) for it in unread))]
     for sentence, clauses in said:
         text += ["> %s\n" % sentence] + [shown(it) for it in clauses]
     text.append("## The definitions\n")
