@@ -21,7 +21,7 @@ from refused_memory import compiler
 TOP = os.path.dirname(os.path.dirname(os.path.realpath(__file__)))
 SOURCE = "crates/tracerun_command_line/src/lib.rt"
 VERSION = re.search(r'\.version\("(.*)"\)', open(f"{TOP}/{SOURCE}", encoding="utf-8").read())[1]
-MAKE = re.search(r"^Proved with `(rattle-kit-\S+) ", open(f"{TOP}/README.md", encoding="utf-8").read(), re.M)[1]
+LOGIC = re.search(r"^Proved with the logic `(\w+)`", open(f"{TOP}/README.md", encoding="utf-8").read(), re.M)[1]
 COPIED = ["tracerun", "README.md", "tools/prove.py", "tools/unproved.py", SOURCE, "crates/tracerun/src/main.rt"]
 PROGRAM = r"""
 #include <stdio.h>
@@ -186,7 +186,7 @@ def pages(rows, clone):
     rows.wants("all that without rt", clone.calls(), [])
     for words in ("replay",), ("--prove",):
         output, errors, status = clone.run(*words, has_rt=False)
-        told = all(it in errors for it in (f"Its make {MAKE} does", "Linux on x86-64", "README.md says"))
+        told = all(it in errors for it in (f"One with the logic {LOGIC} does", "Linux on x86-64", "README.md says"))
         rows.wants(f"{words}: no rt", (output, told, status), ("", True, 4))
         rows.wants(f"{words}: no rt: the script", clone.reads_nothing(), True)
 

@@ -25,7 +25,7 @@ NUMBER = r"\d+(?:,\d{3})*(?:\.\d+)?"
 TEXTS = {"date": r"\d{4}-\d\d-\d\d", "machine": r"\w[^|\n]*?", "commit": r"[0-9a-f]{7,}"}
 OTHERS = {**TEXTS, "processors": r"\w+"}
 IN_WORDS = {"four": 4}
-TOOLCHAIN = re.compile(r"^Proved with `(.*?)`", flags=re.M)
+TOOLCHAIN = re.compile(r"^Proved with (?:the logic )?`(.*?)`", flags=re.M)
 
 
 def in_history(*words):
