@@ -1,5 +1,5 @@
 #!/usr/bin/env python3
-"""Measures scripts that take longer than at the start: `tracerun replay` of two checkouts by turns.
+"""Measures what takes longer than at the start in scripts of that alone: `tracerun replay` of two checkouts by turns.
 
 usage: dearer.py OLD [--runs N] [--part PART] [--figures]
 
@@ -46,9 +46,14 @@ def small_lists(length, head=""):
     return lambda size: head + line * max(1, size // length)
 
 
-def blanks(length):
-    """What makes lines of so many blanks."""
-    return lambda size: (" " * length + "\n") * (size // (length + 1))
+def repeated(line):
+    """What makes scripts of one line, again and again."""
+    return lambda size: line * (size // len(line))
+
+
+def short_names(key):
+    """What makes scripts of events without a layer, whose fields' keys are short."""
+    return repeated(filled(1_000, '{"op":"event","message":"","fields":[', f'["{key}",""]', "]}\n"))
 
 
 # For each name of figures the scripts, of which the one counts that takes most, and their bytes.
@@ -56,8 +61,9 @@ LAYER = '{"op":"layer"}\n'
 LISTS = [small_lists(length, head) for length in (6_000, 40_000, 150_000) for head in ("", LAYER)]
 SCRIPTS = {
     "key": ([repeated_key], 16 * MEGABYTE), "unread": ([repeated_key_unread], 8 * MEGABYTE),
-    "lists": (LISTS, 8 * MEBIBYTE), "short": ([blanks(length) for length in (1, 4, 12)], 8 * MEBIBYTE),
-    "blanks": ([blanks(32)], 8 * MEBIBYTE),
+    "lists": (LISTS, 8 * MEBIBYTE), "short": ([repeated(" " * length + "\n") for length in (1, 4, 12)], 8 * MEBIBYTE),
+    "blanks": ([repeated(" " * 32 + "\n")], 8 * MEBIBYTE), "names": ([short_names("a"), short_names("abc")], 8 * MEBIBYTE),
+    "refused": ([repeated('{"op":"new","name":"/a"}\n')], 8 * MEBIBYTE),
 }
 
 

@@ -88,7 +88,7 @@ LOST = ["--leak-check=full", "--show-leak-kinds=definite", "--errors-for-leak-ki
 # The tests of ProvedSubscriber, and what its example lists.
 UNDER = ["against", "calls", "threads", "futures", "endings"]
 UNDER_LEAK = r"lost: nothing\nopen:\nGET__users \(\d+\) name=GET /users number=7, examples/leak.rs:\d+: 1 handle\n$"
-# The parts, by the library that they need.
+# The parts, by the library that they need. (Stress is one of the programs, and runs alone where it is asked for.)
 PARTS_OF_STORE = ["programs", "example", "suites"]
 PARTS_OF_REGISTRY = ["outside", "under"]
 
@@ -301,6 +301,26 @@ def stressed(said):
     return {"spans": int(found[-1][0]), "open": int(found[-1][1])} if found else {}
 
 
+def run_stress(yard, count, seconds):
+    """Runs stress alone, over both; answers what it made of spans, as figures."""
+    original, ours = (build_programs(yard, name, "--bin", "stress") for name in ("original", "copy"))
+    if original is None or ours is None:
+        count.check(False, "stress is built")
+        return {}
+    said = check_run(count, "", ours / "stress", *stress_words(seconds))
+    (there,) = [it for it in UNSOUND if it[0] == "stress"]
+    return stress_figures(said, check_run(count, "the original, ", original / "stress", *there[1:]), seconds)
+
+
+def stress_words(seconds):
+    """The words of stress for so many seconds, with another seed each time, and how many seconds it may take."""
+    return [str(seconds), str(int(time.time()) % 100_000)], seconds + 300
+
+
+def stress_figures(said, said_there, seconds):
+    return {"stress": {**stressed(said), "minutes": seconds / 60}, "stress-original": stressed(said_there)}
+
+
 def run_under_valgrind(ours, count):
     if shutil.which("valgrind") is None:
         print("not run under valgrind: it isn't there")
@@ -320,15 +340,14 @@ def run_programs(yard, count, seconds, seed):
     compare_answers(original, ours, count)
     compare_texts(original, ours, count)
     compare_random(original, ours, seed, count)
-    stress = ("stress", [str(seconds), str(int(time.time()) % 100_000)], seconds + 300)
+    stress = ("stress", *stress_words(seconds))
     said = {program: check_run(count, "", ours / program, words, limit) for program, words, limit in [*SOUND, stress]}
     run_limits(yard, count)
     run_parking_lot(yard, ours, count)
     said_there = {program: check_run(count, "the original, ", original / program, words, limit, fault)
                   for program, words, limit, fault in UNSOUND}
     run_under_valgrind(ours, count)
-    return {"stress": {**stressed(said["stress"]), "minutes": seconds / 60},
-            "stress-original": stressed(said_there["stress"])}
+    return stress_figures(said["stress"], said_there["stress"], seconds)
 
 
 def run_example(yard, count):
@@ -410,6 +429,8 @@ def run_over_store(yard, parts, seconds, seed, count):
     found = {}
     if "programs" in parts:
         found.update(run_programs(yard, count, seconds, seed))
+    elif "stress" in parts:
+        found.update(run_stress(yard, count, seconds))
     if "example" in parts:
         run_lay(yard, count)
         run_example(yard, count)
@@ -428,7 +449,7 @@ def asked_for():
     parser.add_argument("--registry-library", type=Path, default=TOP / "crates/span_ffi/out/libspan_ffi.a",
                         help="libspan_ffi.a, on which rust/tracing stands")
     parser.add_argument("--figures", action="store_true", help="what pages say of the run goes to bench/figures")
-    parser.add_argument("--part", choices=[*PARTS_OF_STORE, *PARTS_OF_REGISTRY], help="this part alone")
+    parser.add_argument("--part", choices=[*PARTS_OF_STORE, "stress", *PARTS_OF_REGISTRY], help="this part alone")
     return parser.parse_args()
 
 
@@ -440,7 +461,7 @@ def main():
         print(f"not run: {lack}\n0 passed, 0 failed")
         return 0
     parts, library = [asked.part] if asked.part else [*PARTS_OF_STORE, *PARTS_OF_REGISTRY], None
-    if set(parts) & set(PARTS_OF_STORE):
+    if not set(parts) <= set(PARTS_OF_REGISTRY):
         library = asked.library.resolve() if asked.library else current_library()
         if library is None or not library.is_file():
             print("there is no library\n0 passed, 1 failed")
