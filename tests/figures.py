@@ -5,7 +5,7 @@ usage: figures.py [--write]
 
 bench/figures/NAME.json says when something was measured, where, on which commit, by what command and who says so, and
 what came out: records in `rows`, or numbers by their names in `values`. What isn't known of it is `not known`, but for
-the commit.
+the commit, and in `landed` the one of the history with which that came, where it isn't there itself.
 - `table` has the columns of a table of the rows: of each its head (a blank after it makes it another one), and its
   cells as Python's `format` writes them. A cell whose value a row hasn't is empty. The table stands in a page between
   `<!-- figures NAME -->` and `<!-- end -->`, with a line that says where it comes from.
@@ -106,7 +106,8 @@ def said_of(data):
     """When and where it was measured, and who says so."""
     machine = "machine not known" if data["machine"] == "not known" else data["machine"]
     place = f"{data['date']}, {machine}, {data['processors']} processors"
-    return f"{place}, commit {data['commit']}; {data['source'].replace(MEASURED, 'measured by a script')}"
+    landed = f", landed with {data['landed']}" if "landed" in data else ""
+    return f"{place}, commit {data['commit']}{landed}; {data['source'].replace(MEASURED, 'measured by a script')}"
 
 
 def block(name, data, page):

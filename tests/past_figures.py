@@ -10,7 +10,8 @@ Such a file of bench/figures has in `from` the `commit` and the `page`, and
 - `rows`: lists of what a row is called, a text, which gives a row wherever the page has it, and texts with more of it.
 Where the history has that commit, the numbers there have to be those of the file; with --write they are written, with
 the day of the commit and the toolchain that its README names. Where it hasn't, as in a shallow clone, that is said. The
-last line is 'N passed, M failed'.
+commit of any other file is to be in the history, or else the one with which it `landed`; where none is, that is said.
+The last line is 'N passed, M failed'.
 """
 import json
 import re
@@ -98,10 +99,27 @@ def differences(data, head):
             yield it == data[name], f"{name} is {it} by the page, and {data[name]} by the file"
 
 
+def is_in_history(commit):
+    return in_history("merge-base", "--is-ancestor", commit, "HEAD") is not None
+
+
+def commits(figures):
+    """Whether the commit with which a file's own one landed is in the history, and what isn't so."""
+    for name, data in figures.items():
+        if landed := data.get("landed"):
+            yield is_in_history(landed), f"{name}: {landed}, with which its commit landed, isn't in the history"
+
+
+def without_commit(figures):
+    """The files of whose commits nothing is in the history."""
+    of = {name: re.match(r"[0-9a-f]*", data["commit"])[0] for name, data in figures.items() if "landed" not in data}
+    return [name for name, commit in of.items() if not is_in_history(commit)]
+
+
 def main():
     if sys.argv[1:] not in ([], ["--write"]):
         sys.exit(__doc__)
-    passed, failed, unknown = 0, 0, []
+    found, unknown = [], []
     for name, data in read_figures().items():
         if "from" not in data:
             continue
@@ -113,14 +131,19 @@ def main():
             data.update(head)
             text = json.dumps(data, indent=1, ensure_ascii=False) + "\n"
             (FOLDER / f"{name}.json").write_text(text, encoding="utf-8")
-        found = [(False, it) for it in faults] + list(differences(data, head))
-        passed, failed = passed + sum(good for good, _ in found), failed + sum(not good for good, _ in found)
-        for is_good, said in found:
-            if not is_good:
-                print(f"FAILED bench/figures/{name}.json: {said}")
+        found += [(False, f"{name}: {it}") for it in faults]
+        found += [(is_good, f"{name}: {said}") for is_good, said in differences(data, head)]
+    if in_history("rev-parse", "--is-shallow-repository") == "false\n":
+        found += commits(read_figures())
+        if strange := without_commit(read_figures()):
+            print(f"of a commit that isn't in the history, with no `landed` that is: {' '.join(strange)}")
+    for is_good, said in found:
+        if not is_good:
+            print(f"FAILED bench/figures, {said}")
+    failed = sum(not is_good for is_good, _ in found)
     if unknown:
         print(f"not compared, as the history isn't there: {' '.join(unknown)}")
-    print(f"{passed} passed, {failed} failed")
+    print(f"{len(found) - failed} passed, {failed} failed")
     return 1 if failed else 0
 
 
