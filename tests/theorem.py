@@ -52,6 +52,7 @@ END = """## What it does not say
 - That memory or a place in the ring was there: a call may be refused for want of either, and changes no span then.
 - *Announced* means put into the batch that the call sends. A note of a batch may have no line: where its layer has no
   form, where its number is past the range, or where memory for its text is refused. Such notes are counted.
+- Anything of the lock that a C or Rust program puts round the core, or of the store under `tracing`.
 - Anything of the toolchain's logic and compiler, the C library and the hardware, which are trusted.
 """
 
