@@ -5,8 +5,8 @@ usage: dearer.py OLD [--runs N] [--part PART] [--figures]
 
 OLD is a checkout of the start in which tracerun is built, beside which this one is. Of each script the least CPU of the
 runs, the greatest peak memory, and their ratios; both have to write the same bytes. Of several scripts of one name the
-greatest ratio is kept, and the least. PART of a script's size is run, all of it where it isn't given. With --figures
-they go to bench/figures/takes-longer.json, from where tests/figures.py takes them to the pages.
+greatest ratio is kept, and the least; so of all STEPS. PART of a script's size is run, all of it where it isn't given.
+With --figures they go to bench/figures/takes-longer.json, from where tests/figures.py takes them to the pages.
 """
 import argparse
 import sys
@@ -62,9 +62,12 @@ LISTS = [small_lists(length, head) for length in (6_000, 40_000, 150_000) for he
 SCRIPTS = {
     "key": ([repeated_key], 16 * MEGABYTE), "unread": ([repeated_key_unread], 8 * MEGABYTE),
     "lists": (LISTS, 8 * MEBIBYTE), "short": ([repeated(" " * length + "\n") for length in (1, 4, 12)], 8 * MEBIBYTE),
-    "blanks": ([repeated(" " * 32 + "\n")], 8 * MEBIBYTE), "names": ([short_names("a"), short_names("abc")], 8 * MEBIBYTE),
+    "blanks": ([repeated(" " * 32 + "\n")], 8 * MEBIBYTE),
+    "names": ([short_names("a"), short_names("abc")], 8 * MEBIBYTE),
     "refused": ([repeated('{"op":"new","name":"/a"}\n')], 8 * MEBIBYTE),
 }
+# Those where a step takes longer, and a whole script need not.
+STEPS = ("short", "blanks", "names", "refused")
 
 
 def by_turns(programs, script, runs):
@@ -103,6 +106,7 @@ def main():
             print(f"| {name} | {seconds} | {old_peak:.0f} | {peak:.0f} |", flush=True)
         values.update({name: max(ratios), f"{name}_least": min(ratios)})
         values.update({f"{name}_peak": peak, f"{name}_peak_old": old_peak})
+    values.update(steps=max(values[it] for it in STEPS), steps_least=min(values[f"{it}_least"] for it in STEPS))
     if asked.figures:
         figures.record("takes-longer", values=values, beside=asked.old)
 
