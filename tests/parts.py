@@ -67,6 +67,7 @@ ALONE = [
 LAST = Part("the pages' commands on the libraries", "span_ffi span_store_ffi", "python3 tests/run_commands.py libraries")
 PARTS = [
     *ALONE,
+    Part("the toolchain's commands in the pages", "", "python3 tests/run_commands.py toolchain"),
     Part("the model on a script of 16 MiB", "", "python3 tests/long_script.py --make {room}/long --seed 1"),
     Part("the worked cases", "tracerun", "python3 tests/run_cases.py --program {tracerun}"),
     Part("the command line", "tracerun", "python3 tests/command_line.py --program {tracerun}"),

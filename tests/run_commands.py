@@ -1,15 +1,17 @@
 #!/usr/bin/env python3
 """Runs the commands of the pages in a copy of the sources: as they stand, or where that takes long in a shorter form.
 
-usage: run_commands.py listed|programs|libraries [--only WORD]
+usage: run_commands.py listed|programs|libraries|toolchain [--only WORD]
 
 Each command that page_commands.py finds is one of these, and each of these is in a page, which `listed` looks at:
 - PROGRAMS and LIBRARIES: what is run here, on the programs or the libraries that `./check` made before, the line that is
   run where it isn't the command itself, and what it has to print. A line isn't run, and that is said, where a tool that
   it needs isn't there, or the commit of the start, or Debian's sources of tracing-subscriber.
+- TOOLCHAIN: what is run in a repository of one small crate, SMALL, where nothing is built; what begins with `rt` is the
+  toolchain's own, and has to be a word of `rt help` too.
 - BESIDE: what another part of `./check` runs.
-- What begins with `rt` is the toolchain's own, and has to be a word of `rt help`. A file's name alone is no command.
-With --only those are run that have the word. All three are parts of `./check`. The last line is 'N passed, M failed'.
+A file's name alone is no command. With --only those are run that have the word. All four are parts of `./check`. The last
+line is 'N passed, M failed'.
 """
 import argparse
 import os
@@ -29,6 +31,8 @@ from pages import TOP, read_pages
 
 SECONDS = 600
 START = "ce2d9ee"
+SMALL = "span_known"
+LOGIC = re.search(r"^Proved with the logic `(\w+)`", (TOP / "README.md").read_text(encoding="utf-8"), re.M)[1]
 GOOD = " 0 failed\n"
 
 
@@ -109,8 +113,22 @@ LIBRARIES = {
         "for it in instructions allocations clock; do python3 bench/tracing.py $it --folder $ROOM/yard --first 1 "
         "--threads 1 --turns 1 --rounds 100 || exit; done", "ns of processor", "sources valgrind"),
 }
+IN_SMALL = f"cd $ROOM/small/crates/{SMALL} && "
+TOOLCHAIN = {
+    "rt version": Run(prints=f" logic {LOGIC}\n"),
+    "rt doc": Run(prints=".md\n"),
+    "rt check": Run(f"{IN_SMALL}rt check", "logic=proved "),
+    "rt check --only module::function": Run(f"{IN_SMALL}rt check --only KnownItems::of"),
+    "rt all check --jobs 4": Run("cd $ROOM/small && rt all check --jobs 4"),
+    "rt tidy": Run(f"{IN_SMALL}rt tidy"),
+    "rt plant": Run(f"{IN_SMALL}rt plant --minutes 2"),
+    "rt must-fail CRATE..": Run(f"cd $ROOM/small && rt must-fail {SMALL}"),
+    "rt try --test": Run("cd $COPY/crates/span_parts_tests && rt try --test"),
+    "rt run": Run("rt new $ROOM/made start && cd $ROOM/made && rt run"),
+}
 GATE, (FFI, STORE_FFI) = parts.GATE.name, (it.name for it in parts.LIBRARIES.values())
 LAUNCHER, RUNNER, PACKAGE = "the launcher", "the runner of the parts", "the Rust package"
+UNPROVED = "the program, unproved"
 TRACING = "tracing over the store and over the registry"
 BESIDE = {
     "./tracerun": LAUNCHER,
@@ -118,7 +136,7 @@ BESIDE = {
     "./view": "the pictures of scripts", "./view SCRIPT > run.html": "the pictures of scripts",
     "(cd crates/span_store_ffi && rt lib)": STORE_FFI,
     "(cd crates/span_ffi && rt lib) && (cd crates/span_store_ffi && rt lib)": FFI,
-    "cd crates/two_workers && rt run": GATE,
+    "cd crates/two_workers && rt run": GATE, "rt ci": GATE, "rt lib": FFI, "rt try": UNPROVED,
     "(cd crates/span_benchmark && rt run) && (cd crates/workloads && rt run) && ./tracerun --prove": GATE,
     # (the start's checkout, proved by hand: it takes half an hour)
     "(cd /tmp/old/crates/span_benchmark && rt run) && (cd crates/span_benchmark && rt run)": GATE,
@@ -145,23 +163,30 @@ def listed():
     for command in found:
         if command.startswith("rt "):
             yield re.search(rf"\b{command.split()[1]}\b", of_rt), f"rt help names no {command}"
-        else:
-            yield sum(command in of for of in (PROGRAMS, LIBRARIES, BESIDE)) == 1, f"nothing runs: {command}"
-    for command in (*PROGRAMS, *LIBRARIES, *BESIDE):
+        yield sum(command in of for of in (PROGRAMS, LIBRARIES, TOOLCHAIN, BESIDE)) == 1, f"nothing runs: {command}"
+    for command in (*PROGRAMS, *LIBRARIES, *TOOLCHAIN, *BESIDE):
         yield command in found, f"no page has: {command}"
     for command, part in BESIDE.items():
         yield part in named, f"./check has no part {part}, of {command}"
 
 
-def copy_sources(folder):
-    """A copy of the sources with their history, where there is one, in which what was built of the crates is seen."""
+def copy_sources(folder, has_built):
+    """A copy of the sources with their history, where there is one, in which what was built of the crates may be seen."""
     cloned = subprocess.run(["git", "clone", "-q", "--shared", "--no-checkout", TOP, folder], capture_output=True)
     if cloned.returncode == 0:
         subprocess.run(["git", "-C", folder, "reset", "-q"], check=True)
     left_out = shutil.ignore_patterns(".git", "out", "target", "laid", "__pycache__")
     shutil.copytree(TOP, folder, ignore=left_out, dirs_exist_ok=True)
-    for built in TOP.glob("crates/*/out"):
+    for built in TOP.glob("crates/*/out") if has_built else ():
         (folder / built.relative_to(TOP)).symlink_to(built)
+
+
+def lay_small(folder):
+    """A repository of the small crate alone."""
+    crate = folder / f"crates/{SMALL}"
+    shutil.copytree(TOP / f"crates/{SMALL}", crate, ignore=shutil.ignore_patterns("out"))
+    shutil.copy(TOP / "HANDLES", folder)
+    (folder / "crates.txt").write_text(f"{SMALL}:\n", encoding="utf-8")
 
 
 def lacks(run):
@@ -196,7 +221,8 @@ def fault_of(command, how, room):
 def all_run(rows, only):
     with tempfile.TemporaryDirectory(prefix="commands-") as made:
         room = Path(made)
-        copy_sources(room / "copy")
+        copy_sources(room / "copy", rows is not TOOLCHAIN)
+        lay_small(room / "small")
         for command, how in rows.items():
             if only not in command:
                 continue
@@ -211,11 +237,11 @@ def all_run(rows, only):
 
 def main():
     parser = argparse.ArgumentParser(description=__doc__, formatter_class=argparse.RawDescriptionHelpFormatter)
-    parser.add_argument("what", choices=["listed", "programs", "libraries"])
+    parser.add_argument("what", choices=["listed", "programs", "libraries", "toolchain"])
     parser.add_argument("--only", default="", metavar="WORD")
     asked = parser.parse_args()
     passed = failed = 0
-    rows = {"programs": PROGRAMS, "libraries": LIBRARIES}.get(asked.what)
+    rows = {"programs": PROGRAMS, "libraries": LIBRARIES, "toolchain": TOOLCHAIN}.get(asked.what)
     for is_good, said in all_run(rows, asked.only) if rows else listed():
         passed, failed = passed + bool(is_good), failed + (not is_good)
         if not is_good:
