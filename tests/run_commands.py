@@ -138,9 +138,7 @@ BESIDE = {
     "(cd crates/span_ffi && rt lib) && (cd crates/span_store_ffi && rt lib)": FFI,
     "cd crates/two_workers && rt run": GATE, "rt ci": GATE, "rt lib": FFI, "rt try": UNPROVED,
     "(cd crates/span_benchmark && rt run) && (cd crates/workloads && rt run) && ./tracerun --prove": GATE,
-    # (the start's checkout, proved by hand: it takes half an hour)
-    "(cd /tmp/old/crates/span_benchmark && rt run) && (cd crates/span_benchmark && rt run)": GATE,
-    "(cd /tmp/old/crates/tracerun && rt run)": GATE,
+    "(cd crates/span_benchmark && rt run)": GATE,
     "./rust/test": PACKAGE,
     "rust/tracing-subscriber/lay ../tracing-subscriber": TRACING,
     "rust/tracing-subscriber/lay rust/tracing-subscriber/example/laid": TRACING,
