@@ -123,7 +123,10 @@ TOOLCHAIN = {
     "rt tidy": Run(f"{IN_SMALL}rt tidy"),
     "rt plant": Run(f"{IN_SMALL}rt plant --minutes 2"),
     "rt must-fail CRATE..": Run(f"cd $ROOM/small && rt must-fail {SMALL}"),
-    "rt try --test": Run("cd $COPY/crates/span_parts_tests && rt try --test"),
+    "rt try --test": Run(
+        r"rt new $ROOM/tried start_lib && cd $ROOM/tried && "
+        r"printf '#[test]\nfn echoes(rt: HostRuntime) {\n    assert!(rt; echo(1) == 1);\n}\n' >> src/lib.rt && "
+        "rt try --test", "1 passed; 0 failed"),
     "rt run": Run("rt new $ROOM/made start && cd $ROOM/made && rt run"),
 }
 GATE, (FFI, STORE_FFI) = parts.GATE.name, (it.name for it in parts.LIBRARIES.values())
