@@ -3,7 +3,7 @@ ghost use Rattle.std.specs.Prelude.{◌≡◌, ◌<◌, ◌∷◌, [], false, if
 ghost use Rattle.span_layers.specs.declared.note.Kind.TheVariants.{OnExit};
 ghost use Rattle.span_layers.specs.Note.{plain_note};
 ghost use Rattle.span_forest.specs.declared.span.Holder.TheVariants.{Handle, Entry};
-ghost use Rattle.span_forest.specs.Spans.{parent_of};
+ghost use Rattle.span_forest.specs.Spans.{IsOpen, parent_of};
 ghost use Rattle.span_forest.specs.Count.{reference_count};
 ghost use Rattle.span_forest.specs.Holders.{IsHeld};
 ghost use Rattle.span_forest.specs.Release.{closing_list, spans_left, freed_after};
@@ -44,6 +44,7 @@ pub(crate) fn leave(
 ) -> Result<Closes, Fault>
     requires within { exit.now.worker < length stacks.old.items }
     requires kind { exit.now.kind ≡ OnExit }
+    requires open { IsOpen forest.old.spans exit.now.id }
     requires bits { exit.now.bits.0 ≡ bits_in forest.old.spans exit.now.id }
     requires held { stays ≡ false → IsHeld forest.old.spans exit.now.id Entry }
     requires count { seen.now.count ≡ reference_count forest.old.spans exit.now.id }
@@ -102,7 +103,7 @@ pub(crate) fn give_back(
 {
     let ids = closing_of(forest, id, Holder::Handle, seen)?;
     walks_end(forest);
-    let notes = close_notes(recent, rules, forest, worker, ids.as_slice())?;
+    let notes = close_notes(recent, rules, forest, worker, ids.as_slice(), seen.bits)?;
     forest.release_closing(id, Holder::Handle, ids.as_slice());
     walks_end(forest);
     open_spans_are_counted(forest);
