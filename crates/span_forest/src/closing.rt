@@ -1,4 +1,4 @@
-ghost use Rattle.std.specs.Prelude.{◌≡◌, Some, IfOk};
+ghost use Rattle.std.specs.Prelude.{◌≡◌, ◌≤◌, Some, IfOk};
 ghost use Rattle.span_slots.specs.Table.{freed_with};
 ghost use Rattle.span_id.specs.Id.{slot_of};
 ghost use Rattle.span_forest.specs.Spans.{IsOpen, nodes_of, parent_of};
@@ -20,6 +20,7 @@ const LAST: u32 = 1;
 
 // The spans that close, child first, where a span gives back one holder. Its count and its parent are known, so only the
 // spans above it are looked up.
+#[inline(always)]
 pub(crate) fn chain(
     slots: &Slots<Span>,
     alloc: Global,
@@ -34,10 +35,28 @@ pub(crate) fn chain(
     requires parent { parent ≡ parent_of (nodes_of slots.now.entries) id }
     ensures { IfOk result (λ ids. Chain (without_holder (nodes_of slots.now.entries) id holder) (Some id) ids.items) }
 {
-    let mut closed = Vec::new(alloc);
     if count > LAST {
-        return Ok(closed);
+        return Ok(Vec::new(alloc));
     }
+    chain_up(slots, alloc, id, holder, parent)
+}
+
+// The same where nothing else holds the span: it closes, and perhaps spans above it do.
+#[inline(never)]
+fn chain_up(
+    slots: &Slots<Span>,
+    alloc: Global,
+    id: Id,
+    holder: Holder,
+    parent: Option<Id>,
+) -> Result<Vec<Id>, AllocError>
+    requires settled { IsSettled slots.now.entries }
+    requires held { IsHeld (nodes_of slots.now.entries) id holder }
+    requires last { reference_count (nodes_of slots.now.entries) id ≤ 1 }
+    requires parent { parent ≡ parent_of (nodes_of slots.now.entries) id }
+    ensures { IfOk result (λ ids. Chain (without_holder (nodes_of slots.now.entries) id holder) (Some id) ids.items) }
+{
+    let mut closed = Vec::new(alloc);
     closed.push(id)?;
     let mut next = parent;
     'up: while let Some(at) = next {

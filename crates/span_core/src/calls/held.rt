@@ -49,6 +49,7 @@ pub(crate) fn open_span(forest: &Forest, id: Id) -> Option<SeenSpan>
     Some(seen(span))
 }
 
+// What a call sees of a span.
 fn seen(span: &Span) -> SeenSpan
     ensures count { result.count ≡ span.now.count }
     ensures entries { result.entries ≡ span.now.entries }
