@@ -3,7 +3,7 @@ use Rattle.std.proofs.Common.{◌≡◌, ℕ, ◌+◌, ◌++◌, List, [], ◌�
 use Rattle.std.specs.Prelude.{IsSomeAnd}
 use Rattle.std.proofs.lemmas.List.{map-append, length-map, take_all}
 use Rattle.span_forest.specs.Node.{Node}
-use Rattle.span_forest.specs.Spans.{Spans, find, AreApart}
+use Rattle.span_forest.specs.Spans.{find, AreApart}
 use Rattle.span_forest.specs.Holding.{open_ids}
 use Rattle.span_forest.proofs.OpenIds.{Place, place_next}
 use Rattle.span_core.specs.World.{World}

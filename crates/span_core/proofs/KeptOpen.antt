@@ -1,8 +1,7 @@
 -- What keeps a span open, and the calls that close it.
-use Rattle.std.proofs.Common.{◌≡◌, ◌≢◌, ℕ, List, [], ◌∷◌, Option, Some, None, IsSome, IsTrue, length, refl, ap}
+use Rattle.std.proofs.Common.{◌≡◌, ◌≢◌, ℕ, List, [], ◌∷◌, None, length, refl, ap}
 use Rattle.std.specs.Prelude.{◌↔◌}
-use Rattle.span_forest.specs.Node.{Node}
-use Rattle.span_forest.specs.Spans.{Spans, find, IsOpen}
+use Rattle.span_forest.specs.Spans.{Spans, find}
 use Rattle.span_forest.specs.Holding.{held_spans, what_holds}
 use Rattle.span_forest.proofs.Spared.{not_some, none_open}
 use Rattle.span_forest.proofs.Upheld.{IsUpheld}

@@ -3,6 +3,7 @@ pub mod Worlds
 pub mod StackLists
 pub mod Accepting
 pub mod Telling
+pub mod Readable
 pub mod Texts
 pub mod NewSpans
 pub mod Remembering

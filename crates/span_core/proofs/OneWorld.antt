@@ -1,11 +1,10 @@
 -- A history leaves one world.
-use Rattle.std.proofs.Common.{◌≡◌, ℕ, List, [], ◌∷◌, ◌++◌, refl, sym, ap, subst, ◌∙◌}
+use Rattle.std.proofs.Common.{◌≡◌, ℕ, List, [], ◌∷◌, ◌++◌, refl, sym, ◌∙◌}
 use Rattle.span_layers.specs.Filter.{Filter}
-use Rattle.span_layers.specs.Note.{PlainNote}
 use Rattle.span_outlet.specs.Batch.{PlainBatch}
 use Rattle.span_core.specs.World.{World}
 use Rattle.span_core.specs.Step.{IsStep}
-use Rattle.span_core.specs.History.{issued, id_issued, IsLegal}
+use Rattle.span_core.specs.History.{issued, IsLegal}
 use Rattle.span_core.specs.History.IsLegal.{none, more}
 use Rattle.span_core.proofs.Outcomes.{one_step}
 

@@ -3,11 +3,12 @@ ghost use Rattle.std.specs.Prelude.{◌≡◌, ◌<◌, ◌++◌, ◌∷◌, [],
 ghost use Rattle.std.specs.Arc.{arc_str_bytes};
 ghost use Rattle.span_layers.specs.declared.note.Kind.TheVariants.{OnExit};
 ghost use Rattle.span_layers.specs.Note.{plain_note, told_of};
+ghost use Rattle.span_forest.specs.Spans.{IsOpen};
 ghost use Rattle.span_forest.specs.Path.{path_text};
 ghost use Rattle.span_outlet.specs.Request.{record_fields, request_of};
 ghost use Rattle.span_core.specs.Happening.{at_span, close_of, bits_in, notes_of, notes_of_all, path_at};
 ghost use Rattle.span_core.specs.inside.ClosingPaths.{IsChain};
-ghost use Rattle.span_core.specs.inside.Telling.{id_told, place_told, tail_told, text_told, told_to, IsSummarised, notes_told, Knows};
+ghost use Rattle.span_core.specs.inside.Telling.{id_told, place_told, tail_told, text_told, told_to, IsSummarised, IsThere, IsReadable, notes_told, Knows};
 ghost use Rattle.span_core.specs.inside.Remembering.{Remembers};
 
 pub(crate) mod closing;
@@ -104,6 +105,7 @@ fn path_of(
     layer: u32,
     place: &Option<Id>,
 ) -> Result<ArcStr, Fault>
+    requires open { IsReadable forest.now.spans subject.now place.now }
     requires known { Knows (text_told subject.now) forest.now.spans paths.old }
     requires remembers { Remembers forest.now recent.old.paths }
     ensures text { IfOk result (λ text. arc_str_bytes text
@@ -144,6 +146,7 @@ fn note(
     requires known { Knows (text_told what.now.subject) forest.now.spans paths.old }
     requires remembers { Remembers forest.now recent.old.paths }
     requires summarised { IsSummarised forest.now.spans what.now.subject }
+    requires there { IsThere forest.now.spans what.now.subject }
     ensures note { IfOk result (λ note. plain_note note ≡ told_to forest.now.spans what.now layer) }
     ensures known { OnOk result (Knows (text_told what.now.subject) forest.now.spans paths.new) }
     ensures remembers { Remembers forest.now recent.new.paths }
@@ -176,6 +179,7 @@ fn push_told(
     requires known { Knows (text_told what.now.subject) forest.now.spans paths.old }
     requires remembers { Remembers forest.now recent.old.paths }
     requires summarised { IsSummarised forest.now.spans what.now.subject }
+    requires there { IsThere forest.now.spans what.now.subject }
     ensures notes { OnOk result (map plain_note notes.new.items ≡ map plain_note notes.old.items
         ++ notes_told rules.now forest.now.spans what.now) }
     ensures known { OnOk result (Knows (text_told what.now.subject) forest.now.spans paths.new) }
@@ -201,6 +205,7 @@ fn told(
 ) -> Result<Vec<Note>, Fault>
     requires remembers { Remembers forest.now recent.old.paths }
     requires summarised { IsSummarised forest.now.spans what.now.subject }
+    requires there { IsThere forest.now.spans what.now.subject }
     ensures notes { IfOk result (λ notes. map plain_note notes.items
         ≡ notes_told rules.now forest.now.spans what.now) }
     ensures remembers { Remembers forest.now recent.new.paths }
@@ -222,6 +227,7 @@ fn told_to_some(
 ) -> Result<Vec<Note>, Fault>
     requires remembers { Remembers forest.now recent.old.paths }
     requires summarised { IsSummarised forest.now.spans what.now.subject }
+    requires there { IsThere forest.now.spans what.now.subject }
     ensures notes { IfOk result (λ notes. map plain_note notes.items
         ≡ notes_told rules.now forest.now.spans what.now) }
     ensures remembers { Remembers forest.now recent.new.paths }
@@ -243,6 +249,7 @@ pub(crate) fn span_notes(
     what: &Happening,
     fields: &Fields,
 ) -> Result<Vec<Note>, Fault>
+    requires open { IsOpen forest.now.spans what.now.id }
     requires bits { what.now.bits.0 ≡ bits_in forest.now.spans what.now.id }
     requires remembers { Remembers forest.now recent.old.paths }
     ensures notes { IfOk result (λ notes. map plain_note notes.items ≡ notes_of rules.now what.now.worker
@@ -270,6 +277,7 @@ pub(crate) fn push_notes(
     what: &Happening,
     fields: &Fields,
 ) -> Result<(), Fault>
+    requires open { IsOpen forest.now.spans what.now.id }
     requires bits { what.now.bits.0 ≡ bits_in forest.now.spans what.now.id }
     requires known { Knows path_text forest.now.spans paths.old }
     requires remembers { Remembers forest.now recent.old.paths }
@@ -298,6 +306,7 @@ pub(crate) fn record_told(
     what: &Happening,
     fields: &Fields,
 ) -> Result<Announced, Fault>
+    requires open { IsOpen forest.now.spans what.now.id }
     requires bits { what.now.bits.0 ≡ bits_in forest.now.spans what.now.id }
     requires remembers { Remembers forest.now recent.old.paths }
     ensures call { IfOk result (λ told. request_of told.call
@@ -329,6 +338,7 @@ pub(crate) fn exit_notes(
 ) -> Result<Vec<Note>, Fault>
     requires kind { exit.now.kind ≡ OnExit }
     requires chain { IsChain forest.now.spans closing.now }
+    requires open { IsOpen forest.now.spans exit.now.id }
     requires bits { exit.now.bits.0 ≡ bits_in forest.now.spans exit.now.id }
     requires remembers { Remembers forest.now recent.old.paths }
     ensures notes { IfOk result (λ notes. map plain_note notes.items
@@ -341,7 +351,7 @@ pub(crate) fn exit_notes(
         return span_notes(recent, rules, forest, exit, &Fields::none());
     }
     let exits = told_layers(rules, exit.bits, exit.kind).len();
-    let closes = closes_count(rules, forest, closing);
+    let closes = closes_count(rules, forest, closing, exit.bits);
     let most = exits.saturating_add(closes);
     let mut notes = empty_list(recent.alloc, &mut recent.spare, most);
     let mut paths = ToldPaths::none(recent.alloc);

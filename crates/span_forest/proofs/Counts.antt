@@ -174,11 +174,11 @@ closed_root t less id span w c h e p =
     })
 
 -- the parent is there, and counts the child
-pub parent_counts : (t less : Table Span) (id p : ℕ) (span : Span) → IsRanked (nodes_of t.entries) → AreCounted t.entries → reference_count (nodes_of t.entries) id ≡ 0 → value_at t.entries id ≡ Some span → less ≡ table_removed t id → span.parent ≡ Some p → (up : Span) × (value_at less.entries p ≡ Some up) × (0 < up.count)
+pub parent_counts : (t less : Table Span) (id p : ℕ) (span : Span) → IsRanked (nodes_of t.entries) → AreCounted t.entries → children (nodes_of t.entries) id ≡ 0 → value_at t.entries id ≡ Some span → less ≡ table_removed t id → span.parent ≡ Some p → (up : Span) × (value_at less.entries p ≡ Some up) × (0 < up.count)
 parent_counts t less id p span w c z h e k =
     let nodes = nodes_of t.entries in
     let par : parent_of nodes id ≡ Some p = ap parent_in (node_found t.entries id span h) ∙ k in
-    let np : p ≢ id = λ q. no_child nodes id id (omega arith) (par ∙ ap (λ v. Some v) q) in
+    let np : p ≢ id = λ q. no_child nodes id id z (par ∙ ap (λ v. Some v) q) in
     let up = value_of_open t.entries p (w.parents_open id p par) in
     let counts = c p up.0 up.1 in
     let kids = written_without nodes id p (node_of span) w.apart (node_found t.entries id span h) np in
@@ -186,13 +186,13 @@ parent_counts t less id p span w c z h e k =
     let q = e ∙ removed_is t id span h in
     (up.0, ap (λ x. value_at x.entries p) q ∙ (value_at-without_other t.entries id p np ∙ up.1), omega arith)
 
-pub closed_child : (t less new : Table Span) (id p : ℕ) (span : Span) → IsRanked (nodes_of t.entries) → AreCounted t.entries → reference_count (nodes_of t.entries) id ≡ 0 → value_at t.entries id ≡ Some span → less ≡ table_removed t id → span.parent ≡ Some p → ((up : Span) → value_at less.entries p ≡ Some up → new ≡ record less { entries = with_value less.entries p (record up { count = up.count - 1 }) }) → Closed t new id
+pub closed_child : (t less new : Table Span) (id p : ℕ) (span : Span) → IsRanked (nodes_of t.entries) → AreCounted t.entries → children (nodes_of t.entries) id ≡ 0 → value_at t.entries id ≡ Some span → less ≡ table_removed t id → span.parent ≡ Some p → ((up : Span) → value_at less.entries p ≡ Some up → new ≡ record less { entries = with_value less.entries p (record up { count = up.count - 1 }) }) → Closed t new id
 closed_child t less new id p span w c z h e k lowered =
     let nodes = nodes_of t.entries in
     let up = parent_counts t less id p span w c z h e k in
     let q = e ∙ removed_is t id span h in
     let par : parent_of nodes id ≡ Some p = ap parent_in (node_found t.entries id span h) ∙ k in
-    let np : p ≢ id = λ q. no_child nodes id id (omega arith) (par ∙ ap (λ v. Some v) q) in
+    let np : p ≢ id = λ q. no_child nodes id id z (par ∙ ap (λ v. Some v) q) in
     let at : value_at (without_entry t.entries id) p ≡ Some up.0 = sym (ap (λ x. value_at x.entries p) q) ∙ up.1 in
     let a2 : AreApart (nodes_of (without_entry t.entries id)) = rw (← without-nodes) (AreApart-without nodes id w.apart) in
     let step : new ≡ record t { entries = with_value (without_entry t.entries id) p (record up.0 { count = up.0.count - 1 }); freed = freed_with t (slot_of id) } =
@@ -219,8 +219,8 @@ freed_after_more : (last : ℕ) (given freed xs : List ℕ) (x : ℕ) → freed_
 freed_after_more last given freed [] x = refl
 freed_after_more last given freed (y ∷ ys) x = freed_after_more last given (cond (leb (get_or given (slot_of y) 0) last) (slot_of y ∷ freed) freed) ys x
 
-pub Closes_first : (t now : Table Span) (done rest : List ℕ) (x : ℕ) → Closes t now done (x ∷ rest) → IsForest (nodes_of now.entries) × IsOpen (nodes_of now.entries) x × (reference_count (nodes_of now.entries) x ≡ 0)
-Closes_first t now done rest x w = (w.pending.forest, w.pending.here x w.chain.0, w.chain.1)
+pub Closes_first : (t now : Table Span) (done rest : List ℕ) (x : ℕ) → Closes t now done (x ∷ rest) → IsForest (nodes_of now.entries) × IsOpen (nodes_of now.entries) x × (children (nodes_of now.entries) x ≡ 0)
+Closes_first t now done rest x w = (w.pending.forest, w.pending.here x w.chain.0, (let none = w.chain.1 in omega (arith, none)))
 
 pub Closes_more : (t now new : Table Span) (done rest : List ℕ) (x : ℕ) → Closes t now done (x ∷ rest) → Closed now new x → Closes t new (done ++ x ∷ []) rest
 Closes_more t now new done rest x w d =

@@ -1,12 +1,14 @@
 -- A write of one span that leaves its parent and its holders as they are.
 use Rattle.std.proofs.Common.{◌≡◌, ℕ, ◌++◌, List, [], ◌∷◌, length, Option, Some, None, IsSome, refl, sym, ap, ◌∙◌, inl, inr, arith}
-use Rattle.std.specs.Prelude.{Result, Ok, Err, OnOk, OnErr}
+use Rattle.std.specs.Prelude.{Result, Ok, Err, OnOk, OnErr, IfErr}
 use Rattle.std.specs.Option.{option_map}
 use Rattle.std.proofs.lemmas.Bool.Decides.{eqb_tells}
 use Rattle.span_slots.specs.Table.{value_at, with_value}
+use Rattle.span_id.specs.declared.fault.Fault.{Fault}
+use Rattle.span_id.specs.declared.fault.Fault.TheVariants.{Memory}
 use Rattle.span_forest.specs.declared.span.Span.{Span}
 use Rattle.span_forest.specs.Node.{Node, node_of, with_fields}
-use Rattle.span_forest.specs.Spans.{Spans, find, nodes_of, with_change}
+use Rattle.span_forest.specs.Spans.{Spans, find, IsOpen, nodes_of, with_change, WhyNotFound}
 use Rattle.span_forest.specs.Count.{holders, holders_in, reference_count, total_held}
 use Rattle.span_forest.specs.inside.Invariant.{IsSettled, IsConsistent}
 use Rattle.span_forest.proofs.Nodes.{find-changed_same, find-changed_other, children-changed, IsOpen-changed, IsForest-changed}
@@ -81,15 +83,6 @@ with_fields-parent more n = refl
 pub with_fields-holders : (more : List (List ℕ × List ℕ)) (n : Node) → holders (with_fields more n) ≡ holders n
 with_fields-holders more n = refl
 
--- a change at an id that isn't there changes nothing
-pub changed-absent : (f : Node → Node) (spans : Spans) (id : ℕ) → find spans id ≡ None → with_change f spans id ≡ spans
-changed-absent f [] id h = refl
-changed-absent f (e ∷ es) id h =
-    elim (eqb_tells e.0 id) [
-      | inl t ↦ (let h2 = rw t.0 at h in cc)
-      | inr t ↦ (let r = changed-absent f es id (rw t.0 at h) in rw (t.0, r) refl)
-    ]
-
 -- the code's span with these fields
 abbrev pub refielded : Span → List (List ℕ × List ℕ) → Span
 refielded span fields = record span { fields = fields }
@@ -118,6 +111,11 @@ IsConsistent-appended (Err v) es new max total handles id more w s h k = IsConsi
 pub on_ok : {R E P : Type 0} (r : Result R E) → P → OnOk r P
 on_ok (Ok v) h = h
 on_ok (Err v) h = tt
+
+-- where the span is open, there was no memory
+pub why_refused : {R : Type 0} (r : Result R Fault) (spans : Spans) (id : ℕ) → IsOpen spans id → IfErr r (λ fault. fault ≡ Memory) → IfErr r (λ fault. WhyNotFound spans id fault)
+why_refused (Ok v) spans id o h = tt
+why_refused (Err fault) spans id o h = rw h o
 
 -- an id that isn't open finds nothing
 pub closed_none : (o : Option Node) → (IsSome o → ⊥) → o ≡ None

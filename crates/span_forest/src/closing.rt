@@ -1,8 +1,8 @@
-ghost use Rattle.std.specs.Prelude.{◌≡◌, Some, IfOk};
+ghost use Rattle.std.specs.Prelude.{◌≡◌, ◌≤◌, Some, IfOk};
 ghost use Rattle.span_slots.specs.Table.{freed_with};
 ghost use Rattle.span_id.specs.Id.{slot_of};
-ghost use Rattle.span_forest.specs.Spans.{IsOpen, nodes_of};
-ghost use Rattle.span_forest.specs.Count.{reference_count};
+ghost use Rattle.span_forest.specs.Spans.{IsOpen, nodes_of, parent_of};
+ghost use Rattle.span_forest.specs.Count.{children, reference_count};
 ghost use Rattle.span_forest.specs.Forest.{IsForest};
 ghost use Rattle.span_forest.specs.Holders.{IsHeld};
 ghost use Rattle.span_forest.specs.Release.{without_holder, freed_after};
@@ -18,19 +18,47 @@ use std::alloc::{AllocError, Global};
 // The count of a span that one holder or child alone holds open.
 const LAST: u32 = 1;
 
-// The spans that close, child first, where a span gives back one holder.
+// The spans that close, child first, where a span gives back one holder. Its count and its parent are known, so only the
+// spans above it are looked up.
+#[inline(always)]
 pub(crate) fn chain(
     slots: &Slots<Span>,
     alloc: Global,
     id: Id,
     holder: Holder,
+    count: u32,
+    parent: Option<Id>,
 ) -> Result<Vec<Id>, AllocError>
     requires settled { IsSettled slots.now.entries }
     requires held { IsHeld (nodes_of slots.now.entries) id holder }
+    requires count { count ≡ reference_count (nodes_of slots.now.entries) id }
+    requires parent { parent ≡ parent_of (nodes_of slots.now.entries) id }
+    ensures { IfOk result (λ ids. Chain (without_holder (nodes_of slots.now.entries) id holder) (Some id) ids.items) }
+{
+    if count > LAST {
+        return Ok(Vec::new(alloc));
+    }
+    chain_up(slots, alloc, id, holder, parent)
+}
+
+// The same where nothing else holds the span: it closes, and perhaps spans above it do.
+#[inline(never)]
+fn chain_up(
+    slots: &Slots<Span>,
+    alloc: Global,
+    id: Id,
+    holder: Holder,
+    parent: Option<Id>,
+) -> Result<Vec<Id>, AllocError>
+    requires settled { IsSettled slots.now.entries }
+    requires held { IsHeld (nodes_of slots.now.entries) id holder }
+    requires last { reference_count (nodes_of slots.now.entries) id ≤ 1 }
+    requires parent { parent ≡ parent_of (nodes_of slots.now.entries) id }
     ensures { IfOk result (λ ids. Chain (without_holder (nodes_of slots.now.entries) id holder) (Some id) ids.items) }
 {
     let mut closed = Vec::new(alloc);
-    let mut next = Some(id);
+    closed.push(id)?;
+    let mut next = parent;
     'up: while let Some(at) = next {
         let Some(span) = slots.get(at) else {
             unreachable!()
@@ -57,18 +85,23 @@ pub(crate) fn let_go(slots: &mut Slots<Span>, id: Id, holder: Holder, closed: &[
       freed = freed_after slots.old.last_generation slots.old.given slots.old.freed closed.now;
     } }
 {
-    drop_holder(slots, id, holder);
-    for gone in closed {
+    let Some((_, above)) = closed.split_first() else {
+        drop_holder(slots, id, holder);
+        return;
+    };
+    // The holder goes with the span, so it isn't taken out first.
+    close_one(slots, id);
+    for gone in above {
         close_one(slots, *gone);
     }
 }
 
-// Closes a span that nothing holds, and takes it from its parent's count.
+// Closes a span that has no child, and takes it from its parent's count.
 fn close_one(slots: &mut Slots<Span>, id: Id)
     requires forest { IsForest (nodes_of slots.old.entries) }
     requires counted { AreCounted slots.old.entries }
     requires open { IsOpen (nodes_of slots.old.entries) id }
-    requires leaf { reference_count (nodes_of slots.old.entries) id ≡ 0 }
+    requires leaf { children (nodes_of slots.old.entries) id ≡ 0 }
     ensures nodes { nodes_of slots.new.entries ≡ without (nodes_of slots.old.entries) id }
     ensures counted { AreCounted slots.new.entries }
     ensures table { slots.new ≡ record slots.old {

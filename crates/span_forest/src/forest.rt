@@ -4,7 +4,7 @@ ghost use Rattle.span_id.specs.Bits.{has_bit};
 ghost use Rattle.span_slots.specs.Table.{IsIssued};
 ghost use Rattle.span_id.specs.Meta.{plain_fields};
 ghost use Rattle.span_forest.specs.Node.{Node, node_of, new_node, with_fields};
-ghost use Rattle.span_forest.specs.Spans.{find, IsOpen, with_change, WhyNotFound};
+ghost use Rattle.span_forest.specs.Spans.{find, parent_of, IsOpen, with_change, WhyNotFound};
 ghost use Rattle.span_forest.specs.Count.{reference_count, total_held, total_handles};
 ghost use Rattle.span_forest.specs.Path.{path, path_text};
 ghost use Rattle.span_forest.specs.Forest.{next_span_id, table_of};
@@ -226,10 +226,18 @@ impl Forest {
         if count_of(&self.slots, id) >= self.max_count {
             return Err(Fault::CountFull);
         }
+        self.add_holder(id, holder);
+        Ok(())
+    }
+
+    /// Does what `keep` does, for a caller that knows that the holder may come in.
+    pub fn add_holder(&mut self, id: Id, holder: Holder)
+        requires { CanKeep self.old.spans self.old.max_count id }
+        ensures { self.new ≡ record self.old { spans = with_holder self.old.spans id holder } }
+    {
         raise_holder(&mut self.slots, id, holder);
         self.total += 1;
         self.handles += handles_in(holder);
-        Ok(())
     }
 
     /// The spans that a release of this holder would close, child first. Nothing changes.
@@ -252,7 +260,28 @@ impl Forest {
         ensures list { IfOk result (λ ids. ids.items ≡ closing_list self.now.spans id holder) }
         ensures memory { IfErr result (λ fault. fault ≡ Fault.Memory) }
     {
-        let closed = chain(&self.slots, self.alloc, id, holder)?;
+        let Some(span) = self.find(id) else {
+            unreachable!()
+        };
+        self.closing_above(id, holder, span.count, span.parent)
+    }
+
+    /// The same as `closing`, for a caller that looked at the span: it knows that the holder is there, the span's count,
+    /// and its parent. So only the spans above it are looked up. The only error is `Memory`.
+    pub fn closing_above(
+        &self,
+        id: Id,
+        holder: Holder,
+        count: u32,
+        parent: Option<Id>,
+    ) -> Result<Vec<Id>, Fault>
+        requires held { IsHeld self.now.spans id holder }
+        requires count { count ≡ reference_count self.now.spans id }
+        requires parent { parent ≡ parent_of self.now.spans id }
+        ensures list { IfOk result (λ ids. ids.items ≡ closing_list self.now.spans id holder) }
+        ensures memory { IfErr result (λ fault. fault ≡ Fault.Memory) }
+    {
+        let closed = chain(&self.slots, self.alloc, id, holder, count, parent)?;
         Ok(closed)
     }
 
@@ -324,9 +353,6 @@ impl Forest {
         ensures refused { IfErr result (λ fault. WhyNotFound self.old.spans id fault) }
         ensures unchanged { OnErr result (self.new ≡ self.old) }
     {
-        if !is_open(&self.slots, id) {
-            return Err(Fault::Unknown);
-        }
         append_fields(&mut self.slots, self.alloc, id, fields)
     }
 

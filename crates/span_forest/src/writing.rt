@@ -1,7 +1,7 @@
 ghost use Rattle.std.specs.Prelude.{◌≡◌, ◌++◌, Some, IsSome, IfOk, IfErr, OnOk, OnErr, map, string_bytes};
 ghost use Rattle.span_slots.specs.Table.{value_at};
 ghost use Rattle.span_forest.specs.Node.{node_of, with_fields};
-ghost use Rattle.span_forest.specs.Spans.{nodes_of, with_change, IsOpen};
+ghost use Rattle.span_forest.specs.Spans.{nodes_of, with_change, IsOpen, WhyNotFound};
 ghost use Rattle.span_forest.specs.Path.{name_for, path};
 ghost use Rattle.span_forest.specs.Forest.{IsForest};
 ghost use Rattle.span_forest.specs.inside.Invariant.{IsSettled};
@@ -11,8 +11,8 @@ use span_id::{Fault, Fields, Id};
 use span_slots::Slots;
 use std::alloc::{AllocError, Global};
 
-// Appends these fields to those of a span, which shares their list where it has none. Where memory is refused the span
-// stays as it was.
+// Appends these fields to those of a span, if it is open; it shares their list where it has none. Where memory is refused
+// the span stays as it was.
 pub(crate) fn append_fields(
     slots: &mut Slots<Span>,
     alloc: Global,
@@ -20,16 +20,17 @@ pub(crate) fn append_fields(
     fields: &Fields,
 ) -> Result<(), Fault>
     requires settled { IsSettled slots.old.entries }
+    ensures found { OnOk result (IsOpen (nodes_of slots.old.entries) id) }
     ensures settled { IsSettled slots.new.entries }
     ensures written { OnOk result
         (nodes_of slots.new.entries ≡ with_change (with_fields fields.now)
         (nodes_of slots.old.entries) id) }
-    ensures refused { OnErr result (nodes_of slots.new.entries ≡ nodes_of slots.old.entries) }
-    ensures memory { IfErr result (λ fault. fault ≡ Fault.Memory) }
+    ensures refused { IfErr result (λ fault. WhyNotFound (nodes_of slots.old.entries) id fault) }
+    ensures unchanged { OnErr result (nodes_of slots.new.entries ≡ nodes_of slots.old.entries) }
     ensures table { slots.new ≡ record slots.old { entries = slots.new.entries } }
 {
     match slots.get_mut(id) {
-        None => Ok(()),
+        None => Err(Fault::Unknown),
         Some(span) => span.fields.extend_shared(alloc, fields),
     }
 }

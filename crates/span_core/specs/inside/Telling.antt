@@ -6,7 +6,7 @@ use Rattle.std.specs.List.{range_with_len}
 use Rattle.span_id.specs.Bits.{has_bit}
 use Rattle.span_layers.specs.Note.{PlainNote, Told}
 use Rattle.span_layers.specs.Filter.{Filter}
-use Rattle.span_forest.specs.Spans.{Spans}
+use Rattle.span_forest.specs.Spans.{Spans, IsOpen}
 use Rattle.span_forest.specs.Path.{path_text}
 use Rattle.span_core.specs.declared.notes.Telling.{Telling}
 use Rattle.span_core.specs.declared.notes.paths.ToldPath.{ToldPath}
@@ -36,11 +36,23 @@ IsSummarised spans (Span id) = Unit {0}
 IsSummarised spans (NewSpan id parent name) = Unit {0}
 IsSummarised spans (Event around level message) = AreSummarised spans around
 
+-- the span that is told of is open; an event has none of its own, and a new span isn't there yet
+abbrev pub IsThere : Spans → Subject → Type 0
+IsThere spans (Span id) = IsOpen spans id
+IsThere spans (NewSpan id parent name) = Unit {0}
+IsThere spans (Event around level message) = Unit {0}
+
 -- where the path of a layer is read: that of a new span at its parent
 abbrev pub place_told : Spans → Subject → ℕ → Option ℕ
 place_told spans (Span id) layer = Some id
 place_told spans (NewSpan id parent name) layer = parent
 place_told spans (Event around level message) layer = contextual_span spans (ids_around around) layer
+
+-- a span is open where the path of a span or an event is read; that of a new span goes on from its parent's
+abbrev pub IsReadable : Spans → Subject → Option ℕ → Type 0
+IsReadable spans (Span id) place = IfSome place (IsOpen spans)
+IsReadable spans (NewSpan id parent name) place = Unit {0}
+IsReadable spans (Event around level message) place = IfSome place (IsOpen spans)
 
 -- the id that a layer is told, which reads its path at this place; where there is none, 0
 abbrev pub id_told : Subject → Option ℕ → ℕ

@@ -3,6 +3,8 @@ ghost use Rattle.std.specs.Prelude.{◌≡◌, ◌<◌, ◌∷◌, [], false, if
 ghost use Rattle.span_layers.specs.declared.note.Kind.TheVariants.{OnExit};
 ghost use Rattle.span_layers.specs.Note.{plain_note};
 ghost use Rattle.span_forest.specs.declared.span.Holder.TheVariants.{Handle, Entry};
+ghost use Rattle.span_forest.specs.Spans.{IsOpen, parent_of};
+ghost use Rattle.span_forest.specs.Count.{reference_count};
 ghost use Rattle.span_forest.specs.Holders.{IsHeld};
 ghost use Rattle.span_forest.specs.Release.{closing_list, spans_left, freed_after};
 ghost use Rattle.span_stack.specs.Stack.{without_last, ids_of_each};
@@ -11,6 +13,7 @@ ghost use Rattle.span_core.specs.inside.ClosingPaths.{IsChain};
 ghost use Rattle.span_core.specs.declared.known_paths.KnownPaths.{KnownPaths};
 ghost use Rattle.span_core.specs.inside.Remembering.{Remembers};
 
+use crate::calls::held::SeenSpan;
 use crate::notes::closing::{close_notes, closing_lists_are_chains};
 use crate::notes::{Happening, exit_notes};
 use crate::recent::Recent;
@@ -37,11 +40,15 @@ pub(crate) fn leave(
     stacks: &mut Vec<SpanStack>,
     exit: &Happening,
     stays: bool,
+    seen: &SeenSpan,
 ) -> Result<Closes, Fault>
     requires within { exit.now.worker < length stacks.old.items }
     requires kind { exit.now.kind ≡ OnExit }
+    requires open { IsOpen forest.old.spans exit.now.id }
     requires bits { exit.now.bits.0 ≡ bits_in forest.old.spans exit.now.id }
     requires held { stays ≡ false → IsHeld forest.old.spans exit.now.id Entry }
+    requires count { seen.now.count ≡ reference_count forest.old.spans exit.now.id }
+    requires parent { seen.now.parent ≡ parent_of forest.old.spans exit.now.id }
     requires remembers { Remembers forest.old recent.old.paths }
     ensures ids { IfOk result (λ closes. closes.ids.items
         ≡ if stays then [] else closing_list forest.old.spans exit.now.id Entry) }
@@ -61,7 +68,7 @@ pub(crate) fn leave(
     ensures remembers { Remembers forest.new recent.new.paths }
     ensures memory { IfErr result (λ fault. fault ≡ Fault.Memory) }
 {
-    let ids = closing_on_exit(recent.alloc, forest, stays, exit.id)?;
+    let ids = closing_on_exit(recent.alloc, forest, stays, exit.id, seen)?;
     let notes = exit_notes(recent, rules, forest, exit, ids.as_slice())?;
     release_on_exit(forest, stays, exit.id, ids.as_slice());
     recent.paths.forget(ids.as_slice());
@@ -76,8 +83,11 @@ pub(crate) fn give_back(
     forest: &mut Forest,
     worker: u32,
     id: Id,
+    seen: &SeenSpan,
 ) -> Result<Closes, Fault>
     requires held { IsHeld forest.old.spans id Handle }
+    requires count { seen.now.count ≡ reference_count forest.old.spans id }
+    requires parent { seen.now.parent ≡ parent_of forest.old.spans id }
     requires remembers { Remembers forest.old recent.old.paths }
     ensures ids { IfOk result (λ closes. closes.ids.items ≡ closing_list forest.old.spans id Handle) }
     ensures notes { IfOk result (λ closes. map plain_note closes.notes.items
@@ -91,9 +101,9 @@ pub(crate) fn give_back(
     ensures remembers { Remembers forest.new recent.new.paths }
     ensures memory { IfErr result (λ fault. fault ≡ Fault.Memory) }
 {
-    let ids = closing_of(forest, id, Holder::Handle)?;
+    let ids = closing_of(forest, id, Holder::Handle, seen)?;
     walks_end(forest);
-    let notes = close_notes(recent, rules, forest, worker, ids.as_slice())?;
+    let notes = close_notes(recent, rules, forest, worker, ids.as_slice(), seen.bits)?;
     forest.release_closing(id, Holder::Handle, ids.as_slice());
     walks_end(forest);
     open_spans_are_counted(forest);
@@ -102,8 +112,16 @@ pub(crate) fn give_back(
 }
 
 // The spans that close where a worker leaves a span: none where the span stays in its stack.
-fn closing_on_exit(alloc: Global, forest: &Forest, stays: bool, id: Id) -> Result<Vec<Id>, Fault>
+fn closing_on_exit(
+    alloc: Global,
+    forest: &Forest,
+    stays: bool,
+    id: Id,
+    seen: &SeenSpan,
+) -> Result<Vec<Id>, Fault>
     requires held { stays ≡ false → IsHeld forest.now.spans id Entry }
+    requires count { seen.now.count ≡ reference_count forest.now.spans id }
+    requires parent { seen.now.parent ≡ parent_of forest.now.spans id }
     ensures list { IfOk result (λ ids. ids.items ≡ if stays then [] else closing_list forest.now.spans id Entry) }
     ensures chain { IfOk result (λ ids. IsChain forest.now.spans ids.items) }
     ensures memory { IfErr result (λ fault. fault ≡ Fault.Memory) }
@@ -111,7 +129,7 @@ fn closing_on_exit(alloc: Global, forest: &Forest, stays: bool, id: Id) -> Resul
     if stays {
         return Ok(Vec::new(alloc));
     }
-    closing_of(forest, id, Holder::Entry)
+    closing_of(forest, id, Holder::Entry, seen)
 }
 
 // Gives the entry back, unless the span stays in the worker's stack; these are the spans that close. A span that stays
@@ -134,14 +152,17 @@ fn release_on_exit(forest: &mut Forest, stays: bool, id: Id, closing: &[Id])
     }
 }
 
-// The spans that close where a holder that is there is given back, child first.
+// The spans that close where a holder that is there is given back, child first. The span itself was looked up when the
+// call was judged.
 #[inline]
-fn closing_of(forest: &Forest, id: Id, holder: Holder) -> Result<Vec<Id>, Fault>
-    requires { IsHeld forest.now.spans id holder }
+fn closing_of(forest: &Forest, id: Id, holder: Holder, seen: &SeenSpan) -> Result<Vec<Id>, Fault>
+    requires held { IsHeld forest.now.spans id holder }
+    requires count { seen.now.count ≡ reference_count forest.now.spans id }
+    requires parent { seen.now.parent ≡ parent_of forest.now.spans id }
     ensures list { IfOk result (λ ids. ids.items ≡ closing_list forest.now.spans id holder) }
     ensures chain { IfOk result (λ ids. IsChain forest.now.spans ids.items) }
     ensures memory { IfErr result (λ fault. fault ≡ Fault.Memory) }
 {
     closing_lists_are_chains(forest);
-    forest.closing_of_held(id, holder)
+    forest.closing_above(id, holder, seen.count, seen.parent)
 }

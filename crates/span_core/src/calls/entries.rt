@@ -1,7 +1,7 @@
 //! The calls that change a worker's stack.
 ghost use Rattle.std.specs.Prelude.{◌≡◌, ◌<◌, ◌↔◌, true, not, if◌then◌else◌, nat_lt, length, None, IsTrue, IfOk, IfErr, OnOk, OnErr};
 ghost use Rattle.span_forest.specs.declared.span.Holder.TheVariants.{Handle, Entry};
-ghost use Rattle.span_forest.specs.Spans.{find};
+ghost use Rattle.span_forest.specs.Spans.{find, parent_of};
 ghost use Rattle.span_forest.specs.Count.{reference_count};
 ghost use Rattle.span_forest.specs.Holders.{IsHeld};
 ghost use Rattle.span_forest.specs.Keep.{with_holder};
@@ -16,7 +16,7 @@ ghost use Rattle.span_core.specs.Shown.{MayBeShown, IsShown};
 
 use crate::Core;
 use crate::calls::closes::{Closes, leave};
-use crate::calls::held::{held_span, open_bits};
+use crate::calls::held::{SeenSpan, held_span, open_span};
 use crate::calls::room::ask;
 use crate::laws::{accepted_releases_close_what_nothing_holds, the_named_span_closes_first};
 use crate::notes::{Happening, span_notes};
@@ -33,11 +33,11 @@ struct Entering {
     bits: Bits,
 }
 
-/// What an exit would do: whether the worker stays inside the span, and the layers that admit the span.
+/// What an exit would do: whether the worker stays inside the span, and what was seen of the span.
 #[derive(Clone, Copy)]
 struct Leaving {
     stays: bool,
-    bits: Bits,
+    span: SeenSpan,
 }
 
 impl<O: Outlet, A> Core<O, A> {
@@ -126,7 +126,7 @@ impl<O: Outlet, A> Core<O, A> {
             worker,
             kind: Kind::OnExit,
             id,
-            bits: leaving.bits,
+            bits: leaving.span.bits,
         };
         let stacks = self.stacks.as_slice();
         self.summary.cut(stacks, worker, id);
@@ -137,6 +137,7 @@ impl<O: Outlet, A> Core<O, A> {
             &mut self.stacks,
             &what,
             leaving.stays,
+            &leaving.span,
         )?;
         see(state, ids.as_slice());
         let closed = !ids.is_empty();
@@ -157,17 +158,17 @@ impl<O: Outlet, A> Core<O, A> {
         ensures bits { IfOk result (λ entering. entering.bits.0 ≡ bits_in self.now.world.spans id) }
         ensures refused { IfErr result (λ fault. IsRefused self.now (enter worker id) fault self.now) }
     {
-        let Some(held) = held_span(&self.forest, id) else {
+        let Some(seen) = held_span(&self.forest, id) else {
             return Err(Fault::Unknown);
         };
-        let first = is_outside(self.stacks.as_slice(), worker, id, held.entries);
-        let full = first && held.count >= self.limits.limits().max_count;
+        let first = is_outside(self.stacks.as_slice(), worker, id, seen.entries);
+        let full = first && seen.count >= self.limits.limits().max_count;
         if full || self.calls == u64::MAX {
             return Err(Fault::CountFull);
         }
         Ok(Entering {
             first,
-            bits: held.bits,
+            bits: seen.bits,
         })
     }
 
@@ -176,10 +177,12 @@ impl<O: Outlet, A> Core<O, A> {
         requires { worker < self.now.limits.workers }
         ensures due { OnOk result (IsDue self.now (exit worker id)) }
         ensures stays { IfOk result (λ leaving. leaving.stays ≡ stays_inside self.now.world worker id) }
-        ensures bits { IfOk result (λ leaving. leaving.bits.0 ≡ bits_in self.now.world.spans id) }
+        ensures count { IfOk result (λ leaving. leaving.span.count ≡ reference_count self.now.world.spans id) }
+        ensures parent { IfOk result (λ leaving. leaving.span.parent ≡ parent_of self.now.world.spans id) }
+        ensures bits { IfOk result (λ leaving. leaving.span.bits.0 ≡ bits_in self.now.world.spans id) }
         ensures refused { IfErr result (λ fault. IsRefused self.now (exit worker id) fault self.now) }
     {
-        let Some(bits) = open_bits(&self.forest, id) else {
+        let Some(span) = open_span(&self.forest, id) else {
             return Err(Fault::Unknown);
         };
         if self.calls == u64::MAX {
@@ -188,7 +191,7 @@ impl<O: Outlet, A> Core<O, A> {
         let Some(stays) = stays_inside(self.stacks.as_slice(), worker, id) else {
             return Err(Fault::NotEntered);
         };
-        Ok(Leaving { stays, bits })
+        Ok(Leaving { stays, span })
     }
 }
 
@@ -202,8 +205,6 @@ fn keep_first(forest: &mut Forest, first: bool, id: Id)
     } }
 {
     if first {
-        let Ok(()) = forest.keep(id, Holder::Entry) else {
-            unreachable!();
-        };
+        forest.add_holder(id, Holder::Entry);
     }
 }

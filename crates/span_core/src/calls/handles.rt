@@ -2,7 +2,8 @@
 ghost use Rattle.std.specs.Prelude.{◌≡◌, ◌<◌, ◌↔◌, nat_lt, length, map, None, IsTrue, OnOk, OnErr, IfOk, IfErr};
 ghost use Rattle.span_forest.specs.declared.span.Holder.TheVariants.{Handle};
 ghost use Rattle.span_forest.specs.Node.{with_fields};
-ghost use Rattle.span_forest.specs.Spans.{find, with_change};
+ghost use Rattle.span_forest.specs.Spans.{find, parent_of, with_change};
+ghost use Rattle.span_forest.specs.Count.{reference_count};
 ghost use Rattle.span_forest.specs.Holders.{IsHeld};
 ghost use Rattle.span_forest.specs.Release.{closing_list};
 ghost use Rattle.span_id.specs.Meta.{plain_fields};
@@ -17,7 +18,7 @@ ghost use Rattle.span_core.specs.inside.Remembering.{Remembers};
 
 use crate::Core;
 use crate::calls::closes::{Closes, give_back};
-use crate::calls::held::held_span;
+use crate::calls::held::{SeenSpan, held_span};
 use crate::calls::names::are_keys;
 use crate::calls::room::ask;
 use crate::given::GivenFields;
@@ -41,9 +42,7 @@ impl<O: Outlet, A> Core<O, A> {
     {
         self.cloning(worker, id)?;
         ask(&mut self.outlet, &mut self.recent.spare)?;
-        let Ok(()) = self.forest.keep(id, Holder::Handle) else {
-            unreachable!();
-        };
+        self.forest.add_holder(id, Holder::Handle);
         self.calls += 1;
         self.outlet.put(Batch {
             call: Call::CloneSpan { worker, id },
@@ -155,7 +154,7 @@ impl<O: Outlet, A> Core<O, A> {
         ensures refused { IfErr result (λ fault. IsRefused self.old (try_close worker id) fault self.new) }
         ensures not_shown { OnErr result (state.new ≡ state.old) }
     {
-        self.releasing(worker, id)?;
+        let seen = self.releasing(worker, id)?;
         ask(&mut self.outlet, &mut self.recent.spare)?;
         let Closes { ids, notes } = give_back(
             &mut self.recent,
@@ -163,6 +162,7 @@ impl<O: Outlet, A> Core<O, A> {
             &mut self.forest,
             worker,
             id,
+            &seen,
         )?;
         see(state, ids.as_slice());
         let closed = !ids.is_empty();
@@ -180,10 +180,10 @@ impl<O: Outlet, A> Core<O, A> {
         ensures due { OnOk result (IsDue self.now (clone_span worker id)) }
         ensures refused { IfErr result (λ fault. IsRefused self.now (clone_span worker id) fault self.now) }
     {
-        let Some(held) = held_span(&self.forest, id) else {
+        let Some(seen) = held_span(&self.forest, id) else {
             return Err(Fault::Unknown);
         };
-        if held.count >= self.limits.limits().max_count || self.calls == u64::MAX {
+        if seen.count >= self.limits.limits().max_count || self.calls == u64::MAX {
             return Err(Fault::CountFull);
         }
         Ok(())
@@ -199,27 +199,29 @@ impl<O: Outlet, A> Core<O, A> {
         if !are_keys(fields.read()) {
             return Err(Fault::BadName);
         }
-        let Some(held) = held_span(&self.forest, id) else {
+        let Some(seen) = held_span(&self.forest, id) else {
             return Err(Fault::Unknown);
         };
         if self.calls == u64::MAX {
             return Err(Fault::CountFull);
         }
-        Ok(held.bits)
+        Ok(seen.bits)
     }
 
-    // Why a handle isn't taken back, if it isn't.
-    fn releasing(&self, worker: u32, id: Id) -> Result<(), Fault>
+    // The span of which a handle is given back, or why it isn't taken.
+    fn releasing(&self, worker: u32, id: Id) -> Result<SeenSpan, Fault>
         ensures due { OnOk result (IsDue self.now (try_close worker id)) }
+        ensures count { IfOk result (λ seen. seen.count ≡ reference_count self.now.world.spans id) }
+        ensures parent { IfOk result (λ seen. seen.parent ≡ parent_of self.now.world.spans id) }
         ensures refused { IfErr result (λ fault. IsRefused self.now (try_close worker id) fault self.now) }
     {
-        let Some(_) = held_span(&self.forest, id) else {
+        let Some(seen) = held_span(&self.forest, id) else {
             return Err(Fault::Unknown);
         };
         if self.calls == u64::MAX {
             return Err(Fault::CountFull);
         }
-        Ok(())
+        Ok(seen)
     }
 }
 

@@ -21,7 +21,7 @@ use span_forest::laws::{
     closing_list_begins_the_walk, held_ids_are_open, open_spans_are_counted, walks_end,
 };
 use span_forest::{Forest, Span};
-use span_id::{Fault, Id};
+use span_id::{Bits, Fault, Id};
 use span_layers::{Kind, Note, Rules};
 use std::alloc::Global;
 use std::sync::ArcStr;
@@ -59,13 +59,14 @@ pub(crate) fn closing_lists_are_chains(forest: &Forest)
     closing_list_begins_the_walk(forest);
 }
 
-// The notes of a chain of spans that close.
+// The notes of a chain of spans that close. These layers admit the first one.
 pub(crate) fn close_notes(
     recent: &mut Recent,
     rules: &Rules,
     forest: &Forest,
     worker: u32,
     closed: &[Id],
+    first: Bits,
 ) -> Result<Vec<Note>, Fault>
     requires chain { IsChain forest.now.spans closed.now }
     requires remembers { Remembers forest.now recent.old.paths }
@@ -74,7 +75,7 @@ pub(crate) fn close_notes(
     ensures remembers { Remembers forest.now recent.new.paths }
     ensures memory { IfErr result (λ fault. fault ≡ Fault.Memory) }
 {
-    let count = closes_count(rules, forest, closed);
+    let count = closes_count(rules, forest, closed, first);
     let mut notes = empty_list(recent.alloc, &mut recent.spare, count);
     let mut paths = ToldPaths::none(recent.alloc);
     push_closes(
@@ -158,13 +159,16 @@ fn push_close_alone(
     push_notes(recent, notes, paths, rules, forest, &what, &span.fields)
 }
 
-// How many notes the layers are told of spans that close.
-pub(crate) fn closes_count(rules: &Rules, forest: &Forest, closed: &[Id]) -> usize {
-    let mut count = 0usize;
+// How many notes the layers are told of spans that close. These layers admit the first one, which isn't looked up.
+pub(crate) fn closes_count(rules: &Rules, forest: &Forest, closed: &[Id], first: Bits) -> usize {
     if !is_wanted(rules, Kind::OnClose) {
-        return count;
+        return 0;
     }
-    for id in closed {
+    let Some((_, above)) = closed.split_first() else {
+        return 0;
+    };
+    let mut count = told_layers(rules, first, Kind::OnClose).len();
+    for id in above {
         if let Some(span) = forest.find(*id) {
             count = count.saturating_add(told_layers(rules, span.bits, Kind::OnClose).len());
         }
@@ -312,6 +316,7 @@ fn close_path(
     layer: u32,
     id: Id,
 ) -> Result<ArcStr, Fault>
+    requires open { IsOpen forest.now.spans id }
     requires below { IfSome before (λ below.
         TellsBelow (path layer forest.now.spans id) below.name (plain_note below.note.now)) }
     requires known { Knows path_text forest.now.spans paths.old }

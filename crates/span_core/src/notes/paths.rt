@@ -175,6 +175,7 @@ pub(crate) fn seen_text(
     layer: u32,
     place: &Option<Id>,
 ) -> Result<ArcStr, Fault>
+    requires open { IfSome place.now (IsOpen forest.now.spans) }
     requires known { Knows path_text forest.now.spans paths.old }
     requires remembers { Remembers forest.now recent.old.paths }
     ensures text { IfOk result (λ text. arc_str_bytes text ≡ path_text (path_at layer forest.now.spans place.now)) }
@@ -199,6 +200,7 @@ fn known_text<'a>(
     layer: u32,
     place: &Option<Id>,
 ) -> Option<&'a ArcStr>
+    requires open { IfSome place.now (IsOpen forest.now.spans) }
     requires remembers { Remembers forest.now known.now }
     ensures text { IfSome result (λ text. arc_str_bytes text.now ≡ path_text (path_at layer forest.now.spans place.now)) }
 {
@@ -206,7 +208,6 @@ fn known_text<'a>(
         return None;
     }
     let id = (*place)?;
-    forest.find(id)?;
     known.get(layer, id)
 }
 
@@ -218,6 +219,7 @@ fn walked_text(
     layer: u32,
     place: &Option<Id>,
 ) -> Result<ArcStr, Fault>
+    requires open { IfSome place.now (IsOpen forest.now.spans) }
     requires known { Knows path_text forest.now.spans paths.old }
     requires remembers { Remembers forest.now recent.old.paths }
     ensures text { IfOk result (λ text. arc_str_bytes text ≡ path_text (path_at layer forest.now.spans place.now)) }
@@ -233,6 +235,7 @@ fn walked_text(
 
 // Remembers the text of a layer's path, if it was read at a span and notes may share it.
 fn remember(known: &mut KnownPaths, forest: &Forest, layer: u32, place: &Option<Id>, text: &ArcStr)
+    requires open { IfSome place.now (IsOpen forest.now.spans) }
     requires text { arc_str_bytes text.now ≡ path_text (path_at layer forest.now.spans place.now) }
     requires remembers { Remembers forest.now known.old }
     ensures remembers { Remembers forest.now known.new }
@@ -242,9 +245,7 @@ fn remember(known: &mut KnownPaths, forest: &Forest, layer: u32, place: &Option<
     }
     each_slot_has_one_open_id(forest);
     if let Some(id) = place {
-        if forest.find(*id).is_some() {
-            known.keep(layer, *id, text);
-        }
+        known.keep(layer, *id, text);
     }
 }
 

@@ -22,14 +22,14 @@ held g c =
 
 pub invariant_of-self-2 : goal.invariant_of-self-2
 invariant_of-self-2 g c = (
-  sound_clone _ _ _ _ _ _ _ _ _ _ _ _ c.self.invariant.0 (within g c) (held g c) c.in-Ok.ensures.forest (search rules) c.in_ok-ask.ensures.sent c.put.ensures.sent,
+  sound_clone _ _ _ _ _ _ _ _ _ _ _ _ c.self.invariant.0 (within g c) (held g c) c.add_holder.ensures (search rules) c.in_ok-ask.ensures.sent c.put.ensures.sent,
   none_made _ _ _ _ _ c.self.invariant.1 refl c.in_ok-ask.ensures.sent c.put.ensures.sent,
-  remembers_changed _ _ (with_more Handle) c.args.id _ (one_more Handle) c.in-Ok.ensures.forest c.self.invariant.2,
-  summary_changed _ _ _ _ (with_more Handle) c.args.id (one_more Handle) (ap (λ f. f.spans) c.in-Ok.ensures.forest) c.self.invariant.3,
+  remembers_changed _ _ (with_more Handle) c.args.id _ (one_more Handle) c.add_holder.ensures c.self.invariant.2,
+  summary_changed _ _ _ _ (with_more Handle) c.args.id (one_more Handle) (ap (λ f. f.spans) c.add_holder.ensures) c.self.invariant.3,
 )
 
 pub returns-clause-accepted : goal.returns-clause-accepted
 returns-clause-accepted g c =
     accepted_by _ _ _ _ _ _ _ _ _ _ _ _ _ _ _ c.self.view_is c.in_ok-cloning.ensures.due
-    (step_clone _ _ _ _ _ c.args.worker c.args.id _ (within g c) (held g c) (ap (λ f. f.spans) c.in-Ok.ensures.forest) (search rules))
+    (step_clone _ _ _ _ _ c.args.worker c.args.id _ (within g c) (held g c) (ap (λ f. f.spans) c.add_holder.ensures) (search rules))
     refl c.in_ok-ask.ensures.sent c.put.ensures.sent c.in_ok-ask.ensures.times_full c.put.ensures.times_full c.in_ok-ask.ensures.forms c.put.ensures.forms c.in_ok-ask.ensures.name c.put.ensures.name

@@ -19,7 +19,7 @@ within g c = omega (arith, c.requires.worker, ap (λ (v : CoreView). v.limits.wo
 
 held : (g : given.Over) (c : After-put g) → IsHeld c.self.inside.forest.spans c.args.id Handle
 held g c =
-    held_from c.self.inside.forest.spans c.args.id (subst (λ (v : CoreView). has_handle v.world.spans c.args.id ≡ true) (sym c.self.view_is) c.in_ok-releasing.ensures.due.known)
+    held_from c.self.inside.forest.spans c.args.id (subst (λ (v : CoreView). has_handle v.world.spans c.args.id ≡ true) (sym c.self.view_is) c.in_ok-seen.ensures.due.known)
 
 list_is : (g : given.Over) (c : After-put g) → c.in_ok-ids.field-0.ids.items ≡ closing_list c.args.self.now.world.spans c.args.id Handle
 list_is g c = c.in_ok-ids.ensures.ids ∙ ap (λ (v : CoreView). closing_list v.world.spans c.args.id Handle) c.self.view_is
@@ -36,7 +36,7 @@ invariant_of-self-2 g c = (
 pub returns-clause-accepted : goal.returns-clause-accepted
 returns-clause-accepted g c =
     accepted_as _ _ _ _ _ (ap (λ (ids : List ℕ). released ids) (list_is g c))
-    (accepted_by _ _ _ _ _ _ _ _ _ _ _ _ _ _ _ c.self.view_is c.in_ok-releasing.ensures.due
+    (accepted_by _ _ _ _ _ _ _ _ _ _ _ _ _ _ _ c.self.view_is c.in_ok-seen.ensures.due
     (step_close _ _ _ _ _ c.args.worker c.args.id _ _ (within g c) (held g c)
     c.in_ok-ids.ensures.ids (ap (λ f. f.spans) c.in_ok-ids.ensures.forest) c.in_ok-ids.ensures.notes)
     refl c.in_ok-ask.ensures.sent c.put.ensures.sent c.in_ok-ask.ensures.times_full c.put.ensures.times_full c.in_ok-ask.ensures.forms c.put.ensures.forms c.in_ok-ask.ensures.name c.put.ensures.name)

@@ -1,36 +1,8 @@
-use Rattle.std.proofs.Common.{sym, ap, ◌∙◌}
-use Rattle.std.specs.Option.{option_copied}
+use Rattle.std.proofs.Common.{◌<◌, subst}
 use Rattle.span_forest.specs.Spans.{nodes_of}
-use Rattle.span_forest.specs.Release.{without_holder}
-use Rattle.span_forest.specs.inside.Chain.{without_all}
-use Rattle.span_forest.proofs.Along.{Along_none, Along_turn, Along_stop, Along_root, next_is_there}
+use Rattle.span_forest.proofs.Along.{Chain_none}
 use Rattle.span_forest.proofs.closing.chain.Goals as goal
-use Rattle.span_forest.proofs.closing.chain.Goals.{in-Some+in-Some-get+then-span-gt-LAST, in_default}
 
-pub up-init : goal.up-init
-up-init c =
-    rw c.new-closed.ensures.items (Along_none c.args.slots.now.entries c.args.id c.args.holder c.requires.settled c.requires.held)
-
-pub unreachable-requires : goal.unreachable-requires
-unreachable-requires c =
-    next_is_there c.args.slots.now.entries (without_holder (nodes_of c.args.slots.now.entries) c.args.id c.args.holder) c.args.id c.up.closed.items c.up.next _ c.in-Some.at c.up.invariant c.in-Some.is (sym c.get.ensures ∙ ap option_copied c.in_default-get.is)
-
-pub up-smaller : goal.up-smaller
-up-smaller c =
-    let start = without_holder (nodes_of c.args.slots.now.entries) c.args.id c.args.holder in
-    let t = Along_turn c.args.slots.now.entries start c.args.id c.up.closed.items c.push.new.self.items c.up.next c.in-Some.at c.in-Some-get.span.now c.up.invariant c.in-Some.is (sym c.get.ensures ∙ ap option_copied c.in-Some-get.is) c.if-span-gt-LAST.false c.in_ok-push.ensures.items in
-    t.smaller
-
-pub up-preserved : goal.up-preserved
-up-preserved c =
-    let start = without_holder (nodes_of c.args.slots.now.entries) c.args.id c.args.holder in
-    let t = Along_turn c.args.slots.now.entries start c.args.id c.up.closed.items c.push.new.self.items c.up.next c.in-Some.at c.in-Some-get.span.now c.up.invariant c.in-Some.is (sym c.get.ensures ∙ ap option_copied c.in-Some-get.is) c.if-span-gt-LAST.false c.in_ok-push.ensures.items in
-    t.along
-
-pub returns : goal.returns
-returns c =
-    let start = without_holder (nodes_of c.args.slots.now.entries) c.args.id c.args.holder in
-    elim c.match-next.branch [
-      | in-Some+in-Some-get+then-span-gt-LAST w ↦ Along_stop c.args.slots.now.entries start c.args.id c.up.closed.items c.up.next w.in-Some.at w.in-Some-get.span.now (without_all start c.up.closed.items) c.up.invariant w.in-Some.is (sym w.get.ensures ∙ ap option_copied w.in-Some-get.is) w.if-span-gt-LAST.true
-      | in_default w ↦ Along_root c.args.slots.now.entries start c.args.id c.up.closed.items c.up.next (without_all start c.up.closed.items) c.up.invariant w.in_default.is
-    ]
+pub returns-then-count-gt-LAST : goal.returns-then-count-gt-LAST
+returns-then-count-gt-LAST c =
+    Chain_none (nodes_of c.args.slots.now.entries) c.args.id c.args.holder c.new.result.items c.requires.held (subst (λ n. 1 < n) c.requires.count c.if-count-gt-LAST.true) c.new.ensures.items

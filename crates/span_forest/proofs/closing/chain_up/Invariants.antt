@@ -3,7 +3,7 @@ use Rattle.span_forest.specs.Spans.{nodes_of}
 use Rattle.span_forest.specs.Release.{without_holder}
 use Rattle.span_forest.specs.inside.Chain.{without_all}
 use Rattle.span_forest.proofs.Along.{Along}
-use Rattle.span_forest.proofs.closing.chain.Given as goal
+use Rattle.span_forest.proofs.closing.chain_up.Given as goal
 
 abbrev pub invariant-up : goal.invariant-up
 invariant-up l =
