@@ -12,7 +12,7 @@ use Rattle.span_replay.specs.Replayed.{Fails, Runs}
 use Rattle.span_script.specs.Script.{script_lines}
 use Rattle.span_replay.specs.State.{State, first_state}
 use Rattle.span_replay.specs.inside.Turns.{HasTurned, Sent, TurnFails, opened_state, resumed_run}
-use Rattle.span_run.specs.declared.fault.RunFault.{RunFault}
+use Rattle.span_replay.specs.declared.run.fault.ReplayFault.{ReplayFault}
 use Rattle.span_run.proofs.Fronts.{Known}
 use Rattle.span_replay.proofs.Written.{loop_more, loop_fails}
 
@@ -27,7 +27,7 @@ pub opened_more : (hooks hooks' number : ℕ) (a b c : Known) (whole : Transcrip
 opened_more hooks hooks' number a b c whole state new rest line tail e s cut p =
     loop_more hooks number a b c whole state new rest line tail s cut (subst (λ h. HasTurned (line_turn h state line) new b c) e p)
 
-pub opened_fails : (hooks hooks' number : ℕ) (a b c : Known) (whole : Transcript) (state : State) (rest line tail : List ℕ) (fault : RunFault) → hooks' ≡ hooks → Sent a b whole (run hooks number state (script_lines rest))
+pub opened_fails : (hooks hooks' number : ℕ) (a b c : Known) (whole : Transcript) (state : State) (rest line tail : List ℕ) (fault : ReplayFault) → hooks' ≡ hooks → Sent a b whole (run hooks number state (script_lines rest))
     → script_lines rest ≡ line ∷ script_lines tail → TurnFails (line_turn hooks' state line) number b c fault → Fails whole a c fault
 opened_fails hooks hooks' number a b c whole state rest line tail fault e s cut p =
     loop_fails hooks number a b c whole state rest line tail fault s cut (subst (λ h. TurnFails (line_turn h state line) number b c fault) e p)
@@ -52,7 +52,7 @@ opened_at_call hooks hooks' number a b c whole state new rest line tail value e 
 
 -- ---- a script from its first line
 
-pub script_runs : (hooks hooks' : ℕ) (first : State) (a b : Known) (lines : List (List ℕ)) (r : Result ℕ RunFault) → hooks' ≡ hooks → first ≡ first_state → Runs (run hooks' 1 first lines) a b r
+pub script_runs : (hooks hooks' : ℕ) (first : State) (a b : Known) (lines : List (List ℕ)) (r : Result ℕ ReplayFault) → hooks' ≡ hooks → first ≡ first_state → Runs (run hooks' 1 first lines) a b r
     → Runs (run hooks 1 first_state lines) a b r
 script_runs hooks hooks' first a b lines r e same p =
     subst (λ state. Runs (run hooks 1 state lines) a b r) same (subst (λ h. Runs (run h 1 first lines) a b r) e p)
@@ -63,7 +63,7 @@ same_opened limits limits' rules rules' forms forms' stage l r f =
     ap (λ x. opened_state x rules' forms' stage) l ∙ ap (λ x. opened_state limits x forms' stage) r ∙ ap (λ x. opened_state limits rules x stage) f
 
 -- what is left runs with the limits and the layers that the first lines gave
-pub opened_runs : (hooks number : ℕ) (limits limits' : Limits) (rules rules' : List Filter) (forms forms' : List Form) (stage : Stage) (value : Option Data) (lines : List ℕ) (a b : Known) (r : Result ℕ RunFault)
+pub opened_runs : (hooks number : ℕ) (limits limits' : Limits) (rules rules' : List Filter) (forms forms' : List Form) (stage : Stage) (value : Option Data) (lines : List ℕ) (a b : Known) (r : Result ℕ ReplayFault)
     → limits' ≡ limits → rules' ≡ rules → forms' ≡ forms
     → Runs (resumed_run hooks number (opened_state limits' rules' forms' stage) value lines) a b r
     → Runs (resumed_run hooks number (opened_state limits rules forms stage) value lines) a b r

@@ -15,7 +15,7 @@ use Rattle.span_replay.specs.Replayed.{Fails, Runs}
 use Rattle.span_script.specs.Script.{script_lines}
 use Rattle.span_replay.specs.State.{State}
 use Rattle.span_replay.specs.inside.Turns.{HasTurned, Sent, TurnFails, opened_state, resumed_run}
-use Rattle.span_run.specs.declared.fault.RunFault.{RunFault}
+use Rattle.span_replay.specs.declared.run.fault.ReplayFault.{ReplayFault}
 use Rattle.span_replay.proofs.Openings.{when_some}
 use Rattle.span_replay.proofs.Resumed.{staged, value_same}
 use Rattle.span_run.proofs.Fronts.{Known}
@@ -35,14 +35,14 @@ first_sent hooks number state new stage value lines a b h p =
     turned_more a b number (value_turn hooks (staged state stage) value) new (λ state'. run hooks (number + 1) state' (script_lines lines))
     (subst (λ meant. HasTurned meant new a b) (value_same hooks state running stage value h) p)
 
-first_fails : (hooks number : ℕ) (state : State) (stage : Stage) (value : Data) (lines : List ℕ) (a b : Known) (fault : RunFault) → is_setup value ≡ false → TurnFails (value_turn hooks (staged state running) value) number a b fault
+first_fails : (hooks number : ℕ) (state : State) (stage : Stage) (value : Data) (lines : List ℕ) (a b : Known) (fault : ReplayFault) → is_setup value ≡ false → TurnFails (value_turn hooks (staged state running) value) number a b fault
     → Fails (resumed_run hooks number (staged state stage) (Some value) lines) a b fault
 first_fails hooks number state stage value lines a b fault h p =
     turned_fails a b number (value_turn hooks (staged state stage) value) (λ state'. run hooks (number + 1) state' (script_lines lines)) fault
     (subst (λ meant. TurnFails meant number a b fault) (value_same hooks state running stage value h) p)
 
 -- the first line and the lines after it ran as they are meant to
-pub rest_sent : {A : Type 0} (seen : A → Data) (number : ℕ) (state new : State) (last : Transcript) (found : Option A) (value : A) (lines : List ℕ) (a b c : Known) (r : Result ⊤ RunFault)
+pub rest_sent : {A : Type 0} (seen : A → Data) (number : ℕ) (state new : State) (last : Transcript) (found : Option A) (value : A) (lines : List ℕ) (a b c : Known) (r : Result ⊤ ReplayFault)
     → found ≡ Some value → IfSome found (λ v. is_setup (seen v) ≡ false)
     → ((hooks : ℕ) → HasTurned (value_turn hooks (staged state running) (seen value)) new a b)
     → OnOk r ((hooks : ℕ) → Sent b c (run hooks (number + 1) new (script_lines lines)) last)
@@ -53,7 +53,7 @@ rest_sent seen number state new last found value lines a b c (Ok _) e h p q = λ
 rest_sent seen number state new last found value lines a b c (Err fault) e h p q = tt
 
 -- the first line ran, and a line after it ended the run
-pub rest_fails : {A : Type 0} (seen : A → Data) (number : ℕ) (state new : State) (found : Option A) (value : A) (lines : List ℕ) (a b c : Known) (r : Result ⊤ RunFault)
+pub rest_fails : {A : Type 0} (seen : A → Data) (number : ℕ) (state new : State) (found : Option A) (value : A) (lines : List ℕ) (a b c : Known) (r : Result ⊤ ReplayFault)
     → found ≡ Some value → IfSome found (λ v. is_setup (seen v) ≡ false)
     → ((hooks : ℕ) → HasTurned (value_turn hooks (staged state running) (seen value)) new a b)
     → IfErr r (λ fault. (hooks : ℕ) → Fails (run hooks (number + 1) new (script_lines lines)) b c fault)
@@ -64,7 +64,7 @@ rest_fails seen number state new found value lines a b c (Err fault) e h p q = �
     (fails_after a b c _ _ fault (first_sent hooks number state new stage (seen value) lines a b (when_some _ _ value e h) (p hooks)) (q hooks))
 
 -- the first line ended the run
-pub value_fails : {A : Type 0} (seen : A → Data) (number : ℕ) (state : State) (found : Option A) (value : A) (lines : List ℕ) (a b : Known) (fault : RunFault)
+pub value_fails : {A : Type 0} (seen : A → Data) (number : ℕ) (state : State) (found : Option A) (value : A) (lines : List ℕ) (a b : Known) (fault : ReplayFault)
     → found ≡ Some value → IfSome found (λ v. is_setup (seen v) ≡ false)
     → ((hooks : ℕ) → TurnFails (value_turn hooks (staged state running) (seen value)) number a b fault)
     → (hooks : ℕ) (stage : Stage) → Fails (resumed_run hooks number (staged state stage) (option_map seen found) lines) a b fault
@@ -83,7 +83,7 @@ abbrev begun : CoreView → Bound → Stage → State
 begun core labels stage = record { core = core; labels = labels; stage = stage }
 
 -- a script of which no call has run is on the registry that it was given
-pub fresh_runs : (hooks number : ℕ) (stage : Stage) (core core' : CoreView) (labels : Bound) (value : Option Data) (lines : List ℕ) (a b : Known) (r : Result ℕ RunFault)
+pub fresh_runs : (hooks number : ℕ) (stage : Stage) (core core' : CoreView) (labels : Bound) (value : Option Data) (lines : List ℕ) (a b : Known) (r : Result ℕ ReplayFault)
     → core' ≡ core → labels ≡ []
     → Runs (resumed_run hooks number (record { core = core'; labels = labels; stage = stage }) value lines) a b r
     → Runs (resumed_run hooks number (record { core = core; labels = []; stage = stage }) value lines) a b r
@@ -92,7 +92,7 @@ fresh_runs hooks number stage core core' labels value lines a b r same none p =
     (subst (λ k. Runs (resumed_run hooks number (begun k labels stage) value lines) a b r) same p)
 
 -- it runs as what is left is meant to
-pub made_runs : (hooks number : ℕ) (limits : Limits) (rules : List Filter) (forms : List Form) (stage : Stage) (core : CoreView) (labels : Bound) (value : Option Data) (lines : List ℕ) (a b : Known) (r : Result ℕ RunFault)
+pub made_runs : (hooks number : ℕ) (limits : Limits) (rules : List Filter) (forms : List Form) (stage : Stage) (core : CoreView) (labels : Bound) (value : Option Data) (lines : List ℕ) (a b : Known) (r : Result ℕ ReplayFault)
     → core ≡ (opened_state limits rules forms stage).core → labels ≡ []
     → Runs (resumed_run hooks number (record { core = core; labels = labels; stage = stage }) value lines) a b r
     → Runs (resumed_run hooks number (opened_state limits rules forms stage) value lines) a b r

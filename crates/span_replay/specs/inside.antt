@@ -6,3 +6,4 @@ pub mod Calls
 pub mod Setup
 pub mod Ended
 pub mod Reaching
+pub mod Reading

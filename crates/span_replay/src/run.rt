@@ -1,6 +1,7 @@
 //! The run of a script: its lines on the registry's core, the tidying, and what is written.
 pub mod answer;
 pub mod calls;
+pub mod device;
 pub mod explained;
 pub mod fault;
 pub mod hooks;

@@ -14,8 +14,8 @@ use Rattle.span_script.specs.Script.{script_lines}
 use Rattle.span_replay.specs.State.{State}
 use Rattle.span_replay.specs.Written.{Written, written_after}
 use Rattle.span_script.specs.declared.reason.Reason.{Reason}
-use Rattle.span_run.specs.declared.fault.RunFault.{RunFault}
-use Rattle.span_run.specs.declared.fault.RunFault.TheVariants.{Script, Memory, Device, Refused, Held}
+use Rattle.span_replay.specs.declared.run.fault.ReplayFault.{ReplayFault}
+use Rattle.span_replay.specs.declared.run.fault.ReplayFault.TheVariants.{Script, Memory, Read, Write}
 
 -- an operation that comes before all calls
 abbrev pub SetsUp : Operation → Type 0
@@ -58,12 +58,11 @@ pub record HasBegun (meant : Result Turn Reason) (old new : Option (List ℕ)) :
   pub front : AppendsFront old new turn.text
 
 -- why the line of this number ended the run
-abbrev pub TurnFails : Result Turn Reason → ℕ → Option (List ℕ) → Option (List ℕ) → RunFault → Type 0
+abbrev pub TurnFails : Result Turn Reason → ℕ → Option (List ℕ) → Option (List ℕ) → ReplayFault → Type 0
 TurnFails meant number old new (Script line reason) = (line ≡ number) × (meant ≡ Err reason) × Keeps old new
 TurnFails meant number old new Memory = Keeps old new
-TurnFails meant number old new (Device side) = HasBegun meant old new
-TurnFails meant number old new (Refused fault) = ⊥
-TurnFails meant number old new (Held party) = ⊥
+TurnFails meant number old new Read = HasBegun meant old new
+TurnFails meant number old new Write = HasBegun meant old new
 
 -- a text was written, and it is what is meant as a whole, before what is still meant for the rest
 pub record Sent (old new : Option (List ℕ)) (whole more : Transcript) : Type 0 where
@@ -77,12 +76,11 @@ pub record AreMade (written : Written) (core : CoreView) (old new : Option (List
   pub taken : Appends old new written.text
 
 -- a run failed without a fault of the script: a front of the text was written
-abbrev pub TextFails : List ℕ → Option (List ℕ) → Option (List ℕ) → RunFault → Type 0
+abbrev pub TextFails : List ℕ → Option (List ℕ) → Option (List ℕ) → ReplayFault → Type 0
 TextFails text old new (Script line reason) = ⊥
 TextFails text old new Memory = AppendsFront old new text
-TextFails text old new (Device side) = AppendsFront old new text
-TextFails text old new (Refused fault) = ⊥
-TextFails text old new (Held party) = ⊥
+TextFails text old new Read = AppendsFront old new text
+TextFails text old new Write = AppendsFront old new text
 
 -- a text was written, and it is that of the calls as a whole, before those that are still to be made
 pub record ArePartlyMade (old new : Option (List ℕ)) (whole more : Written) : Type 0 where

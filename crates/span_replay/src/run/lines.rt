@@ -8,12 +8,13 @@ ghost use Rattle.span_replay.specs.Meaning.{last_part, line_turn, run, value_tur
 ghost use Rattle.span_script.specs.Operation.{Stage, is_setup, running};
 ghost use Rattle.span_script.specs.Reason.{StopsFor};
 ghost use Rattle.span_replay.specs.Replayed.{Fails, Runs};
-ghost use Rattle.span_run.specs.RunFault.{EndsAsCounted};
+ghost use Rattle.span_replay.specs.ReplayFault.{EndsAsCounted};
 ghost use Rattle.span_replay.specs.inside.Running.{IsWritten, state_at};
 ghost use Rattle.span_script.specs.Script.{is_skipped, script_lines, most_bytes};
 ghost use Rattle.span_replay.specs.inside.Turns.{HasTurned, Sent, TurnFails, resumed_run};
 
-use crate::run::fault::at_line;
+use crate::run::device::send;
+use crate::run::fault::{ReplayFault, at_line};
 use crate::run::opening::Rest;
 use crate::run::script::Script;
 use crate::run::tidying::{Remains, let_go, tidy};
@@ -21,7 +22,7 @@ use span_core::Core;
 use span_json::{Scratch, Value};
 use span_layers::{Admit, Say};
 use span_outlet::Latest;
-use span_run::{Counted, RunFault, write_text};
+use span_run::Counted;
 use span_script::{LineMetas, Stop, cut_line, is_skipped, json_line, operation_with_metas};
 use std::alloc::Global;
 use std::io::Write;
@@ -36,8 +37,7 @@ pub fn run_rest<V: Say, A: Admit, W: Write>(
     remains: Remains,
     text: &mut Vec<u8>,
     output: &mut Counted<W>,
-) -> Result<u64, RunFault>
-    requires failed { failed_of output.old < 2 ^ 63 }
+) -> Result<u64, ReplayFault>
     requires fresh { core.sent ≡ [] }
     requires workers { workers ≡ core.limits.workers }
     requires some { 1 ≤ workers }
@@ -63,8 +63,7 @@ fn run_to_end<V: Say, A: Admit, W: Write>(
     remains: Remains,
     text: &mut Vec<u8>,
     output: &mut Counted<W>,
-) -> Result<u64, RunFault>
-    requires failed { failed_of output.old < 2 ^ 63 }
+) -> Result<u64, ReplayFault>
     requires written { IsWritten script }
     requires call { IfSome rest.value (λ value. is_setup (view value) ≡ false) }
     requires done { IfNone rest.value (rest.lines.now ≡ []) }
@@ -89,8 +88,7 @@ fn run_and_tidy<V: Say, A: Admit, W: Write>(
     script: &mut Script<V, A>,
     text: &mut Vec<u8>,
     output: &mut Counted<W>,
-) -> Result<u64, RunFault>
-    requires failed { failed_of output.old < 2 ^ 63 }
+) -> Result<u64, ReplayFault>
     requires written { IsWritten script.old }
     requires call { IfSome rest.value (λ value. is_setup (view value) ≡ false) }
     requires done { IfNone rest.value (rest.lines.now ≡ []) }
@@ -115,8 +113,7 @@ fn run_first<V: Say, A: Admit, W: Write>(
     script: &mut Script<V, A>,
     text: &mut Vec<u8>,
     output: &mut Counted<W>,
-) -> Result<(), RunFault>
-    requires failed { failed_of output.old < 2 ^ 63 }
+) -> Result<(), ReplayFault>
     requires written { IsWritten script.old }
     requires call { IfSome rest.value (λ value. is_setup (view value) ≡ false) }
     requires done { IfNone rest.value (rest.lines.now ≡ []) }
@@ -156,8 +153,7 @@ fn run_lines<V: Say, A: Admit, W: Write>(
     script: &mut Script<V, A>,
     text: &mut Vec<u8>,
     output: &mut Counted<W>,
-) -> Result<(), RunFault>
-    requires failed { failed_of output.old < 2 ^ 63 }
+) -> Result<(), ReplayFault>
     requires written { IsWritten script.old }
     requires place { first + length lines.now ≤ most_bytes + 2 }
     ensures sent { OnOk result ((hooks : ℕ) → Sent (W.contents (inner_of output.old)) (W.contents (inner_of output.new))
@@ -208,8 +204,7 @@ fn run_line<V: Say, A: Admit, W: Write>(
     script: &mut Script<V, A>,
     text: &mut Vec<u8>,
     output: &mut Counted<W>,
-) -> Result<(), RunFault>
-    requires failed { failed_of output.old < 2 ^ 63 }
+) -> Result<(), ReplayFault>
     requires written { IsWritten script.old }
     requires read { is_skipped line.now ≡ false }
     ensures turned { OnOk result
@@ -238,8 +233,7 @@ fn run_value<V: Say, A: Admit, W: Write>(
     script: &mut Script<V, A>,
     text: &mut Vec<u8>,
     output: &mut Counted<W>,
-) -> Result<(), RunFault>
-    requires failed { failed_of output.old < 2 ^ 63 }
+) -> Result<(), ReplayFault>
     requires written { IsWritten script.old }
     ensures turned { OnOk result
         ((hooks : ℕ) → HasTurned (value_turn hooks (state_at script.old running) (view line.entry))
@@ -253,7 +247,7 @@ fn run_value<V: Say, A: Admit, W: Write>(
     ensures flushes { flushes_of output.new ≡ flushes_of output.old }
 {
     match call(alloc, &line, metas, script, text) {
-        Ok(()) => write_text(output, text.as_slice()),
+        Ok(()) => send(output, text.as_slice()),
         Err(stop) => Err(at_line(number, stop)),
     }
 }

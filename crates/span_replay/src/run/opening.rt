@@ -6,14 +6,15 @@ ghost use Rattle.span_run.specs.Counted.{inner_of, failed_of, flushes_of};
 ghost use Rattle.span_replay.specs.Meaning.{line_turn, value_turn};
 ghost use Rattle.span_script.specs.Operation.{is_setup};
 ghost use Rattle.span_script.specs.Script.{is_skipped};
-ghost use Rattle.span_run.specs.RunFault.{EndsAsCounted};
+ghost use Rattle.span_replay.specs.ReplayFault.{EndsAsCounted};
 ghost use Rattle.span_replay.specs.inside.Setup.{hooks_in, setup_state};
 ghost use Rattle.span_replay.specs.inside.Turns.{HasTurned, TurnFails};
 
-use crate::run::fault::at_line;
+use crate::run::device::send;
+use crate::run::fault::{ReplayFault, at_line};
 use crate::run::setup::Setup;
 use span_json::{Scratch, Value};
-use span_run::{Counted, RunFault, write_text};
+use span_run::Counted;
 use span_script::{is_setup_line, json_line};
 use std::alloc::Global;
 use std::io::Write;
@@ -38,8 +39,7 @@ pub fn open_line<'s, A: Drop, F: Drop, W: Write>(
     setup: &mut Setup<A, F>,
     text: &mut Vec<u8>,
     output: &mut Counted<W>,
-) -> Result<Option<Value<'s>>, RunFault>
-    requires failed { failed_of output.old < 2 ^ 63 }
+) -> Result<Option<Value<'s>>, ReplayFault>
     requires read { is_skipped line.now ≡ false }
     ensures turned { IfOk result
         (λ value. IfNone value (HasTurned (line_turn (hooks_in setup.old) (setup_state setup.old) line.now)
@@ -72,8 +72,7 @@ fn open_value<'s, A: Drop, F: Drop, W: Write>(
     setup: &mut Setup<A, F>,
     text: &mut Vec<u8>,
     output: &mut Counted<W>,
-) -> Result<Option<Value<'s>>, RunFault>
-    requires { failed_of output.old < 2 ^ 63 }
+) -> Result<Option<Value<'s>>, ReplayFault>
     ensures turned { IfOk result
         (λ left. IfNone left (HasTurned (value_turn (hooks_in setup.old) (setup_state setup.old) (view value.entry))
         (setup_state setup.new)
@@ -106,8 +105,7 @@ fn set_up<A: Drop, F: Drop, W: Write>(
     setup: &mut Setup<A, F>,
     text: &mut Vec<u8>,
     output: &mut Counted<W>,
-) -> Result<(), RunFault>
-    requires failed { failed_of output.old < 2 ^ 63 }
+) -> Result<(), ReplayFault>
     requires line { is_setup (view value.now) ≡ true }
     ensures turned { OnOk result (HasTurned (value_turn (hooks_in setup.old) (setup_state setup.old) (view value.now))
         (setup_state setup.new) (W.contents (inner_of output.old)) (W.contents (inner_of output.new))) }
@@ -119,7 +117,7 @@ fn set_up<A: Drop, F: Drop, W: Write>(
     ensures flushes { flushes_of output.new ≡ flushes_of output.old }
 {
     match setup.run(alloc, value, text) {
-        Ok(()) => write_text(output, text.as_slice()),
+        Ok(()) => send(output, text.as_slice()),
         Err(stop) => Err(at_line(number, stop)),
     }
 }

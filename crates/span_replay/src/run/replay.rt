@@ -7,13 +7,15 @@ ghost use Rattle.span_json.specs.Seen.{view};
 ghost use Rattle.span_run.specs.Counted.{inner_of, calls_of, failed_of, flushes_of, flushed_of};
 ghost use Rattle.span_replay.specs.Meaning.{run};
 ghost use Rattle.span_replay.specs.Replayed.{FlushesOnce, IsReplayed, IsWrittenWhole, KeepsUnread, Runs};
-ghost use Rattle.span_run.specs.RunFault.{EndsAsCounted};
+ghost use Rattle.span_replay.specs.ReplayFault.{EndsAsCounted};
 ghost use Rattle.span_script.specs.Operation.{Stage, is_setup};
 ghost use Rattle.span_script.specs.Script.{script_lines, most_bytes};
 ghost use Rattle.span_replay.specs.State.{first_state};
 ghost use Rattle.span_replay.specs.inside.Setup.{hooks_in, opened_in, setup_state};
 ghost use Rattle.span_replay.specs.inside.Turns.{resumed_run};
 
+use crate::run::device::{flush, read_script};
+use crate::run::fault::ReplayFault;
 use crate::run::lines::run_rest;
 use crate::run::opening::{Rest, open_line};
 use crate::run::setup::{Opened, Setup};
@@ -22,7 +24,7 @@ use span_core::Core;
 use span_json::Scratch;
 use span_layers::{Admit, Admitters, Formatters, Hooks, Say};
 use span_outlet::Latest;
-use span_run::{Counted, RunFault, flush, read_script};
+use span_run::Counted;
 use span_script::{cut_line, is_skipped};
 use std::alloc::Global;
 use std::io::{Read, Write};
@@ -32,7 +34,7 @@ use std::io::{Read, Write};
 /// The input is read to its end first. Each layer takes one of the hooks, in their order. Where the result is `Ok`,
 /// what was written is the notes and the answer of each line, those of the tidying, and then how many spans are left
 /// open, which is the result, and which is 0. What the run kept is then freed or left, as `remains` says. After a fault
-/// of the script the text of the lines before it stands. After `Memory` and `Device` a front of the text went out, and
+/// of the script the text of the lines before it stands. After `Memory`, `Read` and `Write` a front of the text went out, and
 /// nothing where it was the reader that failed. The output is flushed by one call, which is the last: where memory is
 /// refused or a device fails before it, there is none.
 pub fn replay<R: Read, W: Write>(
@@ -41,10 +43,7 @@ pub fn replay<R: Read, W: Write>(
     output: &mut Counted<W>,
     hooks: Vec<Hooks>,
     remains: Remains,
-) -> Result<u64, RunFault>
-    requires calls { calls_of input.old < 2 ^ 63 }
-    requires reads_failed { failed_of input.old < 2 ^ 63 }
-    requires failed { failed_of output.old < 2 ^ 63 }
+) -> Result<u64, ReplayFault>
     ensures replayed { IfSome (R.remaining (inner_of input.old)) (λ bytes.
         IsReplayed (vec_len hooks) bytes
         (W.contents (inner_of output.old)) (W.contents (inner_of output.new)) result) }
@@ -69,13 +68,10 @@ pub fn replay_with<A: Drop, F: Drop, R: Read, W: Write>(
     output: &mut Counted<W>,
     hooks: Vec<Hooks<A, F>>,
     remains: Remains,
-) -> Result<u64, RunFault>
+) -> Result<u64, ReplayFault>
 where
     Admitters<A>: Admit,
     Formatters<F>: Say,
-    requires calls { calls_of input.old < 2 ^ 63 }
-    requires reads_failed { failed_of input.old < 2 ^ 63 }
-    requires failed { failed_of output.old < 2 ^ 63 }
     ensures replayed { IfSome (R.remaining (inner_of input.old)) (λ bytes.
         IsReplayed (vec_len hooks) bytes
         (W.contents (inner_of output.old)) (W.contents (inner_of output.new)) result) }
@@ -95,14 +91,13 @@ where
             Ok(()) => Ok(left),
             Err(fault) => Err(fault),
         },
-        Err(RunFault::Script(number, reason)) => match flush(output) {
-            Ok(()) => Err(RunFault::Script(number, reason)),
+        Err(ReplayFault::Script(number, reason)) => match flush(output) {
+            Ok(()) => Err(ReplayFault::Script(number, reason)),
             Err(fault) => Err(fault),
         },
-        Err(RunFault::Memory) => Err(RunFault::Memory),
-        Err(RunFault::Device(side)) => Err(RunFault::Device(side)),
-        // A script's calls that are refused are answered, and nobody holds a run.
-        Err(RunFault::Refused(_) | RunFault::Held(_)) => unreachable!(),
+        Err(ReplayFault::Memory) => Err(ReplayFault::Memory),
+        Err(ReplayFault::Read) => Err(ReplayFault::Read),
+        Err(ReplayFault::Write) => Err(ReplayFault::Write),
     }
 }
 
@@ -113,13 +108,10 @@ fn perform<A: Drop, F: Drop, R: Read, W: Write>(
     output: &mut Counted<W>,
     hooks: Vec<Hooks<A, F>>,
     remains: Remains,
-) -> Result<u64, RunFault>
+) -> Result<u64, ReplayFault>
 where
     Admitters<A>: Admit,
     Formatters<F>: Say,
-    requires calls { calls_of input.old < 2 ^ 63 }
-    requires reads_failed { failed_of input.old < 2 ^ 63 }
-    requires failed { failed_of output.old < 2 ^ 63 }
     ensures replayed { IfSome (R.remaining (inner_of input.old)) (λ bytes.
         IsReplayed (vec_len hooks) bytes
         (W.contents (inner_of output.old)) (W.contents (inner_of output.new)) result) }
@@ -143,11 +135,10 @@ fn run_script<A: Drop, F: Drop, W: Write>(
     output: &mut Counted<W>,
     hooks: Vec<Hooks<A, F>>,
     remains: Remains,
-) -> Result<u64, RunFault>
+) -> Result<u64, ReplayFault>
 where
     Admitters<A>: Admit,
     Formatters<F>: Say,
-    requires failed { failed_of output.old < 2 ^ 63 }
     requires fits { length script.now ≤ most_bytes }
     ensures runs { Runs (run (vec_len hooks) 1 first_state (script_lines script.now))
         (W.contents (inner_of output.old)) (W.contents (inner_of output.new)) result }
@@ -169,11 +160,10 @@ fn run_all<A: Drop, F: Drop, W: Write>(
     remains: Remains,
     text: &mut Vec<u8>,
     output: &mut Counted<W>,
-) -> Result<u64, RunFault>
+) -> Result<u64, ReplayFault>
 where
     Admitters<A>: Admit,
     Formatters<F>: Say,
-    requires failed { failed_of output.old < 2 ^ 63 }
     requires fits { length script.now ≤ most_bytes }
     ensures runs { Runs (run (hooks_in setup) 1 (setup_state setup) (script_lines script.now))
         (W.contents (inner_of output.old)) (W.contents (inner_of output.new)) result }
@@ -220,11 +210,10 @@ fn run_set_up<A: Drop, F: Drop, W: Write>(
     remains: Remains,
     text: &mut Vec<u8>,
     output: &mut Counted<W>,
-) -> Result<u64, RunFault>
+) -> Result<u64, ReplayFault>
 where
     Admitters<A>: Admit,
     Formatters<F>: Say,
-    requires failed { failed_of output.old < 2 ^ 63 }
     requires call { IfSome rest.value (λ value. is_setup (view value) ≡ false) }
     requires done { IfNone rest.value (rest.lines.now ≡ []) }
     requires place { rest.number + length rest.lines.now ≤ most_bytes + 1 }
@@ -250,8 +239,7 @@ fn run_opened<V: Say, A: Admit, W: Write>(
     remains: Remains,
     text: &mut Vec<u8>,
     output: &mut Counted<W>,
-) -> Result<u64, RunFault>
-    requires failed { failed_of output.old < 2 ^ 63 }
+) -> Result<u64, ReplayFault>
     requires call { IfSome rest.value (λ value. is_setup (view value) ≡ false) }
     requires done { IfNone rest.value (rest.lines.now ≡ []) }
     requires place { rest.number + length rest.lines.now ≤ most_bytes + 1 }
@@ -270,6 +258,6 @@ fn run_opened<V: Say, A: Admit, W: Write>(
     let workers = checked.limits().workers;
     match Core::with_admitters(alloc, &checked, latest, rules, admitters) {
         Ok(core) => run_rest(alloc, workers, core, rest, remains, text, output),
-        Err(_) => Err(RunFault::Memory),
+        Err(_) => Err(ReplayFault::Memory),
     }
 }

@@ -84,5 +84,8 @@ returns-in-Err-flush-clause-counts g c =
 pub returns-in-Err-Memory-clause-left : goal.returns-in-Err-Memory-clause-left
 returns-in-Err-Memory-clause-left g c = none_told _
 
-pub returns-in-Err-Device-clause-left : goal.returns-in-Err-Device-clause-left
-returns-in-Err-Device-clause-left g c = none_told _
+pub returns-in-Err-Read-clause-left : goal.returns-in-Err-Read-clause-left
+returns-in-Err-Read-clause-left g c = none_told _
+
+pub returns-in-Err-Write-clause-left : goal.returns-in-Err-Write-clause-left
+returns-in-Err-Write-clause-left g c = none_told _

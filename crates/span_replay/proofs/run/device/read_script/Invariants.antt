@@ -2,7 +2,7 @@ use Rattle.std.proofs.Common.{◌≡◌, ◌+◌, ◌-◌, ◌≤◌, vec_len}
 use Rattle.std.specs.Io.KnownBytes.{Consumes}
 use Rattle.span_run.specs.Counted.{inner_of, calls_of, failed_of}
 use Rattle.span_script.specs.Script.{most_bytes}
-use Rattle.span_run.proofs.transfer.read_script.Given as goal
+use Rattle.span_replay.proofs.run.device.read_script.Given as goal
 
 abbrev pub invariant-loop-block : goal.invariant-loop-block
 invariant-loop-block g l = record {
