@@ -1,9 +1,6 @@
 -- What is told of the spans that are open where a script's lines end.
 use Rattle.std.proofs.Common.{◌≡◌, ℕ, ◌+◌, List, [], ◌∷◌, refl, sym, ap, ◌∙◌, subst, Option, Some, None, Result, Ok, Err, length, false, true, map, ◌++◌, ◌<◌, append_assoc, append-nil}
 use Rattle.std.specs.Prelude.{option_and_then, IfOk}
-use Rattle.span_id.specs.declared.limits.Limits.{Limits}
-use Rattle.span_layers.specs.Filter.{Filter}
-use Rattle.span_layers.specs.declared.form.Form.{Form}
 use Rattle.std.specs.Result.{result_ok}
 use Rattle.serde_json.specs.Data.{Data}
 use Rattle.span_core.specs.Core.{CoreView}
@@ -13,7 +10,6 @@ use Rattle.span_replay.specs.Meaning.{Turn, Transcript, finished, faulty, value_
 use Rattle.span_replay.specs.State.{State}
 use Rattle.span_replay.specs.declared.run.explained.Explained.{Explained}
 use Rattle.span_replay.specs.inside.Reaching.{EndsAt, EndsAs, HasEnded, IsExplained, KnowsWorkers, SetsTo, text_of, resumed_why, begun_at}
-use Rattle.span_replay.specs.inside.Turns.{opened_state}
 use Rattle.span_replay.proofs.Reachings.{at_lines, why_more}
 use Rattle.span_replay.proofs.Resumed.{staged, value_same}
 use Rattle.span_replay.proofs.Stages.{same_at_each_stage}
@@ -111,22 +107,12 @@ begun_explained (Ok e) about number core core' labels lines value rest call same
     (p hooks)
 begun_explained (Err fault) about number core core' labels lines value rest call same none empty p = tt
 
--- with the limits and the layers that the first lines gave
-pub opened_explained : (r : Result Explained ReplayFault) (about : Option (List ℕ)) (number : ℕ) (limits : Limits) (rules : List Filter) (forms forms' : List Form) (core : CoreView) (value : Data) (rest : List ℕ) → forms' ≡ forms → ((stage : Stage) → core ≡ (opened_state limits rules forms' stage).core)
-    → IfOk r (λ e. (hooks : ℕ) (stage : Stage) → IsExplained (resumed_why hooks about number (begun_at core stage) value rest) e)
-    → IfOk r (λ e. (hooks : ℕ) (stage : Stage) → IsExplained (resumed_why hooks about number (at_lines (opened_state limits rules forms stage) []) value rest) e)
-opened_explained (Ok e) about number limits rules forms forms' core value rest same is p = λ hooks stage.
-    subst (λ meant. IsExplained meant e)
-    ((λ i. resumed_why hooks about number (at_lines (record { core = is stage i; labels = []; stage = stage }) []) value rest)
-    ∙ ap (λ f. resumed_why hooks about number (at_lines (opened_state limits rules f stage) []) value rest) same)
-    (p hooks stage)
-opened_explained (Err fault) about number limits rules forms forms' core value rest same is p = tt
-
-pub split_explained : (r : Result Explained ReplayFault) (about : Option (List ℕ)) (number : ℕ) (opened : Stage → State) (state : State) (value : Data) (rest : List ℕ) → opened state.stage ≡ state
-    → IfOk r (λ e. (hooks : ℕ) (stage : Stage) → IsExplained (resumed_why hooks about number (at_lines (opened stage) []) value rest) e)
-    → IfOk r (λ e. (hooks : ℕ) → IsExplained (resumed_why hooks about number (at_lines state []) value rest) e)
-split_explained (Ok e) about number opened state value rest same p = λ hooks. subst (λ s. IsExplained (resumed_why hooks about number (at_lines s []) value rest) e) same (p hooks state.stage)
-split_explained (Err fault) about number opened state value rest same p = tt
+-- the stage is the one to which the first lines came
+pub at_its_stage : (r : Result Explained ReplayFault) (about : Option (List ℕ)) (number : ℕ) (state : State) (value : Data) (rest : List ℕ)
+    → IfOk r (λ e. (hooks : ℕ) (stage : Stage) → IsExplained (resumed_why hooks about number (begun_at state.core stage) value rest) e)
+    → IfOk r (λ e. (hooks : ℕ) → IsExplained (resumed_why hooks about number (begun_at state.core state.stage) value rest) e)
+at_its_stage (Ok e) about number state value rest p = λ hooks. p hooks state.stage
+at_its_stage (Err fault) about number state value rest p = tt
 
 -- ---- the lines before the first call
 

@@ -1,5 +1,5 @@
 -- The one flush at the end of a run: what stands before it and after it, and the failed calls that are counted.
-use Rattle.std.proofs.Common.{◌≡◌, ℕ, ◌+◌, List, [], Bool, Some, None, Result, Ok, Err, IfSome, arith, sym, subst, append-nil, inl, inr}
+use Rattle.std.proofs.Common.{◌≡◌, ℕ, List, [], Bool, Some, None, Result, Ok, Err, IfSome, arith, sym, subst, append-nil, inl, inr}
 use Rattle.std.specs.Io.KnownBytes.{Appends, Keeps}
 use Rattle.std.proofs.KnownBytes.{Appends-kept}
 use Rattle.span_run.specs.Counted.{next_count}

@@ -1,6 +1,7 @@
 -- What only the proofs of this crate need: no public clause cites it.
 pub mod Turns
 pub mod Running
+pub mod Progress
 pub mod Sending
 pub mod Calls
 pub mod Setup

@@ -9,10 +9,9 @@ use Rattle.span_replay.specs.declared.run.explained.Explained.{Explained}
 use Rattle.span_replay.specs.declared.run.reaching.Reaching.{Reaching}
 use Rattle.span_core.specs.Core.{CoreView}
 use Rattle.span_replay.specs.State.{State}
-use Rattle.span_replay.specs.declared.run.setup.Opened.{Opened}
 use Rattle.span_replay.specs.declared.run.setup.Setup.{Setup}
 use Rattle.span_replay.specs.inside.Running.{state_at}
-use Rattle.span_replay.specs.inside.Setup.{opened_in, setup_state}
+use Rattle.span_replay.specs.inside.Setup.{setup_state}
 use Rattle.span_why.specs.Why.{PlainOpenSpan, why_text, why_of_text}
 use Rattle.span_script.specs.Operation.{Stage}
 use Rattle.span_script.specs.Script.{script_lines}
@@ -77,10 +76,6 @@ text_of spans (Some label) id = why_of_text spans id
 -- how far the lines before the first call have run
 abbrev pub set_up_at : {A F : _} → Setup A F → Reached
 set_up_at setup = record { state = setup_state setup; lines = [] }
-
--- how far lines have run that are all in the set-up
-abbrev pub opened_at : Opened → Stage → Reached
-opened_at opened stage = record { state = opened_in opened stage; lines = [] }
 
 -- a core of which no call was made
 abbrev pub begun_at : CoreView → Stage → Reached

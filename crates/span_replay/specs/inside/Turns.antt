@@ -1,16 +1,14 @@
 -- What came of a line, and of lines one after another: no public clause cites it.
-use Rattle.std.specs.Prelude.{◌≡◌, ℕ, ◌+◌, List, [], Option, Some, None, Result, Ok, Err}
+use Rattle.std.specs.Prelude.{◌≡◌, ℕ, List, [], Option, None, Result, Ok, Err}
 use Rattle.std.specs.Io.KnownBytes.{Appends, Keeps}
-use Rattle.serde_json.specs.Data.{Data}
 use Rattle.span_id.specs.declared.limits.Limits.{Limits}
 use Rattle.span_layers.specs.Filter.{Filter}
 use Rattle.span_layers.specs.declared.form.Form.{Form}
 use Rattle.span_core.specs.Core.{CoreView}
 use Rattle.span_core.specs.World.{empty_world}
 use Rattle.span_run.specs.Device.{AppendsFront}
-use Rattle.span_replay.specs.Meaning.{Turn, Transcript, transcript_after, value_turn, turn_then, run}
+use Rattle.span_replay.specs.Meaning.{Turn, Transcript, transcript_after}
 use Rattle.span_script.specs.Operation.{Operation, Stage, set_limits, add_layer}
-use Rattle.span_script.specs.Script.{script_lines}
 use Rattle.span_replay.specs.State.{State}
 use Rattle.span_replay.specs.Written.{Written, written_after}
 use Rattle.span_script.specs.declared.reason.Reason.{Reason}
@@ -38,12 +36,6 @@ opened_state limits rules forms stage = record {
   labels = [];
   stage = stage;
 }
-
--- a run goes on with the line of this number, whose JSON value was read already, or else with the first of the lines
-abbrev pub resumed_run : ℕ → ℕ → State → Option Data → List ℕ → Transcript
-resumed_run hooks number state None lines = run hooks number state (script_lines lines)
-resumed_run hooks number state (Some value) lines =
-    turn_then number (value_turn hooks state value) (λ new. run hooks (number + 1) new (script_lines lines))
 
 -- the line did what is meant, which leaves this state, and its text was written
 pub record HasTurned (meant : Result Turn Reason) (state : State) (old new : Option (List ℕ)) : Type 0 where

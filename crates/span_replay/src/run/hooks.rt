@@ -6,7 +6,7 @@ ghost use Rattle.span_replay.specs.Replayed.{FlushesOnce, IsReplayed, IsWrittenW
 ghost use Rattle.span_replay.specs.ReplayFault.{EndsAsCounted};
 
 use crate::run::fault::ReplayFault;
-use crate::run::replay::replay_with;
+use crate::run::replay::replay;
 use crate::run::tidying::Remains;
 use span_layers::{ByForm, ByRule, Hooks, MAX_LAYERS};
 use span_run::Counted;
@@ -37,7 +37,7 @@ pub fn replay_with_layers<R: Read, W: Write>(
 {
     // No script has more than MAX_LAYERS layers. What they call is alike, and takes one block for the list.
     match plain_hooks(alloc, layers.min(MAX_LAYERS)) {
-        Ok(hooks) => replay_with(alloc, input, output, hooks, remains),
+        Ok(hooks) => replay(alloc, input, output, hooks, remains),
         Err(_) => Err(ReplayFault::Memory),
     }
 }

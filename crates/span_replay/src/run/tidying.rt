@@ -37,11 +37,11 @@ pub enum Remains {
 }
 
 /// Frees what a run kept, or leaves it to the system where that is asked for and the run ended well.
-pub fn let_go<V: Say, A: Admit>(script: Script<V, A>, remains: Remains, ended_well: bool) {
+pub fn let_go<T: Drop>(kept: T, remains: Remains, ended_well: bool) {
     if ended_well && remains == Remains::Left {
-        mem::forget(script);
+        mem::forget(kept);
     } else {
-        drop(script);
+        drop(kept);
     }
 }
 

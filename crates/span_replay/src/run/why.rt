@@ -9,10 +9,10 @@ ghost use Rattle.span_replay.specs.Explained.{IsWholeWhy, first_reached, label_b
 ghost use Rattle.span_replay.specs.Meaning.{Transcript, line_turn, value_turn};
 ghost use Rattle.span_replay.specs.Replayed.{FlushesOnce, KeepsUnread, Runs};
 ghost use Rattle.span_replay.specs.inside.Reaching.{HasEnd, IsExplained, IsOfReading, SetsTo};
-ghost use Rattle.span_replay.specs.inside.Reaching.{begun_at, opened_at, reached_at, resumed_why, set_up_at};
+ghost use Rattle.span_replay.specs.inside.Reaching.{reached_at, resumed_why, set_up_at};
 ghost use Rattle.span_replay.specs.inside.Running.{IsWritten};
 ghost use Rattle.span_replay.specs.inside.Setup.{hooks_in, setup_state};
-ghost use Rattle.span_script.specs.Operation.{Stage, is_setup, running};
+ghost use Rattle.span_script.specs.Operation.{is_setup, running};
 ghost use Rattle.span_script.specs.Reason.{StopsFor};
 ghost use Rattle.span_script.specs.Script.{is_skipped, script_lines, most_bytes};
 
@@ -20,13 +20,11 @@ use crate::run::device::{flush, read_script, send};
 use crate::run::explained::{Explained, explain, nothing_open};
 use crate::run::fault::ReplayFault;
 use crate::run::hooks::plain_hooks;
+use crate::run::opening::open;
 use crate::run::reaching::{Reaching, run_rest};
-use crate::run::script::Script;
-use crate::run::setup::{Opened, Setup};
-use span_core::Core;
+use crate::run::setup::Setup;
 use span_json::{Scratch, Value};
 use span_layers::{Admit, Admitters, Formatters, MAX_LAYERS, Say};
-use span_outlet::Latest;
 use span_run::Counted;
 use span_script::{Stop, cut_line, is_setup_line, is_skipped, json_line};
 use std::alloc::Global;
@@ -224,68 +222,16 @@ where
         (resumed_why hooks (option_copied about.entry) number (set_up_at setup) (view value.now) lines.now) explained) }
     ensures memory { IfErr result (λ fault. fault ≡ ReplayFault.Memory) }
 {
-    let (opened, admitters, formatters) = setup.split();
-    explain_opened(
-        alloc, opened, admitters, formatters, number, value, lines, about,
-    )
-}
-
-/// The same, of what the first lines gave.
-fn explain_opened<V: Say, A: Admit>(
-    alloc: Global,
-    opened: Opened,
-    admitters: A,
-    formatters: V,
-    number: u64,
-    value: &Value<'_>,
-    lines: &[u8],
-    about: Option<&str>,
-) -> Result<Explained, ReplayFault>
-    requires call { is_setup (view value.now) ≡ false }
-    requires place { number + length lines.now ≤ most_bytes + 1 }
-    ensures explained { IfOk result (λ explained. (hooks : ℕ) (stage : Stage) → IsExplained
-        (resumed_why hooks (option_copied about.entry) number (opened_at opened stage) (view value.now) lines.now)
-        explained) }
-    ensures memory { IfErr result (λ fault. fault ≡ ReplayFault.Memory) }
-{
-    let Opened {
-        checked,
-        rules,
-        forms,
-    } = opened;
-    let latest = Latest::with_formatters(alloc, forms, formatters);
-    let workers = checked.limits().workers;
-    match Core::with_admitters(alloc, &checked, latest, rules, admitters) {
-        Ok(core) => explain_core(alloc, workers, core, number, value, lines, about),
+    match open(alloc, setup) {
+        Ok(script) => {
+            let mut reaching = Reaching {
+                script,
+                lines: Vec::new(alloc),
+            };
+            explain_rest(alloc, number, value, lines, about, &mut reaching)
+        }
         Err(_) => Err(ReplayFault::Memory),
     }
-}
-
-/// The same, on a registry of so many workers, of which no call was made.
-fn explain_core<V: Say, A: Admit>(
-    alloc: Global,
-    workers: u32,
-    core: Core<Latest<V>, A>,
-    number: u64,
-    value: &Value<'_>,
-    lines: &[u8],
-    about: Option<&str>,
-) -> Result<Explained, ReplayFault>
-    requires fresh { core.sent ≡ [] }
-    requires workers { workers ≡ core.limits.workers }
-    requires some { 1 ≤ workers }
-    requires call { is_setup (view value.now) ≡ false }
-    requires place { number + length lines.now ≤ most_bytes + 1 }
-    ensures explained { IfOk result (λ explained. (hooks : ℕ) (stage : Stage) → IsExplained
-        (resumed_why hooks (option_copied about.entry) number (begun_at core stage) (view value.now) lines.now)
-        explained) }
-    ensures memory { IfErr result (λ fault. fault ≡ ReplayFault.Memory) }
-{
-    let mut reaching = Reaching {
-        script: Script::new(alloc, workers, core),
-        lines: Vec::new(alloc),
-    };
-    explain_rest(alloc, number, value, lines, about, &mut reaching)
 }
 
 /// The same, on a script of which no call has run.

@@ -1,6 +1,6 @@
 use Rattle.span_replay.proofs.Written.{read_kept, unread_kept, unread_runs}
 use Rattle.span_replay.proofs.Flushes.{ends_read}
-use Rattle.span_replay.proofs.run.replay.perform.Goals as goal
+use Rattle.span_replay.proofs.run.replay.read_and_run.Goals as goal
 
 pub returns-in-Err-clause-replayed : goal.returns-in-Err-clause-replayed
 returns-in-Err-clause-replayed g c = unread_runs _ _ _ _ _ c.in-Err.ensures.err

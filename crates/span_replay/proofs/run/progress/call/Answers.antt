@@ -1,7 +1,7 @@
 use Rattle.std.proofs.Common.{refl}
 use Rattle.span_script.specs.Operation.{running}
 use Rattle.span_replay.proofs.Callings.{is_call, call_ran, call_failed, read_stops}
-use Rattle.span_replay.proofs.run.lines.call.Goals as goal
+use Rattle.span_replay.proofs.run.progress.call.Goals as goal
 
 pub returns-in-Err-clause-err : goal.returns-in-Err-clause-err
 returns-in-Err-clause-err g c = λ hooks. read_stops hooks _ _ _ _ refl c.requires.workers c.in-Err.ensures.meant

@@ -3,7 +3,7 @@ use Rattle.span_run.specs.Counted.{next_count}
 use Rattle.span_replay.proofs.Flushes.{flush_counts, flush_fails, flush_once, flush_read, ok_kept, script_counts, script_kept, whole_kept, whole_ok, whole_script}
 use Rattle.span_replay.proofs.Left.{nothing_left}
 use Rattle.span_replay.proofs.Written.{none_told}
-use Rattle.span_replay.proofs.run.replay.replay_with.Goals as goal
+use Rattle.span_replay.proofs.run.replay.replay.Goals as goal
 
 -- ---- a run that ended well
 
