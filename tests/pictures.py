@@ -91,7 +91,7 @@ CRATES = {
     "span_recent": ("copied lately", 5), "span_slots": ("no id twice", 6), "span_border": ("what C holds", 7.5),
     "span_script": ("a line, read", 0.5),
     "span_outlet": ("what leaves the core", 2), "span_forest": ("what holds a span", 5.5),
-    "span_store": ("closes in two steps", 6.5), "span_run": ("devices, faults", 0.5),
+    "span_store": ("closes in two steps", 6.5), "span_run": ("counted devices", 0.5),
     "span_history": ("what a worker saw", 2.7), "span_core": ("a call, a lawful step", 4.2),
     "span_store_ffi": ("the store for C", 7.3), "span_replay": ("a script run", 1.55),
     "span_why": ("why spans are open", 2.47),

@@ -2,7 +2,8 @@
 
 use crate::digest::Digest;
 use span_id::Fault;
-use span_run::RunFault;
+use span_replay::ReplayFault;
+use span_storm::StormFault;
 use std::alloc::{AllocError, AllocFailed};
 use std::fmt;
 
@@ -44,8 +45,10 @@ impl fmt::Display for Outcome {
 /// Why a run ended early.
 #[derive(Debug, Drop)]
 pub enum Stop {
-    /// A replay or a storm did.
-    Run(RunFault),
+    /// A replay did.
+    Replay(ReplayFault),
+    /// A storm did.
+    Storm(StormFault),
     /// A call was refused, or memory was.
     Refused(Fault),
 }
@@ -53,15 +56,22 @@ pub enum Stop {
 impl fmt::Display for Stop {
     fn fmt<W: fmt::Write>(&self, f: &mut fmt::Formatter<W>) -> fmt::Result {
         match self {
-            Stop::Run(fault) => write!(f, "{fault}"),
+            Stop::Replay(fault) => write!(f, "{fault}"),
+            Stop::Storm(fault) => write!(f, "{fault}"),
             Stop::Refused(fault) => write!(f, "{fault}"),
         }
     }
 }
 
-impl From<RunFault> for Stop {
-    fn from(fault: RunFault) -> Stop {
-        Stop::Run(fault)
+impl From<ReplayFault> for Stop {
+    fn from(fault: ReplayFault) -> Stop {
+        Stop::Replay(fault)
+    }
+}
+
+impl From<StormFault> for Stop {
+    fn from(fault: StormFault) -> Stop {
+        Stop::Storm(fault)
     }
 }
 

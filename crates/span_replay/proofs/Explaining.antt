@@ -1,9 +1,6 @@
 -- What is told of the spans that are open where a script's lines end.
 use Rattle.std.proofs.Common.{◌≡◌, ℕ, ◌+◌, List, [], ◌∷◌, refl, sym, ap, ◌∙◌, subst, Option, Some, None, Result, Ok, Err, length, false, true, map, ◌++◌, ◌<◌, append_assoc, append-nil}
 use Rattle.std.specs.Prelude.{option_and_then, IfOk}
-use Rattle.span_id.specs.declared.limits.Limits.{Limits}
-use Rattle.span_layers.specs.Filter.{Filter}
-use Rattle.span_layers.specs.declared.form.Form.{Form}
 use Rattle.std.specs.Result.{result_ok}
 use Rattle.serde_json.specs.Data.{Data}
 use Rattle.span_core.specs.Core.{CoreView}
@@ -13,12 +10,11 @@ use Rattle.span_replay.specs.Meaning.{Turn, Transcript, finished, faulty, value_
 use Rattle.span_replay.specs.State.{State}
 use Rattle.span_replay.specs.declared.run.explained.Explained.{Explained}
 use Rattle.span_replay.specs.inside.Reaching.{EndsAt, EndsAs, HasEnded, IsExplained, KnowsWorkers, SetsTo, text_of, resumed_why, begun_at}
-use Rattle.span_replay.specs.inside.Turns.{opened_state}
 use Rattle.span_replay.proofs.Reachings.{at_lines, why_more}
 use Rattle.span_replay.proofs.Resumed.{staged, value_same}
 use Rattle.span_replay.proofs.Stages.{same_at_each_stage}
-use Rattle.span_run.specs.declared.fault.RunFault.{RunFault}
-use Rattle.span_run.specs.declared.fault.RunFault.TheVariants.{Script}
+use Rattle.span_replay.specs.declared.run.fault.ReplayFault.{ReplayFault}
+use Rattle.span_replay.specs.declared.run.fault.ReplayFault.TheVariants.{Script}
 use Rattle.span_replay.proofs.LineTurns.{read_line}
 use Rattle.span_script.specs.Operation.{Stage, running, is_setup, json_of}
 use Rattle.span_script.specs.Reason.{StopsFor}
@@ -67,7 +63,7 @@ explained_fault meant about reached e number reason is text ended = record {
 -- ---- from the set-up on
 
 -- the fault that ended the lines
-pub fault_is : (meant : Transcript) (about : Option (List ℕ)) (reached : Reached) (fault : RunFault) (number : ℕ) (reason : Reason) → fault ≡ Script number reason → EndsAt meant about reached fault → meant ≡ explained about reached (faulty number reason)
+pub fault_is : (meant : Transcript) (about : Option (List ℕ)) (reached : Reached) (fault : ReplayFault) (number : ℕ) (reason : Reason) → fault ≡ Script number reason → EndsAt meant about reached fault → meant ≡ explained about reached (faulty number reason)
 fault_is meant about reached fault number reason e p = subst (EndsAt meant about reached) e p
 
 same_label : (a b : Stage) (state : State) (value : Data) → is_setup value ≡ false → label_by (staged state a) value ≡ label_by (staged state b) value
@@ -90,18 +86,18 @@ resumed_same hooks number about a b state lines value rest call =
 
 -- ---- the answers of what runs the lines
 
-pub all_explained : (r : Result Explained RunFault) (meant : ℕ → Transcript) (about : Option (List ℕ)) (state : Stage → Reached) (n : ℕ) → ((hooks : ℕ) → HasEnded (meant hooks) about (state running)) → n ≡ length (state running).state.core.world.spans
+pub all_explained : (r : Result Explained ReplayFault) (meant : ℕ → Transcript) (about : Option (List ℕ)) (state : Stage → Reached) (n : ℕ) → ((hooks : ℕ) → HasEnded (meant hooks) about (state running)) → n ≡ length (state running).state.core.world.spans
     → IfOk r (λ e. (stage : Stage) → e.text.items ≡ text_about (state stage) about) → IfOk r (λ e. e.ended ≡ Ok n) → IfOk r (λ e. (hooks : ℕ) → IsExplained (meant hooks) e)
 all_explained (Ok e) meant about state n is many text ended = λ hooks. explained_all (meant hooks) about (state running) e n (is hooks) many (text running) ended
 all_explained (Err fault) meant about state n is many text ended = tt
 
-pub fault_explained : {told : RunFault} (r : Result Explained RunFault) (meant : ℕ → Transcript) (about : Option (List ℕ)) (state : Stage → Reached) (fault : RunFault) (number : ℕ) (reason : Reason) → fault ≡ Script number reason → ((hooks : ℕ) → EndsAt (meant hooks) about (state running) fault)
+pub fault_explained : {told : ReplayFault} (r : Result Explained ReplayFault) (meant : ℕ → Transcript) (about : Option (List ℕ)) (state : Stage → Reached) (fault : ReplayFault) (number : ℕ) (reason : Reason) → fault ≡ Script number reason → ((hooks : ℕ) → EndsAt (meant hooks) about (state running) fault)
     → told ≡ Script number reason → IfOk r (λ e. (stage : Stage) → e.text.items ≡ text_about (state stage) about) → IfOk r (λ e. e.ended ≡ Err told) → IfOk r (λ e. (hooks : ℕ) → IsExplained (meant hooks) e)
 fault_explained (Ok e) meant about state fault number reason is ends same text ended = λ hooks. explained_fault (meant hooks) about (state running) e number reason (fault_is (meant hooks) about (state running) fault number reason is (ends hooks)) (text running) (ended ∙ ap (λ f. Err f) same)
 fault_explained (Err other) meant about state fault number reason is ends same text ended = tt
 
 -- on a script of which no call has run
-pub begun_explained : (r : Result Explained RunFault) (about : Option (List ℕ)) (number : ℕ) (core core' : CoreView) (labels : Bound) (lines : List ℕ) (value : Data) (rest : List ℕ) → is_setup value ≡ false → core' ≡ core → labels ≡ [] → lines ≡ []
+pub begun_explained : (r : Result Explained ReplayFault) (about : Option (List ℕ)) (number : ℕ) (core core' : CoreView) (labels : Bound) (lines : List ℕ) (value : Data) (rest : List ℕ) → is_setup value ≡ false → core' ≡ core → labels ≡ [] → lines ≡ []
     → IfOk r (λ e. (hooks : ℕ) → IsExplained (resumed_why hooks about number (at_lines (record { core = core'; labels = labels; stage = running }) lines) value rest) e)
     → IfOk r (λ e. (hooks : ℕ) (stage : Stage) → IsExplained (resumed_why hooks about number (begun_at core stage) value rest) e)
 begun_explained (Ok e) about number core core' labels lines value rest call same none empty p = λ hooks stage.
@@ -111,22 +107,12 @@ begun_explained (Ok e) about number core core' labels lines value rest call same
     (p hooks)
 begun_explained (Err fault) about number core core' labels lines value rest call same none empty p = tt
 
--- with the limits and the layers that the first lines gave
-pub opened_explained : (r : Result Explained RunFault) (about : Option (List ℕ)) (number : ℕ) (limits : Limits) (rules : List Filter) (forms forms' : List Form) (core : CoreView) (value : Data) (rest : List ℕ) → forms' ≡ forms → ((stage : Stage) → core ≡ (opened_state limits rules forms' stage).core)
-    → IfOk r (λ e. (hooks : ℕ) (stage : Stage) → IsExplained (resumed_why hooks about number (begun_at core stage) value rest) e)
-    → IfOk r (λ e. (hooks : ℕ) (stage : Stage) → IsExplained (resumed_why hooks about number (at_lines (opened_state limits rules forms stage) []) value rest) e)
-opened_explained (Ok e) about number limits rules forms forms' core value rest same is p = λ hooks stage.
-    subst (λ meant. IsExplained meant e)
-    ((λ i. resumed_why hooks about number (at_lines (record { core = is stage i; labels = []; stage = stage }) []) value rest)
-    ∙ ap (λ f. resumed_why hooks about number (at_lines (opened_state limits rules f stage) []) value rest) same)
-    (p hooks stage)
-opened_explained (Err fault) about number limits rules forms forms' core value rest same is p = tt
-
-pub split_explained : (r : Result Explained RunFault) (about : Option (List ℕ)) (number : ℕ) (opened : Stage → State) (state : State) (value : Data) (rest : List ℕ) → opened state.stage ≡ state
-    → IfOk r (λ e. (hooks : ℕ) (stage : Stage) → IsExplained (resumed_why hooks about number (at_lines (opened stage) []) value rest) e)
-    → IfOk r (λ e. (hooks : ℕ) → IsExplained (resumed_why hooks about number (at_lines state []) value rest) e)
-split_explained (Ok e) about number opened state value rest same p = λ hooks. subst (λ s. IsExplained (resumed_why hooks about number (at_lines s []) value rest) e) same (p hooks state.stage)
-split_explained (Err fault) about number opened state value rest same p = tt
+-- the stage is the one to which the first lines came
+pub at_its_stage : (r : Result Explained ReplayFault) (about : Option (List ℕ)) (number : ℕ) (state : State) (value : Data) (rest : List ℕ)
+    → IfOk r (λ e. (hooks : ℕ) (stage : Stage) → IsExplained (resumed_why hooks about number (begun_at state.core stage) value rest) e)
+    → IfOk r (λ e. (hooks : ℕ) → IsExplained (resumed_why hooks about number (begun_at state.core state.stage) value rest) e)
+at_its_stage (Ok e) about number state value rest p = λ hooks. p hooks state.stage
+at_its_stage (Err fault) about number state value rest p = tt
 
 -- ---- the lines before the first call
 
@@ -145,7 +131,7 @@ set_up_more hooks hooks' number about whole old new rest line tail o n same is c
     })
 
 -- the first call's line was read, and it is still to be run
-pub set_up_called : (r : Result Explained RunFault) (hooks hooks' number : ℕ) (about : Option (List ℕ)) (whole : Transcript) (old new : State) (rest line tail : List ℕ) (value : Data) → hooks' ≡ hooks → new ≡ old → whole ≡ why_run hooks about number (at_lines old []) (script_lines rest)
+pub set_up_called : (r : Result Explained ReplayFault) (hooks hooks' number : ℕ) (about : Option (List ℕ)) (whole : Transcript) (old new : State) (rest line tail : List ℕ) (value : Data) → hooks' ≡ hooks → new ≡ old → whole ≡ why_run hooks about number (at_lines old []) (script_lines rest)
     → script_lines rest ≡ line ∷ script_lines tail → line_turn hooks' old line ≡ value_turn hooks' old value → label_in old line ≡ label_by old value
     → IfOk r (λ e. (h : ℕ) → IsExplained (resumed_why h about number (at_lines new []) value tail) e) → IfOk r (IsExplained whole)
 unfolding why_run
@@ -159,7 +145,7 @@ set_up_called (Ok e) hooks hooks' number about whole old new rest line tail valu
 set_up_called (Err fault) hooks hooks' number about whole old new rest line tail value same stays is cut turn label p = tt
 
 -- a line is at fault, before the first call
-pub set_up_fault : {told : RunFault} (r : Result Explained RunFault) (hooks hooks' number : ℕ) (about : Option (List ℕ)) (whole : Transcript) (core : CoreView) (stage : Stage) (rest line tail : List ℕ) (reason : Reason) → core.world.spans ≡ [] → hooks' ≡ hooks
+pub set_up_fault : {told : ReplayFault} (r : Result Explained ReplayFault) (hooks hooks' number : ℕ) (about : Option (List ℕ)) (whole : Transcript) (core : CoreView) (stage : Stage) (rest line tail : List ℕ) (reason : Reason) → core.world.spans ≡ [] → hooks' ≡ hooks
     → whole ≡ why_run hooks about number (at_lines (record { core = core; labels = []; stage = stage }) []) (script_lines rest) → script_lines rest ≡ line ∷ script_lines tail → line_turn hooks' (record { core = core; labels = []; stage = stage }) line ≡ Err reason
     → told ≡ Script number reason → IfOk r (λ e. e.text.items ≡ text_of [] about None) → IfOk r (λ e. e.ended ≡ Err told) → IfOk r (IsExplained whole)
 unfolding why_run
@@ -172,7 +158,7 @@ set_up_fault (Ok e) hooks hooks' number about whole core stage rest line tail re
 set_up_fault (Err other) hooks hooks' number about whole core stage rest line tail reason none same is cut fault told_as text ended = tt
 
 -- no call came
-pub set_up_ends : (r : Result Explained RunFault) (hooks number : ℕ) (about : Option (List ℕ)) (whole : Transcript) (core : CoreView) (stage : Stage) (rest : List ℕ) → core.world.spans ≡ [] → whole ≡ why_run hooks about number (at_lines (record { core = core; labels = []; stage = stage }) []) (script_lines rest) → rest ≡ []
+pub set_up_ends : (r : Result Explained ReplayFault) (hooks number : ℕ) (about : Option (List ℕ)) (whole : Transcript) (core : CoreView) (stage : Stage) (rest : List ℕ) → core.world.spans ≡ [] → whole ≡ why_run hooks about number (at_lines (record { core = core; labels = []; stage = stage }) []) (script_lines rest) → rest ≡ []
     → IfOk r (λ e. e.text.items ≡ text_of [] about None) → IfOk r (λ e. e.ended ≡ Ok 0) → IfOk r (IsExplained whole)
 unfolding why_run script_lines
 set_up_ends (Ok e) hooks number about whole core stage rest none is empty text ended =
@@ -225,11 +211,11 @@ pub spans_end : (F : PlainDetails → PlainOpenSpan) (rest : List SpanDetails) (
 spans_end F rest spans all none so_far = sym (append-nil (map plain_open_span spans)) ∙ ap (λ r. map plain_open_span spans ++ map F (map plain_details r)) (sym none) ∙ so_far
 
 -- the text about all that is told
-pub explained_text : (r : Result Explained RunFault) (about : Option (List ℕ)) (reached : Stage → Reached) (spans shown : List OpenSpan) (id : Option ℕ) → shown ≡ spans → ((stage : Stage) → map plain_open_span spans ≡ open_spans_in (reached stage)) → ((stage : Stage) → id ≡ named_by (reached stage).state.labels about)
+pub explained_text : (r : Result Explained ReplayFault) (about : Option (List ℕ)) (reached : Stage → Reached) (spans shown : List OpenSpan) (id : Option ℕ) → shown ≡ spans → ((stage : Stage) → map plain_open_span spans ≡ open_spans_in (reached stage)) → ((stage : Stage) → id ≡ named_by (reached stage).state.labels about)
     → IfOk r (λ e. e.text.items ≡ text_of (map plain_open_span shown) about id) → IfOk r (λ e. (stage : Stage) → e.text.items ≡ text_about (reached stage) about)
 explained_text (Ok e) about reached spans shown id same told named text = λ stage. text_is (reached stage) about (map plain_open_span shown) id e.text.items (ap (map plain_open_span) same ∙ told stage) (named stage) text
 explained_text (Err fault) about reached spans shown id same told named text = tt
 
 -- how many workers there are, after a fault of the script
-pub script_knows : (fault : RunFault) (number : ℕ) (reason : Reason) (workers : ℕ) (reached : Reached) → fault ≡ Script number reason → KnowsWorkers fault workers reached → workers ≡ reached.state.core.limits.workers
+pub script_knows : (fault : ReplayFault) (number : ℕ) (reason : Reason) (workers : ℕ) (reached : Reached) → fault ≡ Script number reason → KnowsWorkers fault workers reached → workers ≡ reached.state.core.limits.workers
 script_knows fault number reason workers reached e p = subst (λ f. KnowsWorkers f workers reached) e p

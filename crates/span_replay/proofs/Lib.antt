@@ -15,10 +15,9 @@ pub mod Tidied
 pub mod LastLines
 pub mod LineTurns
 pub mod Openings
-pub mod LineRuns
 pub mod Callings
 pub mod Resumed
-pub mod RestRuns
+pub mod Steps
 pub mod Examples
 pub mod Scripts
 pub mod MostLayers

@@ -12,9 +12,8 @@ use Rattle.span_script.specs.Script.{is_skipped}
 use Rattle.span_replay.specs.State.{State}
 use Rattle.span_replay.specs.inside.Turns.{HasTurned, TurnFails}
 use Rattle.span_script.specs.declared.reason.Reason.{Reason}
-use Rattle.span_run.specs.declared.fault.RunFault.{RunFault}
-use Rattle.span_run.specs.declared.fault.RunFault.TheVariants.{Device}
-use Rattle.span_run.specs.declared.fault.Side.{Side}
+use Rattle.span_replay.specs.declared.run.fault.ReplayFault.{ReplayFault}
+use Rattle.span_replay.specs.declared.run.fault.ReplayFault.TheVariants.{Write}
 use Rattle.span_script.specs.declared.stop.Stop.{Stop}
 use Rattle.span_script.specs.declared.stop.Stop.TheVariants.{Memory, Refused}
 use Rattle.span_run.proofs.Fronts.{Known}
@@ -39,14 +38,14 @@ at_fault meant number a Memory p = Keeps-refl a
 at_fault meant number a (Refused reason) p = (refl, p, Keeps-refl a)
 
 -- nothing was written
-pub stop_fails : (meant : Result Turn Reason) (number : ℕ) (a : Known) (stop : Stop) (fault : RunFault) → StopsFor meant stop → fault ≡ fault_at number stop → TurnFails meant number a a fault
+pub stop_fails : (meant : Result Turn Reason) (number : ℕ) (a : Known) (stop : Stop) (fault : ReplayFault) → StopsFor meant stop → fault ≡ fault_at number stop → TurnFails meant number a a fault
 stop_fails meant number a stop fault p e = subst (TurnFails meant number a a) (sym e) (at_fault meant number a stop p)
 
 pub turn_written : (meant meant' : Result Turn Reason) (state : State) (text shown : List ℕ) (a b : Known) → meant ≡ meant' → meant' ≡ Ok (record { text = text; state = state }) → shown ≡ text → Appends a b shown
     → HasTurned meant state a b
 turn_written meant meant' state text shown a b e is same p = record { text = text; is = e ∙ is; written = subst (Appends a b) same p }
 
-pub turn_begun : (meant meant' : Result Turn Reason) (number : ℕ) (state : State) (text shown : List ℕ) (a b : Known) (side : Side) (fault : RunFault) → meant ≡ meant' → meant' ≡ Ok (record { text = text; state = state }) → shown ≡ text
-    → fault ≡ Device side → AppendsFront a b shown → TurnFails meant number a b fault
-turn_begun meant meant' number state text shown a b side fault e is same d p =
+pub turn_begun : (meant meant' : Result Turn Reason) (number : ℕ) (state : State) (text shown : List ℕ) (a b : Known) (fault : ReplayFault) → meant ≡ meant' → meant' ≡ Ok (record { text = text; state = state }) → shown ≡ text
+    → fault ≡ Write → AppendsFront a b shown → TurnFails meant number a b fault
+turn_begun meant meant' number state text shown a b fault e is same d p =
     subst (TurnFails meant number a b) (sym d) (record { turn = record { text = text; state = state }; is = e ∙ is; front = subst (AppendsFront a b) same p })

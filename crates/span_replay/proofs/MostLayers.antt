@@ -11,7 +11,7 @@ use Rattle.span_replay.specs.declared.run.explained.Explained.{Explained}
 use Rattle.span_replay.specs.Replayed.{FlushesOnce, IsReplayed, IsWrittenWhole, Runs}
 use Rattle.span_replay.specs.State.{State, first_state}
 use Rattle.span_replay.proofs.Flushes.{once_for}
-use Rattle.span_run.specs.declared.fault.RunFault.{RunFault}
+use Rattle.span_replay.specs.declared.run.fault.ReplayFault.{ReplayFault}
 use Rattle.span_run.proofs.Fronts.{Known}
 use Rattle.span_script.specs.Operation.{NewLayer, Operation, set_limits, add_layer, make, on_span, record_fields, tell, find, json_of, operation_of}
 use Rattle.span_script.specs.Reason.{◌>>=◌}
@@ -88,7 +88,7 @@ most_by layers n false many is bytes =
 pub most_same : (layers n : ℕ) → n ≡ min layers 64 → (bytes : List ℕ) → meaning n bytes ≡ meaning layers bytes
 most_same layers n is bytes = most_by layers n (nat_lt layers 64) refl is bytes
 
-pub replayed_same : (layers n : ℕ) (i a b : Known) (r : Result ℕ RunFault) → n ≡ min layers 64 → IfSome i (λ bytes. IsReplayed n bytes a b r) → IfSome i (λ bytes. IsReplayed layers bytes a b r)
+pub replayed_same : (layers n : ℕ) (i a b : Known) (r : Result ℕ ReplayFault) → n ≡ min layers 64 → IfSome i (λ bytes. IsReplayed n bytes a b r) → IfSome i (λ bytes. IsReplayed layers bytes a b r)
 replayed_same layers n None a b r is p = tt
 replayed_same layers n (Some bytes) a b r is p = subst (λ meant. Runs meant a b r) (most_same layers n is bytes) p
 
@@ -96,7 +96,7 @@ whole_same : (layers n : ℕ) (i a b : Known) → n ≡ min layers 64 → IsWrit
 whole_same layers n None a b is p = tt
 whole_same layers n (Some bytes) a b is p = subst (λ meant. Appends a b meant.text) (most_same layers n is bytes) p
 
-pub flushed_same : (layers n : ℕ) (i a b : Known) (flushes flushes' : ℕ) (flushed : Bool) (r : Result ℕ RunFault) → n ≡ min layers 64
+pub flushed_same : (layers n : ℕ) (i a b : Known) (flushes flushes' : ℕ) (flushed : Bool) (r : Result ℕ ReplayFault) → n ≡ min layers 64
     → FlushesOnce (IsWrittenWhole n i a b) flushes flushes' flushed r → FlushesOnce (IsWrittenWhole layers i a b) flushes flushes' flushed r
 flushed_same layers n i a b flushes flushes' flushed r is p = once_for (whole_same layers n i a b is) flushes flushes' flushed r p
 
@@ -128,7 +128,7 @@ pub explained_same : (layers n : ℕ) (about : Option (List ℕ)) (number : ℕ)
 explained_same layers n about number reached lines explained is p =
     subst (λ meant. IsExplained meant explained) (why_by layers n (nat_lt layers 64) refl is about number reached lines) p
 
-pub all_explained_same : (layers n : ℕ) (about : Option (List ℕ)) (reached : Reached) (lines : List (List ℕ)) (result : Result Explained RunFault) → n ≡ min layers 64 → reached ≡ first_reached
+pub all_explained_same : (layers n : ℕ) (about : Option (List ℕ)) (reached : Reached) (lines : List (List ℕ)) (result : Result Explained ReplayFault) → n ≡ min layers 64 → reached ≡ first_reached
     → IfOk result (IsExplained (why_run n about 1 reached lines)) → IfOk result (IsExplained (why_run layers about 1 first_reached lines))
 all_explained_same layers n about reached lines (Ok explained) is first p =
     explained_same layers n about 1 first_reached lines explained is (subst (λ at. IsExplained (why_run n about 1 at lines) explained) first p)

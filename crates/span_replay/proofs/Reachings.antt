@@ -12,7 +12,7 @@ use Rattle.span_replay.specs.inside.Running.{IsTurn, StopsAs}
 use Rattle.span_replay.proofs.Callings.{line_calls, calls_run}
 use Rattle.span_replay.proofs.LineTurns.{read_line}
 use Rattle.span_replay.proofs.Setups.{value_does}
-use Rattle.span_run.specs.declared.fault.RunFault.{RunFault}
+use Rattle.span_replay.specs.declared.run.fault.ReplayFault.{ReplayFault}
 use Rattle.span_script.specs.Operation.{Operation, running, json_of, operation_of}
 use Rattle.span_script.specs.Reason.{StopsFor}
 use Rattle.span_script.specs.Script.{is_skipped, script_lines}
@@ -131,11 +131,11 @@ ends_at about number whole label meant old new more Memory is p = tt
 ends_at about number whole label meant old new more (Refused reason) is p =
     is ∙ ap (λ m. turn_reached about number old label m more) p.0 ∙ ap (λ here. explained about here (faulty number reason)) (sym p.1)
 
-pub value_fails : (about : Option (List ℕ)) (number : ℕ) (whole : Transcript) (label : Option (List ℕ)) (meant : Result Turn Reason) (old new : Reached) (more : Reached → Transcript) (stop : Stop) (fault : RunFault) → whole ≡ turn_reached about number old label meant more
+pub value_fails : (about : Option (List ℕ)) (number : ℕ) (whole : Transcript) (label : Option (List ℕ)) (meant : Result Turn Reason) (old new : Reached) (more : Reached → Transcript) (stop : Stop) (fault : ReplayFault) → whole ≡ turn_reached about number old label meant more
     → Halts meant old new stop → fault ≡ fault_at number stop → EndsAt whole about new fault
 value_fails about number whole label meant old new more stop fault is p e = subst (EndsAt whole about new) (sym e) (ends_at about number whole label meant old new more stop is p)
 
-pub why_fails : (hooks number : ℕ) (about : Option (List ℕ)) (whole : Transcript) (old new : Reached) (rest line tail : List ℕ) (stop : Stop) (fault : RunFault) → whole ≡ why_run hooks about number old (script_lines rest) → script_lines rest ≡ line ∷ script_lines tail
+pub why_fails : (hooks number : ℕ) (about : Option (List ℕ)) (whole : Transcript) (old new : Reached) (rest line tail : List ℕ) (stop : Stop) (fault : ReplayFault) → whole ≡ why_run hooks about number old (script_lines rest) → script_lines rest ≡ line ∷ script_lines tail
     → Halts (line_turn hooks old.state line) old new stop → fault ≡ fault_at number stop → EndsAt whole about new fault
 unfolding why_run
 why_fails hooks number about whole old new rest line tail stop fault is cut p e =
@@ -149,13 +149,13 @@ resumed_on hooks number about old new value lines p =
     ap (λ meant. turn_reached about number old (label_by old.state value) meant (λ after. why_run hooks about (number + 1) after (script_lines lines))) p.is
     ∙ ap (λ after. why_run hooks about (number + 1) after (script_lines lines)) (sym p.left)
 
-pub rest_ended : (number : ℕ) (old new last : Reached) (value : Data) (lines : List ℕ) (r : Result ⊤ RunFault) → ((hooks : ℕ) → HasReached number (label_by old.state value) (value_turn hooks old.state value) old new)
+pub rest_ended : (number : ℕ) (old new last : Reached) (value : Data) (lines : List ℕ) (r : Result ⊤ ReplayFault) → ((hooks : ℕ) → HasReached number (label_by old.state value) (value_turn hooks old.state value) old new)
     → OnOk r ((hooks : ℕ) (about : Option (List ℕ)) → HasEnded (why_run hooks about (number + 1) new (script_lines lines)) about last)
     → OnOk r ((hooks : ℕ) (about : Option (List ℕ)) → HasEnded (resumed_why hooks about number old value lines) about last)
 rest_ended number old new last value lines (Ok _) p q = λ hooks about. resumed_on hooks number about old new value lines (p hooks) ∙ q hooks about
 rest_ended number old new last value lines (Err fault) p q = tt
 
-pub rest_ends : (number : ℕ) (old new last : Reached) (value : Data) (lines : List ℕ) (r : Result ⊤ RunFault) → ((hooks : ℕ) → HasReached number (label_by old.state value) (value_turn hooks old.state value) old new)
+pub rest_ends : (number : ℕ) (old new last : Reached) (value : Data) (lines : List ℕ) (r : Result ⊤ ReplayFault) → ((hooks : ℕ) → HasReached number (label_by old.state value) (value_turn hooks old.state value) old new)
     → IfErr r (λ fault. (hooks : ℕ) (about : Option (List ℕ)) → EndsAt (why_run hooks about (number + 1) new (script_lines lines)) about last fault)
     → IfErr r (λ fault. (hooks : ℕ) (about : Option (List ℕ)) → EndsAt (resumed_why hooks about number old value lines) about last fault)
 rest_ends number old new last value lines (Ok _) p q = tt
@@ -167,6 +167,6 @@ knows_at : (meant : Result Turn Reason) (number : ℕ) (old new : Reached) (stop
 knows_at meant number old new Memory workers workers' p same known = tt
 knows_at meant number old new (Refused reason) workers workers' p same known = same ∙ known ∙ ap (λ (r : Reached). r.state.core.limits.workers) (sym p.1)
 
-pub knows : (meant : Result Turn Reason) (number : ℕ) (old new : Reached) (stop : Stop) (fault : RunFault) (workers workers' : ℕ) → Halts meant old new stop → fault ≡ fault_at number stop → workers' ≡ workers → workers ≡ old.state.core.limits.workers
+pub knows : (meant : Result Turn Reason) (number : ℕ) (old new : Reached) (stop : Stop) (fault : ReplayFault) (workers workers' : ℕ) → Halts meant old new stop → fault ≡ fault_at number stop → workers' ≡ workers → workers ≡ old.state.core.limits.workers
     → KnowsWorkers fault workers' new
 knows meant number old new stop fault workers workers' p e same known = subst (λ f. KnowsWorkers f workers' new) (sym e) (knows_at meant number old new stop workers workers' p same known)

@@ -5,12 +5,12 @@ use Rattle.std.specs.Prelude.{nat_le}
 use Rattle.std.proofs.KnownBytes.{Appends-kept}
 use Rattle.std.proofs.lemmas.Bool.{lt-leb}
 use Rattle.span_run.proofs.Fronts.{Known}
-use Rattle.span_run.specs.Device.{AppendsFront, ReadFails}
+use Rattle.span_run.specs.Device.{AppendsFront}
+use Rattle.span_replay.specs.inside.Reading.{ReadFails}
 use Rattle.span_run.specs.Counted.{next_count}
-use Rattle.span_run.specs.RunFault.{EndsAsCounted}
-use Rattle.span_run.specs.declared.fault.RunFault.{RunFault}
-use Rattle.span_run.specs.declared.fault.RunFault.TheVariants.{Script, Memory, Device, Refused, Held}
-use Rattle.span_run.specs.declared.fault.Side.TheVariants.{Read, Write}
+use Rattle.span_replay.specs.ReplayFault.{EndsAsCounted}
+use Rattle.span_replay.specs.declared.run.fault.ReplayFault.{ReplayFault}
+use Rattle.span_replay.specs.declared.run.fault.ReplayFault.TheVariants.{Script, Memory, Read, Write}
 use Rattle.span_replay.specs.Explained.{IsWholeWhy, first_reached, why_run, why_meaning}
 use Rattle.span_replay.specs.Meaning.{Transcript, faulty}
 use Rattle.span_replay.specs.Replayed.{FlushesOnce, Runs}
@@ -31,7 +31,7 @@ why_long : (hooks : ℕ) (about : Option (List ℕ)) (bytes : List ℕ) → most
 why_long hooks about bytes h = rw (lt-leb (length bytes) most_bytes h) refl
 
 -- all of the script was read
-pub read_explained : (r : Result Explained RunFault) (hooks : ℕ) (about : Option (List ℕ)) (i j : Known) (bytes shown : List ℕ) → Consumes i j bytes → IsAtEnd j → length bytes ≤ most_bytes → shown ≡ bytes
+pub read_explained : (r : Result Explained ReplayFault) (hooks : ℕ) (about : Option (List ℕ)) (i j : Known) (bytes shown : List ℕ) → Consumes i j bytes → IsAtEnd j → length bytes ≤ most_bytes → shown ≡ bytes
     → IfOk r (IsExplained (why_run hooks about 1 first_reached (script_lines shown))) → IfOk r (λ e. IfSome i (λ xs. IsExplained (why_meaning hooks about xs) e))
 read_explained (Err fault) hooks about i j bytes shown all end fits is p = tt
 read_explained (Ok e) hooks about None j bytes shown all end fits is p = tt
@@ -42,7 +42,7 @@ read_explained (Ok e) hooks about (Some xs) (Some ys) bytes shown all end fits i
     subst (λ l. IsExplained (why_meaning hooks about l) e) same (subst (λ meant. IsExplained meant e) (sym (why_short hooks about bytes fits)) read)
 
 -- it is too long
-pub long_explained : (hooks : ℕ) (about : Option (List ℕ)) (i j : Known) (fault : RunFault) (number : ℕ) (reason : Reason) (e : Explained) → fault ≡ Script number reason → ReadFails i j fault → e.text.items ≡ [] → e.ended ≡ Err (Script number reason)
+pub long_explained : (hooks : ℕ) (about : Option (List ℕ)) (i j : Known) (fault : ReplayFault) (number : ℕ) (reason : Reason) (e : Explained) → fault ≡ Script number reason → ReadFails i j fault → e.text.items ≡ [] → e.ended ≡ Err (Script number reason)
     → IfSome i (λ xs. IsExplained (why_meaning hooks about xs) e)
 long_explained hooks about i j fault number reason e is fails none ended = by_bytes i j (subst (ReadFails i j) is fails)
   where
@@ -58,54 +58,51 @@ long_explained hooks about i j fault number reason e is fails none ended = by_by
         }
 
 -- the script was not read
-pub unread_explained : (hooks : ℕ) (about : Option (List ℕ)) (i a : Known) (fault : RunFault) → IsOfReading fault → IfSome i (λ xs. Runs (why_meaning hooks about xs) a a (Err fault))
+pub unread_explained : (hooks : ℕ) (about : Option (List ℕ)) (i a : Known) (fault : ReplayFault) → IsOfReading fault → IfSome i (λ xs. Runs (why_meaning hooks about xs) a a (Err fault))
 unread_explained hooks about None a fault p = tt
 unread_explained hooks about (Some xs) a (Script number reason) p = absurd p
 unread_explained hooks about (Some xs) a Memory p = empty_front a _
-unread_explained hooks about (Some xs) a (Device side) p = empty_front a _
-unread_explained hooks about (Some xs) a (Refused fault) p = absurd p
-unread_explained hooks about (Some xs) a (Held party) p = absurd p
+unread_explained hooks about (Some xs) a Read p = empty_front a _
+unread_explained hooks about (Some xs) a Write p = empty_front a _
 
 -- ---- what was written
 
-told_as : (meant : Transcript) (a c : Known) (ended : Result ℕ RunFault) → EndsAs meant.ending ended → Appends a c meant.text → Runs meant a c ended
+told_as : (meant : Transcript) (a c : Known) (ended : Result ℕ ReplayFault) → EndsAs meant.ending ended → Appends a c meant.text → Runs meant a c ended
 told_as meant a c (Ok left) is p = (is, p)
 told_as meant a c (Err (Script number reason)) is p = (is, p)
 told_as meant a c (Err Memory) is p = absurd is
-told_as meant a c (Err (Device side)) is p = absurd is
-told_as meant a c (Err (Refused fault)) is p = absurd is
-told_as meant a c (Err (Held party)) is p = absurd is
+told_as meant a c (Err Read) is p = absurd is
+told_as meant a c (Err Write) is p = absurd is
 
 -- all of it
 pub told_whole : (meant : Transcript) (e : Explained) (a b c : Known) (text : List ℕ) → IsExplained meant e → text ≡ e.text.items → Appends a b text → Keeps b c → Runs meant a c e.ended
 told_whole meant e a b c text is same p k = told_as meant a c e.ended is.ending_is (Appends-kept a b c meant.text (subst (Appends a b) (same ∙ is.text_is) p) k)
 
-device_front : (meant : Transcript) (a b : Known) (fault : RunFault) → fault ≡ Device Write → AppendsFront a b meant.text → Runs meant a b (Err fault)
+device_front : (meant : Transcript) (a b : Known) (fault : ReplayFault) → fault ≡ Write → AppendsFront a b meant.text → Runs meant a b (Err fault)
 device_front meant a b fault d p = subst (λ f. Runs meant a b (Err f)) (sym d) p
 
 -- a front of it
-pub told_front : (meant : Transcript) (e : Explained) (a b : Known) (text : List ℕ) (fault : RunFault) → IsExplained meant e → text ≡ e.text.items → fault ≡ Device Write → AppendsFront a b text → Runs meant a b (Err fault)
+pub told_front : (meant : Transcript) (e : Explained) (a b : Known) (text : List ℕ) (fault : ReplayFault) → IsExplained meant e → text ≡ e.text.items → fault ≡ Write → AppendsFront a b text → Runs meant a b (Err fault)
 told_front meant e a b text fault is same d p = device_front meant a b fault d (subst (AppendsFront a b) (same ∙ is.text_is) p)
 
-pub told_unflushed : (meant : Transcript) (e : Explained) (a b c : Known) (text : List ℕ) (fault : RunFault) → IsExplained meant e → text ≡ e.text.items → Appends a b text → Keeps b c → fault ≡ Device Write → Runs meant a c (Err fault)
+pub told_unflushed : (meant : Transcript) (e : Explained) (a b c : Known) (text : List ℕ) (fault : ReplayFault) → IsExplained meant e → text ≡ e.text.items → Appends a b text → Keeps b c → fault ≡ Write → Runs meant a c (Err fault)
 told_unflushed meant e a b c text fault is same p k d =
     device_front meant a c fault d (whole_front a c meant.text (Appends-kept a b c meant.text (subst (Appends a b) (same ∙ is.text_is) p) k))
 
 -- no call of a device has failed
-pub told_counts : (ended : Result ℕ RunFault) (f f' f'' : ℕ) → HasEnd ended → f' ≡ f → f'' ≡ f' → EndsAsCounted 0 0 f f'' ended
+pub told_counts : (ended : Result ℕ ReplayFault) (f f' f'' : ℕ) → HasEnd ended → f' ≡ f → f'' ≡ f' → EndsAsCounted 0 0 f f'' ended
 told_counts (Ok left) f f' f'' h p q = (refl, q ∙ p)
 told_counts (Err (Script number reason)) f f' f'' h p q = (refl, q ∙ p)
 told_counts (Err Memory) f f' f'' h p q = absurd h
-told_counts (Err (Device side)) f f' f'' h p q = absurd h
-told_counts (Err (Refused fault)) f f' f'' h p q = absurd h
-told_counts (Err (Held party)) f f' f'' h p q = absurd h
+told_counts (Err Read) f f' f'' h p q = absurd h
+told_counts (Err Write) f f' f'' h p q = absurd h
 
-pub told_ok : (ended : Result ℕ RunFault) → OnOk ended (IsOk ended)
+pub told_ok : (ended : Result ℕ ReplayFault) → OnOk ended (IsOk ended)
 told_ok (Ok left) = refl
 told_ok (Err fault) = tt
 
 -- where the bytes that are read are known
-pub explained_runs : (i a b : Known) (hooks : ℕ) (about : Option (List ℕ)) (e : Explained) (r : Result ℕ RunFault) → IfSome i (λ xs. IsExplained (why_meaning hooks about xs) e) → ((meant : Transcript) → IsExplained meant e → Runs meant a b r)
+pub explained_runs : (i a b : Known) (hooks : ℕ) (about : Option (List ℕ)) (e : Explained) (r : Result ℕ ReplayFault) → IfSome i (λ xs. IsExplained (why_meaning hooks about xs) e) → ((meant : Transcript) → IsExplained meant e → Runs meant a b r)
     → IfSome i (λ xs. Runs (why_meaning hooks about xs) a b r)
 explained_runs None a b hooks about e r p q = tt
 explained_runs (Some xs) a b hooks about e r p q = q (why_meaning hooks about xs) p
@@ -113,25 +110,22 @@ explained_runs (Some xs) a b hooks about e r p q = q (why_meaning hooks about xs
 -- ---- the one flush
 
 -- the script was not read
-pub unread_once : (Whole : Type 0) (flushes : ℕ) (flushed : Bool) (fault : RunFault) → IsOfReading fault → FlushesOnce Whole flushes flushes flushed (Err fault)
+pub unread_once : (Whole : Type 0) (flushes : ℕ) (flushed : Bool) (fault : ReplayFault) → IsOfReading fault → FlushesOnce Whole flushes flushes flushed (Err fault)
 unread_once Whole flushes flushed (Script number reason) p = absurd p
 unread_once Whole flushes flushed Memory p = refl
-unread_once Whole flushes flushed (Device Read) p = refl
-unread_once Whole flushes flushed (Device Write) p = absurd p
-unread_once Whole flushes flushed (Refused fault) p = absurd p
-unread_once Whole flushes flushed (Held party) p = absurd p
+unread_once Whole flushes flushed Read p = refl
+unread_once Whole flushes flushed Write p = absurd p
 
 -- a front of the text was written
-pub front_once : (Whole : Type 0) (flushes flushes' : ℕ) (flushed : Bool) (fault : RunFault) → flushes' ≡ flushes → fault ≡ Device Write → FlushesOnce Whole flushes flushes' flushed (Err fault)
+pub front_once : (Whole : Type 0) (flushes flushes' : ℕ) (flushed : Bool) (fault : ReplayFault) → flushes' ≡ flushes → fault ≡ Write → FlushesOnce Whole flushes flushes' flushed (Err fault)
 front_once Whole flushes flushes' flushed fault same d = subst (λ f. FlushesOnce Whole flushes flushes' flushed (Err f)) (sym d) (inl same)
 
-ended_once : {Whole : Type 0} (ended : Result ℕ RunFault) (flushes flushes' : ℕ) (flushed : Bool) → HasEnd ended → Whole → flushes' ≡ next_count flushes → flushed ≡ true → FlushesOnce Whole flushes flushes' flushed ended
+ended_once : {Whole : Type 0} (ended : Result ℕ ReplayFault) (flushes flushes' : ℕ) (flushed : Bool) → HasEnd ended → Whole → flushes' ≡ next_count flushes → flushed ≡ true → FlushesOnce Whole flushes flushes' flushed ended
 ended_once (Ok left) flushes flushes' flushed h p once done = (p, once, done)
 ended_once (Err (Script number reason)) flushes flushes' flushed h p once done = (p, once, done)
 ended_once (Err Memory) flushes flushes' flushed h p once done = absurd h
-ended_once (Err (Device side)) flushes flushes' flushed h p once done = absurd h
-ended_once (Err (Refused fault)) flushes flushes' flushed h p once done = absurd h
-ended_once (Err (Held party)) flushes flushes' flushed h p once done = absurd h
+ended_once (Err Read) flushes flushes' flushed h p once done = absurd h
+ended_once (Err Write) flushes flushes' flushed h p once done = absurd h
 
 text_kept : (e : Explained) (a b c : Known) (text : List ℕ) → text ≡ e.text.items → Appends a b text → Keeps b c → Appends a c e.text.items
 text_kept e a b c text same p k = Appends-kept a b c e.text.items (subst (Appends a b) same p) k
@@ -142,7 +136,7 @@ pub told_once : (e : Explained) (a b c : Known) (text : List ℕ) (flushes flush
 told_once e a b c text flushes flushes' flushes'' flushed h is p k same once done = ended_once e.ended flushes flushes'' flushed h (text_kept e a b c text is p k) (once ∙ ap next_count same) done
 
 -- all of it was written, and the flush failed
-pub unflushed_once : (e : Explained) (a b c : Known) (text : List ℕ) (flushes flushes' flushes'' : ℕ) (flushed : Bool) (fault : RunFault) → text ≡ e.text.items → Appends a b text → Keeps b c → flushes' ≡ flushes → flushes'' ≡ next_count flushes' → fault ≡ Device Write
+pub unflushed_once : (e : Explained) (a b c : Known) (text : List ℕ) (flushes flushes' flushes'' : ℕ) (flushed : Bool) (fault : ReplayFault) → text ≡ e.text.items → Appends a b text → Keeps b c → flushes' ≡ flushes → flushes'' ≡ next_count flushes' → fault ≡ Write
     → FlushesOnce (Appends a c e.text.items) flushes flushes'' flushed (Err fault)
 unflushed_once e a b c text flushes flushes' flushes'' flushed fault is p k same once d = flush_once flushes flushes'' flushed fault (text_kept e a b c text is p k) (once ∙ ap next_count same) d
 
@@ -150,6 +144,6 @@ whole_why : (i a b : Known) (hooks : ℕ) (about : Option (List ℕ)) (e : Expla
 whole_why None a b hooks about e is p = tt
 whole_why (Some xs) a b hooks about e is p = subst (Appends a b) is.text_is p
 
-pub explained_once : (i a b : Known) (hooks : ℕ) (about : Option (List ℕ)) (e : Explained) (flushes flushes' : ℕ) (flushed : Bool) (r : Result ℕ RunFault) → IfSome i (λ xs. IsExplained (why_meaning hooks about xs) e)
+pub explained_once : (i a b : Known) (hooks : ℕ) (about : Option (List ℕ)) (e : Explained) (flushes flushes' : ℕ) (flushed : Bool) (r : Result ℕ ReplayFault) → IfSome i (λ xs. IsExplained (why_meaning hooks about xs) e)
     → FlushesOnce (Appends a b e.text.items) flushes flushes' flushed r → FlushesOnce (IsWholeWhy hooks about i a b) flushes flushes' flushed r
 explained_once i a b hooks about e flushes flushes' flushed r is p = once_for (whole_why i a b hooks about e is) flushes flushes' flushed r p

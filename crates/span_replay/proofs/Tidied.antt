@@ -17,8 +17,8 @@ use Rattle.span_outlet.specs.Request as call
 use Rattle.span_run.specs.Device.{AppendsFront}
 use Rattle.span_replay.specs.inside.Turns.{AreMade, ArePartlyMade, TextFails}
 use Rattle.span_replay.specs.Written.{Written, written_after, call_written, calls_written, each_written, exits, closes}
-use Rattle.span_run.specs.declared.fault.RunFault.{RunFault}
-use Rattle.span_run.specs.declared.fault.RunFault.TheVariants.{Script, Memory, Device, Refused, Held}
+use Rattle.span_replay.specs.declared.run.fault.ReplayFault.{ReplayFault}
+use Rattle.span_replay.specs.declared.run.fault.ReplayFault.TheVariants.{Script, Memory, Read, Write}
 use Rattle.span_run.proofs.Fronts.{Known, front_after, front_more}
 
 pub part_none : (a : Known) (w : Written) → ArePartlyMade a a w w
@@ -34,19 +34,17 @@ part_more a b c whole more rest text s e p = record {
 part_front : (a b c : Known) (whole more : Written) → ArePartlyMade a b whole more → AppendsFront b c more.text → AppendsFront a c whole.text
 part_front a b c whole more s p = subst (AppendsFront a c) (sym (ap (λ w. w.text) s.is)) (front_after a b c s.text more.text s.taken p)
 
-pub part_fails : (a b c : Known) (whole more : Written) (e : RunFault) → ArePartlyMade a b whole more → TextFails more.text b c e → TextFails whole.text a c e
+pub part_fails : (a b c : Known) (whole more : Written) (e : ReplayFault) → ArePartlyMade a b whole more → TextFails more.text b c e → TextFails whole.text a c e
 part_fails a b c whole more (Script line reason) s p = p
 part_fails a b c whole more Memory s p = part_front a b c whole more s p
-part_fails a b c whole more (Device side) s p = part_front a b c whole more s p
-part_fails a b c whole more (Refused fault) s p = p
-part_fails a b c whole more (Held party) s p = p
+part_fails a b c whole more Read s p = part_front a b c whole more s p
+part_fails a b c whole more Write s p = part_front a b c whole more s p
 
-first_fails : (b c : Known) (text more : List ℕ) (e : RunFault) → TextFails text b c e → TextFails (text ++ more) b c e
+first_fails : (b c : Known) (text more : List ℕ) (e : ReplayFault) → TextFails text b c e → TextFails (text ++ more) b c e
 first_fails b c text more (Script line reason) p = p
 first_fails b c text more Memory p = front_more b c text more p
-first_fails b c text more (Device side) p = front_more b c text more p
-first_fails b c text more (Refused fault) p = p
-first_fails b c text more (Held party) p = p
+first_fails b c text more Read p = front_more b c text more p
+first_fails b c text more Write p = front_more b c text more p
 
 pub part_ends : (a b : Known) (whole : Written) (core : CoreView) → ArePartlyMade a b whole (record { text = []; core = core }) → AreMade whole core a b
 part_ends a b whole core s = record {
@@ -70,7 +68,7 @@ one_made a b c whole core new all more request s e p =
     part_more a b c whole _ _ (call_written core request).text s
     (ap (calls_written core) e ∙ call_more core request more ∙ ap (λ k. written_after (call_written core request).text (calls_written k more)) (sym p.core_is)) p.taken
 
-pub one_fails : (a b c : Known) (whole : Written) (core : CoreView) (all more : List call.Request) (request : call.Request) (e : RunFault) → ArePartlyMade a b whole (calls_written core all) → all ≡ request ∷ more
+pub one_fails : (a b c : Known) (whole : Written) (core : CoreView) (all more : List call.Request) (request : call.Request) (e : ReplayFault) → ArePartlyMade a b whole (calls_written core all) → all ≡ request ∷ more
     → TextFails (call_written core request).text b c e → TextFails whole.text a c e
 one_fails a b c whole core all more request e s is p =
     part_fails a b c whole _ e s (subst (λ w. TextFails w.text b c e) (sym (ap (calls_written core) is ∙ call_more core request more)) (first_fails b c _ _ e p))
@@ -102,7 +100,7 @@ each_made calls a b c whole core new all more n s e p =
     part_more a b c whole _ _ (calls_written core (calls core n)).text s
     (ap (each_written calls core) e ∙ each_more calls core n more ∙ ap (λ k. written_after (calls_written core (calls core n)).text (each_written calls k more)) (sym p.core_is)) p.taken
 
-pub each_fails : (calls : CoreView → ℕ → List call.Request) (a b c : Known) (whole : Written) (core : CoreView) (all more : List ℕ) (n : ℕ) (e : RunFault) → ArePartlyMade a b whole (each_written calls core all) → all ≡ n ∷ more
+pub each_fails : (calls : CoreView → ℕ → List call.Request) (a b c : Known) (whole : Written) (core : CoreView) (all more : List ℕ) (n : ℕ) (e : ReplayFault) → ArePartlyMade a b whole (each_written calls core all) → all ≡ n ∷ more
     → TextFails (calls_written core (calls core n)).text b c e → TextFails whole.text a c e
 each_fails calls a b c whole core all more n e s is p =
     part_fails a b c whole _ e s (subst (λ w. TextFails w.text b c e) (sym (ap (each_written calls core) is ∙ each_more calls core n more)) (first_fails b c _ _ e p))
@@ -131,11 +129,11 @@ pub closes_made : (core : CoreView) (id : ℕ) (ids : List ℕ) → ids ≡ repl
 closes_made core id ids is = ap (map (call.try_close 0)) is ∙ map_same (call.try_close 0) _ id
 
 -- calls that come to those that are meant
-pub all_made_as : (result : Result ⊤ RunFault) (core new : CoreView) (requests meant : List call.Request) (a b : Known) → requests ≡ meant
+pub all_made_as : (result : Result ⊤ ReplayFault) (core new : CoreView) (requests meant : List call.Request) (a b : Known) → requests ≡ meant
     → OnOk result (AreMade (calls_written core requests) new a b) → OnOk result (AreMade (calls_written core meant) new a b)
 all_made_as result core new requests meant a b is p = subst (λ rs. OnOk result (AreMade (calls_written core rs) new a b)) is p
 
-pub all_fail_as : (result : Result ⊤ RunFault) (core : CoreView) (requests meant : List call.Request) (a b : Known) → requests ≡ meant
+pub all_fail_as : (result : Result ⊤ ReplayFault) (core : CoreView) (requests meant : List call.Request) (a b : Known) → requests ≡ meant
     → IfErr result (TextFails (calls_written core requests).text a b) → IfErr result (TextFails (calls_written core meant).text a b)
 all_fail_as result core requests meant a b is p = subst (λ rs. IfErr result (TextFails (calls_written core rs).text a b)) is p
 

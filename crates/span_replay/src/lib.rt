@@ -8,8 +8,9 @@
 pub mod laws;
 mod run;
 
+pub use run::fault::ReplayFault;
 pub use run::hooks::replay_with_layers;
 pub use run::replay::replay;
 pub use run::tidying::Remains;
 pub use run::why::why_with_layers;
-pub use span_run::{Counted, RunFault, Side};
+pub use span_run::Counted;

@@ -1,3 +1,3 @@
 pub mod Counted
-pub mod RunFault
 pub mod Device
+pub mod Status

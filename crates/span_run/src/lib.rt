@@ -1,10 +1,10 @@
-//! What each run of the program has: readers and writers whose calls are counted, and the faults with which a run ends.
+//! Readers and writers whose calls are counted, text that goes out through them, and the statuses of a run.
 #![tactic(auto)]
 
 mod counted;
-mod fault;
+mod status;
 mod transfer;
 
 pub use counted::Counted;
-pub use fault::{RunFault, Side};
-pub use transfer::{flush, read_script, write_text};
+pub use status::{FAILED_STATUS, SCRIPT_STATUS};
+pub use transfer::{WriteFailed, flush, write_text};

@@ -12,8 +12,8 @@ use Rattle.span_outlet.specs.Drain.{DrainView}
 use Rattle.span_history.specs.Own.{FrontView, IsFront, own}
 use Rattle.span_registry.specs.Worker.{WorkerView, IsNew}
 use Rattle.span_registry.specs.Share.{ShareView}
-use Rattle.span_storm.specs.declared.stopped.Stopped.{Stopped}
-use Rattle.span_storm.specs.declared.stopped.Stopped.TheVariants.{Memory, Refused, Held}
+use Rattle.span_storm.specs.declared.fault.StormFault.{StormFault}
+use Rattle.span_storm.specs.declared.fault.StormFault.TheVariants.{Memory, Refused, Held}
 use Rattle.span_storm.specs.Storm.{AreOfRounds, IsOneOf, IsParty, WasHeld, WasRefused}
 use Rattle.span_storm.specs.Storm.IsParty.{is_worker, is_drain}
 use Rattle.span_storm.specs.inside.Back.{AreBothBack, ComesBack, DrainingView, Gathers, GathersSeen, HasAll, HasOwn, IsAt, IsCallOf, IsDrainsStop, IsSameDrain, IsStop, IsStormStop, IsWorkersStop, PartyView, both_shares, numbers_seen, share_and_drain, Fit}
@@ -48,7 +48,7 @@ sum_of_map f n (x ∷ xs) = sum_by-cons (λ x. n (f x)) x xs ∙ ap (λ k. n (f 
 -- ---- why a party stopped
 
 -- for a reason of one kind, so for one of a wider kind
-stop_wider : (R R' : Fault → Type 0) (P P' : ℕ → Type 0) → ((fault : Fault) → R fault → R' fault) → ((party : ℕ) → P party → P' party) → (stopped : Stopped) → IsStop R P stopped → IsStop R' P' stopped
+stop_wider : (R R' : Fault → Type 0) (P P' : ℕ → Type 0) → ((fault : Fault) → R fault → R' fault) → ((party : ℕ) → P party → P' party) → (stopped : StormFault) → IsStop R P stopped → IsStop R' P' stopped
 stop_wider R R' P P' refused held Memory stop = tt
 stop_wider R R' P P' refused held (Refused fault) stop = refused fault stop
 stop_wider R R' P P' refused held (Held party) stop = held party stop
@@ -73,34 +73,34 @@ module _ (limits : Limits) (rules : List Filter) (holds : ℕ → ℕ → Type 0
   held_wider : (P Q : ℕ → ℕ → Type 0) → ((n k : ℕ) → P n k → Q n k) → (party : ℕ) → WasHeld holds P party → WasHeld holds Q party
   held_wider P Q wider party was = record { calls = was.calls; party_is = wider party was.calls was.party_is; held = was.held }
 
-  pub stopped_wider : (P Q : ℕ → ℕ → Type 0) → ((n k : ℕ) → P n k → Q n k) → (stopped : Stopped) → IsWorkersStop limits rules holds P stopped → IsWorkersStop limits rules holds Q stopped
+  pub stopped_wider : (P Q : ℕ → ℕ → Type 0) → ((n k : ℕ) → P n k → Q n k) → (stopped : StormFault) → IsWorkersStop limits rules holds P stopped → IsWorkersStop limits rules holds Q stopped
   stopped_wider P Q wider stopped stop =
       stop_wider (WasRefused limits rules P) (WasRefused limits rules Q) (WasHeld holds P) (WasHeld holds Q) (refused_wider P Q wider) (held_wider P Q wider) stopped stop
 
-  workers_wider : {T : Type 0} (P Q : ℕ → ℕ → Type 0) → ((n k : ℕ) → P n k → Q n k) → (r : Result T Stopped) → IfErr r (IsWorkersStop limits rules holds P) → IfErr r (IsWorkersStop limits rules holds Q)
+  workers_wider : {T : Type 0} (P Q : ℕ → ℕ → Type 0) → ((n k : ℕ) → P n k → Q n k) → (r : Result T StormFault) → IfErr r (IsWorkersStop limits rules holds P) → IfErr r (IsWorkersStop limits rules holds Q)
   workers_wider P Q wider (Ok _) stop = tt
   workers_wider P Q wider (Err stopped) stop = stopped_wider P Q wider stopped stop
 
   -- a worker that has made some calls of its rounds, and not all
-  pub stopped_at : (worker : WorkerView) (number rounds : ℕ) → worker.number ≡ number → worker.accepted < 9 * rounds → (stopped : Stopped) → IsWorkersStop limits rules holds (IsAt worker) stopped
+  pub stopped_at : (worker : WorkerView) (number rounds : ℕ) → worker.number ≡ number → worker.accepted < 9 * rounds → (stopped : StormFault) → IsWorkersStop limits rules holds (IsAt worker) stopped
       → IsWorkersStop limits rules holds (IsCallOf number rounds) stopped
   stopped_at worker number rounds is few stopped stop =
       stopped_wider (IsAt worker) (IsCallOf number rounds) (λ party calls at. (at.0 ∙ is, subst (λ n. n < 9 * rounds) (sym at.1) few)) stopped stop
 
-  as_one : {T : Type 0} (n k rounds made : ℕ) (r : Result T Stopped) → k < n → made ≡ rounds → IfErr r (IsWorkersStop limits rules holds (IsCallOf k made)) → IfErr r (IsWorkersStop limits rules holds (IsOneOf n rounds))
+  as_one : {T : Type 0} (n k rounds made : ℕ) (r : Result T StormFault) → k < n → made ≡ rounds → IfErr r (IsWorkersStop limits rules holds (IsCallOf k made)) → IfErr r (IsWorkersStop limits rules holds (IsOneOf n rounds))
   as_one n k rounds made r low same stop =
       workers_wider (IsCallOf k made) (IsOneOf n rounds) (λ party calls is. (subst (λ x. x < n) (sym is.0) low, subst (λ x. calls < 9 * x) same is.1)) r stop
 
 -- one of the workers, at the gate that all ask
-pub stopped_as_one : {T Gate : Type 0} (limits : Limits) (rules : List Filter) (holds : Gate → ℕ → ℕ → Type 0) (at gate : Gate) (n k rounds made : ℕ) (r : Result T Stopped)
+pub stopped_as_one : {T Gate : Type 0} (limits : Limits) (rules : List Filter) (holds : Gate → ℕ → ℕ → Type 0) (at gate : Gate) (n k rounds made : ℕ) (r : Result T StormFault)
     → at ≡ gate → k < n → made ≡ rounds → IfErr r (IsWorkersStop limits rules (holds at) (IsCallOf k made)) → IfErr r (IsWorkersStop limits rules (holds gate) (IsOneOf n rounds))
 stopped_as_one limits rules holds at gate n k rounds made r same low are stop =
     as_one limits rules (holds gate) n k rounds made r low are (subst (λ x. IfErr r (IsWorkersStop limits rules (holds x) (IsCallOf k made))) same stop)
 
 -- of two
-pub stopped_also : (P : Stopped → Type 0) (whole r next : Result ShareView Stopped) → next ≡ both_shares whole r → IfErr whole P → IfErr r P → IfErr next P
+pub stopped_also : (P : StormFault → Type 0) (whole r next : Result ShareView StormFault) → next ≡ both_shares whole r → IfErr whole P → IfErr r P → IfErr next P
 stopped_also P whole r next same a b = subst (λ x. IfErr x P) (sym same) (either whole r a b) where
-  either : (whole r : Result ShareView Stopped) → IfErr whole P → IfErr r P → IfErr (both_shares whole r) P
+  either : (whole r : Result ShareView StormFault) → IfErr whole P → IfErr r P → IfErr (both_shares whole r) P
   either (Err fault) r a b = a
   either (Ok one) (Err fault) a b = b
   either (Ok one) (Ok other) a b = tt
@@ -132,13 +132,13 @@ module _ {Gate : Type 0} (rounds : ℕ) (party : PartyView Gate) (xs ys : List (
   made share back = back.accepted ∙ omega (arith, new, rounds_are)
 
   -- the first worker
-  pub gathered_first : (r : Result ShareView Stopped) → IfOk r (ComesBack party.worker party.rounds) → Gathers r (length xs) (length ys) (9 * rounds) (sum_by spare_of xs) (sum_by spare_of ys)
+  pub gathered_first : (r : Result ShareView StormFault) → IfOk r (ComesBack party.worker party.rounds) → Gathers r (length xs) (length ys) (9 * rounds) (sum_by spare_of xs) (sum_by spare_of ys)
   gathered_first (Err fault) back = tt
   gathered_first (Ok share) back =
       (back.units, omega (arith, back.call_parts, fewer), made share back ∙ omega (arith, ap (λ k. k * (9 * rounds)) back.call_parts), omega (arith, back.handle_parts, parts_left))
 
   -- one worker more
-  gathered_next : (n all : ℕ) (whole r : Result ShareView Stopped) → Gathers whole n (length xs) (9 * rounds) all (sum_by spare_of xs)
+  gathered_next : (n all : ℕ) (whole r : Result ShareView StormFault) → Gathers whole n (length xs) (9 * rounds) all (sum_by spare_of xs)
       → IfOk r (ComesBack party.worker party.rounds) → Gathers (both_shares whole r) n (length ys) (9 * rounds) all (sum_by spare_of ys)
   gathered_next n all (Err fault) r g back = tt
   gathered_next n all (Ok before) (Err fault) g back = tt
@@ -150,7 +150,7 @@ module _ {Gate : Type 0} (rounds : ℕ) (party : PartyView Gate) (xs ys : List (
         omega (arith, g.3, back.handle_parts, parts_left),
       )
 
-  pub gathered_also : (n all : ℕ) (whole r next : Result ShareView Stopped) → next ≡ both_shares whole r → Gathers whole n (length xs) (9 * rounds) all (sum_by spare_of xs)
+  pub gathered_also : (n all : ℕ) (whole r next : Result ShareView StormFault) → next ≡ both_shares whole r → Gathers whole n (length xs) (9 * rounds) all (sum_by spare_of xs)
       → IfOk r (ComesBack party.worker party.rounds) → Gathers next n (length ys) (9 * rounds) all (sum_by spare_of ys)
   gathered_also n all whole r next same g back = subst (λ x. Gathers x n (length ys) (9 * rounds) all (sum_by spare_of ys)) (sym same) (gathered_next n all whole r g back)
 
@@ -160,11 +160,11 @@ module _ {Gate : Type 0} (rounds : ℕ) (party : PartyView Gate) (xs ys : List (
   own_made : (share : ShareView) → ComesBack party.worker party.rounds share → All (HasOwn (9 * rounds)) share.seen
   own_made share back = subst (λ n. All (HasOwn n) share.seen) (made share back) back.own_are
 
-  pub seen_first : (r : Result ShareView Stopped) → IfOk r (ComesBack party.worker party.rounds) → GathersSeen r (9 * rounds) (map number_of ys) (map number_of xs)
+  pub seen_first : (r : Result ShareView StormFault) → IfOk r (ComesBack party.worker party.rounds) → GathersSeen r (9 * rounds) (map number_of ys) (map number_of xs)
   seen_first (Err fault) back = tt
   seen_first (Ok share) back = (own_made share back, one_number share back)
 
-  seen_next : (all : List ℕ) (whole r : Result ShareView Stopped) → GathersSeen whole (9 * rounds) (map number_of xs) all → IfOk r (ComesBack party.worker party.rounds)
+  seen_next : (all : List ℕ) (whole r : Result ShareView StormFault) → GathersSeen whole (9 * rounds) (map number_of xs) all → IfOk r (ComesBack party.worker party.rounds)
       → GathersSeen (both_shares whole r) (9 * rounds) (map number_of ys) all
   seen_next all (Err fault) r g back = tt
   seen_next all (Ok before) (Err fault) g back = tt
@@ -176,12 +176,12 @@ module _ {Gate : Type 0} (rounds : ℕ) (party : PartyView Gate) (xs ys : List (
         ∙ g.1,
   )
 
-  pub seen_also : (all : List ℕ) (whole r next : Result ShareView Stopped) → next ≡ both_shares whole r → GathersSeen whole (9 * rounds) (map number_of xs) all
+  pub seen_also : (all : List ℕ) (whole r next : Result ShareView StormFault) → next ≡ both_shares whole r → GathersSeen whole (9 * rounds) (map number_of xs) all
       → IfOk r (ComesBack party.worker party.rounds) → GathersSeen next (9 * rounds) (map number_of ys) all
   seen_also all whole r next same g back = subst (λ x. GathersSeen x (9 * rounds) (map number_of ys) all) (sym same) (seen_next all whole r g back)
 
   -- the shares of at most 16 workers, which make at most 400 rounds each, can be put together
-  pub parts_fit : (n all : ℕ) (whole r : Result ShareView Stopped) → rounds ≤ 400 → n ≤ 16 → Gathers whole n (length xs) (9 * rounds) all (sum_by spare_of xs)
+  pub parts_fit : (n all : ℕ) (whole r : Result ShareView StormFault) → rounds ≤ 400 → n ≤ 16 → Gathers whole n (length xs) (9 * rounds) all (sum_by spare_of xs)
       → IfOk r (ComesBack party.worker party.rounds) → Fit whole r
   parts_fit n all (Err fault) r few some g back = tt
   parts_fit n all (Ok before) (Err fault) few some g back = tt
@@ -204,7 +204,7 @@ module _ {Gate : Type 0} (workers : List WorkerView) (parties : List (PartyView 
   numbers_same : map number_of parties ≡ map (λ (worker : WorkerView). worker.number) workers
   numbers_same = numbers_are parties ∙ ap (λ ws. map (λ (worker : WorkerView). worker.number) ws) same
 
-  pub has_all : (r : Result ShareView Stopped) → Gathers r (length parties) 0 (9 * rounds) (sum_by spare_of parties) 0 → GathersSeen r (9 * rounds) [] (map number_of parties) → IfOk r (HasAll workers rounds)
+  pub has_all : (r : Result ShareView StormFault) → Gathers r (length parties) 0 (9 * rounds) (sum_by spare_of parties) 0 → GathersSeen r (9 * rounds) [] (map number_of parties) → IfOk r (HasAll workers rounds)
   has_all (Err fault) g seen = tt
   has_all (Ok share) g seen =
       let len : length parties ≡ length workers = sym (length-map parties (λ party. party.worker)) ∙ ap length same in
@@ -230,15 +230,15 @@ module _ {Gate : Type 0} (count : ℕ) (workers : List WorkerView) (parties : Li
       subst (λ k. All (λ (party : PartyView Gate). party.worker.number < k) parties) (sym as_many)
       (all_of_map (λ (party : PartyView Gate). party.worker) parties workers same (λ worker. worker.number < count) all)
 
-  pub stopped_of : (limits : Limits) (rules : List Filter) (holds : ℕ → ℕ → Type 0) (rounds : ℕ) (r : Result ShareView Stopped) → IfErr r (IsWorkersStop limits rules holds (IsOneOf (length parties) rounds))
+  pub stopped_of : (limits : Limits) (rules : List Filter) (holds : ℕ → ℕ → Type 0) (rounds : ℕ) (r : Result ShareView StormFault) → IfErr r (IsWorkersStop limits rules holds (IsOneOf (length parties) rounds))
       → IfErr r (IsWorkersStop limits rules holds (IsOneOf count rounds))
   stopped_of limits rules holds rounds r stop = subst (λ k. IfErr r (IsWorkersStop limits rules holds (IsOneOf k rounds))) as_many stop
 
 -- the workers and the drain, whose number is that of all workers
-module _ (whole : Result ShareView Stopped) (drain : Result DrainView Stopped) (r : Result (ShareView × DrainView) Stopped) (is : r ≡ share_and_drain whole drain) where
+module _ (whole : Result ShareView StormFault) (drain : Result DrainView StormFault) (r : Result (ShareView × DrainView) StormFault) (is : r ≡ share_and_drain whole drain) where
   pub both_are_back : (workers : List WorkerView) (rounds : ℕ) (went : DrainView) → IfOk whole (HasAll workers rounds) → IfOk drain (IsSameDrain went) → IfOk r (λ back. AreBothBack workers rounds went back.0 back.1)
   both_are_back workers rounds went a b = subst (λ x. IfOk x (λ back. AreBothBack workers rounds went back.0 back.1)) (sym is) (each whole drain a b) where
-    each : (whole : Result ShareView Stopped) (drain : Result DrainView Stopped) → IfOk whole (HasAll workers rounds) → IfOk drain (IsSameDrain went) → IfOk (share_and_drain whole drain) (λ back. AreBothBack workers rounds went back.0 back.1)
+    each : (whole : Result ShareView StormFault) (drain : Result DrainView StormFault) → IfOk whole (HasAll workers rounds) → IfOk drain (IsSameDrain went) → IfOk (share_and_drain whole drain) (λ back. AreBothBack workers rounds went back.0 back.1)
     each (Err fault) drain a b = tt
     each (Ok whole) (Err fault) a b = tt
     each (Ok whole) (Ok drain) a b = record { whole = a; drain = b }
@@ -246,7 +246,7 @@ module _ (whole : Result ShareView Stopped) (drain : Result DrainView Stopped) (
   pub stopped_of_both : (limits : Limits) (rules : List Filter) (holds : ℕ → ℕ → Type 0) (count party rounds : ℕ) → IfErr whole (IsWorkersStop limits rules holds (IsOneOf count rounds)) → IfErr drain (IsDrainsStop holds party) → party ≡ count
       → IfErr r (IsStormStop limits rules holds count rounds)
   stopped_of_both limits rules holds count party rounds a b last = subst (λ x. IfErr x (IsStormStop limits rules holds count rounds)) (sym is) (each whole drain a b) where
-    each : (whole : Result ShareView Stopped) (drain : Result DrainView Stopped) → IfErr whole (IsWorkersStop limits rules holds (IsOneOf count rounds)) → IfErr drain (IsDrainsStop holds party)
+    each : (whole : Result ShareView StormFault) (drain : Result DrainView StormFault) → IfErr whole (IsWorkersStop limits rules holds (IsOneOf count rounds)) → IfErr drain (IsDrainsStop holds party)
         → IfErr (share_and_drain whole drain) (IsStormStop limits rules holds count rounds)
     each (Err stopped) drain a b =
         stop_wider (WasRefused limits rules (IsOneOf count rounds)) (WasRefused limits rules (IsOneOf count rounds)) (WasHeld holds (IsOneOf count rounds)) (WasHeld holds (IsParty count rounds))
@@ -257,7 +257,7 @@ module _ (whole : Result ShareView Stopped) (drain : Result DrainView Stopped) (
     each (Ok whole) (Ok drain) a b = tt
 
 -- what comes back of the drain, whose thread was started so
-module _ {Gate : Type 0} (holds : Gate → ℕ → ℕ → Type 0) (draining : DrainingView Gate) (drain : DrainView) (gate : Gate) (party : ℕ) (r : Result DrainView Stopped)
+module _ {Gate : Type 0} (holds : Gate → ℕ → ℕ → Type 0) (draining : DrainingView Gate) (drain : DrainView) (gate : Gate) (party : ℕ) (r : Result DrainView StormFault)
     (is : draining ≡ record { drain = drain; gate = gate; party = party }) where
   pub drain_back : IfOk r (IsSameDrain draining.drain) → IfOk r (IsSameDrain drain)
   drain_back back = subst (λ (d : DrainingView Gate). IfOk r (IsSameDrain d.drain)) is back

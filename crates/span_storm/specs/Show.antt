@@ -2,9 +2,6 @@
 use Rattle.std.specs.Prelude.{ℕ, List, [], ◌∷◌, ◌++◌, flat_map, vec_len, codes}
 use Rattle.std.specs.Fmt.{decimal}
 use Rattle.span_registry.specs.declared.report.Report.{Report}
-use Rattle.span_run.specs.declared.fault.RunFault.{RunFault}
-use Rattle.span_run.specs.declared.fault.RunFault.TheVariants.{Device}
-use Rattle.span_run.specs.declared.fault.Side.TheVariants.{Write}
 
 -- a number and what it counts, on a line
 abbrev pub number_line : List ℕ → ℕ → List ℕ
@@ -22,7 +19,3 @@ storm_lines workers rounds report = flat_map (λ (row : List ℕ × ℕ). number
     ∷ (codes "refused", report.refused)
     ∷ (codes "left", report.left)
     ∷ [])
-
--- a device failed at writing
-abbrev pub write_failed : RunFault
-write_failed = Device Write

@@ -18,8 +18,8 @@ use Rattle.span_core.specs.Core.{CoreView, WhyRefused}
 use Rattle.span_history.specs.Own.{own}
 use Rattle.span_registry.specs.declared.report.Report.{Report}
 use Rattle.span_registry.specs.Report.{IsWithin, Tells}
-use Rattle.span_run.specs.declared.fault.RunFault.{RunFault}
-use Rattle.span_run.specs.declared.fault.RunFault.TheVariants.{Script, Memory, Device, Refused, Held}
+use Rattle.span_storm.specs.declared.fault.StormFault.{StormFault}
+use Rattle.span_storm.specs.declared.fault.StormFault.TheVariants.{Memory, Refused, Held}
 
 -- what has this name is of the target `app`, at the level of information
 abbrev pub app_meta : List ℕ → PlainMeta
@@ -135,9 +135,7 @@ pub data IsParty (workers rounds party calls : ℕ) : Type 0 where
 
 -- A storm of so many rounds with these limits and layers ends early for want of memory, for a call of a worker that was
 -- refused, or for a party that the gate held: a worker by its number, or the drain by the number after theirs.
-abbrev pub IsStormFault : Limits → ℕ → List Filter → (ℕ → ℕ → Type 0) → RunFault → Type 0
+abbrev pub IsStormFault : Limits → ℕ → List Filter → (ℕ → ℕ → Type 0) → StormFault → Type 0
 IsStormFault limits rounds rules holds Memory = Unit {0}
 IsStormFault limits rounds rules holds (Refused fault) = WasRefused limits rules (IsOneOf limits.workers rounds) fault
 IsStormFault limits rounds rules holds (Held party) = WasHeld holds (IsParty limits.workers rounds) party
-IsStormFault limits rounds rules holds (Script line reason) = ⊥
-IsStormFault limits rounds rules holds (Device side) = ⊥

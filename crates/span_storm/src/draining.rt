@@ -2,8 +2,8 @@
 ghost use Rattle.std.specs.Prelude.{◌≡◌, IfOk, IfErr, IfSome};
 ghost use Rattle.span_storm.specs.inside.Back.{DrainingView, IsDrainsStop, IsSameDrain};
 
+use crate::fault::StormFault;
 use crate::gate::Gate;
-use crate::stopped::Stopped;
 use span_layers::Say;
 use span_registry::Drain;
 use std::marker::Model;
@@ -21,7 +21,7 @@ pub(crate) struct BackAgain<V, G> {
     party: u32,
 }
 
-impl<V, G: Gate> Promise<Result<Drain<V>, Stopped>> for BackAgain<V, G> {
+impl<V, G: Gate> Promise<Result<Drain<V>, StormFault>> for BackAgain<V, G> {
     ghost use Rattle.std.specs.Prelude.{IfOk, IfErr};
     ghost use Rattle.span_storm.specs.inside.Back.{IsDrainsStop, IsSameDrain};
 
@@ -35,7 +35,7 @@ pub(crate) struct Draining<V, G: Gate> {
     drain: Snapshot<Drain<V>>,
     gate: Snapshot<G>,
     party: u32,
-    running: Option<PromisedHandle<Result<Drain<V>, Stopped>, BackAgain<V, G>>>,
+    running: Option<PromisedHandle<Result<Drain<V>, StormFault>, BackAgain<V, G>>>,
 }
 
 impl<V, G: Gate> Model for Draining<V, G> {
@@ -54,7 +54,7 @@ impl<V, G: Gate> Model for Draining<V, G> {
 
 impl<V: Drop, G: Gate> Draining<V, G> {
     /// The drain, once its thread has ended.
-    pub(crate) fn join<R: Threads>(self, rt: &R) -> Result<Drain<V>, Stopped>
+    pub(crate) fn join<R: Threads>(self, rt: &R) -> Result<Drain<V>, StormFault>
         ensures back { IfOk result (λ drain. IsSameDrain self.drain drain) }
         ensures stopped { IfErr result (IsDrainsStop (G.holds self.gate) self.party) }
     {
@@ -66,7 +66,7 @@ impl<V: Drop, G: Gate> Draining<V, G> {
         } = self;
         match running {
             Some(handle) => handle.join(rt),
-            None => Err(Stopped::Memory),
+            None => Err(StormFault::Memory),
         }
     }
 }
@@ -96,7 +96,7 @@ pub(crate) fn start_drain<
     };
     let started = scope.spawn_with(
         promise,
-        move || -> Result<Drain<V>, Stopped>
+        move || -> Result<Drain<V>, StormFault>
             ensures back { IfOk result (λ back. IsSameDrain drain back) }
             ensures stopped { IfErr result (IsDrainsStop (G.holds gate.entry.now) party) }
         { step_beside(rt, gate, party, drain, all_back) },
@@ -116,7 +116,7 @@ fn step_beside<V: Say, G: Gate, R: Wait>(
     party: u32,
     drain: Drain<V>,
     all_back: &AtomicBool,
-) -> Result<Drain<V>, Stopped>
+) -> Result<Drain<V>, StormFault>
     ensures back { IfOk result (λ back. IsSameDrain drain back) }
     ensures stopped { IfErr result (IsDrainsStop (G.holds gate.now) party) }
 {
@@ -125,7 +125,7 @@ fn step_beside<V: Say, G: Gate, R: Wait>(
         step_until(rt, &mut drain, all_back);
         Ok(drain)
     } else {
-        Err(Stopped::Held(party))
+        Err(StormFault::Held(party))
     }
 }
 

@@ -6,15 +6,16 @@
 #![tactic(auto)]
 
 mod draining;
+mod fault;
 mod gate;
 mod metas;
 mod numbers;
 mod party;
 mod round;
 mod run;
-mod stopped;
 mod threads;
 
+pub use fault::StormFault;
 pub use gate::{Gate, Open};
 pub use numbers::show;
 pub use run::storm;

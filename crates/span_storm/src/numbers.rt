@@ -1,15 +1,14 @@
 //! The numbers of a storm, as text.
-ghost use Rattle.std.specs.Prelude.{◌≡◌, ◌^◌, ◌<◌, OnOk, OnErr, IfErr};
+ghost use Rattle.std.specs.Prelude.{◌≡◌, OnOk, OnErr};
 ghost use Rattle.std.specs.Io.KnownBytes.{Appends};
 ghost use Rattle.span_run.specs.Counted.{inner_of, failed_of, flushes_of};
-ghost use Rattle.span_run.specs.Device.{AppendsFront};
-ghost use Rattle.span_run.specs.RunFault.{EndsAsCounted};
-ghost use Rattle.span_storm.specs.Show.{number_line, storm_lines, write_failed};
+ghost use Rattle.span_run.specs.Device.{AppendsFront, CountsFailure};
+ghost use Rattle.span_storm.specs.Show.{number_line, storm_lines};
 ghost use Rattle.span_storm.specs.inside.Rows.{text_of_rows};
 
 use itoa::Buffer;
 use span_registry::Report;
-use span_run::{Counted, RunFault, write_text};
+use span_run::{Counted, WriteFailed, write_text};
 use std::io::Write;
 
 // A number and what it counts.
@@ -22,20 +21,18 @@ struct Row {
 /// Writes how a storm of so many workers and rounds ended: eight lines with a number each. It takes no memory, and does
 /// not flush.
 ///
-/// The only error is `Device`; then a front of the text went out.
+/// On an error a front of the text went out.
 pub fn show<W: Write>(
     workers: u32,
     rounds: u32,
     report: &Report,
     output: &mut Counted<W>,
-) -> Result<(), RunFault>
-    requires { failed_of output.old < 2 ^ 63 }
+) -> Result<(), WriteFailed>
     ensures ok { OnOk result (Appends (W.contents (inner_of output.old)) (W.contents (inner_of output.new))
         (storm_lines workers rounds report.now)) }
     ensures front { OnErr result (AppendsFront (W.contents (inner_of output.old)) (W.contents (inner_of output.new))
         (storm_lines workers rounds report.now)) }
-    ensures device { IfErr result (λ fault. fault ≡ write_failed) }
-    ensures counts { EndsAsCounted 0 0 (failed_of output.old) (failed_of output.new) result }
+    ensures counts { CountsFailure (failed_of output.old) (failed_of output.new) result }
     ensures flushes { flushes_of output.new ≡ flushes_of output.old }
 {
     let rows = [
@@ -76,14 +73,12 @@ pub fn show<W: Write>(
 }
 
 // Writes a line for each.
-fn write_rows<W: Write>(rows: &[Row], output: &mut Counted<W>) -> Result<(), RunFault>
-    requires { failed_of output.old < 2 ^ 63 }
+fn write_rows<W: Write>(rows: &[Row], output: &mut Counted<W>) -> Result<(), WriteFailed>
     ensures ok { OnOk result (Appends (W.contents (inner_of output.old)) (W.contents (inner_of output.new))
         (text_of_rows rows.now)) }
     ensures front { OnErr result (AppendsFront (W.contents (inner_of output.old)) (W.contents (inner_of output.new))
         (text_of_rows rows.now)) }
-    ensures device { IfErr result (λ fault. fault ≡ write_failed) }
-    ensures counts { EndsAsCounted 0 0 (failed_of output.old) (failed_of output.new) result }
+    ensures counts { CountsFailure (failed_of output.old) (failed_of output.new) result }
     ensures flushes { flushes_of output.new ≡ flushes_of output.old }
 {
     for row in rows {
@@ -95,14 +90,16 @@ fn write_rows<W: Write>(rows: &[Row], output: &mut Counted<W>) -> Result<(), Run
 }
 
 // Writes one line.
-fn write_line<W: Write>(label: &str, number: u64, output: &mut Counted<W>) -> Result<(), RunFault>
-    requires { failed_of output.old < 2 ^ 63 }
+fn write_line<W: Write>(
+    label: &str,
+    number: u64,
+    output: &mut Counted<W>,
+) -> Result<(), WriteFailed>
     ensures ok { OnOk result (Appends (W.contents (inner_of output.old)) (W.contents (inner_of output.new))
         (number_line label.now number)) }
     ensures front { OnErr result (AppendsFront (W.contents (inner_of output.old)) (W.contents (inner_of output.new))
         (number_line label.now number)) }
-    ensures device { IfErr result (λ fault. fault ≡ write_failed) }
-    ensures counts { EndsAsCounted 0 0 (failed_of output.old) (failed_of output.new) result }
+    ensures counts { CountsFailure (failed_of output.old) (failed_of output.new) result }
     ensures flushes { flushes_of output.new ≡ flushes_of output.old }
 {
     write_text(output, label.as_bytes())?;

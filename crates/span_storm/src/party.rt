@@ -3,10 +3,10 @@ ghost use Rattle.std.specs.Prelude.{◌≡◌, ◌≤◌, true, IfOk, IfErr, IfS
 ghost use Rattle.span_storm.specs.Storm.{wants_jobs};
 ghost use Rattle.span_storm.specs.inside.Back.{ComesBack, IsCallOf, IsWorkersStop, PartyView};
 
+use crate::fault::StormFault;
 use crate::gate::Gate;
 use crate::metas::Metas;
 use crate::round::work;
-use crate::stopped::Stopped;
 use span_registry::{Registry, Ring, Setup, Share, Worker};
 use std::marker::Model;
 use std::snapshot::Snapshot;
@@ -22,7 +22,7 @@ pub(crate) struct Back<H: Ledger, C: Ledger, S: Setup, G> {
     rounds: u32,
 }
 
-impl<H: Ledger, C: Ledger, S: Setup, G: Gate> Promise<Result<Share<H, C, S>, Stopped>>
+impl<H: Ledger, C: Ledger, S: Setup, G: Gate> Promise<Result<Share<H, C, S>, StormFault>>
     for Back<H, C, S, G> {
     ghost use Rattle.std.specs.Prelude.{◌≡◌, IfOk, IfErr};
     ghost use Rattle.span_storm.specs.inside.Back.{ComesBack, IsCallOf, IsWorkersStop};
@@ -38,7 +38,7 @@ pub(crate) struct Party<H: Ledger, C: Ledger, S: Setup, G: Gate> {
     worker: Snapshot<Worker<H, C, S>>,
     gate: Snapshot<G>,
     rounds: u32,
-    running: Option<PromisedHandle<Result<Share<H, C, S>, Stopped>, Back<H, C, S, G>>>,
+    running: Option<PromisedHandle<Result<Share<H, C, S>, StormFault>, Back<H, C, S, G>>>,
 }
 
 impl<H: Ledger, C: Ledger, S: Setup, G: Gate> Model for Party<H, C, S, G> {
@@ -56,7 +56,7 @@ impl<H: Ledger, C: Ledger, S: Setup, G: Gate> Model for Party<H, C, S, G> {
 
 impl<H: Ledger, C: Ledger, S: Setup, G: Gate> Party<H, C, S, G> {
     /// What comes back of the worker, once its thread has ended.
-    pub(crate) fn join<R: Threads>(self, rt: &R) -> Result<Share<H, C, S>, Stopped>
+    pub(crate) fn join<R: Threads>(self, rt: &R) -> Result<Share<H, C, S>, StormFault>
         ensures back { IfOk result (λ share. ComesBack self.worker self.rounds share) }
         ensures stopped { IfErr result
             (IsWorkersStop S.limits S.rules (G.holds self.gate) (IsCallOf self.worker.number self.rounds)) }
@@ -69,7 +69,7 @@ impl<H: Ledger, C: Ledger, S: Setup, G: Gate> Party<H, C, S, G> {
         } = self;
         match running {
             Some(handle) => handle.join(rt),
-            None => Err(Stopped::Memory),
+            None => Err(StormFault::Memory),
         }
     }
 }
@@ -107,7 +107,7 @@ pub(crate) fn start<
     };
     let started = scope.spawn_with(
         promise,
-        move || -> Result<Share<H, C, S>, Stopped>
+        move || -> Result<Share<H, C, S>, StormFault>
             requires wanted { wants_jobs S.rules ≡ true }
             requires new { worker.accepted ≡ 0 }
             requires spare { 3 ≤ worker.spare }

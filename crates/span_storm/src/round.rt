@@ -9,9 +9,9 @@ ghost use Rattle.span_storm.specs.Storm.{IsPlaceOfClose, IsSpanOfRound, app_meta
 ghost use Rattle.span_history.specs.Own.{own};
 ghost use Rattle.span_storm.specs.inside.Back.{ComesBack, HasRounds, IsAt, IsCallOf, IsWorkersStop};
 
+use crate::fault::StormFault;
 use crate::gate::Gate;
 use crate::metas::Metas;
-use crate::stopped::Stopped;
 use span_id::Meta;
 use span_registry::{DroppableHandle, Handle, ParentOf, Registry, Ring, Setup, Share, Worker};
 use std::sync::Wait;
@@ -25,7 +25,7 @@ pub(crate) fn work<H: Ledger, C: Ledger, S: Setup, G: Gate, R: Wait>(
     metas: &Metas,
     worker: Worker<H, C, S>,
     rounds: u32,
-) -> Result<Share<H, C, S>, Stopped>
+) -> Result<Share<H, C, S>, StormFault>
     requires wanted { wants_jobs S.rules ≡ true }
     requires new { worker.accepted ≡ 0 }
     requires spare { 3 ≤ worker.spare }
@@ -52,7 +52,7 @@ fn make_rounds<H: Ledger, C: Ledger, S: Setup, G: Gate, R: Wait>(
     metas: &Metas,
     worker: &mut Worker<H, C, S>,
     rounds: u32,
-) -> Result<(), Stopped>
+) -> Result<(), StormFault>
     requires wanted { wants_jobs S.rules ≡ true }
     requires spare { 3 ≤ worker.old.spare }
     requires place { worker.old.accepted % 9 ≡ 0 }
@@ -78,7 +78,7 @@ fn round<H: Ledger, C: Ledger, S: Setup, G: Gate, R: Wait>(
     gate: &G,
     metas: &Metas,
     worker: &mut Worker<H, C, S>,
-) -> Result<(), Stopped>
+) -> Result<(), StormFault>
     requires wanted { wants_jobs S.rules ≡ true }
     requires spare { 3 ≤ worker.old.spare }
     requires place { worker.old.accepted % 9 ≡ 0 }
@@ -105,7 +105,7 @@ fn with_job<H: Ledger, C: Ledger, S: Setup, G: Gate, R: Wait>(
     metas: &Metas,
     worker: &mut Worker<H, C, S>,
     job: DroppableHandle<H, C, S>,
-) -> Result<(), Stopped>
+) -> Result<(), StormFault>
     requires wanted { wants_jobs S.rules ≡ true }
     requires spare { 2 ≤ worker.old.spare }
     requires place { worker.old.accepted % 9 ≡ 1 }
@@ -133,7 +133,7 @@ fn with_clone<H: Ledger, C: Ledger, S: Setup, G: Gate, R: Wait>(
     metas: &Metas,
     worker: &mut Worker<H, C, S>,
     job: &mut Handle<H, C, S>,
-) -> Result<(), Stopped>
+) -> Result<(), StormFault>
     requires wanted { wants_jobs S.rules ≡ true }
     requires spare { 2 ≤ worker.old.spare }
     requires place { worker.old.accepted % 9 ≡ 1 }
@@ -161,7 +161,7 @@ fn inside<H: Ledger, C: Ledger, S: Setup, G: Gate, R: Wait>(
     metas: &Metas,
     worker: &mut Worker<H, C, S>,
     job: &mut Handle<H, C, S>,
-) -> Result<(), Stopped>
+) -> Result<(), StormFault>
     requires wanted { wants_jobs S.rules ≡ true }
     requires spare { 1 ≤ worker.old.spare }
     requires place { worker.old.accepted % 9 ≡ 2 }
@@ -185,7 +185,7 @@ fn inside<H: Ledger, C: Ledger, S: Setup, G: Gate, R: Wait>(
 fn ask<H: Ledger, C: Ledger, S: Setup, G: Gate>(
     gate: &G,
     worker: &Worker<H, C, S>,
-) -> Result<(), Stopped>
+) -> Result<(), StormFault>
     requires { worker.now.accepted + 1 < 2 ^ 64 }
     ensures own { length (own worker.now.number worker.now.seen) ≡ worker.now.accepted }
     ensures stopped { IfErr result (IsWorkersStop S.limits S.rules (G.holds gate.now) (IsAt worker.now)) }
@@ -194,7 +194,7 @@ fn ask<H: Ledger, C: Ledger, S: Setup, G: Gate>(
     if gate.before(party, worker.accepted() + 1) {
         Ok(())
     } else {
-        Err(Stopped::Held(party))
+        Err(StormFault::Held(party))
     }
 }
 
@@ -206,7 +206,7 @@ fn open<H: Ledger, C: Ledger, S: Setup, G: Gate, R: Wait>(
     worker: &mut Worker<H, C, S>,
     meta: &Meta,
     parent: ParentOf,
-) -> Result<DroppableHandle<H, C, S>, Stopped>
+) -> Result<DroppableHandle<H, C, S>, StormFault>
     requires wanted { is_wanted_meta S.rules (plain_meta meta.now) ≡ true }
     requires span { (world : World)
         → IsSpanOfRound (worker.old.accepted % 9) (plain_meta meta.now) (parent_found world worker.old.number parent) }
@@ -222,7 +222,7 @@ fn open<H: Ledger, C: Ledger, S: Setup, G: Gate, R: Wait>(
     match registry.new_span(rt, worker, meta, &[], parent) {
         Ok(Some(handle)) => Ok(DroppableHandle { handle }),
         Ok(None) => unreachable!(),
-        Err(fault) => Err(Stopped::Refused(fault)),
+        Err(fault) => Err(StormFault::Refused(fault)),
     }
 }
 
@@ -233,7 +233,7 @@ fn clone_handle<H: Ledger, C: Ledger, S: Setup, G: Gate, R: Wait>(
     gate: &G,
     worker: &mut Worker<H, C, S>,
     handle: &mut Handle<H, C, S>,
-) -> Result<DroppableHandle<H, C, S>, Stopped>
+) -> Result<DroppableHandle<H, C, S>, StormFault>
     requires spare { 0 < worker.old.spare }
     requires place { worker.old.accepted % 9 ≡ 1 }
     requires rounds { HasRounds worker.old }
@@ -246,7 +246,7 @@ fn clone_handle<H: Ledger, C: Ledger, S: Setup, G: Gate, R: Wait>(
     ask(gate, worker)?;
     match registry.clone_span(rt, worker, handle) {
         Ok(handle) => Ok(DroppableHandle { handle }),
-        Err(fault) => Err(Stopped::Refused(fault)),
+        Err(fault) => Err(StormFault::Refused(fault)),
     }
 }
 
@@ -257,7 +257,7 @@ fn enter<H: Ledger, C: Ledger, S: Setup, G: Gate, R: Wait>(
     gate: &G,
     worker: &mut Worker<H, C, S>,
     handle: &mut Handle<H, C, S>,
-) -> Result<(), Stopped>
+) -> Result<(), StormFault>
     requires place { worker.old.accepted % 9 ≡ 2 }
     requires rounds { HasRounds worker.old }
     requires low { worker.old.accepted + 1 < 2 ^ 64 }
@@ -269,7 +269,7 @@ fn enter<H: Ledger, C: Ledger, S: Setup, G: Gate, R: Wait>(
     ask(gate, worker)?;
     match registry.enter(rt, worker, handle) {
         Ok(_first) => Ok(()),
-        Err(fault) => Err(Stopped::Refused(fault)),
+        Err(fault) => Err(StormFault::Refused(fault)),
     }
 }
 
@@ -280,7 +280,7 @@ fn tell<H: Ledger, C: Ledger, S: Setup, G: Gate, R: Wait>(
     gate: &G,
     worker: &mut Worker<H, C, S>,
     meta: &Meta,
-) -> Result<(), Stopped>
+) -> Result<(), StormFault>
     requires meta { plain_meta meta.now ≡ app_meta (codes "event") }
     requires place { worker.old.accepted % 9 ≡ 3 }
     requires rounds { HasRounds worker.old }
@@ -293,7 +293,7 @@ fn tell<H: Ledger, C: Ledger, S: Setup, G: Gate, R: Wait>(
     ask(gate, worker)?;
     match registry.event(rt, worker, meta, "tick", &[]) {
         Ok(()) => Ok(()),
-        Err(fault) => Err(Stopped::Refused(fault)),
+        Err(fault) => Err(StormFault::Refused(fault)),
     }
 }
 
@@ -304,7 +304,7 @@ fn exit<H: Ledger, C: Ledger, S: Setup, G: Gate, R: Wait>(
     gate: &G,
     worker: &mut Worker<H, C, S>,
     handle: &Handle<H, C, S>,
-) -> Result<(), Stopped>
+) -> Result<(), StormFault>
     requires place { worker.old.accepted % 9 ≡ 6 }
     requires rounds { HasRounds worker.old }
     requires low { worker.old.accepted + 1 < 2 ^ 64 }
@@ -316,7 +316,7 @@ fn exit<H: Ledger, C: Ledger, S: Setup, G: Gate, R: Wait>(
     ask(gate, worker)?;
     match registry.exit(rt, worker, handle.id()) {
         Ok(_closed) => Ok(()),
-        Err(fault) => Err(Stopped::Refused(fault)),
+        Err(fault) => Err(StormFault::Refused(fault)),
     }
 }
 
@@ -327,7 +327,7 @@ fn close<H: Ledger, C: Ledger, S: Setup, G: Gate, R: Wait>(
     gate: &G,
     worker: &mut Worker<H, C, S>,
     held: DroppableHandle<H, C, S>,
-) -> Result<(), Stopped>
+) -> Result<(), StormFault>
     requires place { IsPlaceOfClose (worker.old.accepted % 9) }
     requires rounds { HasRounds worker.old }
     requires low { worker.old.accepted + 1 < 2 ^ 64 }
@@ -341,7 +341,7 @@ fn close<H: Ledger, C: Ledger, S: Setup, G: Gate, R: Wait>(
         Ok(_closed) => Ok(()),
         Err((handle, fault)) => {
             drop(handle.into_share());
-            Err(Stopped::Refused(fault))
+            Err(StormFault::Refused(fault))
         }
     }
 }

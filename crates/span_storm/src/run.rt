@@ -5,13 +5,13 @@ ghost use Rattle.span_outlet.specs.Ring.{places_of};
 ghost use Rattle.span_storm.specs.Storm.{IsStormEnd, IsStormFault, storm_limits, wants_jobs};
 ghost use Rattle.span_storm.specs.inside.Back.{HasNumbers};
 
+use crate::fault::StormFault;
 use crate::gate::Gate;
 use crate::metas::Metas;
 use crate::threads::in_threads;
 use span_id::{Checked, Limits};
 use span_layers::{Filters, Layers, Say};
 use span_registry::{Blanks, Drain, Registry, Report, Ring, Setup};
-use span_run::RunFault;
 use std::alloc::Global;
 use std::marker::Brand;
 use std::sync::Wait;
@@ -37,7 +37,7 @@ pub fn storm<G: Gate + Sync, R: Threads + Wait + Sync>(
     rounds: u32,
     layers: Layers,
     gate: &G,
-) -> Result<Report, RunFault>
+) -> Result<Report, StormFault>
     requires workers { (0 < workers) × (workers ≤ 16) }
     requires rounds { (0 < rounds) × (rounds ≤ 400) }
     requires wanted { wants_jobs (filters_in layers) ≡ true }
@@ -60,7 +60,7 @@ pub fn storm<G: Gate + Sync, R: Threads + Wait + Sync>(
     };
     match Metas::new(alloc) {
         Ok(metas) => with_metas(rt, alloc, &checked, rounds, layers, gate, &metas),
-        Err(_) => Err(RunFault::Memory),
+        Err(_) => Err(StormFault::Memory),
     }
 }
 
@@ -73,7 +73,7 @@ fn with_metas<G: Gate + Sync, R: Threads + Wait + Sync>(
     layers: Layers,
     gate: &G,
     metas: &Metas,
-) -> Result<Report, RunFault>
+) -> Result<Report, StormFault>
     requires workers { checked.now.workers ≤ 16 }
     requires rounds { rounds ≤ 400 }
     requires wanted { wants_jobs (filters_in layers) ≡ true }
@@ -83,10 +83,10 @@ fn with_metas<G: Gate + Sync, R: Threads + Wait + Sync>(
     ensures faults { IfErr result (IsStormFault checked.now rounds (filters_in layers) (G.holds gate.now)) }
 {
     let Ok(blanks) = Blanks::new(alloc, checked) else {
-        return Err(RunFault::Memory);
+        return Err(StormFault::Memory);
     };
     let Ok((ring, tap)) = Ring::pair(alloc, checked) else {
-        return Err(RunFault::Memory);
+        return Err(StormFault::Memory);
     };
     let (filters, tellers) = layers.split();
     run::<Brand, Brand, Brand, _, _, _>(
@@ -121,7 +121,7 @@ fn run<
     ring: Ring,
     drain: Drain<V>,
     blanks: Blanks,
-) -> Result<Report, RunFault>
+) -> Result<Report, StormFault>
     requires workers { S.limits.workers ≤ 16 }
     requires rounds { rounds ≤ 400 }
     requires setup { (filters.rules ≡ S.rules) × ([] ≡ S.forms) × (Some ring.name ≡ S.ring) }
@@ -143,11 +143,11 @@ fn run<
 {
     let made = Registry::<H, C, S, Ring>::new(alloc, filters, ring, blanks);
     let Ok((registry, workers)) = made else {
-        return Err(RunFault::Memory);
+        return Err(StormFault::Memory);
     };
     let back = in_threads(rt, alloc, &registry, gate, metas, workers, rounds, drain);
     match back {
         Ok((whole, drain)) => Ok(registry.finish(whole, drain)),
-        Err(stopped) => Err(stopped.fault()),
+        Err(fault) => Err(fault),
     }
 }

@@ -5,10 +5,10 @@ ghost use Rattle.span_storm.specs.inside.Back.{AreBothBack, AreReady, both_share
 ghost use Rattle.span_storm.specs.inside.Back.{IsStormStop, IsWorkersStop, share_and_drain};
 
 use crate::draining::start_drain;
+use crate::fault::StormFault;
 use crate::gate::Gate;
 use crate::metas::Metas;
 use crate::party::{Party, start};
-use crate::stopped::Stopped;
 use span_layers::Say;
 use span_registry::{Drain, Registry, Ring, Setup, Share, Worker};
 use std::alloc::Global;
@@ -36,7 +36,7 @@ pub(crate) fn in_threads<
     workers: Vec<Worker<H, C, S>>,
     rounds: u32,
     drain: Drain<V>,
-) -> Result<(Share<H, C, S>, Drain<V>), Stopped>
+) -> Result<(Share<H, C, S>, Drain<V>), StormFault>
     requires { AreReady S.rules (vec_len workers) workers.items rounds }
     ensures back { IfOk result (λ back. AreBothBack workers.items rounds drain back.0 back.1) }
     ensures stopped { IfErr result (IsStormStop S.limits S.rules (G.holds gate.now) (vec_len workers) rounds) }
@@ -46,7 +46,7 @@ pub(crate) fn in_threads<
     thread::scope(
         thread::scope_env(),
         rt,
-        move |scope| -> Result<(Share<H, C, S>, Drain<V>), Stopped>
+        move |scope| -> Result<(Share<H, C, S>, Drain<V>), StormFault>
             requires { AreReady S.rules (vec_len workers) workers.items rounds }
             ensures back { IfOk result (λ back. AreBothBack workers.items rounds drain back.0 back.1) }
             ensures stopped { IfErr result (IsStormStop S.limits S.rules (G.holds gate.entry.now) (vec_len workers) rounds) }
@@ -62,9 +62,9 @@ pub(crate) fn in_threads<
 
 // The whole share and the drain, or the workers' fault, or that of the drain where they have none.
 fn both_back<H: Ledger, C: Ledger, S: Setup, V: Drop>(
-    whole: Result<Share<H, C, S>, Stopped>,
-    drain: Result<Drain<V>, Stopped>,
-) -> Result<(Share<H, C, S>, Drain<V>), Stopped>
+    whole: Result<Share<H, C, S>, StormFault>,
+    drain: Result<Drain<V>, StormFault>,
+) -> Result<(Share<H, C, S>, Drain<V>), StormFault>
     ensures { result ≡ share_and_drain whole drain }
 {
     match whole {
@@ -94,7 +94,7 @@ fn run_workers<
     metas: &'s Metas,
     workers: Vec<Worker<H, C, S>>,
     rounds: u32,
-) -> Result<Share<H, C, S>, Stopped>
+) -> Result<Share<H, C, S>, StormFault>
     requires { AreReady S.rules (vec_len workers) workers.items rounds }
     ensures back { IfOk result (λ whole. HasAll workers.items rounds whole) }
     ensures stopped { IfErr result
@@ -122,17 +122,17 @@ fn start_all<
     metas: &'s Metas,
     workers: Vec<Worker<H, C, S>>,
     rounds: u32,
-) -> Result<Vec<Party<H, C, S, G>>, Stopped>
+) -> Result<Vec<Party<H, C, S, G>>, StormFault>
     requires wanted { wants_jobs S.rules ≡ true }
     requires new { All (λ worker. worker.accepted ≡ 0) workers.items }
     requires spare { All (λ worker. 3 ≤ worker.spare) workers.items }
-    ensures memory { IfErr result (λ stopped. stopped ≡ Stopped.Memory) }
+    ensures memory { IfErr result (λ stopped. stopped ≡ StormFault.Memory) }
     ensures same { IfOk result (λ parties. map (λ party. party.worker) parties.items ≡ workers.items) }
     ensures rounds { IfOk result (λ parties. All (λ party. party.rounds ≡ rounds) parties.items) }
     ensures gates { IfOk result (λ parties. All (λ party. party.gate ≡ gate.now) parties.items) }
 {
     let Ok(mut parties) = Vec::with_capacity(alloc, workers.len()) else {
-        return Err(Stopped::Memory);
+        return Err(StormFault::Memory);
     };
     for worker in workers {
         parties.push_reserved(start(rt, scope, registry, gate, metas, worker, rounds));
@@ -146,7 +146,7 @@ fn join_all<H: Ledger, C: Ledger, S: Setup, G: Gate, R: Threads>(
     gate: &G,
     parties: Vec<Party<H, C, S, G>>,
     rounds: u32,
-) -> Result<Share<H, C, S>, Stopped>
+) -> Result<Share<H, C, S>, StormFault>
     requires some { (0 < vec_len parties) × (vec_len parties ≤ 16) }
     requires rounds { rounds ≤ 400 }
     requires each { All (λ party. (party.rounds ≡ rounds) × (party.worker.accepted ≡ 0)) parties.items }
@@ -171,9 +171,9 @@ fn join_all<H: Ledger, C: Ledger, S: Setup, G: Gate, R: Threads>(
 
 // What came back of two: both shares together, or the fault of the first that has one.
 fn both<H: Ledger, C: Ledger, S: Setup>(
-    one: Result<Share<H, C, S>, Stopped>,
-    other: Result<Share<H, C, S>, Stopped>,
-) -> Result<Share<H, C, S>, Stopped>
+    one: Result<Share<H, C, S>, StormFault>,
+    other: Result<Share<H, C, S>, StormFault>,
+) -> Result<Share<H, C, S>, StormFault>
     requires { Fit one other }
     ensures { result ≡ both_shares one other }
 {

@@ -4,12 +4,14 @@
 ghost use Rattle.std.specs.Prelude.{IfOk};
 ghost use Rattle.tracerun_command_line.specs.Order.{IsInRange};
 
+mod failure;
 mod storms;
 
+use crate::failure::Failure;
 use clap::Error;
 use span_layers::MAX_LAYERS;
 use span_replay::{Remains, replay_with_layers, why_with_layers};
-use span_run::{Counted, RunFault};
+use span_run::Counted;
 use std::io;
 use std::io::{BufWriter, ErrorKind};
 use std::process::ExitCode;
@@ -65,13 +67,13 @@ fn words(rt: &HostRuntime) -> io::Result<Vec<String>> {
 /// Tells on standard error why there is no order.
 fn no_order(rt: &HostRuntime, none: &NoOrder) -> io::Result<ExitCode> {
     match none {
-        NoOrder::Memory => status_of(rt, Err(RunFault::Memory)),
+        NoOrder::Memory => status_of(rt, Err(Failure::Memory)),
         NoOrder::NoText => {
             eprintln!(rt; "error: a word of the command line isn't UTF-8")?;
             Ok(ExitCode::from(2))
         }
         NoOrder::Words(error) => match status(error) {
-            3 => status_of(rt, Err(RunFault::Memory)),
+            3 => status_of(rt, Err(Failure::Memory)),
             status => {
                 rt.eprint(error)?;
                 Ok(ExitCode::from(status))
@@ -82,45 +84,41 @@ fn no_order(rt: &HostRuntime, none: &NoOrder) -> io::Result<ExitCode> {
 
 /// Runs the script of standard input. What it answers goes to standard output through a buffer. The program ends then,
 /// so the system frees what the run kept.
-fn replay(rt: &HostRuntime) -> Result<(), RunFault> {
+fn replay(rt: &HostRuntime) -> Result<(), Failure> {
     let alloc = rt.alloc();
     let Ok(buffer) = BufWriter::new(alloc, rt.stdout()) else {
-        return Err(RunFault::Memory);
+        return Err(Failure::Memory);
     };
     let mut input = Counted::new(rt.stdin());
     let mut output = Counted::new(buffer);
-    match replay_with_layers(alloc, &mut input, &mut output, MAX_LAYERS, Remains::Left) {
-        Ok(_) => Ok(()),
-        Err(fault) => Err(fault),
-    }
+    replay_with_layers(alloc, &mut input, &mut output, MAX_LAYERS, Remains::Left)?;
+    Ok(())
 }
 
 /// Runs the lines of the script of standard input, and tells why spans are open then: all, or the one that this label
 /// names.
-fn why(rt: &HostRuntime, span: &Option<String>) -> Result<(), RunFault> {
+fn why(rt: &HostRuntime, span: &Option<String>) -> Result<(), Failure> {
     let alloc = rt.alloc();
     let about = match span {
         Some(label) => Some(label.as_str()),
         None => None,
     };
     let Ok(buffer) = BufWriter::new(alloc, rt.stdout()) else {
-        return Err(RunFault::Memory);
+        return Err(Failure::Memory);
     };
     let mut input = Counted::new(rt.stdin());
     let mut output = Counted::new(buffer);
-    match why_with_layers(alloc, &mut input, &mut output, MAX_LAYERS, about) {
-        Ok(_) => Ok(()),
-        Err(fault) => Err(fault),
-    }
+    why_with_layers(alloc, &mut input, &mut output, MAX_LAYERS, about)?;
+    Ok(())
 }
 
-/// The status with which the program ends. A fault is told on standard error as one line.
-fn status_of<R: Eprint>(rt: &R, ended: Result<(), RunFault>) -> io::Result<ExitCode> {
+/// The status with which the program ends. A failure is told on standard error as one line.
+fn status_of<R: Eprint>(rt: &R, ended: Result<(), Failure>) -> io::Result<ExitCode> {
     match ended {
         Ok(()) => Ok(ExitCode::SUCCESS),
-        Err(fault) => {
-            eprintln!(rt; "{fault}")?;
-            Ok(ExitCode::from(fault.status()))
+        Err(failure) => {
+            eprintln!(rt; "{failure}")?;
+            Ok(ExitCode::from(failure.status()))
         }
     }
 }

@@ -1,16 +1,16 @@
 //! A storm whose one layer is told of everything.
-ghost use Rattle.std.specs.Prelude.{◌≡◌, ◌^◌, ◌<◌, ◌≤◌, true, IfOk, string_bytes};
+ghost use Rattle.std.specs.Prelude.{◌≡◌, ◌≤◌, true, IfOk, string_bytes};
 ghost use Rattle.std.specs.Result.{ForOk};
 ghost use Rattle.span_layers.specs.Note.{plain_note};
 ghost use Rattle.span_layers.specs.Rule.{pairs_of, is_admitted};
 ghost use Rattle.span_layers.specs.Text.{text_of};
 ghost use Rattle.span_layers.specs.Layers.{filters_in};
-ghost use Rattle.span_run.specs.Counted.{failed_of};
 ghost use Rattle.span_storm.specs.Storm.{wants_jobs};
 
+use crate::failure::Failure;
 use span_id::{Fault, Meta};
 use span_layers::{FmtSpan, Form, Hooks, Layer, Layers, Note, Rule, Style, admits, text};
-use span_run::{Counted, RunFault, flush};
+use span_run::{Counted, flush};
 use span_storm::{Open, show, storm};
 use std::alloc::{AllocError, Global};
 use std::io::Write;
@@ -24,10 +24,9 @@ pub fn run<R: Threads + Wait + Sync, W: Write>(
     workers: u32,
     rounds: u32,
     output: &mut Counted<W>,
-) -> Result<(), RunFault>
+) -> Result<(), Failure>
     requires workers { (1 ≤ workers) × (workers ≤ 16) }
     requires rounds { (1 ≤ rounds) × (rounds ≤ 400) }
-    requires failed { failed_of output.old < 2 ^ 63 }
 {
     let Ok(admit) = Box::new(
         alloc,
@@ -36,7 +35,7 @@ pub fn run<R: Threads + Wait + Sync, W: Write>(
                 ≡ is_admitted (pairs_of rule.now) (string_bytes meta.now.target) meta.now.level }
         { admits(rule, meta) },
     ) else {
-        return Err(RunFault::Memory);
+        return Err(Failure::Memory);
     };
     let Ok(say) = Box::new(
         alloc,
@@ -44,7 +43,7 @@ pub fn run<R: Threads + Wait + Sync, W: Write>(
             ensures { ForOk result (λ text. text.items ≡ text_of form (plain_note note.now)) }
         { text(alloc, form, note) },
     ) else {
-        return Err(RunFault::Memory);
+        return Err(Failure::Memory);
     };
     run_with(rt, alloc, workers, rounds, Hooks::new(admit, say), output)
 }
@@ -57,17 +56,17 @@ fn run_with<R: Threads + Wait + Sync, W: Write>(
     rounds: u32,
     hooks: Hooks,
     output: &mut Counted<W>,
-) -> Result<(), RunFault>
+) -> Result<(), Failure>
     requires workers { (1 ≤ workers) × (workers ≤ 16) }
     requires rounds { (1 ≤ rounds) × (rounds ≤ 400) }
-    requires failed { failed_of output.old < 2 ^ 63 }
 {
     let Ok(layers) = layers_of_all(alloc, hooks) else {
-        return Err(RunFault::Memory);
+        return Err(Failure::Memory);
     };
     let report = storm(rt, alloc, workers, rounds, layers, &Open)?;
     show(workers, rounds, &report, output)?;
-    flush(output)
+    flush(output)?;
+    Ok(())
 }
 
 // The layers of the storm: one, which admits everything and writes in the compact form.

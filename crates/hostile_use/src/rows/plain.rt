@@ -4,7 +4,7 @@ use crate::stage::{Memory, Stage};
 use crate::stop::Stop;
 use crate::texts::{field_of, meta_of};
 use span_id::{Bits, Fault, Field, Id, Level, Limits, Meta};
-use span_run::{Counted, RunFault, flush, write_text};
+use span_run::{Counted, WriteFailed, flush, write_text};
 use std::alloc::Global;
 use std::io;
 
@@ -43,7 +43,7 @@ fn devices<R: Print>(stage: &Stage<R>) {
     let written = write_text(&mut counted, b"text").is_ok();
     let flushed = flush(&mut counted).is_ok();
     let (calls, failed) = (counted.calls(), counted.failed());
-    let status = RunFault::Memory.status();
+    let status = WriteFailed.status();
     stage.over();
     stage.wrote(println!(stage.rt;
         "written: {written}, flushed: {flushed}, counted: {calls} {failed}, status: {status}"

@@ -1,19 +1,17 @@
 -- A script whose lines run with nothing written: no public clause cites it.
 use Rattle.std.specs.Prelude.{◌≡◌, ℕ, ◌+◌, List, [], Option, Some, None, Result, Ok, Err, length}
 use Rattle.serde_json.specs.Data.{Data}
-use Rattle.span_run.specs.declared.fault.RunFault.{RunFault}
-use Rattle.span_run.specs.declared.fault.RunFault.TheVariants.{Script, Memory, Device, Refused, Held}
-use Rattle.span_run.specs.declared.fault.Side.TheVariants.{Read, Write}
+use Rattle.span_replay.specs.declared.run.fault.ReplayFault.{ReplayFault}
+use Rattle.span_replay.specs.declared.run.fault.ReplayFault.TheVariants.{Script, Memory, Read, Write}
 use Rattle.span_replay.specs.Explained.{Reached, label_by, reached_after, explained, turn_reached, why_run}
 use Rattle.span_replay.specs.Meaning.{Turn, Ending, Transcript, finished, faulty, value_turn}
 use Rattle.span_replay.specs.declared.run.explained.Explained.{Explained}
 use Rattle.span_replay.specs.declared.run.reaching.Reaching.{Reaching}
 use Rattle.span_core.specs.Core.{CoreView}
 use Rattle.span_replay.specs.State.{State}
-use Rattle.span_replay.specs.declared.run.setup.Opened.{Opened}
 use Rattle.span_replay.specs.declared.run.setup.Setup.{Setup}
 use Rattle.span_replay.specs.inside.Running.{state_at}
-use Rattle.span_replay.specs.inside.Setup.{opened_in, setup_state}
+use Rattle.span_replay.specs.inside.Setup.{setup_state}
 use Rattle.span_why.specs.Why.{PlainOpenSpan, why_text, why_of_text}
 use Rattle.span_script.specs.Operation.{Stage}
 use Rattle.span_script.specs.Script.{script_lines}
@@ -38,20 +36,18 @@ Halts meant old new stop.Memory = Unit {0}
 Halts meant old new (stop.Refused reason) = (meant ≡ Err reason) × (new ≡ old)
 
 -- why lines ended: there was no memory; or at a fault of the script, where this is reached
-abbrev pub EndsAt : Transcript → Option (List ℕ) → Reached → RunFault → Type 0
+abbrev pub EndsAt : Transcript → Option (List ℕ) → Reached → ReplayFault → Type 0
 EndsAt meant about reached (Script number reason) = meant ≡ explained about reached (faulty number reason)
 EndsAt meant about reached Memory = Unit {0}
-EndsAt meant about reached (Device side) = ⊥
-EndsAt meant about reached (Refused fault) = ⊥
-EndsAt meant about reached (Held party) = ⊥
+EndsAt meant about reached Read = ⊥
+EndsAt meant about reached Write = ⊥
 
 -- after a fault of the script there are as many workers as the limits say
-abbrev pub KnowsWorkers : RunFault → ℕ → Reached → Type 0
+abbrev pub KnowsWorkers : ReplayFault → ℕ → Reached → Type 0
 KnowsWorkers (Script number reason) workers reached = workers ≡ reached.state.core.limits.workers
 KnowsWorkers Memory workers reached = Unit {0}
-KnowsWorkers (Device side) workers reached = Unit {0}
-KnowsWorkers (Refused fault) workers reached = Unit {0}
-KnowsWorkers (Held party) workers reached = Unit {0}
+KnowsWorkers Read workers reached = Unit {0}
+KnowsWorkers Write workers reached = Unit {0}
 
 -- all lines have run
 abbrev pub HasEnded : Transcript → Option (List ℕ) → Reached → Type 0
@@ -65,13 +61,12 @@ resumed_why hooks about number reached value lines =
     (λ new. why_run hooks about (number + 1) new (script_lines lines))
 
 -- the end that is meant: so many open spans, or the fault of the script
-abbrev pub EndsAs : Ending → Result ℕ RunFault → Type 0
+abbrev pub EndsAs : Ending → Result ℕ ReplayFault → Type 0
 EndsAs meant (Ok left) = meant ≡ finished left
 EndsAs meant (Err (Script number reason)) = meant ≡ faulty number reason
 EndsAs meant (Err Memory) = ⊥
-EndsAs meant (Err (Device side)) = ⊥
-EndsAs meant (Err (Refused fault)) = ⊥
-EndsAs meant (Err (Held party)) = ⊥
+EndsAs meant (Err Read) = ⊥
+EndsAs meant (Err Write) = ⊥
 
 -- the text about these spans, or about the one with this id where a label is asked about
 abbrev pub text_of : List PlainOpenSpan → Option (List ℕ) → Option ℕ → List ℕ
@@ -81,10 +76,6 @@ text_of spans (Some label) id = why_of_text spans id
 -- how far the lines before the first call have run
 abbrev pub set_up_at : {A F : _} → Setup A F → Reached
 set_up_at setup = record { state = setup_state setup; lines = [] }
-
--- how far lines have run that are all in the set-up
-abbrev pub opened_at : Opened → Stage → Reached
-opened_at opened stage = record { state = opened_in opened stage; lines = [] }
 
 -- a core of which no call was made
 abbrev pub begun_at : CoreView → Stage → Reached
@@ -101,19 +92,16 @@ pub record IsExplained (meant : Transcript) (explained : Explained) : Type 0 whe
   pub ending_is : EndsAs meant.ending explained.ended
 
 -- a script ends well, or at a fault of its own
-abbrev pub HasEnd : Result ℕ RunFault → Type 0
+abbrev pub HasEnd : Result ℕ ReplayFault → Type 0
 HasEnd (Ok left) = Unit {0}
 HasEnd (Err (Script number reason)) = Unit {0}
 HasEnd (Err Memory) = ⊥
-HasEnd (Err (Device side)) = ⊥
-HasEnd (Err (Refused fault)) = ⊥
-HasEnd (Err (Held party)) = ⊥
+HasEnd (Err Read) = ⊥
+HasEnd (Err Write) = ⊥
 
 -- a script was not read for want of memory, or because the reader failed
-abbrev pub IsOfReading : RunFault → Type 0
+abbrev pub IsOfReading : ReplayFault → Type 0
 IsOfReading (Script number reason) = ⊥
 IsOfReading Memory = Unit {0}
-IsOfReading (Device Read) = Unit {0}
-IsOfReading (Device Write) = ⊥
-IsOfReading (Refused fault) = ⊥
-IsOfReading (Held party) = ⊥
+IsOfReading Read = Unit {0}
+IsOfReading Write = ⊥

@@ -1,21 +1,19 @@
 -- What came of a line, and of lines one after another: no public clause cites it.
-use Rattle.std.specs.Prelude.{◌≡◌, ℕ, ◌+◌, List, [], Option, Some, None, Result, Ok, Err}
+use Rattle.std.specs.Prelude.{◌≡◌, ℕ, List, [], Option, None, Result, Ok, Err}
 use Rattle.std.specs.Io.KnownBytes.{Appends, Keeps}
-use Rattle.serde_json.specs.Data.{Data}
 use Rattle.span_id.specs.declared.limits.Limits.{Limits}
 use Rattle.span_layers.specs.Filter.{Filter}
 use Rattle.span_layers.specs.declared.form.Form.{Form}
 use Rattle.span_core.specs.Core.{CoreView}
 use Rattle.span_core.specs.World.{empty_world}
 use Rattle.span_run.specs.Device.{AppendsFront}
-use Rattle.span_replay.specs.Meaning.{Turn, Transcript, transcript_after, value_turn, turn_then, run}
+use Rattle.span_replay.specs.Meaning.{Turn, Transcript, transcript_after}
 use Rattle.span_script.specs.Operation.{Operation, Stage, set_limits, add_layer}
-use Rattle.span_script.specs.Script.{script_lines}
 use Rattle.span_replay.specs.State.{State}
 use Rattle.span_replay.specs.Written.{Written, written_after}
 use Rattle.span_script.specs.declared.reason.Reason.{Reason}
-use Rattle.span_run.specs.declared.fault.RunFault.{RunFault}
-use Rattle.span_run.specs.declared.fault.RunFault.TheVariants.{Script, Memory, Device, Refused, Held}
+use Rattle.span_replay.specs.declared.run.fault.ReplayFault.{ReplayFault}
+use Rattle.span_replay.specs.declared.run.fault.ReplayFault.TheVariants.{Script, Memory, Read, Write}
 
 -- an operation that comes before all calls
 abbrev pub SetsUp : Operation → Type 0
@@ -39,12 +37,6 @@ opened_state limits rules forms stage = record {
   stage = stage;
 }
 
--- a run goes on with the line of this number, whose JSON value was read already, or else with the first of the lines
-abbrev pub resumed_run : ℕ → ℕ → State → Option Data → List ℕ → Transcript
-resumed_run hooks number state None lines = run hooks number state (script_lines lines)
-resumed_run hooks number state (Some value) lines =
-    turn_then number (value_turn hooks state value) (λ new. run hooks (number + 1) new (script_lines lines))
-
 -- the line did what is meant, which leaves this state, and its text was written
 pub record HasTurned (meant : Result Turn Reason) (state : State) (old new : Option (List ℕ)) : Type 0 where
   pub text : List ℕ
@@ -58,12 +50,11 @@ pub record HasBegun (meant : Result Turn Reason) (old new : Option (List ℕ)) :
   pub front : AppendsFront old new turn.text
 
 -- why the line of this number ended the run
-abbrev pub TurnFails : Result Turn Reason → ℕ → Option (List ℕ) → Option (List ℕ) → RunFault → Type 0
+abbrev pub TurnFails : Result Turn Reason → ℕ → Option (List ℕ) → Option (List ℕ) → ReplayFault → Type 0
 TurnFails meant number old new (Script line reason) = (line ≡ number) × (meant ≡ Err reason) × Keeps old new
 TurnFails meant number old new Memory = Keeps old new
-TurnFails meant number old new (Device side) = HasBegun meant old new
-TurnFails meant number old new (Refused fault) = ⊥
-TurnFails meant number old new (Held party) = ⊥
+TurnFails meant number old new Read = HasBegun meant old new
+TurnFails meant number old new Write = HasBegun meant old new
 
 -- a text was written, and it is what is meant as a whole, before what is still meant for the rest
 pub record Sent (old new : Option (List ℕ)) (whole more : Transcript) : Type 0 where
@@ -77,12 +68,11 @@ pub record AreMade (written : Written) (core : CoreView) (old new : Option (List
   pub taken : Appends old new written.text
 
 -- a run failed without a fault of the script: a front of the text was written
-abbrev pub TextFails : List ℕ → Option (List ℕ) → Option (List ℕ) → RunFault → Type 0
+abbrev pub TextFails : List ℕ → Option (List ℕ) → Option (List ℕ) → ReplayFault → Type 0
 TextFails text old new (Script line reason) = ⊥
 TextFails text old new Memory = AppendsFront old new text
-TextFails text old new (Device side) = AppendsFront old new text
-TextFails text old new (Refused fault) = ⊥
-TextFails text old new (Held party) = ⊥
+TextFails text old new Read = AppendsFront old new text
+TextFails text old new Write = AppendsFront old new text
 
 -- a text was written, and it is that of the calls as a whole, before those that are still to be made
 pub record ArePartlyMade (old new : Option (List ℕ)) (whole more : Written) : Type 0 where

@@ -1,7 +1,7 @@
 //! The calls of a script on the registry, each with the answer that is written for it.
 ghost use Rattle.std.specs.Prelude.{◌≡◌, ◌<◌, IfOk, IfErr, OnOk};
 ghost use Rattle.span_id.specs.declared.fault.Fault.TheVariants.{Backlog};
-ghost use Rattle.span_core.specs.Core.{IsLate, IsRefused};
+ghost use Rattle.span_core.specs.Core.{IsLate};
 ghost use Rattle.span_outlet.specs.Request.{record_fields};
 ghost use Rattle.span_replay.specs.inside.Calls.{IsMade};
 ghost use Rattle.span_replay.specs.Requests.{request_of_call, request_of_new, request_of_event};
@@ -37,6 +37,7 @@ pub fn new_span<V: Say, A: Admit>(
 }
 
 /// Makes a worker's call on a span. The only error is `Memory`.
+#[tactic(auto, using(crate::proofs::CallLemmas::late_counts, crate::proofs::CallLemmas::refused_answer))]
 pub fn call<V: Say, A: Admit>(
     core: &mut Core<Latest<V>, A>,
     call: SpanCall,
@@ -47,39 +48,22 @@ pub fn call<V: Say, A: Admit>(
     ensures made { IfOk result (λ answer. IsMade core.old (request_of_call call worker id) answer core.new) }
     ensures memory { IfErr result (λ stop. stop ≡ Stop.Memory) }
 {
-    match make_call(core, call, worker, id) {
-        Ok(answer) => Ok(answer),
-        Err(fault) => refusal(core, fault),
-    }
-}
-
-/// Makes a worker's call on a span, which may be refused.
-fn make_call<V: Say, A: Admit>(
-    core: &mut Core<Latest<V>, A>,
-    call: SpanCall,
-    worker: u32,
-    id: Id,
-) -> Result<Answer, Fault>
-    requires { worker < core.old.limits.workers }
-    ensures made { IfOk result (λ answer. IsMade core.old (request_of_call call worker id) answer core.new) }
-    ensures refused { IfErr result (λ fault. IsRefused core.old (request_of_call call worker id) fault core.new) }
-{
     match call {
         SpanCall::Clone => match core.clone_span(worker, id) {
             Ok(()) => Ok(Answer::Cloned),
-            Err(fault) => Err(fault),
+            Err(fault) => refusal(core, fault),
         },
         SpanCall::Close => match core.try_close(worker, id) {
             Ok(closed) => Ok(Answer::Closed(closed)),
-            Err(fault) => Err(fault),
+            Err(fault) => refusal(core, fault),
         },
         SpanCall::Enter => match core.enter(worker, id) {
             Ok(first) => Ok(Answer::Entered(first)),
-            Err(fault) => Err(fault),
+            Err(fault) => refusal(core, fault),
         },
         SpanCall::Exit => match core.exit(worker, id) {
             Ok(closed) => Ok(Answer::Closed(closed)),
-            Err(fault) => Err(fault),
+            Err(fault) => refusal(core, fault),
         },
     }
 }

@@ -9,12 +9,12 @@ ghost use Rattle.span_replay.specs.inside.Running.{core_in};
 ghost use Rattle.span_script.specs.Operation.{Stage};
 ghost use Rattle.span_why.specs.Why.{plain_open_span};
 
+use crate::run::fault::ReplayFault;
 use crate::run::reaching::{Reaching, named_by};
 use crate::run::script::Script;
 use span_core::SpanDetails;
 use span_id::Id;
 use span_layers::{Admit, Say};
-use span_run::RunFault;
 use span_stack::SpanStack;
 use span_why::{Inside, OpenSpan, write_why, write_why_of};
 use std::alloc::{AllocError, Global};
@@ -26,7 +26,7 @@ pub struct Explained {
     /// Why the spans are open that are open where the lines end.
     pub text: Vec<u8>,
     /// How many these are, or the fault of the script that ended them.
-    pub ended: Result<u64, RunFault>,
+    pub ended: Result<u64, ReplayFault>,
 }
 
 /// What `why` writes where the lines have got so far, and ended so: about all open spans, or about the one that a label
@@ -35,16 +35,16 @@ pub fn explain<V: Say, A: Admit>(
     alloc: Global,
     reaching: &Reaching<V, A>,
     about: Option<&str>,
-    ended: Result<u64, RunFault>,
-) -> Result<Explained, RunFault>
+    ended: Result<u64, ReplayFault>,
+) -> Result<Explained, ReplayFault>
     requires workers { reaching.now.script.workers ≡ (core_in reaching.now.script).limits.workers }
     ensures text { IfOk result (λ explained. (stage : Stage) →
         explained.text.items ≡ text_about (reached_at reaching.now stage) (option_copied about.entry)) }
     ensures ended { IfOk result (λ explained. explained.ended ≡ ended) }
-    ensures memory { IfErr result (λ fault. fault ≡ RunFault.Memory) }
+    ensures memory { IfErr result (λ fault. fault ≡ ReplayFault.Memory) }
 {
     let Ok(spans) = open_spans(alloc, reaching) else {
-        return Err(RunFault::Memory);
+        return Err(ReplayFault::Memory);
     };
     let id = named_by(&reaching.script.labels, about);
     write_out(alloc, spans.as_slice(), about, id, ended)
@@ -54,11 +54,11 @@ pub fn explain<V: Say, A: Admit>(
 pub fn nothing_open(
     alloc: Global,
     about: Option<&str>,
-    ended: Result<u64, RunFault>,
-) -> Result<Explained, RunFault>
+    ended: Result<u64, ReplayFault>,
+) -> Result<Explained, ReplayFault>
     ensures text { IfOk result (λ explained. explained.text.items ≡ text_of [] (option_copied about.entry) None) }
     ensures ended { IfOk result (λ explained. explained.ended ≡ ended) }
-    ensures memory { IfErr result (λ fault. fault ≡ RunFault.Memory) }
+    ensures memory { IfErr result (λ fault. fault ≡ ReplayFault.Memory) }
 {
     write_out(alloc, &[], about, None, ended)
 }
@@ -69,17 +69,17 @@ fn write_out(
     spans: &[OpenSpan],
     about: Option<&str>,
     id: Option<Id>,
-    ended: Result<u64, RunFault>,
-) -> Result<Explained, RunFault>
+    ended: Result<u64, ReplayFault>,
+) -> Result<Explained, ReplayFault>
     ensures text { IfOk result (λ explained. explained.text.items
         ≡ text_of (map plain_open_span spans.now) (option_copied about.entry) id) }
     ensures ended { IfOk result (λ explained. explained.ended ≡ ended) }
-    ensures memory { IfErr result (λ fault. fault ≡ RunFault.Memory) }
+    ensures memory { IfErr result (λ fault. fault ≡ ReplayFault.Memory) }
 {
     let mut text = Vec::new(alloc);
     match write_about(alloc, &mut text, spans, about, id) {
         Ok(()) => Ok(Explained { text, ended }),
-        Err(_) => Err(RunFault::Memory),
+        Err(_) => Err(ReplayFault::Memory),
     }
 }
 

@@ -3,12 +3,13 @@ ghost use Rattle.std.specs.Prelude.{◌≡◌, ◌+◌, ◌^◌, ◌<◌, ◌≤
 ghost use Rattle.std.specs.Io.KnownBytes.{IsAtEnd};
 ghost use Rattle.span_run.specs.Counted.{inner_of, calls_of, failed_of, flushes_of, flushed_of};
 ghost use Rattle.span_replay.specs.Replayed.{FlushesOnce, IsReplayed, IsWrittenWhole, KeepsUnread};
-ghost use Rattle.span_run.specs.RunFault.{EndsAsCounted};
+ghost use Rattle.span_replay.specs.ReplayFault.{EndsAsCounted};
 
-use crate::run::replay::replay_with;
+use crate::run::fault::ReplayFault;
+use crate::run::replay::replay;
 use crate::run::tidying::Remains;
 use span_layers::{ByForm, ByRule, Hooks, MAX_LAYERS};
-use span_run::{Counted, RunFault};
+use span_run::Counted;
 use std::alloc::{AllocError, Global};
 use std::io::{Read, Write};
 
@@ -20,10 +21,7 @@ pub fn replay_with_layers<R: Read, W: Write>(
     output: &mut Counted<W>,
     layers: usize,
     remains: Remains,
-) -> Result<u64, RunFault>
-    requires calls { calls_of input.old < 2 ^ 63 }
-    requires reads_failed { failed_of input.old < 2 ^ 63 }
-    requires failed { failed_of output.old < 2 ^ 63 }
+) -> Result<u64, ReplayFault>
     ensures replayed { IfSome (R.remaining (inner_of input.old)) (λ bytes.
         IsReplayed layers bytes (W.contents (inner_of output.old)) (W.contents (inner_of output.new)) result) }
     ensures whole { OnOk result (IsAtEnd (R.remaining (inner_of input.new))) }
@@ -39,8 +37,8 @@ pub fn replay_with_layers<R: Read, W: Write>(
 {
     // No script has more than MAX_LAYERS layers. What they call is alike, and takes one block for the list.
     match plain_hooks(alloc, layers.min(MAX_LAYERS)) {
-        Ok(hooks) => replay_with(alloc, input, output, hooks, remains),
-        Err(_) => Err(RunFault::Memory),
+        Ok(hooks) => replay(alloc, input, output, hooks, remains),
+        Err(_) => Err(ReplayFault::Memory),
     }
 }
 

@@ -1,125 +1,52 @@
-//! The lines of a script before the first call.
-ghost use Rattle.std.specs.Prelude.{◌≡◌, ◌^◌, ◌<◌, false, true, IfOk, IfErr, IfSome, IfNone, OnOk};
-ghost use Rattle.std.specs.Io.KnownBytes.{Keeps};
-ghost use Rattle.span_json.specs.Seen.{view};
-ghost use Rattle.span_run.specs.Counted.{inner_of, failed_of, flushes_of};
-ghost use Rattle.span_replay.specs.Meaning.{line_turn, value_turn};
-ghost use Rattle.span_script.specs.Operation.{is_setup};
-ghost use Rattle.span_script.specs.Script.{is_skipped};
-ghost use Rattle.span_run.specs.RunFault.{EndsAsCounted};
-ghost use Rattle.span_replay.specs.inside.Setup.{hooks_in, setup_state};
-ghost use Rattle.span_replay.specs.inside.Turns.{HasTurned, TurnFails};
+//! The registry of a script, made with the limits and the layers that the lines before the first call gave.
+ghost use Rattle.std.specs.Prelude.{◌≡◌, [], IfOk};
+ghost use Rattle.span_replay.specs.inside.Running.{IsWritten, core_in, labels_in};
+ghost use Rattle.span_replay.specs.inside.Setup.{opened_in, setup_state};
+ghost use Rattle.span_script.specs.Operation.{Stage};
 
-use crate::run::fault::at_line;
-use crate::run::setup::Setup;
-use span_json::{Scratch, Value};
-use span_run::{Counted, RunFault, write_text};
-use span_script::{is_setup_line, json_line};
-use std::alloc::Global;
-use std::io::Write;
+use crate::run::script::Script;
+use crate::run::setup::{Opened, Setup};
+use span_core::Core;
+use span_layers::{Admit, Admitters, Formatters, Say};
+use span_outlet::Latest;
+use std::alloc::{AllocError, Global};
 
-/// What is left of a script after the lines before the first call.
-#[derive(Drop)]
-pub struct Rest<'s> {
-    /// The number of the first line that is left.
-    pub number: u64,
-    /// The JSON value of this line, which was read already.
-    pub value: Option<Value<'s>>,
-    /// The lines after it.
-    pub lines: &'s [u8],
+/// A script of which no call has run, on a registry of what the lines before the first call gave.
+pub fn open<A: Drop, F: Drop>(
+    alloc: Global,
+    setup: Setup<A, F>,
+) -> Result<Script<Formatters<F>, Admitters<A>>, AllocError>
+where
+    Admitters<A>: Admit,
+    Formatters<F>: Say,
+    ensures core { IfOk result (λ script. core_in script ≡ (setup_state setup).core) }
+    ensures labels { IfOk result (λ script. labels_in script ≡ []) }
+    ensures written { IfOk result (λ script. IsWritten script) }
+{
+    let (opened, admitters, formatters) = setup.split();
+    open_with(alloc, opened, admitters, formatters)
 }
 
-/// Runs a line that isn't skipped, or answers its value where its op is neither `limits` nor `layer`.
-pub fn open_line<'s, A: Drop, F: Drop, W: Write>(
+/// The same with what applies the layers' rules and writes their notes, whatever it is.
+fn open_with<V: Say, A: Admit>(
     alloc: Global,
-    number: u64,
-    line: &'s [u8],
-    scratch: &'s mut Scratch,
-    setup: &mut Setup<A, F>,
-    text: &mut Vec<u8>,
-    output: &mut Counted<W>,
-) -> Result<Option<Value<'s>>, RunFault>
-    requires failed { failed_of output.old < 2 ^ 63 }
-    requires read { is_skipped line.now ≡ false }
-    ensures turned { IfOk result
-        (λ value. IfNone value (HasTurned (line_turn (hooks_in setup.old) (setup_state setup.old) line.now)
-        (setup_state setup.new)
-        (W.contents (inner_of output.old)) (W.contents (inner_of output.new)))) }
-    ensures same { IfOk result (λ value. IfSome value (λ value. setup_state setup.new ≡ setup_state setup.old)) }
-    ensures kept { IfOk result
-        (λ value. IfSome value (λ value. Keeps (W.contents (inner_of output.old)) (W.contents (inner_of output.new)))) }
-    ensures value { IfOk result
-        (λ value. IfSome value (λ value. line_turn (hooks_in setup.old) (setup_state setup.old) line.now
-        ≡ value_turn (hooks_in setup.old) (setup_state setup.old) (view value))) }
-    ensures call { IfOk result (λ value. IfSome value (λ value. is_setup (view value) ≡ false)) }
-    ensures hooks { OnOk result (hooks_in setup.new ≡ hooks_in setup.old) }
-    ensures err { IfErr result (TurnFails (line_turn (hooks_in setup.old) (setup_state setup.old) line.now) number
-        (W.contents (inner_of output.old)) (W.contents (inner_of output.new))) }
-    ensures counts { EndsAsCounted 0 0 (failed_of output.old) (failed_of output.new) result }
-    ensures flushes { flushes_of output.new ≡ flushes_of output.old }
+    opened: Opened,
+    admitters: A,
+    formatters: V,
+) -> Result<Script<V, A>, AllocError>
+    ensures core { IfOk result (λ script. (stage : Stage) → core_in script ≡ (opened_in opened stage).core) }
+    ensures labels { IfOk result (λ script. labels_in script ≡ []) }
+    ensures written { IfOk result (λ script. IsWritten script) }
 {
-    match json_line(alloc, line, scratch) {
-        Ok(value) => open_value(alloc, number, value, setup, text, output),
-        Err(stop) => Err(at_line(number, stop)),
-    }
-}
-
-/// Runs the line of a JSON value, or answers the value where its op is neither `limits` nor `layer`.
-fn open_value<'s, A: Drop, F: Drop, W: Write>(
-    alloc: Global,
-    number: u64,
-    value: Value<'s>,
-    setup: &mut Setup<A, F>,
-    text: &mut Vec<u8>,
-    output: &mut Counted<W>,
-) -> Result<Option<Value<'s>>, RunFault>
-    requires { failed_of output.old < 2 ^ 63 }
-    ensures turned { IfOk result
-        (λ left. IfNone left (HasTurned (value_turn (hooks_in setup.old) (setup_state setup.old) (view value.entry))
-        (setup_state setup.new)
-        (W.contents (inner_of output.old)) (W.contents (inner_of output.new)))) }
-    ensures same { IfOk result (λ left. IfSome left (λ left. setup_state setup.new ≡ setup_state setup.old)) }
-    ensures kept { IfOk result
-        (λ left. IfSome left (λ left. Keeps (W.contents (inner_of output.old)) (W.contents (inner_of output.new)))) }
-    ensures value { IfOk result (λ left. IfSome left (λ left. view left ≡ view value.entry)) }
-    ensures call { IfOk result (λ left. IfSome left (λ left. is_setup (view left) ≡ false)) }
-    ensures hooks { OnOk result (hooks_in setup.new ≡ hooks_in setup.old) }
-    ensures err { IfErr result (TurnFails (value_turn (hooks_in setup.old) (setup_state setup.old) (view value.entry)) number
-        (W.contents (inner_of output.old)) (W.contents (inner_of output.new))) }
-    ensures counts { EndsAsCounted 0 0 (failed_of output.old) (failed_of output.new) result }
-    ensures flushes { flushes_of output.new ≡ flushes_of output.old }
-{
-    if !is_setup_line(&value) {
-        return Ok(Some(value));
-    }
-    match set_up(alloc, number, &value, setup, text, output) {
-        Ok(()) => Ok(None),
-        Err(fault) => Err(fault),
-    }
-}
-
-/// Runs the line of `limits` or `layer` that has this JSON value, and writes its answer.
-fn set_up<A: Drop, F: Drop, W: Write>(
-    alloc: Global,
-    number: u64,
-    value: &Value<'_>,
-    setup: &mut Setup<A, F>,
-    text: &mut Vec<u8>,
-    output: &mut Counted<W>,
-) -> Result<(), RunFault>
-    requires failed { failed_of output.old < 2 ^ 63 }
-    requires line { is_setup (view value.now) ≡ true }
-    ensures turned { OnOk result (HasTurned (value_turn (hooks_in setup.old) (setup_state setup.old) (view value.now))
-        (setup_state setup.new) (W.contents (inner_of output.old)) (W.contents (inner_of output.new))) }
-    ensures hooks { OnOk result (hooks_in setup.new ≡ hooks_in setup.old) }
-    ensures err { IfErr result
-        (TurnFails (value_turn (hooks_in setup.old) (setup_state setup.old) (view value.now)) number
-        (W.contents (inner_of output.old)) (W.contents (inner_of output.new))) }
-    ensures counts { EndsAsCounted 0 0 (failed_of output.old) (failed_of output.new) result }
-    ensures flushes { flushes_of output.new ≡ flushes_of output.old }
-{
-    match setup.run(alloc, value, text) {
-        Ok(()) => write_text(output, text.as_slice()),
-        Err(stop) => Err(at_line(number, stop)),
+    let Opened {
+        checked,
+        rules,
+        forms,
+    } = opened;
+    let latest = Latest::with_formatters(alloc, forms, formatters);
+    let workers = checked.limits().workers;
+    match Core::with_admitters(alloc, &checked, latest, rules, admitters) {
+        Ok(core) => Ok(Script::new(alloc, workers, core)),
+        Err(_) => Err(AllocError),
     }
 }

@@ -10,13 +10,12 @@ ghost use Rattle.span_script.specs.Operation.{is_setup, running};
 ghost use Rattle.span_script.specs.Script.{is_skipped, script_lines, most_bytes};
 ghost use Rattle.span_script.specs.Views.{IsCall, NamesWorker, operation_seen};
 
-use crate::run::fault::at_line;
+use crate::run::fault::{ReplayFault, at_line};
 use crate::run::labels::Labels;
 use crate::run::script::Script;
 use span_id::Id;
 use span_json::{Scratch, Value};
 use span_layers::{Admit, Say};
-use span_run::RunFault;
 use span_script::{Operation, Stop, cut_line, is_skipped, json_line, operation_in_line};
 use std::alloc::{AllocError, Global};
 
@@ -39,7 +38,7 @@ pub fn run_rest<V: Say, A: Admit>(
     value: &Value<'_>,
     lines: &[u8],
     reaching: &mut Reaching<V, A>,
-) -> Result<(), RunFault>
+) -> Result<(), ReplayFault>
     requires written { IsWritten reaching.old.script }
     requires call { is_setup (view value.now) ≡ false }
     requires place { number + length lines.now ≤ most_bytes + 1 }
@@ -67,7 +66,7 @@ fn run_lines<V: Say, A: Admit>(
     lines: &[u8],
     reaching: &mut Reaching<V, A>,
     text: &mut Vec<u8>,
-) -> Result<(), RunFault>
+) -> Result<(), ReplayFault>
     requires written { IsWritten reaching.old.script }
     requires place { first + length lines.now ≤ most_bytes + 2 }
     ensures ended { OnOk result ((hooks : ℕ) (about : Option (List ℕ)) → HasEnded

@@ -8,18 +8,20 @@ ghost use Rattle.span_replay.specs.Meaning.{last_part};
 ghost use Rattle.span_script.specs.Operation.{Stage};
 ghost use Rattle.span_replay.specs.Replayed.{Runs};
 ghost use Rattle.span_replay.specs.Requests.{request_of_call};
-ghost use Rattle.span_run.specs.RunFault.{EndsAsCounted};
+ghost use Rattle.span_replay.specs.ReplayFault.{EndsAsCounted};
 ghost use Rattle.span_replay.specs.inside.Running.{IsWritten, core_in, labels_in, state_at};
 ghost use Rattle.span_replay.specs.inside.Turns.{TextFails, AreMade};
 ghost use Rattle.span_replay.specs.Written.{call_written, calls_written, closes, each_written, exits};
-ghost use Rattle.span_run.specs.declared.fault.RunFault.TheVariants.{Memory};
+ghost use Rattle.span_replay.specs.declared.run.fault.ReplayFault.TheVariants.{Memory};
 
 use crate::run::answer::write_left;
+use crate::run::device::send;
+use crate::run::fault::ReplayFault;
 use crate::run::labels::Labels;
 use crate::run::script::Script;
 use span_id::Id;
 use span_layers::{Admit, Say};
-use span_run::{Counted, RunFault, write_text};
+use span_run::Counted;
 use span_script::SpanCall;
 use std::alloc::Global;
 use std::io::Write;
@@ -35,11 +37,11 @@ pub enum Remains {
 }
 
 /// Frees what a run kept, or leaves it to the system where that is asked for and the run ended well.
-pub fn let_go<V: Say, A: Admit>(script: Script<V, A>, remains: Remains, ended_well: bool) {
+pub fn let_go<T: Drop>(kept: T, remains: Remains, ended_well: bool) {
     if ended_well && remains == Remains::Left {
-        mem::forget(script);
+        mem::forget(kept);
     } else {
-        drop(script);
+        drop(kept);
     }
 }
 
@@ -50,8 +52,7 @@ pub fn tidy<V: Say, A: Admit, W: Write>(
     script: &mut Script<V, A>,
     text: &mut Vec<u8>,
     output: &mut Counted<W>,
-) -> Result<u64, RunFault>
-    requires failed { failed_of output.old < 2 ^ 63 }
+) -> Result<u64, ReplayFault>
     requires written { IsWritten script.old }
     ensures runs { (stage : Stage) → Runs (last_part (state_at script.old stage))
         (W.contents (inner_of output.old)) (W.contents (inner_of output.new)) result }
@@ -71,8 +72,7 @@ fn leave_and_close<V: Say, A: Admit, W: Write>(
     labels: &Labels,
     text: &mut Vec<u8>,
     output: &mut Counted<W>,
-) -> Result<u64, RunFault>
-    requires failed { failed_of output.old < 2 ^ 63 }
+) -> Result<u64, ReplayFault>
     requires written { IsWritten script.old }
     ensures runs { (stage : Stage) →
         Runs (last_part (record { core = core_in script.old; labels = labels.now; stage = stage }))
@@ -95,8 +95,7 @@ fn leave_all<V: Say, A: Admit, W: Write>(
     script: &mut Script<V, A>,
     text: &mut Vec<u8>,
     output: &mut Counted<W>,
-) -> Result<(), RunFault>
-    requires failed { failed_of output.old < 2 ^ 63 }
+) -> Result<(), ReplayFault>
     requires written { IsWritten script.old }
     ensures made { OnOk result (AreMade
         (each_written exits (core_in script.old) (range_with_len 0 script.old.workers))
@@ -125,9 +124,8 @@ fn leave<V: Say, A: Admit, W: Write>(
     script: &mut Script<V, A>,
     text: &mut Vec<u8>,
     output: &mut Counted<W>,
-) -> Result<(), RunFault>
+) -> Result<(), ReplayFault>
     requires worker { worker < script.old.workers }
-    requires failed { failed_of output.old < 2 ^ 63 }
     requires written { IsWritten script.old }
     ensures made { OnOk result (AreMade
         (calls_written (core_in script.old) (exits (core_in script.old) worker))
@@ -143,7 +141,7 @@ fn leave<V: Say, A: Admit, W: Write>(
 {
     match script.entered(alloc, worker) {
         Ok(ids) => call_all(SpanCall::Exit, worker, &ids, script, text, output),
-        Err(_) => Err(RunFault::Memory),
+        Err(_) => Err(ReplayFault::Memory),
     }
 }
 
@@ -154,9 +152,8 @@ fn close_all<V: Say, A: Admit, W: Write>(
     labels: &Labels,
     text: &mut Vec<u8>,
     output: &mut Counted<W>,
-) -> Result<(), RunFault>
+) -> Result<(), ReplayFault>
     requires worker { 0 < script.old.workers }
-    requires failed { failed_of output.old < 2 ^ 63 }
     requires written { IsWritten script.old }
     ensures made { OnOk result (AreMade
         (each_written closes (core_in script.old) (map (λ entry. entry.1) labels.now))
@@ -182,9 +179,8 @@ fn close<V: Say, A: Admit, W: Write>(
     script: &mut Script<V, A>,
     text: &mut Vec<u8>,
     output: &mut Counted<W>,
-) -> Result<(), RunFault>
+) -> Result<(), ReplayFault>
     requires worker { 0 < script.old.workers }
-    requires failed { failed_of output.old < 2 ^ 63 }
     requires written { IsWritten script.old }
     ensures made { OnOk result (AreMade
         (calls_written (core_in script.old) (closes (core_in script.old) id))
@@ -199,7 +195,7 @@ fn close<V: Say, A: Admit, W: Write>(
 {
     match vec![in alloc; id; script.handles(id) as usize] {
         Ok(ids) => call_all(SpanCall::Close, 0, &ids, script, text, output),
-        Err(_) => Err(RunFault::Memory),
+        Err(_) => Err(ReplayFault::Memory),
     }
 }
 
@@ -211,9 +207,8 @@ fn call_all<V: Say, A: Admit, W: Write>(
     script: &mut Script<V, A>,
     text: &mut Vec<u8>,
     output: &mut Counted<W>,
-) -> Result<(), RunFault>
+) -> Result<(), ReplayFault>
     requires worker { worker < script.old.workers }
-    requires failed { failed_of output.old < 2 ^ 63 }
     requires written { IsWritten script.old }
     ensures made { OnOk result (AreMade
         (calls_written (core_in script.old) (map (request_of_call call worker) ids.now))
@@ -243,9 +238,8 @@ fn call_one<V: Say, A: Admit, W: Write>(
     script: &mut Script<V, A>,
     text: &mut Vec<u8>,
     output: &mut Counted<W>,
-) -> Result<(), RunFault>
+) -> Result<(), ReplayFault>
     requires worker { worker < script.old.workers }
-    requires failed { failed_of output.old < 2 ^ 63 }
     requires written { IsWritten script.old }
     ensures made { OnOk result (AreMade
         (call_written (core_in script.old) (request_of_call call worker id))
@@ -261,14 +255,17 @@ fn call_one<V: Say, A: Admit, W: Write>(
 {
     text.clear();
     match script.call(call, worker, id, text) {
-        Ok(()) => write_text(output, text.as_slice()),
-        Err(_) => Err(RunFault::Memory),
+        Ok(()) => send(output, text.as_slice()),
+        Err(_) => Err(ReplayFault::Memory),
     }
 }
 
 /// Writes the last line: how many spans are open.
-fn finish<W: Write>(left: u32, text: &mut Vec<u8>, output: &mut Counted<W>) -> Result<u64, RunFault>
-    requires { failed_of output.old < 2 ^ 63 }
+fn finish<W: Write>(
+    left: u32,
+    text: &mut Vec<u8>,
+    output: &mut Counted<W>,
+) -> Result<u64, ReplayFault>
     ensures ok { IfOk result (λ n. (n ≡ left)
         × Appends (W.contents (inner_of output.old)) (W.contents (inner_of output.new)) (left_text left)) }
     ensures err { IfErr result (TextFails (left_text left)
@@ -278,9 +275,9 @@ fn finish<W: Write>(left: u32, text: &mut Vec<u8>, output: &mut Counted<W>) -> R
 {
     text.clear();
     if write_left(text, left).is_err() {
-        return Err(RunFault::Memory);
+        return Err(ReplayFault::Memory);
     }
-    match write_text(output, text.as_slice()) {
+    match send(output, text.as_slice()) {
         Ok(()) => Ok(u64::from(left)),
         Err(fault) => Err(fault),
     }

@@ -4,28 +4,28 @@ ghost use Rattle.std.specs.Prelude.{IfOk, IfErr, IfSome, IfNone, IsOk, OnOk};
 ghost use Rattle.std.specs.Io.KnownBytes.{Appends, IsAtEnd};
 ghost use Rattle.span_json.specs.Seen.{view};
 ghost use Rattle.span_run.specs.Counted.{inner_of, calls_of, failed_of, flushes_of, flushed_of};
-ghost use Rattle.span_run.specs.RunFault.{EndsAsCounted};
+ghost use Rattle.span_replay.specs.ReplayFault.{EndsAsCounted};
 ghost use Rattle.span_replay.specs.Explained.{IsWholeWhy, first_reached, label_by, label_in, why_meaning, why_run};
 ghost use Rattle.span_replay.specs.Meaning.{Transcript, line_turn, value_turn};
 ghost use Rattle.span_replay.specs.Replayed.{FlushesOnce, KeepsUnread, Runs};
 ghost use Rattle.span_replay.specs.inside.Reaching.{HasEnd, IsExplained, IsOfReading, SetsTo};
-ghost use Rattle.span_replay.specs.inside.Reaching.{begun_at, opened_at, reached_at, resumed_why, set_up_at};
+ghost use Rattle.span_replay.specs.inside.Reaching.{reached_at, resumed_why, set_up_at};
 ghost use Rattle.span_replay.specs.inside.Running.{IsWritten};
 ghost use Rattle.span_replay.specs.inside.Setup.{hooks_in, setup_state};
-ghost use Rattle.span_script.specs.Operation.{Stage, is_setup, running};
+ghost use Rattle.span_script.specs.Operation.{is_setup, running};
 ghost use Rattle.span_script.specs.Reason.{StopsFor};
 ghost use Rattle.span_script.specs.Script.{is_skipped, script_lines, most_bytes};
 
+use crate::run::device::{flush, read_script, send};
 use crate::run::explained::{Explained, explain, nothing_open};
+use crate::run::fault::ReplayFault;
 use crate::run::hooks::plain_hooks;
+use crate::run::opening::open;
 use crate::run::reaching::{Reaching, run_rest};
-use crate::run::script::Script;
-use crate::run::setup::{Opened, Setup};
-use span_core::Core;
+use crate::run::setup::Setup;
 use span_json::{Scratch, Value};
 use span_layers::{Admit, Admitters, Formatters, MAX_LAYERS, Say};
-use span_outlet::Latest;
-use span_run::{Counted, RunFault, flush, read_script, write_text};
+use span_run::Counted;
 use span_script::{Stop, cut_line, is_setup_line, is_skipped, json_line};
 use std::alloc::Global;
 use std::io::{Read, Write};
@@ -35,7 +35,7 @@ use std::io::{Read, Write};
 /// a label names. So it does after a fault of the script too.
 ///
 /// The input is read to its end first. There may be so many layers. Where the result is `Ok` it is how many spans are
-/// open. After `Memory` and `Device` a front of the text went out, and nothing where it was the reader that failed. The
+/// open. After `Memory`, `Read` and `Write` a front of the text went out, and nothing where it was the reader that failed. The
 /// output is flushed by one call, which is the last, after a fault of the script too: where memory is refused or a
 /// device fails before it, there is none.
 pub fn why_with_layers<R: Read, W: Write>(
@@ -44,10 +44,7 @@ pub fn why_with_layers<R: Read, W: Write>(
     output: &mut Counted<W>,
     layers: usize,
     about: Option<&str>,
-) -> Result<u64, RunFault>
-    requires calls { calls_of input.old < 2 ^ 63 }
-    requires reads_failed { failed_of input.old < 2 ^ 63 }
-    requires failed { failed_of output.old < 2 ^ 63 }
+) -> Result<u64, ReplayFault>
     ensures explained { IfSome (R.remaining (inner_of input.old)) (λ bytes.
         Runs (why_meaning layers (option_copied about.entry) bytes)
         (W.contents (inner_of output.old)) (W.contents (inner_of output.new)) result) }
@@ -68,8 +65,7 @@ pub fn why_with_layers<R: Read, W: Write>(
 }
 
 /// Writes a text, flushes, and ends as was found.
-fn tell<W: Write>(explained: Explained, output: &mut Counted<W>) -> Result<u64, RunFault>
-    requires failed { failed_of output.old < 2 ^ 63 }
+fn tell<W: Write>(explained: Explained, output: &mut Counted<W>) -> Result<u64, ReplayFault>
     requires ends { HasEnd explained.ended }
     ensures runs { (meant : Transcript) → IsExplained meant explained →
         Runs meant (W.contents (inner_of output.old)) (W.contents (inner_of output.new)) result }
@@ -79,7 +75,7 @@ fn tell<W: Write>(explained: Explained, output: &mut Counted<W>) -> Result<u64, 
         (flushes_of output.old) (flushes_of output.new) (flushed_of output.new) result }
     ensures counts { EndsAsCounted 0 0 (failed_of output.old) (failed_of output.new) result }
 {
-    match write_text(output, explained.text.as_slice()) {
+    match send(output, explained.text.as_slice()) {
         Ok(()) => match flush(output) {
             Ok(()) => explained.ended,
             Err(fault) => Err(fault),
@@ -88,15 +84,13 @@ fn tell<W: Write>(explained: Explained, output: &mut Counted<W>) -> Result<u64, 
     }
 }
 
-/// Reads a script to its end and runs its lines. The errors are `Memory` and `Device` of a read.
+/// Reads a script to its end and runs its lines. The errors are `Memory` and `Read`.
 fn explain_input<R: Read>(
     alloc: Global,
     input: &mut Counted<R>,
     layers: usize,
     about: Option<&str>,
-) -> Result<Explained, RunFault>
-    requires calls { calls_of input.old < 2 ^ 63 }
-    requires failed { failed_of input.old < 2 ^ 63 }
+) -> Result<Explained, ReplayFault>
     ensures explained { IfOk result (λ explained. IfSome (R.remaining (inner_of input.old)) (λ bytes.
         IsExplained (why_meaning layers (option_copied about.entry) bytes) explained)) }
     ensures ends { IfOk result (λ explained. HasEnd explained.ended) }
@@ -107,13 +101,13 @@ fn explain_input<R: Read>(
 {
     match read_script(alloc, input) {
         Ok(script) => explain_script(alloc, &script, layers, about),
-        Err(RunFault::Script(number, reason)) => Ok(Explained {
+        Err(ReplayFault::Script(number, reason)) => Ok(Explained {
             text: Vec::new(alloc),
-            ended: Err(RunFault::Script(number, reason)),
+            ended: Err(ReplayFault::Script(number, reason)),
         }),
-        Err(RunFault::Memory) => Err(RunFault::Memory),
-        Err(RunFault::Device(side)) => Err(RunFault::Device(side)),
-        Err(RunFault::Refused(_) | RunFault::Held(_)) => unreachable!(),
+        Err(ReplayFault::Memory) => Err(ReplayFault::Memory),
+        Err(ReplayFault::Read) => Err(ReplayFault::Read),
+        Err(ReplayFault::Write) => unreachable!(),
     }
 }
 
@@ -123,16 +117,16 @@ fn explain_script(
     script: &[u8],
     layers: usize,
     about: Option<&str>,
-) -> Result<Explained, RunFault>
+) -> Result<Explained, ReplayFault>
     requires { length script.now ≤ most_bytes }
     ensures explained { IfOk result
         (IsExplained (why_run layers (option_copied about.entry) 1 first_reached (script_lines script.now))) }
-    ensures memory { IfErr result (λ fault. fault ≡ RunFault.Memory) }
+    ensures memory { IfErr result (λ fault. fault ≡ ReplayFault.Memory) }
 {
     // No script has more than MAX_LAYERS layers.
     match plain_hooks(alloc, layers.min(MAX_LAYERS)) {
         Ok(hooks) => explain_all(alloc, script, Setup::new(alloc, hooks), about),
-        Err(_) => Err(RunFault::Memory),
+        Err(_) => Err(ReplayFault::Memory),
     }
 }
 
@@ -142,7 +136,7 @@ fn explain_all<A: Drop, F: Drop>(
     script: &[u8],
     mut setup: Setup<A, F>,
     about: Option<&str>,
-) -> Result<Explained, RunFault>
+) -> Result<Explained, ReplayFault>
 where
     Admitters<A>: Admit,
     Formatters<F>: Say,
@@ -150,7 +144,7 @@ where
     ensures explained { IfOk result
         (IsExplained
         (why_run (hooks_in setup) (option_copied about.entry) 1 (set_up_at setup) (script_lines script.now))) }
-    ensures memory { IfErr result (λ fault. fault ≡ RunFault.Memory) }
+    ensures memory { IfErr result (λ fault. fault ≡ ReplayFault.Memory) }
 {
     let mut text = Vec::new(alloc);
     let mut scratch = Scratch::new(alloc);
@@ -166,9 +160,9 @@ where
         match set_up(alloc, line, &mut scratch, &mut setup, &mut text) {
             Ok(None) => number += 1,
             Ok(Some(value)) => return explain_calls(alloc, setup, number, &value, lines, about),
-            Err(Stop::Memory) => return Err(RunFault::Memory),
+            Err(Stop::Memory) => return Err(ReplayFault::Memory),
             Err(Stop::Refused(reason)) => {
-                return nothing_open(alloc, about, Err(RunFault::Script(number, reason)));
+                return nothing_open(alloc, about, Err(ReplayFault::Script(number, reason)));
             }
         }
     }
@@ -218,7 +212,7 @@ fn explain_calls<A: Drop, F: Drop>(
     value: &Value<'_>,
     lines: &[u8],
     about: Option<&str>,
-) -> Result<Explained, RunFault>
+) -> Result<Explained, ReplayFault>
 where
     Admitters<A>: Admit,
     Formatters<F>: Say,
@@ -226,70 +220,18 @@ where
     requires place { number + length lines.now ≤ most_bytes + 1 }
     ensures explained { IfOk result (λ explained. (hooks : ℕ) → IsExplained
         (resumed_why hooks (option_copied about.entry) number (set_up_at setup) (view value.now) lines.now) explained) }
-    ensures memory { IfErr result (λ fault. fault ≡ RunFault.Memory) }
+    ensures memory { IfErr result (λ fault. fault ≡ ReplayFault.Memory) }
 {
-    let (opened, admitters, formatters) = setup.split();
-    explain_opened(
-        alloc, opened, admitters, formatters, number, value, lines, about,
-    )
-}
-
-/// The same, of what the first lines gave.
-fn explain_opened<V: Say, A: Admit>(
-    alloc: Global,
-    opened: Opened,
-    admitters: A,
-    formatters: V,
-    number: u64,
-    value: &Value<'_>,
-    lines: &[u8],
-    about: Option<&str>,
-) -> Result<Explained, RunFault>
-    requires call { is_setup (view value.now) ≡ false }
-    requires place { number + length lines.now ≤ most_bytes + 1 }
-    ensures explained { IfOk result (λ explained. (hooks : ℕ) (stage : Stage) → IsExplained
-        (resumed_why hooks (option_copied about.entry) number (opened_at opened stage) (view value.now) lines.now)
-        explained) }
-    ensures memory { IfErr result (λ fault. fault ≡ RunFault.Memory) }
-{
-    let Opened {
-        checked,
-        rules,
-        forms,
-    } = opened;
-    let latest = Latest::with_formatters(alloc, forms, formatters);
-    let workers = checked.limits().workers;
-    match Core::with_admitters(alloc, &checked, latest, rules, admitters) {
-        Ok(core) => explain_core(alloc, workers, core, number, value, lines, about),
-        Err(_) => Err(RunFault::Memory),
+    match open(alloc, setup) {
+        Ok(script) => {
+            let mut reaching = Reaching {
+                script,
+                lines: Vec::new(alloc),
+            };
+            explain_rest(alloc, number, value, lines, about, &mut reaching)
+        }
+        Err(_) => Err(ReplayFault::Memory),
     }
-}
-
-/// The same, on a registry of so many workers, of which no call was made.
-fn explain_core<V: Say, A: Admit>(
-    alloc: Global,
-    workers: u32,
-    core: Core<Latest<V>, A>,
-    number: u64,
-    value: &Value<'_>,
-    lines: &[u8],
-    about: Option<&str>,
-) -> Result<Explained, RunFault>
-    requires fresh { core.sent ≡ [] }
-    requires workers { workers ≡ core.limits.workers }
-    requires some { 1 ≤ workers }
-    requires call { is_setup (view value.now) ≡ false }
-    requires place { number + length lines.now ≤ most_bytes + 1 }
-    ensures explained { IfOk result (λ explained. (hooks : ℕ) (stage : Stage) → IsExplained
-        (resumed_why hooks (option_copied about.entry) number (begun_at core stage) (view value.now) lines.now)
-        explained) }
-    ensures memory { IfErr result (λ fault. fault ≡ RunFault.Memory) }
-{
-    let mut reaching = Reaching {
-        script: Script::new(alloc, workers, core),
-        lines: Vec::new(alloc),
-    };
-    explain_rest(alloc, number, value, lines, about, &mut reaching)
 }
 
 /// The same, on a script of which no call has run.
@@ -300,29 +242,29 @@ fn explain_rest<V: Say, A: Admit>(
     lines: &[u8],
     about: Option<&str>,
     reaching: &mut Reaching<V, A>,
-) -> Result<Explained, RunFault>
+) -> Result<Explained, ReplayFault>
     requires written { IsWritten reaching.old.script }
     requires call { is_setup (view value.now) ≡ false }
     requires place { number + length lines.now ≤ most_bytes + 1 }
     ensures explained { IfOk result (λ explained. (hooks : ℕ) → IsExplained
         (resumed_why hooks (option_copied about.entry) number
         (reached_at reaching.old running) (view value.now) lines.now) explained) }
-    ensures memory { IfErr result (λ fault. fault ≡ RunFault.Memory) }
+    ensures memory { IfErr result (λ fault. fault ≡ ReplayFault.Memory) }
 {
     match run_rest(alloc, number, value, lines, reaching) {
         Ok(()) => {
             let open = u64::from(reaching.script.open_spans());
             explain(alloc, reaching, about, Ok(open))
         }
-        Err(RunFault::Script(number, reason)) => {
+        Err(ReplayFault::Script(number, reason)) => {
             explain(
                 alloc,
                 reaching,
                 about,
-                Err(RunFault::Script(number, reason)),
+                Err(ReplayFault::Script(number, reason)),
             )
         }
         // (no other fault ends them)
-        Err(_) => Err(RunFault::Memory),
+        Err(_) => Err(ReplayFault::Memory),
     }
 }

@@ -1,37 +1,71 @@
 //! What no clause says: the texts of the faults.
 use crate::tests::compare::same;
 use span_id::Fault;
-use span_run::{RunFault, Side};
+use span_replay::ReplayFault;
+use span_run::WriteFailed;
 use span_script::Reason;
+use span_storm::StormFault;
 use std::alloc::Global;
+use std::fmt::Display;
 use std::process::Abort;
 
 #[test]
-fn faults_have_their_text_and_status(rt: HostRuntime) {
+fn faults_of_replays_have_their_text_and_status(rt: HostRuntime) {
     let alloc = rt.alloc();
-    let not_json = RunFault::Script(2, Reason::NotJson);
-    is_told(&rt, alloc, not_json, "line 2: not JSON", 1);
-    let too_long = RunFault::Script(0, Reason::TooLong);
-    is_told(&rt, alloc, too_long, "line 0: too long", 1);
-    is_told(&rt, alloc, RunFault::Memory, "out of memory", 3);
-    for (side, text) in [
-        (Side::Read, "device: read failed"),
-        (Side::Write, "device: write failed"),
+    for (fault, text, status) in [
+        (
+            ReplayFault::Script(2, Reason::NotJson),
+            "line 2: not JSON",
+            1,
+        ),
+        (
+            ReplayFault::Script(0, Reason::TooLong),
+            "line 0: too long",
+            1,
+        ),
+        (ReplayFault::Memory, "out of memory", 3),
+        (ReplayFault::Read, "device: read failed", 3),
+        (ReplayFault::Write, "device: write failed", 3),
     ] {
-        is_told(&rt, alloc, RunFault::Device(side), text, 3);
-    }
-    for (fault, text) in [
-        (Fault::Backlog, "refused: backlog"),
-        (Fault::Memory, "refused: out of memory"),
-    ] {
-        is_told(&rt, alloc, RunFault::Refused(fault), text, 3);
-    }
-    for (worker, text) in [(0, "worker 0 was held"), (16, "worker 16 was held")] {
-        is_told(&rt, alloc, RunFault::Held(worker), text, 3);
+        is_told(&rt, alloc, &fault, fault.status(), text, status);
     }
 }
 
-fn is_told(rt: &impl Abort, alloc: Global, fault: RunFault, want: &str, status: u8) {
-    let text = fault.to_string(alloc).expect(rt, "memory");
-    same(rt, (text.as_str(), fault.status()), (want, status), want);
+#[test]
+fn faults_of_storms_have_their_text_and_status(rt: HostRuntime) {
+    let alloc = rt.alloc();
+    for (fault, text) in [
+        (StormFault::Memory, "out of memory"),
+        (StormFault::Refused(Fault::Backlog), "refused: backlog"),
+        (
+            StormFault::Refused(Fault::Memory),
+            "refused: out of memory",
+        ),
+        (StormFault::Held(0), "worker 0 was held"),
+        (StormFault::Held(16), "worker 16 was held"),
+    ] {
+        is_told(&rt, alloc, &fault, fault.status(), text, 3);
+    }
+    let failed = WriteFailed;
+    is_told(
+        &rt,
+        alloc,
+        &failed,
+        failed.status(),
+        "device: write failed",
+        3,
+    );
+}
+
+// Whether the fault is told in this text, and has this status.
+fn is_told<F: Display>(
+    rt: &impl Abort,
+    alloc: Global,
+    fault: &F,
+    status: u8,
+    text: &str,
+    want: u8,
+) {
+    let told = fault.to_string(alloc).expect(rt, "memory");
+    same(rt, (told.as_str(), status), (text, want), text);
 }

@@ -8,11 +8,9 @@ use Rattle.span_history.specs.Own.{own, FrontView}
 use Rattle.span_registry.specs.Worker.{WorkerView}
 use Rattle.span_registry.specs.Share.{ShareView, joined}
 use Rattle.span_registry.specs.declared.report.Report.{Report}
-use Rattle.span_run.specs.declared.fault.RunFault.{RunFault}
-use Rattle.span_run.specs.declared.fault.RunFault.TheVariants as run
 use Rattle.span_storm.specs.Storm.{AreOfRounds, IsOneOf, IsParty, WasHeld, WasRefused, wants_jobs}
-use Rattle.span_storm.specs.declared.stopped.Stopped.{Stopped}
-use Rattle.span_storm.specs.declared.stopped.Stopped.TheVariants.{Memory, Refused, Held}
+use Rattle.span_storm.specs.declared.fault.StormFault.{StormFault}
+use Rattle.span_storm.specs.declared.fault.StormFault.TheVariants.{Memory, Refused, Held}
 
 -- a worker that makes so many rounds, and the gate that it asks
 pub record PartyView (Gate : Type 0) : Type 0 where
@@ -62,29 +60,23 @@ pub record AreReady (rules : List Filter) (count : ℕ) (workers : List WorkerVi
   pub spare : All (λ worker. 3 ≤ worker.spare) workers
 
 -- why a party stopped: for want of memory, or for a refusal or a hold of which this is known
-abbrev pub IsStop : (Fault → Type 0) → (ℕ → Type 0) → Stopped → Type 0
+abbrev pub IsStop : (Fault → Type 0) → (ℕ → Type 0) → StormFault → Type 0
 IsStop refused held Memory = Unit {0}
 IsStop refused held (Refused fault) = refused fault
 IsStop refused held (Held party) = held party
 
 -- one of these workers stopped
-abbrev pub IsWorkersStop : Limits → List Filter → (ℕ → ℕ → Type 0) → (ℕ → ℕ → Type 0) → Stopped → Type 0
+abbrev pub IsWorkersStop : Limits → List Filter → (ℕ → ℕ → Type 0) → (ℕ → ℕ → Type 0) → StormFault → Type 0
 IsWorkersStop limits rules holds is_one = IsStop (WasRefused limits rules is_one) (WasHeld holds is_one)
 
 -- the drain, which is the party of this number, stopped: it makes no call
-abbrev pub IsDrainsStop : (ℕ → ℕ → Type 0) → ℕ → Stopped → Type 0
+abbrev pub IsDrainsStop : (ℕ → ℕ → Type 0) → ℕ → StormFault → Type 0
 IsDrainsStop holds number = IsStop (λ _. ⊥) (WasHeld holds (λ party calls. (party ≡ number) × (calls ≡ 0)))
 
 -- one of so many workers stopped in so many rounds, or the drain, whose number is that of all workers
-abbrev pub IsStormStop : Limits → List Filter → (ℕ → ℕ → Type 0) → ℕ → ℕ → Stopped → Type 0
+abbrev pub IsStormStop : Limits → List Filter → (ℕ → ℕ → Type 0) → ℕ → ℕ → StormFault → Type 0
 IsStormStop limits rules holds workers rounds =
     IsStop (WasRefused limits rules (IsOneOf workers rounds)) (WasHeld holds (IsParty workers rounds))
-
--- the fault with which a storm ends where a party stopped
-abbrev pub fault_of : Stopped → RunFault
-fault_of Memory = run.Memory
-fault_of (Refused fault) = run.Refused fault
-fault_of (Held party) = run.Held party
 
 -- the shares of these workers together, each of which has come back
 pub record HasAll (workers : List WorkerView) (rounds : ℕ) (share : ShareView) : Type 0 where
@@ -97,31 +89,31 @@ pub record HasAll (workers : List WorkerView) (rounds : ℕ) (share : ShareView)
 
 -- What is put together of n workers when as many as `rest` have not been joined, unless one had a fault: each has made
 -- so many calls, and of all parts so many are left.
-abbrev pub Gathers : Result ShareView Stopped → ℕ → ℕ → ℕ → ℕ → ℕ → Type 0
+abbrev pub Gathers : Result ShareView StormFault → ℕ → ℕ → ℕ → ℕ → ℕ → Type 0
 Gathers whole n rest each all left = IfOk whole (λ share.
     (share.units ≡ 0) × (share.call_parts + rest ≡ n) × (share.accepted ≡ share.call_parts * each)
     × (share.handle_parts + left ≡ all))
 
 -- What the workers had seen that were put together, unless one had a fault: so many calls of its own each, and with
 -- the numbers of those that have not been joined theirs are all numbers.
-abbrev pub GathersSeen : Result ShareView Stopped → ℕ → List ℕ → List ℕ → Type 0
+abbrev pub GathersSeen : Result ShareView StormFault → ℕ → List ℕ → List ℕ → Type 0
 GathersSeen whole each rest all = IfOk whole (λ share.
     All (HasOwn each) share.seen × (numbers_seen share.seen ++ rest ≡ all))
 
 -- both shares, or the fault of the first that has one
-abbrev pub both_shares : Result ShareView Stopped → Result ShareView Stopped → Result ShareView Stopped
+abbrev pub both_shares : Result ShareView StormFault → Result ShareView StormFault → Result ShareView StormFault
 both_shares (Err fault) other = Err fault
 both_shares (Ok one) (Err fault) = Err fault
 both_shares (Ok one) (Ok other) = Ok (joined one other)
 
 -- the whole share and the drain, or the workers' fault, or that of the drain where they have none
-abbrev pub share_and_drain : Result ShareView Stopped → Result DrainView Stopped → Result (ShareView × DrainView) Stopped
+abbrev pub share_and_drain : Result ShareView StormFault → Result DrainView StormFault → Result (ShareView × DrainView) StormFault
 share_and_drain (Err fault) drain = Err fault
 share_and_drain (Ok whole) (Err fault) = Err fault
 share_and_drain (Ok whole) (Ok drain) = Ok (whole, drain)
 
 -- the sums of two shares fit in a `u64`
-abbrev pub Fit : Result ShareView Stopped → Result ShareView Stopped → Type 0
+abbrev pub Fit : Result ShareView StormFault → Result ShareView StormFault → Type 0
 Fit one other = IfOk one (λ a. IfOk other (λ b. (a.units + b.units < 2 ^ 64) × (a.accepted + b.accepted < 2 ^ 64)))
 
 -- The numbers of a report of so many workers and rounds: nine calls for each round of each worker, each handle given

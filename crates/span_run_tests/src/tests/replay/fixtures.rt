@@ -7,8 +7,8 @@ ghost use Rattle.span_layers.specs.Text.{text_of};
 
 use span_id::Meta;
 use span_layers::{Form, Hooks, Note, Rule, admits, text};
-use span_replay::{Remains, replay, replay_with_layers};
-use span_run::{Counted, RunFault};
+use span_replay::{Remains, ReplayFault, replay, replay_with_layers};
+use span_run::Counted;
 use std::alloc::{AllocError, Global};
 use std::io::{Read, Write};
 use std::process::Abort;
@@ -77,7 +77,7 @@ pub(crate) fn run_with<R: Read + Drop, W: Write + Drop>(
 }
 
 // How many spans are left, or the fault, as text.
-fn end_of(rt: &impl Abort, alloc: Global, ended: &Result<u64, RunFault>) -> String {
+fn end_of(rt: &impl Abort, alloc: Global, ended: &Result<u64, ReplayFault>) -> String {
     match ended {
         Ok(left) => left.to_string(alloc).expect(rt, "memory"),
         Err(fault) => fault.to_string(alloc).expect(rt, "memory"),
@@ -87,13 +87,13 @@ fn end_of(rt: &impl Abort, alloc: Global, ended: &Result<u64, RunFault>) -> Stri
 fn told<R, W>(
     rt: &impl Abort,
     alloc: Global,
-    ended: &Result<u64, RunFault>,
+    ended: &Result<u64, ReplayFault>,
     input: &Counted<R>,
     output: &Counted<W>,
 ) -> Ran {
     Ran {
         end: end_of(rt, alloc, ended),
-        status: ended.as_ref().err().map(RunFault::status),
+        status: ended.as_ref().err().map(ReplayFault::status),
         reads: input.calls(),
         failed_reads: input.failed(),
         flushes: output.flushes(),

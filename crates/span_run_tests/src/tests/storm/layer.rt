@@ -9,8 +9,7 @@ ghost use Rattle.span_layers.specs.Text.{text_of};
 use span_id::{Fault, Meta};
 use span_layers::{FmtSpan, Form, Hooks, Layer, Layers, Note, Rule, Style, admits, text};
 use span_registry::Report;
-use span_run::RunFault;
-use span_storm::{Gate, storm};
+use span_storm::{Gate, StormFault, storm};
 use std::alloc::{AllocError, Global};
 use std::sync::atomic::{AtomicU64, Ordering};
 use std::sync::{Arc, Wait};
@@ -64,15 +63,15 @@ pub(crate) fn storm_of_all<G: Gate + Sync, R: Threads + Wait + Sync>(
     rounds: u32,
     said: Arc<AtomicU64>,
     gate: &G,
-) -> Result<Report, RunFault>
+) -> Result<Report, StormFault>
     requires { (0 < workers) × (workers ≤ 16) × (0 < rounds) × (rounds ≤ 400) }
 {
     let Ok(layer) = counting_layer(alloc, said) else {
-        return Err(RunFault::Memory);
+        return Err(StormFault::Memory);
     };
     let mut layers = Layers::new(alloc);
     let Ok(_) = layers.add(layer) else {
-        return Err(RunFault::Memory);
+        return Err(StormFault::Memory);
     };
     storm(rt, alloc, workers, rounds, layers, gate)
 }

@@ -1,7 +1,7 @@
 //! What `show` writes.
 use crate::tests::compare::{equal, is_text};
 use span_registry::Report;
-use span_run::{Counted, RunFault};
+use span_run::{Counted, WriteFailed};
 use span_storm::show;
 use std::alloc::Global;
 use std::io;
@@ -58,7 +58,7 @@ fn shows_eight_lines(rt: HostRuntime) {
 }
 
 // Whether the writer failed, as the text of the fault says; the room tells the case.
-fn has_failed(rt: &impl Abort, alloc: Global, shown: &Result<(), RunFault>, room: usize) {
+fn has_failed(rt: &impl Abort, alloc: Global, shown: &Result<(), WriteFailed>, room: usize) {
     match shown {
         Ok(()) => assert!(rt; false, "with room for {room}"),
         Err(fault) => {

@@ -6,8 +6,8 @@ use crate::tests::storm::layer::{REFUSED_FROM, storm_of_all};
 use crate::tests::storm::meeting::{HoldsAt, HoldsOnce, HoldsWorkers, InOrder, Meeting};
 use span_layers::Layers;
 use span_registry::{Line, Report};
-use span_run::{Counted, RunFault};
-use span_storm::{Gate, Open, show, storm};
+use span_run::Counted;
+use span_storm::{Gate, Open, StormFault, show, storm};
 use std::alloc::{AllocError, Global};
 use std::process::Abort;
 use std::sync::atomic::{AtomicU64, Ordering};
@@ -31,7 +31,7 @@ fn ends(
     alloc: Global,
     workers: u32,
     rounds: u32,
-    ended: &Result<Report, RunFault>,
+    ended: &Result<Report, StormFault>,
     expected: &str,
 ) {
     match ended {
@@ -47,12 +47,12 @@ fn ends(
 }
 
 // A storm of two workers and three rounds that passes only where all three parties run at the same time.
-fn met<R: Threads + Wait + Sync>(rt: &R, alloc: Global) -> Result<Report, RunFault> {
+fn met<R: Threads + Wait + Sync>(rt: &R, alloc: Global) -> Result<Report, StormFault> {
     let Ok(said) = Arc::new(alloc, AtomicU64::new(0)) else {
-        return Err(RunFault::Memory);
+        return Err(StormFault::Memory);
     };
     let Ok(seen) = said.clone() else {
-        return Err(RunFault::Memory);
+        return Err(StormFault::Memory);
     };
     let gate = Meeting::new(seen);
     storm_of_all(rt, alloc, 2, 3, said, &gate)
@@ -68,8 +68,8 @@ fn workers_and_drain_run_at_the_same_time(rt: HostRuntime) {
 fn two_storms_run_at_once(rt: HostRuntime) {
     let (one, other) = thread::join(
         &rt,
-        || -> Result<Report, RunFault> { met(&rt, rt.alloc()) },
-        || -> Result<Report, RunFault> { met(&rt, rt.alloc()) },
+        || -> Result<Report, StormFault> { met(&rt, rt.alloc()) },
+        || -> Result<Report, StormFault> { met(&rt, rt.alloc()) },
     );
     ends(&rt, rt.alloc(), 2, 3, &one, TWO_BY_THREE);
     ends(&rt, rt.alloc(), 2, 3, &other, TWO_BY_THREE);
@@ -231,7 +231,7 @@ fn the_calls_of_two_rounds(rt: HostRuntime) {
 }
 
 // A storm ended with these lines.
-fn has_lines(rt: &impl Abort, alloc: Global, ended: &Result<Report, RunFault>, expected: &str) {
+fn has_lines(rt: &impl Abort, alloc: Global, ended: &Result<Report, StormFault>, expected: &str) {
     let report = ended.as_ref().expect(rt, "a report");
     let text = numbered(alloc, report.lines.as_slice()).expect(rt, "memory");
     equal(rt, text.as_str(), expected);

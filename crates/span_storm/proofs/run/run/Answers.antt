@@ -11,9 +11,9 @@ use Rattle.span_registry.specs.Worker.{WorkerView, IsNew}
 use Rattle.span_registry.specs.Share.{ShareView}
 use Rattle.span_registry.specs.Report.{IsDrainedEnd, Tells}
 use Rattle.span_storm.specs.Storm.{IsStormEnd, IsStormFault}
-use Rattle.span_storm.specs.declared.stopped.Stopped.{Stopped}
-use Rattle.span_storm.specs.declared.stopped.Stopped.TheVariants.{Memory, Refused, Held}
-use Rattle.span_storm.specs.inside.Back.{HasAll, IsStormStop, fault_of}
+use Rattle.span_storm.specs.declared.fault.StormFault.{StormFault}
+use Rattle.span_storm.specs.declared.fault.StormFault.TheVariants.{Memory, Refused, Held}
+use Rattle.span_storm.specs.inside.Back.{HasAll, IsStormStop}
 use Rattle.span_storm.proofs.Gathering.{each_made}
 use Rattle.span_storm.proofs.Leaving.{world_is_empty, nothing_left}
 use Rattle.span_storm.proofs.run.run.Goals as goal
@@ -59,7 +59,7 @@ returns-in-Ok-back-clause-numbers g c =
     }
 
 -- the fault of a party that stopped
-storm_fault : (limits : Limits) (rounds : ℕ) (rules : List Filter) (holds : ℕ → ℕ → Type 0) (stopped : Stopped) → IsStormStop limits rules holds limits.workers rounds stopped → IsStormFault limits rounds rules holds (fault_of stopped)
+storm_fault : (limits : Limits) (rounds : ℕ) (rules : List Filter) (holds : ℕ → ℕ → Type 0) (fault : StormFault) → IsStormStop limits rules holds limits.workers rounds fault → IsStormFault limits rounds rules holds fault
 storm_fault limits rounds rules holds Memory stop = tt
 storm_fault limits rounds rules holds (Refused fault) stop = stop
 storm_fault limits rounds rules holds (Held party) stop = stop
@@ -70,5 +70,4 @@ returns-in-Err-clause-faults g c =
     let rules = g.S.Setup.rules in
     let rounds = c.args.rounds in
     let holds = g.G.Gate.holds c.args.gate.now in
-    subst (λ fault. IsStormFault limits rounds rules holds fault) (sym c.fault.ensures)
-    (storm_fault limits rounds rules holds c.in-Err.stopped (subst (λ count. IsStormStop limits rules holds count rounds c.in-Err.stopped) c.in-Ok.ensures.count.0 c.in-Err.ensures.stopped))
+    storm_fault limits rounds rules holds c.in-Err.fault (subst (λ count. IsStormStop limits rules holds count rounds c.in-Err.fault) c.in-Ok.ensures.count.0 c.in-Err.ensures.stopped)

@@ -1,6 +1,7 @@
-use Rattle.span_replay.specs.inside.Setup.{opened_in, setup_state}
-use Rattle.span_replay.proofs.Explaining.{split_explained}
+use Rattle.span_replay.specs.inside.Setup.{setup_state}
+use Rattle.span_replay.proofs.Explaining.{at_its_stage, begun_explained}
 use Rattle.span_replay.proofs.run.why.explain_calls.Goals as goal
 
-pub returns-clause-explained : goal.returns-clause-explained
-returns-clause-explained g c = split_explained _ _ _ (opened_in c.split-opened.result.0) (setup_state c.args.setup) _ _ c.split-opened.ensures c.explain_opened.ensures.explained
+pub returns-in-Ok-clause-explained : goal.returns-in-Ok-clause-explained
+returns-in-Ok-clause-explained g c =
+    at_its_stage _ _ _ (setup_state c.args.setup) _ _ (begun_explained _ _ _ (setup_state c.args.setup).core _ _ _ _ _ c.requires.call c.in-Ok.ensures.core c.in-Ok.ensures.labels c.new.ensures.items c.explain_rest.ensures.explained)
