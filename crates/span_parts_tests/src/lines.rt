@@ -6,15 +6,14 @@ use std::alloc::{AllocError, Global};
 pub fn shown(alloc: Global, lines: &[Line]) -> Result<String, AllocError> {
     let mut all = String::new(alloc);
     for line in lines {
-        push_line(alloc, &mut all, line)?;
+        push_line(&mut all, line)?;
     }
     Ok(all)
 }
 
 /// Writes the numbers and the text of a line, and a newline.
-pub fn push_line(alloc: Global, all: &mut String, line: &Line) -> Result<(), AllocError> {
+pub fn push_line(all: &mut String, line: &Line) -> Result<(), AllocError> {
     let (batch, place, layer) = (line.batch, line.place, line.layer);
     let text = str::from_utf8(line.text.as_slice()).unwrap_or("no text");
-    let line = format!(in alloc; "{batch} {place} {layer} {text}\n")?;
-    all.push_str(line.as_str())
+    write!(all, "{batch} {place} {layer} {text}\n")
 }

@@ -1,17 +1,15 @@
 //! Layers in few words.
-ghost use Rattle.std.specs.Prelude.{◌≡◌, IfOk, IfErr, string_bytes};
 
-use span_id::{Fault, Level, copy_text};
+use span_id::{Fault, Level};
 use span_layers::{ByForm, ByRule, FmtSpan, Form, Hooks, Layer, Layers, Rule, Style};
-use std::alloc::Global;
+use std::alloc::{AllocError, Global};
 
-/// A rule of these pairs. The only error is `Memory`.
-pub fn rule(alloc: Global, pairs: &[(&str, Level)]) -> Result<Rule, Fault>
-    ensures memory { IfErr result (λ fault. fault ≡ Fault.Memory) }
-{
+/// A rule of these pairs.
+pub fn rule(alloc: Global, pairs: &[(&str, Level)]) -> Result<Rule, AllocError> {
     let mut made = Vec::new(alloc);
     for (prefix, level) in pairs {
-        made.push((copy_text(alloc, prefix)?, *level))?;
+        let prefix = String::from_str(alloc, prefix)?;
+        made.push((prefix, *level))?;
     }
     Ok(Rule { pairs: made })
 }
@@ -53,23 +51,21 @@ pub type Plan<'a> = (Form, Wanted, &'a str, Level);
 /// Lets everything in, and writes everything in the compact form.
 pub const EVERYTHING: Plan<'static> = (Form::Compact, Wanted::All, "", Level::Trace);
 
-/// A layer of this plan with these hooks. The only error is `Memory`.
+/// A layer of this plan with these hooks.
 pub fn layer_with<A: Drop, F: Drop>(
     alloc: Global,
     plan: &Plan,
     hooks: Hooks<A, F>,
-) -> Result<Layer<A, F>, Fault>
-    ensures hooks { IfOk result (λ layer. layer.hooks ≡ hooks) }
-    ensures memory { IfErr result (λ fault. fault ≡ Fault.Memory) }
-{
+) -> Result<Layer<A, F>, AllocError> {
     let (form, wanted, prefix, level) = *plan;
-    let spans = spans_of(wanted);
-    let rule = rule(alloc, &[(prefix, level)])?;
-    Ok(Layer {
-        style: Style { form, spans },
-        rule,
-        hooks,
-    })
+    match rule(alloc, &[(prefix, level)]) {
+        Ok(rule) => {
+            let spans = spans_of(wanted);
+            let style = Style { form, spans };
+            Ok(Layer { style, rule, hooks })
+        }
+        Err(error) => Err(error),
+    }
 }
 
 /// Adds a layer of this plan with these hooks.
@@ -79,7 +75,13 @@ pub fn add<A: Drop, F: Drop>(
     plan: &Plan,
     hooks: Hooks<A, F>,
 ) -> Result<(), Fault> {
-    let layer = layer_with(alloc, plan, hooks)?;
+    match layer_with(alloc, plan, hooks) {
+        Ok(layer) => added(layers, layer),
+        Err(_) => Err(Fault::Memory),
+    }
+}
+
+fn added<A: Drop, F: Drop>(layers: &mut Layers<A, F>, layer: Layer<A, F>) -> Result<(), Fault> {
     match layers.add(layer) {
         Ok(_number) => Ok(()),
         Err((_layer, fault)) => Err(fault),
@@ -89,8 +91,19 @@ pub fn add<A: Drop, F: Drop>(
 /// Layers of these plans with no closures.
 pub fn plain_layers(alloc: Global, plans: &[Plan]) -> Result<Layers<ByRule, ByForm>, Fault> {
     let mut layers = Layers::new(alloc);
-    for plan in plans {
-        add(alloc, &mut layers, plan, Hooks::by_rule_and_form())?;
+    match add_all(alloc, &mut layers, plans) {
+        Ok(()) => Ok(layers),
+        Err(fault) => Err(fault),
     }
-    Ok(layers)
+}
+
+fn add_all(
+    alloc: Global,
+    layers: &mut Layers<ByRule, ByForm>,
+    plans: &[Plan],
+) -> Result<(), Fault> {
+    for plan in plans {
+        add(alloc, layers, plan, Hooks::by_rule_and_form())?;
+    }
+    Ok(())
 }

@@ -1,7 +1,7 @@
 //! A long chain of spans.
 use crate::tests::acts::{Act, perform};
 use crate::tests::answers::Answer;
-use crate::tests::play::{Play, plays};
+use crate::tests::play::Play;
 use span_core::Core;
 use span_id::{Level, Limits};
 use span_layers::Form;
@@ -49,7 +49,7 @@ pub(crate) fn grow<O: Outlet>(
 // The layer wants neither new spans nor closes: each note of a new span would name all spans above it.
 const PLAN: Plan<'static> = (Form::Compact, Wanted::EnterAndExit, "", Level::Trace);
 
-const PLAY: Play<'static> = Play {
+pub(crate) const PLAY: Play<'static> = Play {
     limits: LIMITS,
     plans: &[PLAN],
     acts: &[
@@ -60,8 +60,3 @@ const PLAY: Play<'static> = Play {
     ],
     expected: "= 1\n= right 65535\n= counts 65536 1 1 0 131071 65536 0\n= closed\n",
 };
-
-#[test]
-fn a_chain_closes_at_once(rt: HostRuntime) {
-    plays(&rt, rt.alloc(), &PLAY);
-}

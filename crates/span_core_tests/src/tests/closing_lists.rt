@@ -1,6 +1,6 @@
 //! The closing lists that calls show, and the counts after them.
 use crate::tests::acts::Act;
-use crate::tests::play::{Play, plays};
+use crate::tests::play::Play;
 use span_id::Limits;
 
 const LIMITS: Limits = Limits {
@@ -41,7 +41,7 @@ const ANSWERS: &str = "\
 // Generation 7 of the child's slot.
 const STRANGER: u64 = 117440514;
 
-const PLAY: Play<'static> = Play {
+pub(crate) const PLAY: Play<'static> = Play {
     limits: LIMITS,
     plans: &[],
     acts: &[
@@ -68,8 +68,3 @@ const PLAY: Play<'static> = Play {
     ],
     expected: ANSWERS,
 };
-
-#[test]
-fn closing_lists_come_out(rt: HostRuntime) {
-    plays(&rt, rt.alloc(), &PLAY);
-}

@@ -96,7 +96,7 @@ const PLANS: [Plan<'static>; 3] = [
 
 // The span 129 stands above 128 entries, and once the span 6 is left above 127. When it is left too, and all above 99,
 // it is entered again above 98 entries.
-static ACTS: [(u32, Act<'static>); 23] = [
+const ACTS: &[(u32, Act<'static>)] = &[
     (0, ROOT),
     (0, Act::Enter(1)),
     (0, Act::GoDown(2, 128)),
@@ -159,18 +159,6 @@ L2 event 129 w0 mid INFO seek
 = told
 ";
 
-#[test]
-fn a_layer_sees_through_a_deep_stack(rt: HostRuntime) {
-    let play = Play {
-        limits: LIMITS,
-        plans: &PLANS,
-        acts: &ACTS,
-        expected: ANSWERS,
-    };
-    let played = played(&rt, rt.alloc(), &play);
-    ends(&rt, &played, ANSWERS, (300, 0));
-}
-
 const TWO_WORKERS: Limits = Limits {
     workers: 2,
     ..LIMITS
@@ -179,7 +167,7 @@ const TWO_WORKERS: Limits = Limits {
 // In the stack of the worker 0 the span 1 is the lowest, and the span 129 stands above 128 entries; in that of the
 // worker 1 the span 129 is the lowest, and the span 1 stands above 99 entries. Each worker tells events alone for a
 // while, and then both by turns, also after the other one left a span.
-static ACTS_BY_TURNS: [(u32, Act<'static>); 33] = [
+const ACTS_BY_TURNS: &[(u32, Act<'static>)] = &[
     (0, ROOT),
     (0, Act::Enter(1)),
     (0, Act::GoDown(2, 128)),
@@ -270,14 +258,27 @@ L1 event 0 w1 - INFO seek
 = told
 ";
 
-#[test]
-fn each_worker_sees_through_its_own_stack(rt: HostRuntime) {
-    let play = Play {
+static PLAYS: [Play<'static>; 2] = [
+    // A layer sees through a deep stack.
+    Play {
+        limits: LIMITS,
+        plans: &PLANS,
+        acts: ACTS,
+        expected: ANSWERS,
+    },
+    // Each worker sees through its own stack.
+    Play {
         limits: TWO_WORKERS,
         plans: &PLANS,
-        acts: &ACTS_BY_TURNS,
+        acts: ACTS_BY_TURNS,
         expected: ANSWERS_BY_TURNS,
-    };
-    let played = played(&rt, rt.alloc(), &play);
-    ends(&rt, &played, ANSWERS_BY_TURNS, (300, 0));
+    },
+];
+
+#[test]
+fn layers_see_through_deep_stacks(rt: HostRuntime) {
+    for of in &PLAYS {
+        let played = played(&rt, rt.alloc(), of);
+        ends(&rt, &played, of.expected, (300, 0));
+    }
 }

@@ -1,9 +1,10 @@
 //! A core whose outlet is a ring: a full ring refuses, and a drain tells.
 use crate::tests::acts::{Act, perform};
 use crate::tests::answers::{Answer, push, push_answer};
-use crate::tests::hooks::add_plan;
-use crate::tests::play::{Transcript, ends};
+use crate::tests::hooks::{add_plan, layers};
+use crate::tests::play::{Play, SMALL, Transcript, ends};
 use crate::tests::strangers::unknown_strangers;
+use crate::tests::{strangers, told_again};
 use span_core::Core;
 use span_id::Limits;
 use span_layers::{Kind, Layers};
@@ -86,16 +87,7 @@ pub(crate) fn played_on_ring(
     }
 }
 
-// One worker, and a ring of so many places.
-fn with_ring(places: u32) -> Limits {
-    Limits {
-        workers: 1,
-        ring: places,
-        ..Limits::default()
-    }
-}
-
-static FULL: [(u32, Act<'static>); 8] = [
+const FULL: &[(u32, Act<'static>)] = &[
     (0, Act::Child("a", 0)),
     (0, Act::Clone(1)),
     (0, Act::Close(1)),
@@ -109,12 +101,30 @@ static FULL: [(u32, Act<'static>); 8] = [
 const FULL_ANSWERS: &str =
     "= 1\n! backlog\n! backlog\n= found 1 0 1 0\n= step 0 0\n= no batch\n= closed\n= counts 0 0 0 0 2 1 1\n";
 
-// Of a ring of one place, which the new span takes, the next two calls are refused, until the drain takes a batch.
+// The plays, and how many spans are open in the end.
+static PLAYS: [(Play<'static>, u32); 4] = [
+    // Of a ring of one place, which the new span takes, the next two calls are refused, until the drain takes a batch.
+    (
+        Play {
+            limits: SMALL,
+            plans: &[],
+            acts: FULL,
+            expected: FULL_ANSWERS,
+        },
+        0,
+    ),
+    (told_again::KEPT_ON_A_RING, 2),
+    (told_again::TOLD_AGAIN_ON_A_RING, 0),
+    (strangers::PLAY, 1),
+];
+
 #[test]
-fn a_full_ring_refuses(rt: HostRuntime) {
-    let (alloc, limits) = (rt.alloc(), with_ring(1));
-    let played = played_on_ring(&rt, alloc, &limits, Layers::new(alloc), &FULL);
-    ends(&rt, &played, FULL_ANSWERS, (0, 0));
+fn calls_on_a_ring_are_answered_and_told(rt: HostRuntime) {
+    for (of, open) in &PLAYS {
+        let layers = layers(&rt, rt.alloc(), of.plans);
+        let played = played_on_ring(&rt, rt.alloc(), &of.limits, layers, of.acts);
+        ends(&rt, &played, of.expected, (*open, 0));
+    }
 }
 
 // A layer that lets everything in, and is refused memory for the text of a new span.
@@ -137,11 +147,13 @@ static STEPS: [(u32, Act<'static>); 6] = [
 const STEPS_ANSWERS: &str =
     "= 1\n= closed\n= step 0 1\n= step 1 0\n= no batch\n= drained 2 1 1\n1 0 0 close 1 w0 a\n";
 
+const EIGHT_PLACES: Limits = Limits { ring: 8, ..SMALL };
+
 // The text of the new span is refused memory, and that of its close isn't.
 #[test]
 fn a_text_that_is_refused_memory_in_the_drain(rt: HostRuntime) {
-    let (alloc, limits) = (rt.alloc(), with_ring(8));
+    let alloc = rt.alloc();
     let layers = new_refused(&rt, alloc);
-    let played = played_on_ring(&rt, alloc, &limits, layers, &STEPS);
+    let played = played_on_ring(&rt, alloc, &EIGHT_PLACES, layers, &STEPS);
     ends(&rt, &played, STEPS_ANSWERS, (0, 1));
 }

@@ -1,13 +1,11 @@
 //! What the notes of a call share, by how many owners it has.
 use crate::tests::acts::Act;
 use crate::tests::compare::holds;
-use crate::tests::play::{Play, SMALL, played, plays};
+use crate::tests::play::{Play, SMALL, played};
 use span_id::Level;
 use span_layers::{Form, Note};
 use span_outlet::{Batch, Call};
 use span_parts_tests::plans::{EVERYTHING, Plan, Wanted};
-use std::alloc::Global;
-use std::process::Abort;
 use std::sync::ArcStr;
 
 // How many notes share the text of the first one's path.
@@ -121,24 +119,20 @@ const SHARED_AT_AN_EXIT: Play<'static> = Play {
     expected: "= yes\n",
 };
 
+static PLAYS: [Play<'static>; 2] = [SHARED, SHARED_AT_AN_EXIT];
+
 // The batches are looked at last, while the core has them; only this answer is compared.
-fn ends_right(rt: &impl Abort, alloc: Global, of: &Play) {
-    let played = played(rt, alloc, of);
-    let shares = played.text.ends_with(of.expected.as_bytes());
-    holds(rt, shares, "the owners of paths and messages");
-}
-
 #[test]
-fn notes_share_with_the_call(rt: HostRuntime) {
-    ends_right(&rt, rt.alloc(), &SHARED);
+fn notes_share_with_the_call_and_an_exit_with_its_closes(rt: HostRuntime) {
+    for of in &PLAYS {
+        let played = played(&rt, rt.alloc(), of);
+        let shares = played.text.ends_with(of.expected.as_bytes());
+        holds(&rt, shares, "the owners of paths and messages");
+    }
 }
 
-#[test]
-fn an_exit_shares_with_its_closes(rt: HostRuntime) {
-    ends_right(&rt, rt.alloc(), &SHARED_AT_AN_EXIT);
-}
-
-const DASH: Play<'static> = Play {
+// A name may be a dash.
+pub(crate) const DASH: Play<'static> = Play {
     limits: SMALL,
     plans: &[EVERYTHING, LIB],
     acts: &[
@@ -151,8 +145,3 @@ const DASH: Play<'static> = Play {
     ],
     expected: "L0 new 1 w0 -\n= 1\nL0 enter 1 w0 -\n= entered\nL0 new 2 w0 -:x\nL1 new 2 w0 x\n= 2\nL0 exit 1 w0 -\n= open\n= open\nL0 close 2 w0 -:x\nL1 close 2 w0 x\nL0 close 1 w0 -\n= closed\n",
 };
-
-#[test]
-fn a_name_may_be_a_dash(rt: HostRuntime) {
-    plays(&rt, rt.alloc(), &DASH);
-}

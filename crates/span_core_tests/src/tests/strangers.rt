@@ -1,9 +1,7 @@
 //! Strangers' ids: ids of every kind that no span has, in every call that takes an id.
 use crate::tests::acts::{Act, counts, counts_of, perform};
 use crate::tests::answers::Answer;
-use crate::tests::hooks::layers;
-use crate::tests::on_a_ring::played_on_ring;
-use crate::tests::play::ends;
+use crate::tests::play::Play;
 use span_core::Core;
 use span_id::{Fault, Id, Limits};
 use span_outlet::Outlet;
@@ -72,7 +70,7 @@ pub(crate) fn unknown_strangers<O: Outlet>(
 }
 
 // Slot 0 is retired, slot 1 has its second span, which is open, slot 2 is free again, slot 3 was never used.
-static ACTS: [(u32, Act<'static>); 16] = [
+const ACTS: [(u32, Act<'static>); 16] = [
     (0, Act::Child("a", 0)),
     (0, Act::Close(1)),
     (0, Act::Child("a", 0)),
@@ -121,10 +119,9 @@ const ANSWERS: &str = "\
 10 0 0 close 3 w0 a
 ";
 
-#[test]
-fn strangers_ids_are_unknown_and_change_nothing(rt: HostRuntime) {
-    let alloc = rt.alloc();
-    let layers = layers(&rt, alloc, &[EVERYTHING]);
-    let played = played_on_ring(&rt, alloc, &LIMITS, layers, &ACTS);
-    ends(&rt, &played, ANSWERS, (1, 0));
-}
+pub(crate) const PLAY: Play<'static> = Play {
+    limits: LIMITS,
+    plans: &[EVERYTHING],
+    acts: &ACTS,
+    expected: ANSWERS,
+};

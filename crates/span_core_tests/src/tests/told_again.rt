@@ -1,8 +1,6 @@
 //! Paths that are told again at a span whose layers are so many that the paths of two take each other's place.
 use crate::tests::acts::Act;
-use crate::tests::hooks::layers;
-use crate::tests::on_a_ring::played_on_ring;
-use crate::tests::play::{Play, SMALL, ends, plays};
+use crate::tests::play::{Play, SMALL, plays};
 use span_id::{Level, Limits};
 use span_layers::Form;
 use span_parts_tests::plans::{EVERYTHING, Plan, Wanted};
@@ -44,7 +42,7 @@ fn layers_take_each_others_place(rt: HostRuntime) {
     plays(&rt, rt.alloc(), &KEPT);
 }
 
-static ON_A_RING: [(u32, Act<'static>); 7] = [
+const ON_A_RING: [(u32, Act<'static>); 7] = [
     (0, Q),
     (0, Act::Enter(1)),
     (0, Act::New("b")),
@@ -58,12 +56,12 @@ const ON_A_RING_ANSWERS: &str =
     "= 1\n= entered\n= 2\n= entered\n= told\n= told\n= drained 6 0 21\n0 0 0 new 1 w0 q\n0 1 2 new 1 w0 q\n0 2 5 new 1 w0 q\n2 0 0 new 2 w0 q:b\n2 1 1 new 2 w0 b\n2 2 2 new 2 w0 q:b\n2 3 3 new 2 w0 b\n2 4 4 new 2 w0 b\n2 5 5 new 2 w0 q:b\n4 0 0 event 2 w0 q:b INFO hi\n4 1 1 event 2 w0 b INFO hi\n4 2 2 event 2 w0 q:b INFO hi\n4 3 3 event 2 w0 b INFO hi\n4 4 4 event 2 w0 b INFO hi\n4 5 5 event 2 w0 q:b INFO hi\n5 0 0 event 2 w0 q:b INFO hi\n5 1 1 event 2 w0 b INFO hi\n5 2 2 event 2 w0 q:b INFO hi\n5 3 3 event 2 w0 b INFO hi\n5 4 4 event 2 w0 b INFO hi\n5 5 5 event 2 w0 q:b INFO hi\n";
 
 // On a ring later calls share the texts.
-#[test]
-fn layers_take_each_others_place_on_a_ring(rt: HostRuntime) {
-    let alloc = rt.alloc();
-    let played = played_on_ring(&rt, alloc, &LIMITS, layers(&rt, alloc, &SIX), &ON_A_RING);
-    ends(&rt, &played, ON_A_RING_ANSWERS, (2, 0));
-}
+pub(crate) const KEPT_ON_A_RING: Play<'static> = Play {
+    limits: LIMITS,
+    plans: &SIX,
+    acts: &ON_A_RING,
+    expected: ON_A_RING_ANSWERS,
+};
 
 // Each layer sees another path than the one whose place its own takes, four before it.
 const SEVEN: [Plan<'static>; 7] = [
@@ -91,7 +89,7 @@ const THREE_SLOTS: Limits = Limits {
 };
 
 // The spans `e` and `d` get the slot that `c` had. The last act is for a ring.
-static FROM_THE_FIRST_NOTE_ON: [(u32, Act<'static>); 23] = [
+const FROM_THE_FIRST_NOTE_ON: [(u32, Act<'static>); 23] = [
     (0, R),
     (0, Act::Enter(1)),
     (0, Act::New("p")),
@@ -324,10 +322,9 @@ const FROM_THE_FIRST_NOTE_ON_LINES: &str = "\
 21 2 5 close 1 w0 r
 ";
 
-#[test]
-fn a_new_spans_paths_are_told_again_on_a_ring(rt: HostRuntime) {
-    let alloc = rt.alloc();
-    let layers = layers(&rt, alloc, &SEVEN);
-    let played = played_on_ring(&rt, alloc, &THREE_SLOTS, layers, &FROM_THE_FIRST_NOTE_ON);
-    ends(&rt, &played, FROM_THE_FIRST_NOTE_ON_LINES, (0, 0));
-}
+pub(crate) const TOLD_AGAIN_ON_A_RING: Play<'static> = Play {
+    limits: THREE_SLOTS,
+    plans: &SEVEN,
+    acts: &FROM_THE_FIRST_NOTE_ON,
+    expected: FROM_THE_FIRST_NOTE_ON_LINES,
+};

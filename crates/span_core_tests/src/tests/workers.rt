@@ -1,6 +1,6 @@
 //! Several workers and layers with rules of their own.
 use crate::tests::acts::Act;
-use crate::tests::play::{Play, THREE_WORKERS, plays};
+use crate::tests::play::{Play, THREE_WORKERS};
 use span_id::Level;
 use span_layers::Form;
 use span_parts_tests::plans::{EVERYTHING, Wanted};
@@ -55,7 +55,7 @@ L1 close 1 w2 serve user=ann
 ";
 
 // What each worker calls, in turn.
-const PLAY: Play<'static> = Play {
+pub(crate) const PLAY: Play<'static> = Play {
     limits: THREE_WORKERS,
     plans: &[
         EVERYTHING,
@@ -81,8 +81,3 @@ const PLAY: Play<'static> = Play {
     ],
     expected: ANSWERS,
 };
-
-#[test]
-fn three_workers_and_three_layers(rt: HostRuntime) {
-    plays(&rt, rt.alloc(), &PLAY);
-}

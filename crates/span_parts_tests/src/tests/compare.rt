@@ -2,6 +2,8 @@
 //!
 //! An assertion is a branch of the function in which it stands, and each branch drops what that function owns. A call
 //! of these is no branch, and they own nothing, so tests call them.
+ghost use Rattle.std.specs.Prelude.{◌≡◌};
+
 use span_id::Id;
 use std::fmt::{Debug, Display};
 use std::process::Abort;
@@ -27,6 +29,8 @@ pub(crate) fn id(rt: &impl Abort, number: u64) -> Id {
 }
 
 /// What it is given may go to another thread.
-pub(crate) fn crosses_threads<T: Send>(value: T) -> T {
+pub(crate) fn crosses_threads<T: Send>(value: T) -> T
+    ensures { result ≡ value }
+{
     value
 }

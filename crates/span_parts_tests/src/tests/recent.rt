@@ -100,16 +100,13 @@ fn rooms_after(rt: &impl Abort, alloc: Global, size: usize) -> (usize, usize) {
     (before, room_of_last(rt, alloc, &mut recent, 1))
 }
 
+// One with more room to spare is freed.
 #[test]
 fn a_dropped_copy_is_written_over_at_its_turn(rt: HostRuntime) {
-    let rooms = rooms_after(&rt, rt.alloc(), 33);
-    same(&rt, rooms, (1, 33), "the room");
-}
-
-#[test]
-fn a_dropped_copy_with_more_room_to_spare_is_freed(rt: HostRuntime) {
-    let rooms = rooms_after(&rt, rt.alloc(), 34);
-    same(&rt, rooms, (1, 1), "the room");
+    for (size, want) in [(33, 33), (34, 1)] {
+        let rooms = rooms_after(&rt, rt.alloc(), size);
+        same(&rt, rooms, (1, want), size);
+    }
 }
 
 #[test]

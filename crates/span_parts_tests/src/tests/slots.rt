@@ -41,26 +41,12 @@ enum Act<'a> {
     List(&'a [u64]),
 }
 
-fn gives(rt: &impl Abort, slots: &mut Slots<u32>, value: u32, number: u64) {
-    let id = slots.insert(value).ok().expect(rt, "no slot is free");
-    same(rt, id.get(), number, "an id that was given");
-}
-
-fn is_full(rt: &impl Abort, slots: &mut Slots<u32>, value: u32) {
-    let refused = slots.insert(value);
-    same(rt, refused, Err((value, Fault::Full)), "a value too many");
-}
-
 fn lists(rt: &impl Abort, slots: &Slots<u32>, numbers: &[u64]) {
     let ids = slots.ids().expect(rt, "memory");
     same(rt, ids.len(), numbers.len(), "how many ids");
     for (index, id) in ids.iter().enumerate() {
         same(rt, Some(id.get()), numbers.get(index).copied(), index);
     }
-}
-
-fn sizes(slots: &Slots<u32>) -> (u32, u32, bool) {
-    (slots.len(), slots.free(), slots.is_empty())
 }
 
 fn write(slots: &mut Slots<u32>, id: Id, value: u32) {
@@ -76,7 +62,8 @@ fn shows(rt: &impl Abort, slots: &Slots<u32>, act: &Act<'_>) {
             same(rt, value, *want, *number);
         }
         Act::Sizes(len, free) => {
-            same(rt, sizes(slots), (*len, *free, *len == 0), "len and free");
+            let sizes = (slots.len(), slots.free(), slots.is_empty());
+            same(rt, sizes, (*len, *free, *len == 0), "len and free");
         }
         Act::Next(want) => {
             same(rt, slots.next_id().map(Id::get), *want, "the next id");
@@ -88,8 +75,14 @@ fn shows(rt: &impl Abort, slots: &Slots<u32>, act: &Act<'_>) {
 
 fn does(rt: &impl Abort, slots: &mut Slots<u32>, act: &Act<'_>) {
     match act {
-        Act::Put(value, number) => gives(rt, slots, *value, *number),
-        Act::Full(value) => is_full(rt, slots, *value),
+        Act::Put(value, number) => {
+            let id = slots.insert(*value).ok().expect(rt, "no slot is free");
+            same(rt, id.get(), *number, "an id that was given");
+        }
+        Act::Full(value) => {
+            let refused = slots.insert(*value);
+            same(rt, refused, Err((*value, Fault::Full)), "a value too many");
+        }
         Act::Remove(number, want) => {
             let removed = slots.remove(id(rt, *number));
             same(rt, removed, *want, *number);
@@ -114,7 +107,7 @@ fn plays(rt: &impl Abort, alloc: Global, play: &Play) {
     }
 }
 
-static PLAYS: [Play; 4] = [
+static PLAYS: [Play; 5] = [
     // A slot at its last generation is retired.
     (
         (2, 0),
@@ -165,6 +158,32 @@ static PLAYS: [Play; 4] = [
             Act::Gone(1),
         ],
     ),
+    // A slot is given at one generation after another, and once it gave its last id the third one comes next.
+    (
+        (3, 2),
+        &[
+            Act::Put(10, 1),
+            Act::Next(Some(2)),
+            Act::Put(20, 2),
+            Act::Sizes(2, 1),
+            Act::Remove(2, Some(20)),
+            Act::Get(2, None),
+            Act::Next(Some(16777218)),
+            Act::Put(20, 16777218),
+            Act::Sizes(2, 1),
+            Act::Remove(16777218, Some(20)),
+            Act::Get(16777218, None),
+            Act::Next(Some(33554434)),
+            Act::Put(20, 33554434),
+            Act::Sizes(2, 1),
+            Act::Remove(33554434, Some(20)),
+            Act::Get(33554434, None),
+            Act::Sizes(1, 1),
+            Act::Put(30, 3),
+            Act::Next(None),
+            Act::Get(1, Some(10)),
+        ],
+    ),
     // There are as many slots as ids have room for.
     (
         (16777216, 4294967295),
@@ -184,39 +203,5 @@ static PLAYS: [Play; 4] = [
 fn tables_of_many_sizes(rt: HostRuntime) {
     for play in &PLAYS {
         plays(&rt, rt.alloc(), play);
-    }
-}
-
-static THE_THIRD: [Act<'static>; 4] = [
-    Act::Sizes(1, 1),
-    Act::Put(30, 3),
-    Act::Next(None),
-    Act::Get(1, Some(10)),
-];
-
-#[test]
-fn a_slot_is_given_at_one_generation_after_another(rt: HostRuntime) {
-    let mut slots = table(&rt, rt.alloc(), 3, 2);
-    does(&rt, &mut slots, &Act::Put(10, 1));
-    for number in [2, 16777218, 33554434] {
-        gives_and_takes_back(&rt, &mut slots, number);
-    }
-    // The second slot gave its last id, so the third comes next.
-    for act in &THE_THIRD {
-        does(&rt, &mut slots, act);
-    }
-}
-
-// Gives a slot and takes it back, while one more is free.
-fn gives_and_takes_back(rt: &impl Abort, slots: &mut Slots<u32>, number: u64) {
-    let acts = [
-        Act::Next(Some(number)),
-        Act::Put(20, number),
-        Act::Sizes(2, 1),
-        Act::Remove(number, Some(20)),
-        Act::Get(number, None),
-    ];
-    for act in &acts {
-        does(rt, slots, act);
     }
 }

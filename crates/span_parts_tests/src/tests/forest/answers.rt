@@ -1,26 +1,26 @@
 //! Paths of layers, what closes with what, and refusals by limits.
 use crate::tests::compare::{id, same};
-use crate::tests::forest::fixtures::{Act, WIDE, forest, next_number, played, plays};
+use crate::tests::forest::fixtures::{Act, WIDE, played};
 use span_forest::{Forest, Holder};
-use span_id::{Bits, Fault, Id};
+use span_id::{Bits, Fault};
 use std::alloc::Global;
 use std::process::Abort;
 
 // The limits of a new forest, and what is done with it in this order.
 type Play = ((u32, u32, u32), &'static [Act<'static>]);
 
-static PLAYS: [Play; 4] = [
+static PLAYS: [Play; 6] = [
     // A path names what the layer admits.
     (
         WIDE,
         &[
             Act::Add("a", 0, 1),
             Act::Add("b", 1, 1),
-            Act::Path(0, 2, "a:b:"),
-            Act::Path(1, 2, ""),
+            Act::Path(0, 2, &["a", "b"]),
+            Act::Path(1, 2, &[]),
             Act::Add("c", 2, 2),
-            Act::Path(0, 3, "a:b:"),
-            Act::Path(1, 3, "c:"),
+            Act::Path(0, 3, &["a", "b"]),
+            Act::Path(1, 3, &["c"]),
         ],
     ),
     // A root closes after its child.
@@ -29,8 +29,8 @@ static PLAYS: [Play; 4] = [
         &[
             Act::Add("a", 0, 1),
             Act::Add("b", 1, 1),
-            Act::Release(2, Holder::Handle, "2"),
-            Act::Release(1, Holder::Handle, "1"),
+            Act::Release(2, Holder::Handle, &[2]),
+            Act::Release(1, Holder::Handle, &[1]),
             Act::Sizes(0, 0),
         ],
     ),
@@ -39,7 +39,7 @@ static PLAYS: [Play; 4] = [
         (1, 0, 1),
         &[
             Act::Add("a", 0, 1),
-            Act::Release(1, Holder::Handle, "1"),
+            Act::Release(1, Holder::Handle, &[1]),
             Act::Next(0),
             Act::Refuse(0, 0, Fault::Full),
         ],
@@ -56,18 +56,81 @@ static PLAYS: [Play; 4] = [
             Act::Held(1, Some((1, 0, 1))),
         ],
     ),
+    // A child keeps its parent open. The root's slot was freed last.
+    (
+        WIDE,
+        &[
+            Act::Add("a", 0, 1),
+            Act::Add("b", 1, 1),
+            Act::Release(1, Holder::Handle, &[]),
+            Act::Keep(1, Holder::Handle, Err(Fault::Unknown)),
+            Act::Held(1, Some((0, 0, 1))),
+            Act::Sizes(2, 1),
+            Act::Release(2, Holder::Handle, &[2, 1]),
+            Act::Sizes(0, 0),
+            Act::Next(16777217),
+        ],
+    ),
+    // Three spans below each other: layer 0 admits the first and the last, layer 1 the second and the last.
+    (
+        WIDE,
+        &[
+            Act::Add("a", 0, 1),
+            Act::Add("b", 1, 2),
+            Act::Add("c", 2, 3),
+            Act::Sizes(3, 3),
+            Act::Next(4),
+            Act::Held(1, Some((1, 0, 2))),
+            Act::Held(2, Some((1, 0, 2))),
+            Act::Held(3, Some((1, 0, 1))),
+            Act::Path(0, 3, &["a", "c"]),
+            Act::Path(1, 3, &["b", "c"]),
+            Act::Path(2, 3, &[]),
+            Act::Keep(2, Holder::Entry, Ok(())),
+            Act::Keep(3, Holder::Handle, Ok(())),
+            Act::Release(1, Holder::Handle, &[]),
+            Act::Sizes(3, 4),
+            Act::Next(4),
+            Act::Held(1, Some((0, 0, 1))),
+            Act::Held(2, Some((1, 1, 3))),
+            Act::Held(3, Some((2, 0, 2))),
+            Act::Keep(4, Holder::Handle, Err(Fault::Unknown)),
+            Act::Release(2, Holder::Handle, &[]),
+            Act::Sizes(3, 3),
+            Act::Next(4),
+            Act::Held(1, Some((0, 0, 1))),
+            Act::Held(2, Some((0, 1, 2))),
+            Act::Held(3, Some((2, 0, 2))),
+            Act::Keep(4, Holder::Handle, Err(Fault::Unknown)),
+            Act::Release(3, Holder::Handle, &[]),
+            Act::Sizes(3, 2),
+            Act::Next(4),
+            Act::Held(1, Some((0, 0, 1))),
+            Act::Held(2, Some((0, 1, 2))),
+            Act::Held(3, Some((1, 0, 1))),
+            Act::Keep(4, Holder::Handle, Err(Fault::Unknown)),
+            Act::Release(3, Holder::Handle, &[3]),
+            Act::Sizes(2, 1),
+            Act::Next(16777219),
+            Act::Held(1, Some((0, 0, 1))),
+            Act::Held(2, Some((0, 1, 1))),
+            Act::Held(3, None),
+            Act::Keep(4, Holder::Handle, Err(Fault::Unknown)),
+            Act::Release(2, Holder::Entry, &[2, 1]),
+            Act::Sizes(0, 0),
+            Act::Next(16777217),
+            Act::Held(1, None),
+            Act::Held(2, None),
+            Act::Held(3, None),
+            Act::Keep(4, Holder::Entry, Err(Fault::Unknown)),
+        ],
+    ),
 ];
-
-fn plays_new(rt: &impl Abort, alloc: Global, play: &Play) {
-    let (limits, acts) = *play;
-    let mut forest = forest(rt, alloc, limits);
-    plays(rt, alloc, &mut forest, acts);
-}
 
 #[test]
 fn forests_of_few_spans(rt: HostRuntime) {
-    for play in &PLAYS {
-        plays_new(&rt, rt.alloc(), play);
+    for (limits, acts) in &PLAYS {
+        played(&rt, rt.alloc(), *limits, acts);
     }
 }
 
@@ -98,36 +161,8 @@ fn sees(rt: &impl Abort, forest: &Forest, seen: &Seen) {
 
 #[test]
 fn a_text_is_of_the_layers_that_see_its_path(rt: HostRuntime) {
-    let forest = played(&rt, rt.alloc(), &THREE);
+    let forest = played(&rt, rt.alloc(), WIDE, &THREE);
     for seen in &SEEN {
         sees(&rt, &forest, seen);
     }
-}
-
-// Nothing is found of a span that closed.
-fn is_closed(rt: &impl Abort, forest: &mut Forest, closed: Id) {
-    let answers = [
-        forest.release(closed, Holder::Handle).is_err(),
-        forest.path(0, closed).is_err(),
-        forest.path_text(0, closed).is_err(),
-    ];
-    same(rt, answers, [true; 3], "what is refused");
-}
-
-static KEPT_OPEN: [Act<'static>; 7] = [
-    Act::Add("a", 0, 1),
-    Act::Add("b", 1, 1),
-    Act::Release(1, Holder::Handle, ""),
-    Act::Keep(1, Holder::Handle, Err(Fault::Unknown)),
-    Act::Sizes(2, 1),
-    Act::Release(2, Holder::Handle, "2,1"),
-    Act::Sizes(0, 0),
-];
-
-#[test]
-fn a_child_keeps_its_parent_open(rt: HostRuntime) {
-    let mut forest = played(&rt, rt.alloc(), &KEPT_OPEN);
-    is_closed(&rt, &mut forest, id(&rt, 2));
-    // The root's slot was freed last.
-    same(&rt, next_number(&forest), 16777217, "the next id");
 }

@@ -3,7 +3,7 @@ use crate::tests::compare::{holds, id, same};
 use crate::values::meta;
 use span_forest::{Forest, Held, Holder};
 use span_id::{Bits, Fault, Fields, Id, Level, Limits, SharedMeta};
-use std::alloc::{AllocError, Global};
+use std::alloc::Global;
 use std::process::Abort;
 
 /// A forest with these limits.
@@ -26,22 +26,14 @@ pub(crate) fn forest(
 /// The limits of a forest that these tests don't fill.
 pub(crate) const WIDE: (u32, u32, u32) = (1024, 4294967295, 4294967295);
 
-/// A root `a` and its child `b`, which layer 0 admits.
-pub(crate) fn pair(rt: &impl Abort, alloc: Global) -> Forest {
-    let mut forest = forest(rt, alloc, WIDE);
-    add(rt, alloc, &mut forest, "a", None, 1);
-    add(rt, alloc, &mut forest, "b", Id::from_u64(1), 1);
-    forest
-}
-
 /// What a span of this name is made with.
 pub(crate) fn named(rt: &impl Abort, alloc: Global, name: &str) -> SharedMeta {
     let meta = meta(alloc, name, "app", Level::Info).expect(rt, "memory");
     SharedMeta::copy_of(alloc, &meta).expect(rt, "memory")
 }
 
-/// Adds a span that the layers of these bits admit, and answers its id.
-pub(crate) fn add(
+// Adds a span that the layers of these bits admit, and answers its id.
+fn add(
     rt: &impl Abort,
     alloc: Global,
     forest: &mut Forest,
@@ -54,82 +46,53 @@ pub(crate) fn add(
     added.expect(rt, "a span")
 }
 
-// The ids as text, as `2,1`.
-fn listed(alloc: Global, ids: &[Id]) -> Result<String, AllocError> {
-    let mut text = String::new(alloc);
-    for id in ids {
-        if !text.is_empty() {
-            text.push(',')?;
-        }
-        let number = format!(in alloc; "{id}")?;
-        text.push_str(number.as_str())?;
+// Whether these are the ids of a list; `of` is the span that is asked about.
+fn are_listed(rt: &impl Abort, ids: &[Id], want: &[u64], of: u64) {
+    same(rt, ids.len(), want.len(), of);
+    for (id, number) in ids.iter().zip(want) {
+        same(rt, id.get(), *number, of);
     }
-    Ok(text)
 }
 
-/// Whether these are the ids of a list, as `2,1`; `of` is the span with which they close.
-pub(crate) fn are_listed(rt: &impl Abort, alloc: Global, ids: &[Id], want: &str, of: u64) {
-    let text = listed(alloc, ids).expect(rt, "memory");
-    same(rt, text.as_str(), want, of);
-}
-
-/// Each span with its handles and its entries, as `1:2/0`.
-pub(crate) fn held_text(alloc: Global, spans: &[Held]) -> Result<String, AllocError> {
-    let mut text = String::new(alloc);
-    for Held {
-        id,
-        handles,
-        entries,
-    } in spans {
-        if !text.is_empty() {
-            text.push(' ')?;
-        }
-        let held = format!(in alloc; "{id}:{handles}/{entries}")?;
-        text.push_str(held.as_str())?;
+// Whether these spans are listed with their handles and their entries; `of` is the span that they keep open.
+fn are_held(rt: &impl Abort, spans: &[Held], want: &[(u64, u32, u32)], of: u64) {
+    same(rt, spans.len(), want.len(), of);
+    for (held, wanted) in spans.iter().zip(want) {
+        let Held {
+            id,
+            handles,
+            entries,
+        } = held;
+        same(rt, (id.get(), *handles, *entries), *wanted, of);
     }
-    Ok(text)
 }
 
-// Whether these spans are listed with their holders; `of` is the span that they keep open.
-fn are_held(rt: &impl Abort, alloc: Global, spans: &[Held], want: &str, of: u64) {
-    let text = held_text(alloc, spans).expect(rt, "memory");
-    same(rt, text.as_str(), want, of);
-}
-
-/// Whether these are the names of a layer's path, each with a colon after it.
-pub(crate) fn has_path(
-    rt: &impl Abort,
-    alloc: Global,
-    forest: &Forest,
-    (layer, number): (u32, u64),
-    want: &str,
-) {
-    let names = forest
-        .path(layer, id(rt, number))
-        .expect(rt, "an open span");
-    let mut joined = String::new(alloc);
-    for name in &names {
-        joined.push_str(name.as_str()).expect(rt, "memory");
-        joined.push(':').expect(rt, "memory");
+// Whether these are the names of a layer's path.
+fn has_path(rt: &impl Abort, forest: &Forest, (layer, number): (u32, u64), want: &[&str]) {
+    let names = forest.path(layer, id(rt, number));
+    let names = names.expect(rt, "an open span");
+    same(rt, names.len(), want.len(), layer);
+    for (name, wanted) in names.iter().zip(want) {
+        same(rt, name.as_str(), *wanted, layer);
     }
-    same(rt, joined.as_str(), want, layer);
 }
 
-/// Gives a holder back. What closes is first told and then done, and finds nothing afterwards.
-pub(crate) fn release(
-    rt: &impl Abort,
-    alloc: Global,
-    forest: &mut Forest,
-    (number, holder): (u64, Holder),
-    closed: &str,
-) {
-    let span = id(rt, number);
+// What closes with a holder, before it is given back.
+fn tells(rt: &impl Abort, forest: &Forest, (number, holder): (u64, Holder), closed: &[u64]) {
+    let told = forest.closing(id(rt, number), holder);
+    let told = told.expect(rt, "a holder");
+    are_listed(rt, told.as_slice(), closed, number);
+}
+
+// Gives a holder back. What closes is first told and then done, and finds nothing afterwards.
+fn release(rt: &impl Abort, forest: &mut Forest, of: (u64, Holder), closed: &[u64]) {
+    let (number, holder) = of;
     let open = u64::from(forest.len());
-    let told = forest.closing(span, holder).expect(rt, "a holder");
-    are_listed(rt, alloc, told.as_slice(), closed, number);
+    tells(rt, forest, of, closed);
     same(rt, u64::from(forest.len()), open, "open after it is told");
-    let gone = forest.release(span, holder).expect(rt, "a holder");
-    are_listed(rt, alloc, gone.as_slice(), closed, number);
+    let gone = forest.release(id(rt, number), holder);
+    let gone = gone.expect(rt, "a holder");
+    are_listed(rt, gone.as_slice(), closed, number);
     are_gone(rt, forest, gone.as_slice(), open);
 }
 
@@ -142,32 +105,16 @@ fn are_gone(rt: &impl Abort, forest: &Forest, gone: &[Id], open: u64) {
     same(rt, left.checked_add(gone.len() as u64), Some(open), "left");
 }
 
-/// What a call that keeps a span open answers.
-pub(crate) fn keep(
-    rt: &impl Abort,
-    forest: &mut Forest,
-    (number, holder): (u64, Holder),
-    want: Result<(), Fault>,
-) {
-    let kept = forest.keep(id(rt, number), holder);
-    same(rt, kept, want, number);
-}
-
-/// The number of the next id; 0 where no slot is free.
-pub(crate) fn next_number(forest: &Forest) -> u64 {
+// The number of the next id; 0 where no slot is free.
+fn next_number(forest: &Forest) -> u64 {
     match forest.next_id() {
         Some(id) => id.get(),
         None => 0,
     }
 }
 
-/// How many spans are open, and how many holders there are.
-pub(crate) fn sizes(forest: &Forest) -> (u32, u64) {
-    (forest.len(), forest.total())
-}
-
-/// The handles, entries and count of a span; of one that isn't open none.
-pub(crate) fn held(rt: &impl Abort, forest: &Forest, number: u64) -> Option<(u32, u32, u32)> {
+// The handles, entries and count of a span; of one that isn't open none.
+fn held(rt: &impl Abort, forest: &Forest, number: u64) -> Option<(u32, u32, u32)> {
     match forest.find(id(rt, number)) {
         Some(span) => Some((span.handles, span.entries, span.count)),
         None => None,
@@ -197,9 +144,9 @@ pub(crate) enum Act<'a> {
     /// What a call that keeps a span open answers.
     Keep(u64, Holder, Result<(), Fault>),
     /// Gives a holder back, with what closes then.
-    Release(u64, Holder, &'a str),
-    /// The names of a layer's path to a span, each with a colon after it.
-    Path(u32, u64, &'a str),
+    Release(u64, Holder, &'a [u64]),
+    /// The names of a layer's path to a span.
+    Path(u32, u64, &'a [&'a str]),
     /// How many spans are open, and how many holders there are.
     Sizes(u32, u64),
     /// The handles, entries and count of a span.
@@ -207,43 +154,47 @@ pub(crate) enum Act<'a> {
     /// The number of the next id.
     Next(u64),
     /// The ids of the open spans.
-    Open(&'a str),
-    /// The spans that have holders of their own, as `1:2/0` for two handles and no entry.
-    AllHeld(&'a str),
+    Open(&'a [u64]),
+    /// The spans that have holders of their own, with their handles and entries.
+    AllHeld(&'a [(u64, u32, u32)]),
     /// The same of those that keep a span open.
-    HeldBelow(u64, &'a str),
+    HeldBelow(u64, &'a [(u64, u32, u32)]),
+    /// A span that isn't open has none.
+    Unheld(u64),
 }
 
-fn shows(rt: &impl Abort, alloc: Global, forest: &Forest, act: &Act<'_>) {
+fn shows(rt: &impl Abort, forest: &Forest, act: &Act<'_>) {
     match act {
-        Act::Path(layer, number, want) => has_path(rt, alloc, forest, (*layer, *number), want),
+        Act::Path(layer, number, want) => has_path(rt, forest, (*layer, *number), want),
         Act::Sizes(open, holders) => {
-            let found = (sizes(forest), forest.is_empty());
-            same(rt, found, ((*open, *holders), *open == 0), "sizes");
+            let found = (forest.len(), forest.total(), forest.is_empty());
+            same(rt, found, (*open, *holders, *open == 0), "sizes");
         }
         Act::Held(number, want) => same(rt, held(rt, forest, *number), *want, *number),
         Act::Next(want) => same(rt, next_number(forest), *want, "the next id"),
-        Act::Open(_) | Act::AllHeld(_) | Act::HeldBelow(..) => asks(rt, alloc, forest, act),
-        Act::Add(..) | Act::Refuse(..) | Act::Keep(..) | Act::Release(..) => {}
+        _ => asks(rt, forest, act),
     }
 }
 
 // What the forest answers when it is asked for spans.
-fn asks(rt: &impl Abort, alloc: Global, forest: &Forest, act: &Act<'_>) {
+fn asks(rt: &impl Abort, forest: &Forest, act: &Act<'_>) {
     match act {
         Act::Open(want) => {
             let ids = forest.open_spans().expect(rt, "memory");
-            are_listed(rt, alloc, ids.as_slice(), want, 0);
+            are_listed(rt, ids.as_slice(), want, 0);
         }
         Act::AllHeld(want) => {
             let found = forest.held_spans().expect(rt, "memory");
-            are_held(rt, alloc, found.as_slice(), want, 0);
+            are_held(rt, found.as_slice(), want, 0);
         }
         Act::HeldBelow(number, want) => {
-            let found = forest
-                .holders_of(id(rt, *number))
-                .expect(rt, "an open span");
-            are_held(rt, alloc, found.as_slice(), want, *number);
+            let found = forest.holders_of(id(rt, *number));
+            let found = found.expect(rt, "an open span");
+            are_held(rt, found.as_slice(), want, *number);
+        }
+        Act::Unheld(number) => {
+            let answer = forest.holders_of(id(rt, *number)).err();
+            same(rt, answer, Some(Fault::Unknown), *number);
         }
         _ => {}
     }
@@ -257,11 +208,12 @@ fn does(rt: &impl Abort, alloc: Global, forest: &mut Forest, act: &Act<'_>) {
             same(rt, added.get(), next, "the id of a span");
         }
         Act::Refuse(parent, bits, fault) => refuses(rt, alloc, forest, (*parent, *bits), *fault),
-        Act::Keep(number, holder, want) => keep(rt, forest, (*number, *holder), *want),
-        Act::Release(number, holder, closed) => {
-            release(rt, alloc, forest, (*number, *holder), closed);
+        Act::Keep(number, holder, want) => {
+            let kept = forest.keep(id(rt, *number), *holder);
+            same(rt, kept, *want, *number);
         }
-        _ => shows(rt, alloc, forest, act),
+        Act::Release(number, holder, closed) => release(rt, forest, (*number, *holder), closed),
+        _ => shows(rt, forest, act),
     }
 }
 
@@ -272,9 +224,14 @@ pub(crate) fn plays(rt: &impl Abort, alloc: Global, forest: &mut Forest, acts: &
     }
 }
 
-/// A forest that these tests don't fill, after the acts were done in their order.
-pub(crate) fn played(rt: &impl Abort, alloc: Global, acts: &[Act<'_>]) -> Forest {
-    let mut forest = forest(rt, alloc, WIDE);
+/// A new forest with these limits, after the acts were done in their order.
+pub(crate) fn played(
+    rt: &impl Abort,
+    alloc: Global,
+    limits: (u32, u32, u32),
+    acts: &[Act<'_>],
+) -> Forest {
+    let mut forest = forest(rt, alloc, limits);
     plays(rt, alloc, &mut forest, acts);
     forest
 }

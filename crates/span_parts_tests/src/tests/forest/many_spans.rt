@@ -1,27 +1,21 @@
-//! A long chain, and as many roots as there are slots.
-use crate::tests::compare::{holds, id, same};
-use crate::tests::forest::fixtures::{forest, named, sizes};
+//! A long chain.
+use crate::tests::compare::{holds, same};
+use crate::tests::forest::fixtures::{forest, named};
 use span_forest::{Forest, Holder};
-use span_id::{Bits, Fault, Fields, Id, SharedMeta};
+use span_id::{Bits, Fields, Id, SharedMeta};
 use std::alloc::Global;
 use std::process::Abort;
 
 // Adds a span of this meta.
-fn add_of(
-    rt: &impl Abort,
-    forest: &mut Forest,
-    meta: &SharedMeta,
-    parent: Option<Id>,
-    bits: Bits,
-) -> Result<Id, Fault> {
+fn add_of(rt: &impl Abort, forest: &mut Forest, meta: &SharedMeta, parent: Option<Id>) -> Id {
     let shared = meta.share().expect(rt, "memory");
-    forest.add(shared, Fields::none(), parent, bits)
+    let added = forest.add(shared, Fields::none(), parent, Bits(1));
+    added.expect(rt, "a span")
 }
 
 // Adds a child with this number and gives its parent's handle back.
 fn add_below(rt: &impl Abort, forest: &mut Forest, meta: &SharedMeta, last: Id, number: u64) -> Id {
-    let next = add_of(rt, forest, meta, Some(last), Bits(1));
-    let next = next.expect(rt, "a child");
+    let next = add_of(rt, forest, meta, Some(last));
     same(rt, next.get(), number, "a child");
     let gone = forest.release(last, Holder::Handle);
     let gone = gone.expect(rt, "a handle");
@@ -32,8 +26,7 @@ fn add_below(rt: &impl Abort, forest: &mut Forest, meta: &SharedMeta, last: Id, 
 // A chain of 65536 spans, and the last of them.
 fn add_chain(rt: &impl Abort, alloc: Global, forest: &mut Forest) -> Id {
     let meta = named(rt, alloc, "p");
-    let root = add_of(rt, forest, &meta, None, Bits(1));
-    let mut last = root.expect(rt, "a root");
+    let mut last = add_of(rt, forest, &meta, None);
     for number in 2..=65536 {
         last = add_below(rt, forest, &meta, last, number);
     }
@@ -67,36 +60,5 @@ fn a_chain_of_65536_spans(rt: HostRuntime) {
     has_long_path(&rt, &forest, last);
     closes_all(&rt, &mut forest, last);
     holds(&rt, forest.is_empty(), "no span is open");
-    same(&rt, sizes(&forest).1, 0, "the holders");
-}
-
-// Adds 65537 roots.
-fn add_roots(rt: &impl Abort, alloc: Global, forest: &mut Forest) {
-    let meta = named(rt, alloc, "r");
-    for number in 1..=65537 {
-        let root = add_of(rt, forest, &meta, None, Bits(0));
-        let root = root.expect(rt, "a root");
-        same(rt, root.get(), number, "a root");
-    }
-}
-
-#[test]
-fn more_roots_than_the_older_layout_had_slots(rt: HostRuntime) {
-    let mut forest = forest(&rt, rt.alloc(), (65537, 0, 1));
-    add_roots(&rt, rt.alloc(), &mut forest);
-    are_all_roots(&rt, &forest);
-}
-
-fn are_all_roots(rt: &impl Abort, forest: &Forest) {
-    same(rt, forest.len(), 65537, "the roots");
-    same(rt, forest.next_id(), None, "the next id");
-    // In the older layout this number was the first slot at its second generation.
-    let old = Id::from_v1(65537).expect(rt, "an id of the older layout");
-    same(rt, old.get(), 16777217, "the number's id");
-    let found = (is_open(forest, id(rt, 65537)), is_open(forest, old));
-    same(rt, found, (true, false), "the last, and the other");
-}
-
-fn is_open(forest: &Forest, id: Id) -> bool {
-    forest.find(id).is_some()
+    same(&rt, forest.total(), 0, "the holders");
 }

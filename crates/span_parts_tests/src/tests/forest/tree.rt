@@ -1,83 +1,180 @@
 //! A tree of thirty spans, taken down in three orders. Each closing list was written out by hand.
-use crate::tests::compare::holds;
-use crate::tests::forest::fixtures::{Act, add, forest, plays, release};
-use span_forest::{Forest, Holder};
-use span_id::Id;
+use crate::tests::forest::fixtures::{Act, played, plays};
+use span_forest::Holder::{Entry, Handle};
 use std::alloc::Global;
 use std::process::Abort;
 
-// The parent of each span by its number, from 1; 0 stands for none.
-const PARENTS: &str = "0 1 1 1 2 2 3 4 4 4 5 5 6 7 7 8 11 13 14 16 20 21 22 10 24 24 0 27 28 28";
-
-// A span below the one of this number, or a root.
-fn add_below(rt: &impl Abort, alloc: Global, forest: &mut Forest, parent: &str) {
-    let parent: u64 = parent.parse().ok().expect(rt, "a number");
-    add(rt, alloc, forest, "s", Id::from_u64(parent), 1);
-}
-
-static HELD: [Act<'static>; 8] = [
+// Each span has a handle. Span 17 has one more, spans 4 and 21 have an entry, span 28 has two.
+static GROWN: [Act<'static>; 38] = [
+    Act::Add("s", 0, 1),
+    Act::Add("s", 1, 1),
+    Act::Add("s", 1, 1),
+    Act::Add("s", 1, 1),
+    Act::Add("s", 2, 1),
+    Act::Add("s", 2, 1),
+    Act::Add("s", 3, 1),
+    Act::Add("s", 4, 1),
+    Act::Add("s", 4, 1),
+    Act::Add("s", 4, 1),
+    Act::Add("s", 5, 1),
+    Act::Add("s", 5, 1),
+    Act::Add("s", 6, 1),
+    Act::Add("s", 7, 1),
+    Act::Add("s", 7, 1),
+    Act::Add("s", 8, 1),
+    Act::Add("s", 11, 1),
+    Act::Add("s", 13, 1),
+    Act::Add("s", 14, 1),
+    Act::Add("s", 16, 1),
+    Act::Add("s", 20, 1),
+    Act::Add("s", 21, 1),
+    Act::Add("s", 22, 1),
+    Act::Add("s", 10, 1),
+    Act::Add("s", 24, 1),
+    Act::Add("s", 24, 1),
+    Act::Add("s", 0, 1),
+    Act::Add("s", 27, 1),
+    Act::Add("s", 28, 1),
+    Act::Add("s", 28, 1),
     Act::Next(31),
-    Act::Keep(17, Holder::Handle, Ok(())),
-    Act::Keep(4, Holder::Entry, Ok(())),
-    Act::Keep(21, Holder::Entry, Ok(())),
-    Act::Keep(28, Holder::Entry, Ok(())),
-    Act::Keep(28, Holder::Entry, Ok(())),
+    Act::Keep(17, Handle, Ok(())),
+    Act::Keep(4, Entry, Ok(())),
+    Act::Keep(21, Entry, Ok(())),
+    Act::Keep(28, Entry, Ok(())),
+    Act::Keep(28, Entry, Ok(())),
     Act::Sizes(30, 35),
     Act::Held(4, Some((1, 1, 5))),
 ];
 
-// Each span has a handle. Span 17 has one more, spans 4 and 21 have an entry, span 28 has two.
-fn grown(rt: &impl Abort, alloc: Global) -> Forest {
-    let mut forest = forest(rt, alloc, (32, 0, 100));
-    for parent in PARENTS.split_whitespace() {
-        add_below(rt, alloc, &mut forest, parent);
-    }
-    plays(rt, alloc, &mut forest, &HELD);
-    forest
-}
+const PARENTS_FIRST: &[Act<'static>] = &[
+    Act::Release(1, Handle, &[]),
+    Act::Release(2, Handle, &[]),
+    Act::Release(3, Handle, &[]),
+    Act::Release(4, Handle, &[]),
+    Act::Release(5, Handle, &[]),
+    Act::Release(6, Handle, &[]),
+    Act::Release(7, Handle, &[]),
+    Act::Release(8, Handle, &[]),
+    Act::Release(9, Handle, &[9]),
+    Act::Release(10, Handle, &[]),
+    Act::Release(11, Handle, &[]),
+    Act::Release(12, Handle, &[12]),
+    Act::Release(13, Handle, &[]),
+    Act::Release(14, Handle, &[]),
+    Act::Release(15, Handle, &[15]),
+    Act::Release(16, Handle, &[]),
+    Act::Release(17, Handle, &[]),
+    Act::Release(18, Handle, &[18, 13, 6]),
+    Act::Release(19, Handle, &[19, 14, 7, 3]),
+    Act::Release(20, Handle, &[]),
+    Act::Release(21, Handle, &[]),
+    Act::Release(22, Handle, &[]),
+    Act::Release(23, Handle, &[23, 22]),
+    Act::Release(24, Handle, &[]),
+    Act::Release(25, Handle, &[25]),
+    Act::Release(26, Handle, &[26, 24, 10]),
+    Act::Release(27, Handle, &[]),
+    Act::Release(28, Handle, &[]),
+    Act::Release(29, Handle, &[29]),
+    Act::Release(30, Handle, &[30]),
+    Act::Release(17, Handle, &[17, 11, 5, 2]),
+    Act::Release(21, Entry, &[21, 20, 16, 8]),
+    Act::Release(4, Entry, &[4, 1]),
+    Act::Release(28, Entry, &[]),
+    Act::Release(28, Entry, &[28, 27]),
+    Act::Sizes(0, 0),
+];
 
-// Gives back one holder of each span in turn: `18:18,13,6` says that the handle of span 18 closes these three, `4:`
-// that the handle of span 4 closes nothing, and `4/4,1` that an entry of span 4 closes these two.
-fn release_all(rt: &impl Abort, alloc: Global, forest: &mut Forest, steps: &str) {
-    for step in steps.split_whitespace() {
-        let (holder, parts) = match step.split_once(':') {
-            Some(parts) => (Holder::Handle, Some(parts)),
-            None => (Holder::Entry, step.split_once('/')),
-        };
-        let (number, closed) = parts.expect(rt, "a step");
-        let number: u64 = number.parse().ok().expect(rt, "a number");
-        release(rt, alloc, forest, (number, holder), closed);
-    }
-}
+const CHILDREN_FIRST: &[Act<'static>] = &[
+    Act::Release(30, Handle, &[30]),
+    Act::Release(29, Handle, &[29]),
+    Act::Release(28, Handle, &[]),
+    Act::Release(27, Handle, &[]),
+    Act::Release(26, Handle, &[26]),
+    Act::Release(25, Handle, &[25]),
+    Act::Release(24, Handle, &[24]),
+    Act::Release(23, Handle, &[23]),
+    Act::Release(22, Handle, &[22]),
+    Act::Release(21, Handle, &[]),
+    Act::Release(20, Handle, &[]),
+    Act::Release(19, Handle, &[19]),
+    Act::Release(18, Handle, &[18]),
+    Act::Release(17, Handle, &[]),
+    Act::Release(16, Handle, &[]),
+    Act::Release(15, Handle, &[15]),
+    Act::Release(14, Handle, &[14]),
+    Act::Release(13, Handle, &[13]),
+    Act::Release(12, Handle, &[12]),
+    Act::Release(11, Handle, &[]),
+    Act::Release(10, Handle, &[10]),
+    Act::Release(9, Handle, &[9]),
+    Act::Release(8, Handle, &[]),
+    Act::Release(7, Handle, &[7]),
+    Act::Release(6, Handle, &[6]),
+    Act::Release(5, Handle, &[]),
+    Act::Release(4, Handle, &[]),
+    Act::Release(3, Handle, &[3]),
+    Act::Release(2, Handle, &[]),
+    Act::Release(1, Handle, &[]),
+    Act::Release(4, Entry, &[]),
+    Act::Release(21, Entry, &[21, 20, 16, 8, 4]),
+    Act::Release(17, Handle, &[17, 11, 5, 2, 1]),
+    Act::Release(28, Entry, &[]),
+    Act::Release(28, Entry, &[28, 27]),
+    Act::Sizes(0, 0),
+];
 
-const PARENTS_FIRST: &str =
-    "1: 2: 3: 4: 5: 6: 7: 8: 9:9 10: 11: 12:12 13: 14: 15:15 16: 17: 18:18,13,6 19:19,14,7,3
-    20: 21: 22: 23:23,22 24: 25:25 26:26,24,10 27: 28: 29:29 30:30 17:17,11,5,2
-    21/21,20,16,8 4/4,1 28/ 28/28,27";
+const ENTRIES_FIRST_THEN_EVERY_OTHER_SPAN: &[Act<'static>] = &[
+    Act::Release(4, Entry, &[]),
+    Act::Release(21, Entry, &[]),
+    Act::Release(28, Entry, &[]),
+    Act::Release(28, Entry, &[]),
+    Act::Release(2, Handle, &[]),
+    Act::Release(4, Handle, &[]),
+    Act::Release(6, Handle, &[]),
+    Act::Release(8, Handle, &[]),
+    Act::Release(10, Handle, &[]),
+    Act::Release(12, Handle, &[12]),
+    Act::Release(14, Handle, &[]),
+    Act::Release(16, Handle, &[]),
+    Act::Release(18, Handle, &[18]),
+    Act::Release(20, Handle, &[]),
+    Act::Release(22, Handle, &[]),
+    Act::Release(24, Handle, &[]),
+    Act::Release(26, Handle, &[26]),
+    Act::Release(28, Handle, &[]),
+    Act::Release(30, Handle, &[30]),
+    Act::Release(1, Handle, &[]),
+    Act::Release(3, Handle, &[]),
+    Act::Release(5, Handle, &[]),
+    Act::Release(7, Handle, &[]),
+    Act::Release(9, Handle, &[9]),
+    Act::Release(11, Handle, &[]),
+    Act::Release(13, Handle, &[13, 6]),
+    Act::Release(15, Handle, &[15]),
+    Act::Release(17, Handle, &[]),
+    Act::Release(19, Handle, &[19, 14, 7, 3]),
+    Act::Release(21, Handle, &[]),
+    Act::Release(23, Handle, &[23, 22, 21, 20, 16, 8]),
+    Act::Release(25, Handle, &[25, 24, 10, 4]),
+    Act::Release(27, Handle, &[]),
+    Act::Release(29, Handle, &[29, 28, 27]),
+    Act::Release(17, Handle, &[17, 11, 5, 2, 1]),
+    Act::Sizes(0, 0),
+];
 
-const CHILDREN_FIRST: &str =
-    "30:30 29:29 28: 27: 26:26 25:25 24:24 23:23 22:22 21: 20: 19:19 18:18 17: 16: 15:15
-    14:14 13:13 12:12 11: 10:10 9:9 8: 7:7 6:6 5: 4: 3:3 2: 1:
-    4/ 21/21,20,16,8,4 17:17,11,5,2,1 28/ 28/28,27";
-
-const ENTRIES_FIRST_THEN_EVERY_OTHER_SPAN: &str = "4/ 21/ 28/ 28/
-    2: 4: 6: 8: 10: 12:12 14: 16: 18:18 20: 22: 24: 26:26 28: 30:30 1: 3: 5: 7: 9:9 11:
-    13:13,6 15:15 17: 19:19,14,7,3 21: 23:23,22,21,20,16,8 25:25,24,10,4 27: 29:29,28,27
-    17:17,11,5,2,1";
-
-fn is_taken_down(rt: &impl Abort, alloc: Global, steps: &str) {
-    let mut forest = grown(rt, alloc);
-    release_all(rt, alloc, &mut forest, steps);
-    holds(rt, forest.is_empty(), "no span is open");
+fn is_taken_down(rt: &impl Abort, alloc: Global, acts: &[Act<'_>]) {
+    let mut forest = played(rt, alloc, (32, 0, 100), &GROWN);
+    plays(rt, alloc, &mut forest, acts);
 }
 
 #[test]
 fn a_tree_is_taken_down(rt: HostRuntime) {
-    for steps in [
+    for acts in [
         PARENTS_FIRST,
         CHILDREN_FIRST,
         ENTRIES_FIRST_THEN_EVERY_OTHER_SPAN,
     ] {
-        is_taken_down(&rt, rt.alloc(), steps);
+        is_taken_down(&rt, rt.alloc(), acts);
     }
 }

@@ -2,10 +2,10 @@
 use crate::plans::{Wanted, add};
 use crate::tests::compare::same;
 use crate::tests::hooks::hooks;
-use crate::tests::layers::fixtures::{admission, tells};
+use crate::tests::layers::fixtures::{admission, note, tells};
 use crate::watch::{Noting, Refused, Watch};
 use span_id::Level;
-use span_layers::{Filters, Form, Layers, Tellers};
+use span_layers::{Filters, Form, Layers, Say, Tellers};
 use std::alloc::Global;
 use std::process::Abort;
 
@@ -65,6 +65,8 @@ fn a_layer_writes_its_own_notes(rt: HostRuntime) {
     let calls = no_calls(&rt, alloc, Refused::None);
     let (_, tellers) = two_layers(&rt, alloc, &calls);
     asks_one(&rt, alloc, &calls, &tellers);
+    asks_none(&rt, alloc, &tellers.formatters);
+    same(&rt, calls.taken(), 0, "no call");
 }
 
 const COMPACT: &str = "new 1 w3 a k=1";
@@ -84,4 +86,11 @@ fn asks_one(rt: &impl Abort, alloc: Global, calls: &Watch, tellers: &Tellers) {
         tells(rt, alloc, tellers, *layer, want);
         same(rt, calls.taken(), *digit, *layer);
     }
+}
+
+// A note to a layer that isn't there is written by no closure.
+fn asks_none<S: Say>(rt: &impl Abort, alloc: Global, formatters: &S) {
+    let note = note(rt, alloc, u32::MAX);
+    let text = formatters.say(Form::Compact, &note).expect(rt, "memory");
+    same(rt, text.as_slice(), COMPACT.as_bytes(), "no layer");
 }

@@ -75,44 +75,59 @@ static BYTES: [(&str, usize, usize); 8] = [
     ("\u{b}", 0, 5),
 ];
 
+// A message of this length that has this byte behind so many letters leaves as much room as it is to.
+fn leaves_room(
+    rt: &impl Abort,
+    alloc: Global,
+    (before, length): (usize, usize),
+    (byte, compact, json): (&str, usize, usize),
+) {
+    let rest = length.saturating_sub(before).saturating_sub(1);
+    let message = message(rt, alloc, before, byte, rest);
+    let note = event(rt, alloc, message.as_str());
+    // In the compact form the escapes of each whole 32 bytes are counted.
+    let is_counted = before < length / 32 * 32;
+    let uncounted = if is_counted { 0 } else { compact };
+    let got = spare(rt, alloc, Form::Compact, &note);
+    same(rt, got.saturating_add(uncounted), COMPACT_SPARE, byte);
+    let more = if length < LONG { 0 } else { LONG_SPARE };
+    let got = spare(rt, alloc, Form::Json, &note);
+    same(rt, got.saturating_add(json), JSON_SPARE + more, byte);
+}
+
 #[test]
 fn an_escape_at_each_place(rt: HostRuntime) {
-    let alloc = rt.alloc();
     for length in [1usize, 4, 9, 17, 33, 70] {
         for before in 0..length {
-            for (byte, compact, json) in &BYTES {
-                let message = message(&rt, alloc, before, byte, length - before - 1);
-                let note = event(&rt, alloc, message.as_str());
-                // In the compact form the escapes of each whole 32 bytes are counted.
-                let is_counted = before < length / 32 * 32;
-                let uncounted = if is_counted { 0 } else { *compact };
-                let got = spare(&rt, alloc, Form::Compact, &note);
-                same(&rt, got.saturating_add(uncounted), COMPACT_SPARE, byte);
-                let more = if length < LONG { 0 } else { LONG_SPARE };
-                let got = spare(&rt, alloc, Form::Json, &note);
-                same(&rt, got.saturating_add(*json), JSON_SPARE + more, byte);
+            for byte in &BYTES {
+                leaves_room(&rt, rt.alloc(), (before, length), *byte);
             }
         }
     }
 }
 
-// In the compact form the escapes of each whole 32 bytes have room, and 15 others.
+// How many escapes a message has, and how many bytes longer its buffer is: the escapes of each whole 32 bytes have room,
+// and 15 others.
+static ESCAPES: [(usize, usize); 6] = [(32, 15), (64, 15), (96, 15), (33, 14), (47, 0), (111, 0)];
+
+// A message of this byte alone.
+fn leaves_compact_room(
+    rt: &impl Abort,
+    alloc: Global,
+    byte: &str,
+    (escapes, want): (usize, usize),
+) {
+    let message = byte.repeat(alloc, escapes).expect(rt, "memory");
+    let note = event(rt, alloc, message.as_str());
+    let got = spare(rt, alloc, Form::Compact, &note);
+    same(rt, got, want, escapes);
+}
+
 #[test]
 fn many_lines_in_the_compact_form(rt: HostRuntime) {
-    let alloc = rt.alloc();
-    for (lines, want) in [
-        (32usize, 15usize),
-        (64, 15),
-        (96, 15),
-        (33, 14),
-        (47, 0),
-        (111, 0),
-    ] {
+    for escapes in &ESCAPES {
         for byte in ["\n", "\r", "\\"] {
-            let message = byte.repeat(alloc, lines).expect(&rt, "memory");
-            let note = event(&rt, alloc, message.as_str());
-            let got = spare(&rt, alloc, Form::Compact, &note);
-            same(&rt, got, want, lines);
+            leaves_compact_room(&rt, rt.alloc(), byte, *escapes);
         }
     }
 }
@@ -131,13 +146,17 @@ static MESSAGES: [(&str, usize); 5] = [
     (r"C:\Users\me\AppData\Local\Temp\x", 153),
 ];
 
+// The capacity of the JSON text of a note.
+fn capacity(rt: &impl Abort, alloc: Global, note: &Note) -> usize {
+    let text = text(alloc, Form::Json, note).expect(rt, "memory");
+    text.capacity()
+}
+
 #[test]
 fn short_messages_with_many_escapes_in_json(rt: HostRuntime) {
-    let alloc = rt.alloc();
     for (message, want) in &MESSAGES {
-        let note = event(&rt, alloc, message);
-        let text = text(alloc, Form::Json, &note).expect(&rt, "memory");
-        same(&rt, text.capacity(), *want, message);
+        let note = event(&rt, rt.alloc(), message);
+        same(&rt, capacity(&rt, rt.alloc(), &note), *want, message);
     }
 }
 
@@ -147,9 +166,7 @@ fn quoted_fields_in_json(rt: HostRuntime) {
     let alloc = rt.alloc();
     let mut note = event(&rt, alloc, "done");
     note.fields = fields(&rt, alloc, &[("k", "\"value\""); 8]);
-    let event = text(alloc, Form::Json, &note).expect(&rt, "memory");
-    same(&rt, event.capacity(), 253, "an event");
+    same(&rt, capacity(&rt, alloc, &note), 253, "an event");
     note.kind = Kind::OnNew;
-    let span = text(alloc, Form::Json, &note).expect(&rt, "memory");
-    same(&rt, span.capacity(), 249, "a span");
+    same(&rt, capacity(&rt, alloc, &note), 249, "a span");
 }

@@ -6,6 +6,7 @@ use crate::tests::layers::fixtures::add_layer;
 use span_id::Level;
 use span_layers::{ByForm, ByRule, FmtSpan, Form, Hooks, Layer, Layers, Rule};
 use std::alloc::Global;
+use std::fmt::Debug;
 use std::process::Abort;
 
 /// The filters alone, under the names that are shown.
@@ -55,22 +56,18 @@ fn rules_of(rt: &impl Abort, alloc: Global, count: usize) -> Rules {
 fn rules_are_shown_by_their_filters(rt: HostRuntime) {
     for count in [0, 1, 2, 64] {
         are_shown(&rt, rt.alloc(), count);
-        are_shown_on_lines(&rt, rt.alloc(), count);
     }
 }
 
 fn are_shown(rt: &impl Abort, alloc: Global, count: usize) {
     let (filters, _) = layers_of(rt, alloc, count).split();
     let rules = rules_of(rt, alloc, count);
-    let shown = format!(in alloc; "{:?}", filters.rules).expect(rt, "memory");
-    let want = format!(in alloc; "{rules:?}").expect(rt, "memory");
-    same(rt, shown.as_str(), want.as_str(), count);
+    are_shown_alike(rt, alloc, &filters.rules, &rules);
 }
 
-fn are_shown_on_lines(rt: &impl Abort, alloc: Global, count: usize) {
-    let (filters, _) = layers_of(rt, alloc, count).split();
-    let rules = rules_of(rt, alloc, count);
-    let shown = format!(in alloc; "{:#?}", filters.rules).expect(rt, "memory");
-    let want = format!(in alloc; "{rules:#?}").expect(rt, "memory");
-    same(rt, shown.as_str(), want.as_str(), count);
+// In a row, and on lines.
+fn are_shown_alike<T: Debug, W: Debug>(rt: &impl Abort, alloc: Global, shown: &T, want: &W) {
+    let text = format!(in alloc; "{shown:?}\n{shown:#?}").expect(rt, "memory");
+    let wanted = format!(in alloc; "{want:?}\n{want:#?}").expect(rt, "memory");
+    same(rt, text.as_str(), wanted.as_str(), "the rules");
 }

@@ -16,6 +16,15 @@ use std::sync::ArcStr;
 /// The forms of two layers.
 pub(crate) const FORMS: [Form; 2] = [Form::Json, Form::Compact];
 
+/// The lines that layers of these forms have of an entry that both are told of, of a call that none is told of, and of
+/// an exit that both are told of, the second one first.
+pub(crate) const THREE_LINES: &str =
+    r#"0 0 0 {"fields":[],"id":1,"kind":"enter","path":"a","worker":0}
+0 1 1 enter 1 w0 a
+2 0 1 exit 1 w0 a
+2 1 0 {"fields":[],"id":1,"kind":"exit","path":"a","worker":0}
+"#;
+
 /// Tellers of layers with these forms. Notes of new spans are refused memory.
 pub(crate) fn tellers(rt: &impl Abort, alloc: Global, forms: &[Form]) -> Tellers {
     let mut layers = Layers::new(alloc);
@@ -138,7 +147,7 @@ pub(crate) fn are_lines_of<V>(
 ) {
     let mut all = String::new(alloc);
     for line in drain.lines(layer) {
-        push_line(alloc, &mut all, line).expect(rt, "memory");
+        push_line(&mut all, line).expect(rt, "memory");
     }
     same(rt, all.as_str(), want, layer);
 }

@@ -1,37 +1,12 @@
 //! What a drain writes, when a ring has room, and that both ends cross threads.
 ghost use Rattle.std.specs.Prelude.{◌≡◌, []};
 
-use crate::lines::shown;
 use crate::tests::compare::{crosses_threads, same};
-use crate::tests::outlet::batches::{FORMS, are_lines, are_lines_of, opened, sends, tellers};
+use crate::tests::outlet::batches::{FORMS, THREE_LINES, are_lines, are_lines_of, opened, sends};
 use span_layers::{Form, Kind, Say};
-use span_outlet::{Drain, Kept, Outlet, Ring, Step};
+use span_outlet::{Drain, Ring, Step};
 use std::alloc::Global;
 use std::process::Abort;
-
-// Sends an entry that two layers are told of, one that none is told of, and an exit.
-fn send_three<O: Outlet>(rt: &impl Abort, alloc: Global, outlet: &mut O)
-    requires { O.sent outlet.old ≡ [] }
-    ensures name { O.name outlet.new ≡ O.name outlet.old }
-{
-    sends(rt, alloc, outlet, (Kind::OnEnter, &[0, 1]), true);
-    sends(rt, alloc, outlet, (Kind::OnEnter, &[]), true);
-    sends(rt, alloc, outlet, (Kind::OnExit, &[1, 0]), true);
-}
-
-// The lines that the outlet which keeps them has of the three.
-fn kept_lines(rt: &impl Abort, alloc: Global) -> String {
-    let mut kept = Kept::new(alloc, tellers(rt, alloc, &FORMS));
-    send_three(rt, alloc, &mut kept);
-    same(rt, kept.refused(), 0, "refused");
-    shown(alloc, kept.all()).expect(rt, "memory")
-}
-
-// The lines of the drain are those that are kept.
-fn are_kept_lines<V: Say>(rt: &impl Abort, alloc: Global, drain: &Drain<V>) {
-    let kept = kept_lines(rt, alloc);
-    are_lines(rt, alloc, drain, kept.as_str());
-}
 
 // What a step answers that told and missed so many.
 fn did(told: usize, refused: usize) -> Option<Step> {
@@ -66,9 +41,13 @@ enum Act<'a> {
     Count(u64, u64),
     // All lines.
     Lines(&'a str),
+    // The lines of one layer.
+    LinesOf(u32, &'a str),
 }
 
-fn looks(rt: &impl Abort, alloc: Global, ring: &Ring, drain: &mut Drain, act: &Act<'_>) {
+fn looks(rt: &impl Abort, alloc: Global, ring: &Ring, drain: &mut Drain, act: &Act<'_>)
+    ensures { drain.new.name ≡ drain.old.name }
+{
     match act {
         Act::TimesFull(want) => same(rt, ring.times_full(), *want, "times full"),
         Act::Step(told, refused) => step(rt, drain, did(*told, *refused)),
@@ -78,6 +57,7 @@ fn looks(rt: &impl Abort, alloc: Global, ring: &Ring, drain: &mut Drain, act: &A
             same(rt, counts(drain), want, "taken and refused");
         }
         Act::Lines(want) => are_lines(rt, alloc, drain, want),
+        Act::LinesOf(layer, want) => are_lines_of(rt, alloc, drain, *layer, want),
         Act::Send(..) => {}
     }
 }
@@ -85,6 +65,8 @@ fn looks(rt: &impl Abort, alloc: Global, ring: &Ring, drain: &mut Drain, act: &A
 // The acts are done in their order.
 fn plays(rt: &impl Abort, alloc: Global, ring: &mut Ring, drain: &mut Drain, acts: &[Act<'_>])
     requires { ring.old.sent ≡ [] }
+    ensures ring { ring.new.name ≡ ring.old.name }
+    ensures drain { drain.new.name ≡ drain.old.name }
 {
     for act in acts {
         match act {
@@ -94,39 +76,12 @@ fn plays(rt: &impl Abort, alloc: Global, ring: &mut Ring, drain: &mut Drain, act
     }
 }
 
-// A drain of a ring of so many places that writes in these forms, after the acts were done in their order.
-fn played(rt: &impl Abort, alloc: Global, places: u32, forms: &[Form], acts: &[Act<'_>]) -> Drain {
-    let (mut ring, mut drain) = opened(rt, alloc, places, forms);
+// The acts are done with a new ring of so many places and a drain of it that writes in these forms.
+fn plays_new(rt: &impl Abort, alloc: Global, play: &Play) {
+    let (places, forms, acts) = *play;
+    let (ring, drain) = opened(rt, alloc, places, forms);
+    let (mut ring, mut drain) = (crosses_threads(ring), crosses_threads(drain));
     plays(rt, alloc, &mut ring, &mut drain, acts);
-    drain
-}
-
-// Nothing is there; three batches are sent, taken one by one, and then there is none.
-static THREE: [Act<'static>; 10] = [
-    Act::Idle,
-    Act::Send(Kind::OnEnter, &[0, 1], true),
-    Act::Send(Kind::OnEnter, &[], true),
-    Act::Send(Kind::OnExit, &[1, 0], true),
-    Act::Count(0, 0),
-    Act::Step(2, 0),
-    Act::Step(0, 0),
-    Act::Step(2, 0),
-    Act::Idle,
-    Act::Count(3, 0),
-];
-
-#[test]
-fn three_batches_in_two_forms(rt: HostRuntime) {
-    let drain = played(&rt, rt.alloc(), 8, &FORMS, &THREE);
-    are_kept_lines(&rt, rt.alloc(), &drain);
-    moves_its_lines_out(&rt, rt.alloc(), drain);
-}
-
-// The lines that are moved out of a drain are those that it had.
-fn moves_its_lines_out<V: Drop>(rt: &impl Abort, alloc: Global, drain: Drain<V>) {
-    let lines = shown(alloc, drain.all()).expect(rt, "memory");
-    let moved = shown(alloc, drain.into_lines().as_slice()).expect(rt, "memory");
-    same(rt, moved.as_str(), lines.as_str(), "the lines moved out");
 }
 
 const JSON: &str = r#"0 0 0 {"fields":[],"id":1,"kind":"enter","path":"a","worker":0}
@@ -135,19 +90,36 @@ const JSON: &str = r#"0 0 0 {"fields":[],"id":1,"kind":"enter","path":"a","worke
 
 const COMPACT: &str = "0 1 1 enter 1 w0 a\n2 0 1 exit 1 w0 a\n";
 
-#[test]
-fn the_lines_of_each_layer(rt: HostRuntime) {
-    let drain = played(&rt, rt.alloc(), 8, &FORMS, &THREE);
-    for (layer, want) in &[(0, JSON), (1, COMPACT), (2, "")] {
-        are_lines_of(&rt, rt.alloc(), &drain, *layer, want);
-    }
-}
+// The places of a ring, the forms in which a drain of it writes, and what is done in this order.
+type Play = (u32, &'static [Form], &'static [Act<'static>]);
 
-// The places of a ring, and what is done in this order with it and a drain that writes in the compact form.
-static PLAYS: [(u32, &[Act<'static>]); 4] = [
+static PLAYS: [Play; 5] = [
+    // Nothing is there; three batches are sent, taken one by one, and then there is none.
+    (
+        8,
+        &FORMS,
+        &[
+            Act::Idle,
+            Act::Send(Kind::OnEnter, &[0, 1], true),
+            Act::Send(Kind::OnEnter, &[], true),
+            Act::Send(Kind::OnExit, &[1, 0], true),
+            Act::Count(0, 0),
+            Act::Step(2, 0),
+            Act::Step(0, 0),
+            Act::Step(2, 0),
+            Act::Idle,
+            Act::Count(3, 0),
+            Act::TimesFull(0),
+            Act::Lines(THREE_LINES),
+            Act::LinesOf(0, JSON),
+            Act::LinesOf(1, COMPACT),
+            Act::LinesOf(2, ""),
+        ],
+    ),
     // A note's text is refused memory.
     (
         8,
+        &[Form::Compact],
         &[
             Act::Send(Kind::OnNew, &[0], true),
             Act::Send(Kind::OnClose, &[0], true),
@@ -161,6 +133,7 @@ static PLAYS: [(u32, &[Act<'static>]); 4] = [
     // Two of three layers have no teller.
     (
         8,
+        &[Form::Compact],
         &[
             Act::Send(Kind::OnEnter, &[1, 0, 7], true),
             Act::Step(1, 2),
@@ -171,6 +144,7 @@ static PLAYS: [(u32, &[Act<'static>]); 4] = [
     // A ring of one place.
     (
         1,
+        &[Form::Compact],
         &[
             Act::Send(Kind::OnEnter, &[0], true),
             Act::Send(Kind::OnExit, &[0], false),
@@ -184,6 +158,7 @@ static PLAYS: [(u32, &[Act<'static>]); 4] = [
     // A ring of two places.
     (
         2,
+        &[Form::Compact],
         &[
             Act::Send(Kind::OnEnter, &[0], true),
             Act::Send(Kind::OnExit, &[0], true),
@@ -194,21 +169,32 @@ static PLAYS: [(u32, &[Act<'static>]); 4] = [
 ];
 
 #[test]
-fn rings_and_drains_of_one_form(rt: HostRuntime) {
-    for (places, acts) in &PLAYS {
-        played(&rt, rt.alloc(), *places, &[Form::Compact], acts);
+fn rings_and_their_drains(rt: HostRuntime) {
+    for play in &PLAYS {
+        plays_new(&rt, rt.alloc(), play);
     }
 }
+
+static THREE_OF_WHICH_TWO_ARE_LEFT: [Act<'static>; 4] = [
+    Act::Send(Kind::OnEnter, &[0, 1], true),
+    Act::Send(Kind::OnEnter, &[], true),
+    Act::Send(Kind::OnExit, &[1, 0], true),
+    Act::Step(2, 0),
+];
 
 #[test]
 fn the_last_batches(rt: HostRuntime) {
     let alloc = rt.alloc();
     let (mut ring, mut drain) = opened(&rt, alloc, 3, &FORMS);
-    send_three(&rt, alloc, &mut ring);
-    step(&rt, &mut drain, did(2, 0));
+    plays(
+        &rt,
+        alloc,
+        &mut ring,
+        &mut drain,
+        &THREE_OF_WHICH_TWO_ARE_LEFT,
+    );
     takes_the_last(&rt, &mut drain, &mut ring, 3);
-    step(&rt, &mut drain, None);
-    are_kept_lines(&rt, alloc, &drain);
+    are_lines(&rt, alloc, &drain, THREE_LINES);
 }
 
 // The drain takes what is left in the ring, and has then taken so many batches.
@@ -216,14 +202,6 @@ fn takes_the_last(rt: &impl Abort, drain: &mut Drain, ring: &mut Ring, taken: u6
     requires pair { ring.old.name ≡ drain.old.name }
 {
     drain.last(ring);
-    same(rt, counts(drain).0, taken, "taken");
-}
-
-#[test]
-fn the_ends_cross_threads(rt: HostRuntime) {
-    let (ring, drain) = opened(&rt, rt.alloc(), 1, &[Form::Compact]);
-    let ring: Ring = crosses_threads(ring);
-    let drain: Drain = crosses_threads(drain);
-    let counts = (ring.times_full(), drain.taken());
-    same(&rt, counts, (0, 0), "times full, and taken");
+    same(rt, counts(drain), (taken, 0), "taken and refused");
+    step(rt, drain, None);
 }

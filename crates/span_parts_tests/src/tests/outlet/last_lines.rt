@@ -17,14 +17,20 @@ const EXIT_LINES: &str = r#"3 0 1 exit 1 w0 a
 3 1 0 {"fields":[],"id":1,"kind":"exit","path":"a","worker":0}
 "#;
 
+const ENTER_LINES: &str = r#"6 0 0 {"fields":[],"id":1,"kind":"enter","path":"a","worker":0}
+6 1 1 enter 1 w0 a
+"#;
+
 // The texts of new spans are refused memory, and the layer of the number 7 has no form.
-static STEPS: [Step; 6] = [
+static STEPS: [Step; 8] = [
     (Kind::OnEnter, &[1], "0 0 1 enter 1 w0 a\n", 1, 0),
     (Kind::OnEnter, &[], "", 2, 0),
     (Kind::OnNew, &[0, 1], "", 3, 2),
     (Kind::OnExit, &[1, 0], EXIT_LINES, 4, 2),
     (Kind::OnClose, &[7, 1], "4 1 1 close 1 w0 a\n", 5, 3),
     (Kind::OnEnter, &[], "", 6, 3),
+    (Kind::OnEnter, &[0, 1], ENTER_LINES, 7, 3),
+    (Kind::OnNew, &[1], "", 8, 4),
 ];
 
 // The outlet has these lines, got so many batches, and missed so many notes.

@@ -3,7 +3,7 @@ ghost use Rattle.std.specs.Prelude.{◌≡◌, []};
 
 use crate::lines::push_line;
 use crate::tests::compare::{crosses_threads, same};
-use crate::tests::outlet::batches::{FORMS, pair, plain_tellers, sends, tellers};
+use crate::tests::outlet::batches::{FORMS, THREE_LINES, pair, plain_tellers, sends, tellers};
 use span_layers::{ByForm, Form, Formatters, Kind, Say};
 use span_outlet::{LineReader, Ring};
 use std::alloc::Global;
@@ -27,7 +27,7 @@ fn read<V: Say>(rt: &impl Abort, alloc: Global, reader: &mut LineReader<V>, most
             break;
         }
         let line = reader.next().expect(rt, "the line that waits is lost");
-        push_line(alloc, &mut all, &line).expect(rt, "memory");
+        push_line(&mut all, &line).expect(rt, "memory");
     }
     all
 }
@@ -108,15 +108,10 @@ fn plays<V: Say>(
 
 fn plays_new(rt: &impl Abort, alloc: Global, play: &Play) {
     let (places, forms, acts) = *play;
-    let (mut ring, mut reader) = opened(rt, alloc, places, forms);
+    let (mut ring, reader) = opened(rt, alloc, places, forms);
+    let mut reader: LineReader = crosses_threads(reader);
     plays(rt, alloc, &mut ring, &mut reader, acts);
 }
-
-const THREE_LINES: &str = r#"0 0 0 {"fields":[],"id":1,"kind":"enter","path":"a","worker":0}
-0 1 1 enter 1 w0 a
-2 0 1 exit 1 w0 a
-2 1 0 {"fields":[],"id":1,"kind":"exit","path":"a","worker":0}
-"#;
 
 // The places of a ring, the forms in which a reader of it writes, and what is done in this order.
 type Play = (u32, &'static [Form], &'static [Act<'static>]);
@@ -272,20 +267,7 @@ static PLAIN_ACTS: [Act<'static>; 3] = [
 
 #[test]
 fn lines_of_layers_without_closures(rt: HostRuntime) {
-    let (mut ring, mut reader) = plain(&rt, rt.alloc(), 2);
+    let (mut ring, reader) = plain(&rt, rt.alloc(), 2);
+    let mut reader: PlainReader = crosses_threads(reader);
     plays(&rt, rt.alloc(), &mut ring, &mut reader, &PLAIN_ACTS);
-}
-
-#[test]
-fn a_reader_crosses_threads(rt: HostRuntime) {
-    let (_ring, reader) = opened(&rt, rt.alloc(), 1, &FORMS);
-    let mut reader: LineReader = crosses_threads(reader);
-    stands_at(&rt, &mut reader, 0, 0);
-}
-
-#[test]
-fn a_reader_without_closures_crosses_threads(rt: HostRuntime) {
-    let (_ring, reader) = plain(&rt, rt.alloc(), 1);
-    let reader: PlainReader = crosses_threads(reader);
-    same(&rt, counts(&reader).0, 0, "taken");
 }
