@@ -43,11 +43,6 @@ const FULL_RING: Ending = Ending {
     lines: "",
 };
 
-#[test]
-fn a_handle_comes_back_from_a_full_ring(rt: HostRuntime) {
-    ends(&rt, rt.alloc(), &FULL_RING);
-}
-
 const EVERY_ANSWER: &str = "\
 = 1
 = told 1 refused 0
@@ -98,11 +93,6 @@ const EVERY_CALL_TOLD: Ending = Ending {
     lines: "0 0 0 new 1 w0 a\n1 0 0 enter 1 w0 a\n2 0 0 exit 1 w0 a\n3 0 0 close 1 w0 a\n",
 };
 
-#[test]
-fn every_call_meets_a_full_ring(rt: HostRuntime) {
-    ends(&rt, rt.alloc(), &EVERY_CALL_TOLD);
-}
-
 const EVERY_ANSWER_WITHOUT_NOTES: &str = "\
 = 1
 = told 0 refused 0
@@ -132,11 +122,6 @@ const EVERY_CALL_TOLD_TO_NONE: Ending = Ending {
     lines: "",
 };
 
-#[test]
-fn every_call_meets_a_full_ring_without_a_layer(rt: HostRuntime) {
-    ends(&rt, rt.alloc(), &EVERY_CALL_TOLD_TO_NONE);
-}
-
 const NOT_WANTED_HERE: Ending = Ending {
     plans: &[ELSEWHERE],
     acts: &[(0, EVENT), (0, Act::New("a")), (0, EVENT)],
@@ -146,17 +131,27 @@ const NOT_WANTED_HERE: Ending = Ending {
     lines: "",
 };
 
-#[test]
-fn a_span_that_is_not_wanted_needs_no_place(rt: HostRuntime) {
-    ends(&rt, rt.alloc(), &NOT_WANTED_HERE);
-}
-
 const NEVER_WANTED: Ending = Ending {
     plans: &[NOTHING],
     ..NOT_WANTED_HERE
 };
 
+static ENDINGS: [Ending<'static>; 5] = [
+    // A handle comes back from a full ring.
+    FULL_RING,
+    // Every call meets a full ring.
+    EVERY_CALL_TOLD,
+    // Every call meets a full ring without a layer.
+    EVERY_CALL_TOLD_TO_NONE,
+    // A span that is not wanted needs no place.
+    NOT_WANTED_HERE,
+    // An empty rule admits no span.
+    NEVER_WANTED,
+];
+
 #[test]
-fn an_empty_rule_admits_no_span(rt: HostRuntime) {
-    ends(&rt, rt.alloc(), &NEVER_WANTED);
+fn calls_meet_a_full_ring(rt: HostRuntime) {
+    for ending in &ENDINGS {
+        ends(&rt, rt.alloc(), ending);
+    }
 }

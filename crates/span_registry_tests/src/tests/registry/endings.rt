@@ -1,6 +1,6 @@
 //! Registries that end with handles given up, entries left or nothing.
 use crate::tests::registry::acts::{Act, numbered};
-use crate::tests::registry::ended::{Deed, Ended, has_numbers, run_to_end, with_workers};
+use crate::tests::registry::ended::{Deed, Ended, has_numbers, run_to_end};
 use crate::tests::registry::ended_by_reading::run_to_last_line;
 use crate::tests::registry::ended_on_a_ring::run_to_end_on_a_ring;
 use crate::tests::registry::layers::{EVERYTHING, Plan};
@@ -76,143 +76,150 @@ const EVERY_LINE: &str = "\
 7 0 0 close 1 w0 a k=v
 ";
 
-const EVERY_CALL: Ending = Ending {
-    plans: &[EVERYTHING],
-    acts: &[
-        (0, Act::New("a")),
-        (0, Act::Clone(1)),
-        (0, Act::Enter(1)),
-        (0, Act::Record(1, &[("k", "v")])),
-        (0, Act::Event(Level::Info, "m", &[])),
-        (0, Act::Find(1)),
-        (0, Act::Close(1)),
-        (0, Act::Exit(1)),
-        (0, Act::Close(1)),
-        (0, Act::Find(1)),
-    ],
-    answers: EVERY_ANSWER,
-    counts: "units 0 accepted 8\n",
-    numbers: "left 0 handles 0 entries 0 calls 8 made 1 closed 1 refused 0",
-    lines: EVERY_LINE,
+const ONE_WORKER: Limits = Limits {
+    slots: 1024,
+    last_generation: u32::MAX,
+    max_count: u32::MAX,
+    workers: 1,
+    ring: 1024,
 };
 
-#[test]
-fn every_call_once(rt: HostRuntime) {
-    ends(&rt, rt.alloc(), with_workers(1), &EVERY_CALL);
-}
-
-const GIVEN_UP: Ending = Ending {
-    plans: &[EVERYTHING],
-    acts: &[(0, Act::New("a"))],
-    answers: "= 1\n",
-    counts: "units 0 accepted 1\nunits 1 accepted 0\n",
-    numbers: "left 1 handles 1 entries 0 calls 1 made 1 closed 0 refused 0",
-    lines: "0 0 0 new 1 w0 a\n",
+const TWO_WORKERS: Limits = Limits {
+    workers: 2,
+    ..ONE_WORKER
 };
 
+static ENDINGS: [(Limits, Ending<'static>); 7] = [
+    // Every call once.
+    (
+        ONE_WORKER,
+        Ending {
+            plans: &[EVERYTHING],
+            acts: &[
+                (0, Act::New("a")),
+                (0, Act::Clone(1)),
+                (0, Act::Enter(1)),
+                (0, Act::Record(1, &[("k", "v")])),
+                (0, Act::Event(Level::Info, "m", &[])),
+                (0, Act::Find(1)),
+                (0, Act::Close(1)),
+                (0, Act::Exit(1)),
+                (0, Act::Close(1)),
+                (0, Act::Find(1)),
+            ],
+            answers: EVERY_ANSWER,
+            counts: "units 0 accepted 8\n",
+            numbers: "left 0 handles 0 entries 0 calls 8 made 1 closed 1 refused 0",
+            lines: EVERY_LINE,
+        },
+    ),
+    // A handle given up leaves its span open.
+    (
+        ONE_WORKER,
+        Ending {
+            plans: &[EVERYTHING],
+            acts: &[(0, Act::New("a"))],
+            answers: "= 1\n",
+            counts: "units 0 accepted 1\nunits 1 accepted 0\n",
+            numbers: "left 1 handles 1 entries 0 calls 1 made 1 closed 0 refused 0",
+            lines: "0 0 0 new 1 w0 a\n",
+        },
+    ),
+    // A handle of a child given up leaves both open.
+    (
+        ONE_WORKER,
+        Ending {
+            plans: &[],
+            acts: &[
+                (0, Act::New("a")),
+                (0, Act::Child("b", 1)),
+                (0, Act::Close(1)),
+            ],
+            answers: "= 1\n= 2\n= open\n",
+            counts: "units 0 accepted 3\nunits 1 accepted 0\n",
+            numbers: "left 2 handles 1 entries 0 calls 3 made 2 closed 0 refused 0",
+            lines: "",
+        },
+    ),
+    // Another worker closes.
+    (
+        TWO_WORKERS,
+        Ending {
+            plans: &[EVERYTHING],
+            acts: &[(0, Act::New("a")), (1, Act::Close(1))],
+            answers: "= 1\n= closed\n",
+            counts: "units 0 accepted 1\nunits 0 accepted 1\n",
+            numbers: "left 0 handles 0 entries 0 calls 2 made 1 closed 1 refused 0",
+            lines: "0 0 0 new 1 w0 a\n1 0 0 close 1 w1 a\n",
+        },
+    ),
+    // An entry left keeps its span open.
+    (
+        ONE_WORKER,
+        Ending {
+            plans: &[EVERYTHING],
+            acts: &[(0, Act::New("a")), (0, Act::Enter(1)), (0, Act::Close(1))],
+            answers: "= 1\n= entered\n= open\n",
+            counts: "units 0 accepted 3\n",
+            numbers: "left 1 handles 0 entries 1 calls 3 made 1 closed 0 refused 0",
+            lines: "0 0 0 new 1 w0 a\n1 0 0 enter 1 w0 a\n",
+        },
+    ),
+    // Refusals come in their order.
+    (
+        Limits {
+            slots: 1,
+            max_count: 1,
+            ..ONE_WORKER
+        },
+        Ending {
+            plans: &[],
+            acts: &[
+                (0, Act::New("a")),
+                (0, Act::Child("a b", 1)),
+                (0, Act::Child("b", 2)),
+                (0, Act::Child("b", 1)),
+                (0, Act::Child("b", 0)),
+                (0, Act::Exit(2)),
+                (0, Act::Exit(1)),
+                (0, Act::Close(1)),
+            ],
+            answers: "= 1\n! bad name\n! unknown\n! count full\n! full\n! unknown\n! not entered\n= closed\n",
+            counts: "units 0 accepted 2\n",
+            numbers: "left 0 handles 0 entries 0 calls 2 made 1 closed 1 refused 0",
+            lines: "",
+        },
+    ),
+    // An old id of a slot is unknown.
+    (
+        Limits {
+            slots: 1,
+            ..ONE_WORKER
+        },
+        Ending {
+            plans: &[],
+            acts: &[
+                (0, Act::New("a")),
+                (0, Act::Close(1)),
+                (0, Act::New("b")),
+                (0, Act::Exit(1)),
+                (0, Act::Exit(16777217)),
+                (0, Act::Child("c", 1)),
+                (0, Act::Clone(16777217)),
+                (0, Act::Close(16777217)),
+                (0, Act::Close(16777217)),
+            ],
+            answers: "= 1\n= closed\n= 16777217\n! unknown\n! not entered\n! unknown\n= cloned\n= open\n= closed\n",
+            counts: "units 0 accepted 6\n",
+            numbers: "left 0 handles 0 entries 0 calls 6 made 2 closed 2 refused 0",
+            lines: "",
+        },
+    ),
+];
+
 #[test]
-fn a_handle_given_up_leaves_its_span_open(rt: HostRuntime) {
-    ends(&rt, rt.alloc(), with_workers(1), &GIVEN_UP);
-}
-
-const CHILD_GIVEN_UP: Ending = Ending {
-    plans: &[],
-    acts: &[
-        (0, Act::New("a")),
-        (0, Act::Child("b", 1)),
-        (0, Act::Close(1)),
-    ],
-    answers: "= 1\n= 2\n= open\n",
-    counts: "units 0 accepted 3\nunits 1 accepted 0\n",
-    numbers: "left 2 handles 1 entries 0 calls 3 made 2 closed 0 refused 0",
-    lines: "",
-};
-
-#[test]
-fn a_handle_of_a_child_given_up_leaves_both_open(rt: HostRuntime) {
-    ends(&rt, rt.alloc(), with_workers(1), &CHILD_GIVEN_UP);
-}
-
-const TWO_WORKERS: Ending = Ending {
-    plans: &[EVERYTHING],
-    acts: &[(0, Act::New("a")), (1, Act::Close(1))],
-    answers: "= 1\n= closed\n",
-    counts: "units 0 accepted 1\nunits 0 accepted 1\n",
-    numbers: "left 0 handles 0 entries 0 calls 2 made 1 closed 1 refused 0",
-    lines: "0 0 0 new 1 w0 a\n1 0 0 close 1 w1 a\n",
-};
-
-#[test]
-fn another_worker_closes(rt: HostRuntime) {
-    ends(&rt, rt.alloc(), with_workers(2), &TWO_WORKERS);
-}
-
-const ENTRY_LEFT: Ending = Ending {
-    plans: &[EVERYTHING],
-    acts: &[(0, Act::New("a")), (0, Act::Enter(1)), (0, Act::Close(1))],
-    answers: "= 1\n= entered\n= open\n",
-    counts: "units 0 accepted 3\n",
-    numbers: "left 1 handles 0 entries 1 calls 3 made 1 closed 0 refused 0",
-    lines: "0 0 0 new 1 w0 a\n1 0 0 enter 1 w0 a\n",
-};
-
-#[test]
-fn an_entry_left_keeps_its_span_open(rt: HostRuntime) {
-    ends(&rt, rt.alloc(), with_workers(1), &ENTRY_LEFT);
-}
-
-const REFUSALS: Ending = Ending {
-    plans: &[],
-    acts: &[
-        (0, Act::New("a")),
-        (0, Act::Child("a b", 1)),
-        (0, Act::Child("b", 2)),
-        (0, Act::Child("b", 1)),
-        (0, Act::Child("b", 0)),
-        (0, Act::Exit(2)),
-        (0, Act::Exit(1)),
-        (0, Act::Close(1)),
-    ],
-    answers: "= 1\n! bad name\n! unknown\n! count full\n! full\n! unknown\n! not entered\n= closed\n",
-    counts: "units 0 accepted 2\n",
-    numbers: "left 0 handles 0 entries 0 calls 2 made 1 closed 1 refused 0",
-    lines: "",
-};
-
-#[test]
-fn refusals_come_in_their_order(rt: HostRuntime) {
-    let limits = Limits {
-        slots: 1,
-        max_count: 1,
-        ..with_workers(1)
-    };
-    ends(&rt, rt.alloc(), limits, &REFUSALS);
-}
-
-const OLD_ID: Ending = Ending {
-    plans: &[],
-    acts: &[
-        (0, Act::New("a")),
-        (0, Act::Close(1)),
-        (0, Act::New("b")),
-        (0, Act::Exit(1)),
-        (0, Act::Exit(16777217)),
-        (0, Act::Child("c", 1)),
-        (0, Act::Clone(16777217)),
-        (0, Act::Close(16777217)),
-        (0, Act::Close(16777217)),
-    ],
-    answers: "= 1\n= closed\n= 16777217\n! unknown\n! not entered\n! unknown\n= cloned\n= open\n= closed\n",
-    counts: "units 0 accepted 6\n",
-    numbers: "left 0 handles 0 entries 0 calls 6 made 2 closed 2 refused 0",
-    lines: "",
-};
-
-#[test]
-fn an_old_id_of_a_slot_is_unknown(rt: HostRuntime) {
-    let limits = Limits {
-        slots: 1,
-        ..with_workers(1)
-    };
-    ends(&rt, rt.alloc(), limits, &OLD_ID);
+fn a_registry_ends(rt: HostRuntime) {
+    for (limits, ending) in &ENDINGS {
+        ends(&rt, rt.alloc(), *limits, ending);
+    }
 }

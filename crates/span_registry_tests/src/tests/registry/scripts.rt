@@ -11,9 +11,10 @@ use std::process::Abort;
 use std::sync::Wait;
 use std::thread::Threads;
 
-// Calls, what is answered to them, and the lines.
+// Layers, calls, what is answered to them, and the lines.
 #[derive(Clone, Copy)]
 struct Script<'a> {
+    plans: &'a [Plan<'a>],
     acts: &'a [(u32, Act<'a>)],
     answers: &'a str,
     lines: &'a str,
@@ -29,45 +30,52 @@ fn is_ended(rt: &impl Abort, alloc: Global, ended: &Ended, script: &Script) {
 
 // A registry answers so, and its report has these lines and leaves nothing. A core answers the same to each call,
 // `find` answers the same of each span after each call, and the core's outlet keeps the same lines.
-fn agree<R: Threads + Wait + Abort + Sync>(rt: &R, alloc: Global, plans: &[Plan], script: &Script) {
+fn agree<R: Threads + Wait + Abort + Sync>(rt: &R, alloc: Global, script: &Script) {
     let deed = Deed::Calls(script.acts);
-    let ended = run_to_end(rt, alloc, Limits::default(), plans, deed);
+    let ended = run_to_end(rt, alloc, Limits::default(), script.plans, deed);
     is_ended(rt, alloc, &ended, script);
     let expected = Expected {
         answers: script.answers,
         finds: ended.transcript.finds.as_slice(),
         lines: script.lines,
     };
-    core_answers(rt, alloc, Limits::default(), plans, script.acts, &expected);
+    core_answers(
+        rt,
+        alloc,
+        Limits::default(),
+        script.plans,
+        script.acts,
+        &expected,
+    );
 }
 
-const CHILD_FIRST: Script = Script {
-    acts: &[
-        (0, Act::New("a")),
-        (0, Act::Child("b", 1)),
-        (0, Act::Close(1)),
-        (0, Act::Close(2)),
-    ],
-    answers: "= 1\n= 2\n= open\n= closed\n",
-    lines: "L0 new 1 w0 a\nL0 new 2 w0 a:b\nL0 close 2 w0 a:b\nL0 close 1 w0 a\n",
-};
-
-#[test]
-fn closes_come_child_first(rt: HostRuntime) {
-    agree(&rt, rt.alloc(), &[EVERYTHING], &CHILD_FIRST);
-}
-
-const TWICE: Script = Script {
-    acts: &[
-        (0, Act::New("a")),
-        (0, Act::Enter(1)),
-        (0, Act::Enter(1)),
-        (0, Act::Close(1)),
-        (0, Act::Exit(1)),
-        (0, Act::Exit(1)),
-    ],
-    answers: "= 1\n= entered\n= again\n= open\n= open\n= closed\n",
-    lines: "\
+// What holds spans.
+static HELD: [Script<'static>; 4] = [
+    // Closes come child first.
+    Script {
+        plans: &[EVERYTHING],
+        acts: &[
+            (0, Act::New("a")),
+            (0, Act::Child("b", 1)),
+            (0, Act::Close(1)),
+            (0, Act::Close(2)),
+        ],
+        answers: "= 1\n= 2\n= open\n= closed\n",
+        lines: "L0 new 1 w0 a\nL0 new 2 w0 a:b\nL0 close 2 w0 a:b\nL0 close 1 w0 a\n",
+    },
+    // A span is entered twice and left twice.
+    Script {
+        plans: &[EVERYTHING],
+        acts: &[
+            (0, Act::New("a")),
+            (0, Act::Enter(1)),
+            (0, Act::Enter(1)),
+            (0, Act::Close(1)),
+            (0, Act::Exit(1)),
+            (0, Act::Exit(1)),
+        ],
+        answers: "= 1\n= entered\n= again\n= open\n= open\n= closed\n",
+        lines: "\
 L0 new 1 w0 a
 L0 enter 1 w0 a
 L0 enter 1 w0 a
@@ -75,30 +83,27 @@ L0 exit 1 w0 a
 L0 exit 1 w0 a
 L0 close 1 w0 a
 ",
-};
-
-#[test]
-fn enters_twice_and_leaves(rt: HostRuntime) {
-    agree(&rt, rt.alloc(), &[EVERYTHING], &TWICE);
-}
-
-const SECOND_ENTRY: Script = Script {
-    acts: &[
-        (0, Act::New("a")),
-        (0, Act::New("b")),
-        (0, Act::Enter(1)),
-        (0, Act::Enter(2)),
-        (0, Act::Enter(1)),
-        (0, Act::New("c")),
-        (0, Act::Find(3)),
-        (0, Act::Exit(1)),
-        (0, Act::Exit(2)),
-        (0, Act::Exit(1)),
-        (0, Act::Close(1)),
-        (0, Act::Close(2)),
-        (0, Act::Close(3)),
-    ],
-    answers: "\
+    },
+    // A second entry is not current. The second entry of the first span is no current span, so the new span goes under
+    // the other.
+    Script {
+        plans: &[],
+        acts: &[
+            (0, Act::New("a")),
+            (0, Act::New("b")),
+            (0, Act::Enter(1)),
+            (0, Act::Enter(2)),
+            (0, Act::Enter(1)),
+            (0, Act::New("c")),
+            (0, Act::Find(3)),
+            (0, Act::Exit(1)),
+            (0, Act::Exit(2)),
+            (0, Act::Exit(1)),
+            (0, Act::Close(1)),
+            (0, Act::Close(2)),
+            (0, Act::Close(3)),
+        ],
+        answers: "\
 = 1
 = 2
 = entered
@@ -113,40 +118,36 @@ const SECOND_ENTRY: Script = Script {
 = open
 = closed
 ",
-    lines: "",
-};
-
-// The second entry of the first span is no current span, so the new span goes under the other.
-#[test]
-fn a_second_entry_is_not_current(rt: HostRuntime) {
-    agree(&rt, rt.alloc(), &[], &SECOND_ENTRY);
-}
-
-const ASKED: Script = Script {
-    acts: &[
-        (0, Act::Ask(1)),
-        (0, Act::New("a")),
-        (0, Act::Child("b", 1)),
-        (0, Act::Child("c", 0)),
-        (0, Act::Clone(2)),
-        (1, Act::Enter(2)),
-        (0, Act::Enter(2)),
-        (0, Act::Enter(2)),
-        (0, Act::Close(1)),
-        (0, Act::Ask(1)),
-        (0, Act::Ask(2)),
-        (1, Act::Ask(3)),
-        (0, Act::Close(2)),
-        (0, Act::Close(2)),
-        (0, Act::Exit(2)),
-        (1, Act::Exit(2)),
-        (0, Act::Ask(1)),
-        (0, Act::Exit(2)),
-        (1, Act::Ask(1)),
-        (0, Act::Close(3)),
-        (1, Act::Ask(3)),
-    ],
-    answers: "\
+        lines: "",
+    },
+    // What holds a span is listed. A span is open as long as something is listed for it, here its child, which one
+    // worker has entered twice.
+    Script {
+        plans: &[],
+        acts: &[
+            (0, Act::Ask(1)),
+            (0, Act::New("a")),
+            (0, Act::Child("b", 1)),
+            (0, Act::Child("c", 0)),
+            (0, Act::Clone(2)),
+            (1, Act::Enter(2)),
+            (0, Act::Enter(2)),
+            (0, Act::Enter(2)),
+            (0, Act::Close(1)),
+            (0, Act::Ask(1)),
+            (0, Act::Ask(2)),
+            (1, Act::Ask(3)),
+            (0, Act::Close(2)),
+            (0, Act::Close(2)),
+            (0, Act::Exit(2)),
+            (1, Act::Exit(2)),
+            (0, Act::Ask(1)),
+            (0, Act::Exit(2)),
+            (1, Act::Ask(1)),
+            (0, Act::Close(3)),
+            (1, Act::Ask(3)),
+        ],
+        answers: "\
 = open held holders ! unknown inside
 = 1
 = 2
@@ -182,34 +183,36 @@ const ASKED: Script = Script {
 = closed
 = open held holders ! unknown inside
 ",
-    lines: "",
-};
+        lines: "",
+    },
+];
 
-// A span is open as long as something is listed for it, here its child, which one worker has entered twice.
-#[test]
-fn what_holds_a_span_is_listed(rt: HostRuntime) {
-    agree(&rt, rt.alloc(), &[], &ASKED);
-}
-
-const OWN_PATHS: Script = Script {
-    acts: &[
-        (0, Act::New("a")),
-        (0, Act::Enter(1)),
-        (0, Act::Make("q", "lib", &[])),
-        (0, Act::Enter(2)),
-        (0, Act::New("c")),
-        (0, Act::Event(Level::Info, "hi", &[("k", "v")])),
-        (1, Act::EventIn(3, "of c")),
-        (0, Act::EventIn(2, "of q")),
-        (0, Act::EventIn(0, "of none")),
-        (0, Act::EventIn(4, "of none that is there")),
-        (0, Act::Exit(2)),
-        (0, Act::Exit(1)),
-        (0, Act::Close(1)),
-        (0, Act::Close(3)),
-        (0, Act::Close(2)),
-    ],
-    answers: "\
+// What layers are told.
+static TOLD: [Script<'static>; 4] = [
+    // Each layer has its own path.
+    Script {
+        plans: &[
+            (Form::Compact, FmtSpan::NEW, ALL),
+            (Form::Compact, FmtSpan::NEW, APP),
+        ],
+        acts: &[
+            (0, Act::New("a")),
+            (0, Act::Enter(1)),
+            (0, Act::Make("q", "lib", &[])),
+            (0, Act::Enter(2)),
+            (0, Act::New("c")),
+            (0, Act::Event(Level::Info, "hi", &[("k", "v")])),
+            (1, Act::EventIn(3, "of c")),
+            (0, Act::EventIn(2, "of q")),
+            (0, Act::EventIn(0, "of none")),
+            (0, Act::EventIn(4, "of none that is there")),
+            (0, Act::Exit(2)),
+            (0, Act::Exit(1)),
+            (0, Act::Close(1)),
+            (0, Act::Close(3)),
+            (0, Act::Close(2)),
+        ],
+        answers: "\
 = 1
 = entered
 = 2
@@ -226,7 +229,7 @@ const OWN_PATHS: Script = Script {
 = closed
 = closed
 ",
-    lines: "\
+        lines: "\
 L0 new 1 w0 a
 L1 new 1 w0 a
 L0 new 2 w0 a:q
@@ -241,45 +244,18 @@ L1 event 0 w0 - INFO of q
 L0 event 0 w0 - INFO of none
 L1 event 0 w0 - INFO of none
 ",
-};
-
-#[test]
-fn each_layer_has_its_own_path(rt: HostRuntime) {
-    let plans = [
-        (Form::Compact, FmtSpan::NEW, ALL),
-        (Form::Compact, FmtSpan::NEW, APP),
-    ];
-    agree(&rt, rt.alloc(), &plans, &OWN_PATHS);
-}
-
-const ENTERED_BY_ANOTHER: Script = Script {
-    acts: &[
-        (0, Act::New("b")),
-        (0, Act::New("a")),
-        (1, Act::Enter(1)),
-        (1, Act::Exit(1)),
-        (0, Act::Close(2)),
-        (0, Act::Close(1)),
-    ],
-    answers: "= 1\n= 2\n= entered\n= open\n= closed\n= closed\n",
-    lines: "L0 exit 1 w1 b\nL0 close 2 w0 a\nL0 close 1 w0 b\n",
-};
-
-#[test]
-fn notes_name_the_worker_that_enters(rt: HostRuntime) {
-    let plan = (Form::Compact, FmtSpan::EXIT | FmtSpan::CLOSE, ALL);
-    agree(&rt, rt.alloc(), &[plan], &ENTERED_BY_ANOTHER);
-}
-
-const BOTH_FORMS: Script = Script {
-    acts: &[
-        (0, Act::Make("a", "app", &[("k", "1")])),
-        (0, Act::Record(1, &[("k", "2")])),
-        (0, Act::Event(Level::Warn, "x\ny", &[])),
-        (0, Act::Close(1)),
-    ],
-    answers: "= 1\n= recorded\n= told\n= closed\n",
-    lines: "\
+    },
+    // Fields in both forms.
+    Script {
+        plans: &[(Form::Json, FmtSpan::FULL, ALL), EVERYTHING],
+        acts: &[
+            (0, Act::Make("a", "app", &[("k", "1")])),
+            (0, Act::Record(1, &[("k", "2")])),
+            (0, Act::Event(Level::Warn, "x\ny", &[])),
+            (0, Act::Close(1)),
+        ],
+        answers: "= 1\n= recorded\n= told\n= closed\n",
+        lines: "\
 L0 {\"fields\":[[\"k\",\"1\"]],\"id\":1,\"kind\":\"new\",\"path\":\"a\",\"worker\":0}
 L1 new 1 w0 a k=1
 L0 {\"fields\":[[\"k\",\"2\"]],\"id\":1,\"kind\":\"record\",\"path\":\"a\",\"worker\":0}
@@ -289,27 +265,22 @@ L1 event 0 w0 - WARN x\\ny
 L0 {\"fields\":[[\"k\",\"1\"],[\"k\",\"2\"]],\"id\":1,\"kind\":\"close\",\"path\":\"a\",\"worker\":0}
 L1 close 1 w0 a k=1 k=2
 ",
-};
-
-#[test]
-fn both_forms_with_fields(rt: HostRuntime) {
-    let plans = [(Form::Json, FmtSpan::FULL, ALL), EVERYTHING];
-    agree(&rt, rt.alloc(), &plans, &BOTH_FORMS);
-}
-
-const EACH_WORKER: Script = Script {
-    acts: &[
-        (0, Act::New("a")),
-        (1, Act::New("b")),
-        (1, Act::Clone(2)),
-        (1, Act::Record(2, &[("k", "v")])),
-        (1, Act::Event(Level::Info, "m", &[])),
-        (1, Act::Close(2)),
-        (1, Act::Close(2)),
-        (0, Act::Close(1)),
-    ],
-    answers: "= 1\n= 2\n= cloned\n= recorded\n= told\n= open\n= closed\n= closed\n",
-    lines: "\
+    },
+    // Each call is made by its worker.
+    Script {
+        plans: &[EVERYTHING],
+        acts: &[
+            (0, Act::New("a")),
+            (1, Act::New("b")),
+            (1, Act::Clone(2)),
+            (1, Act::Record(2, &[("k", "v")])),
+            (1, Act::Event(Level::Info, "m", &[])),
+            (1, Act::Close(2)),
+            (1, Act::Close(2)),
+            (0, Act::Close(1)),
+        ],
+        answers: "= 1\n= 2\n= cloned\n= recorded\n= told\n= open\n= closed\n= closed\n",
+        lines: "\
 L0 new 1 w0 a
 L0 new 2 w1 b
 L0 record 2 w1 b k=v
@@ -317,28 +288,54 @@ L0 event 0 w1 - INFO m
 L0 close 2 w1 b k=v
 L0 close 1 w0 a
 ",
-};
+    },
+    // Another worker closes a whole chain.
+    Script {
+        plans: &[(Form::Compact, FmtSpan::CLOSE, ALL)],
+        acts: &[
+            (0, Act::New("a")),
+            (0, Act::Child("b", 1)),
+            (1, Act::Child("c", 2)),
+            (1, Act::Close(1)),
+            (0, Act::Close(2)),
+            (1, Act::Close(3)),
+        ],
+        answers: "= 1\n= 2\n= 3\n= open\n= open\n= closed\n",
+        lines: "L0 close 3 w1 a:b:c\nL0 close 2 w1 a:b\nL0 close 1 w1 a\n",
+    },
+];
 
 #[test]
-fn each_call_is_made_by_its_worker(rt: HostRuntime) {
-    agree(&rt, rt.alloc(), &[EVERYTHING], &EACH_WORKER);
+fn a_registry_and_a_core_agree_on_what_is_held(rt: HostRuntime) {
+    for script in &HELD {
+        agree(&rt, rt.alloc(), script);
+    }
 }
 
-const WHOLE_CHAIN: Script = Script {
-    acts: &[
-        (0, Act::New("a")),
-        (0, Act::Child("b", 1)),
-        (1, Act::Child("c", 2)),
-        (1, Act::Close(1)),
-        (0, Act::Close(2)),
-        (1, Act::Close(3)),
-    ],
-    answers: "= 1\n= 2\n= 3\n= open\n= open\n= closed\n",
-    lines: "L0 close 3 w1 a:b:c\nL0 close 2 w1 a:b\nL0 close 1 w1 a\n",
-};
-
 #[test]
-fn another_worker_closes_a_whole_chain(rt: HostRuntime) {
-    let plan = (Form::Compact, FmtSpan::CLOSE, ALL);
-    agree(&rt, rt.alloc(), &[plan], &WHOLE_CHAIN);
+fn a_registry_and_a_core_agree_on_what_is_told(rt: HostRuntime) {
+    for script in &TOLD {
+        agree(&rt, rt.alloc(), script);
+    }
+}
+
+const ENTERED_BY_ANOTHER: &[(u32, Act)] = &[
+    (0, Act::New("b")),
+    (0, Act::New("a")),
+    (1, Act::Enter(1)),
+    (1, Act::Exit(1)),
+    (0, Act::Close(2)),
+    (0, Act::Close(1)),
+];
+
+// A set of two kinds is no constant, so this script is in no table.
+#[test]
+fn notes_name_the_worker_that_enters(rt: HostRuntime) {
+    let script = Script {
+        plans: &[(Form::Compact, FmtSpan::EXIT | FmtSpan::CLOSE, ALL)],
+        acts: ENTERED_BY_ANOTHER,
+        answers: "= 1\n= 2\n= entered\n= open\n= closed\n= closed\n",
+        lines: "L0 exit 1 w1 b\nL0 close 2 w0 a\nL0 close 1 w0 b\n",
+    };
+    agree(&rt, rt.alloc(), &script);
 }
