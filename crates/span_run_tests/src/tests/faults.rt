@@ -37,10 +37,7 @@ fn faults_of_storms_have_their_text_and_status(rt: HostRuntime) {
     for (fault, text) in [
         (StormFault::Memory, "out of memory"),
         (StormFault::Refused(Fault::Backlog), "refused: backlog"),
-        (
-            StormFault::Refused(Fault::Memory),
-            "refused: out of memory",
-        ),
+        (StormFault::Refused(Fault::Memory), "refused: out of memory"),
         (StormFault::Held(0), "worker 0 was held"),
         (StormFault::Held(16), "worker 16 was held"),
     ] {
