@@ -25,7 +25,7 @@ PARTS_OF_STD = {"core", "std_alloc", "std_heap"}
 # The most words that all pages may have together, and that each of them may.
 ALL = 23_000
 MOST = {
-    "README.md": 900, "CHANGELOG.md": 210, "bench/README.md": 280,
+    "README.md": 900, "CHANGELOG.md": 230, "bench/README.md": 280,
     "crates/hostile_use/README.md": 205, "crates/span_benchmark/README.md": 115,
     "crates/span_border/README.md": 70, "crates/span_core/README.md": 395, "crates/span_core_tests/README.md": 50,
     "crates/span_ffi/README.md": 190, "crates/span_forest/README.md": 155,

@@ -81,9 +81,6 @@ flush_counts reads reads' writes writes' writes'' e r w p d =
 pub fails_from : (writes writes' writes'' : ℕ) (e : ReplayFault) → writes' ≡ writes → FailsAsCounted 0 0 writes' writes'' e → FailsAsCounted 0 0 writes writes'' e
 fails_from writes writes' writes'' e same p = subst (λ n. FailsAsCounted 0 0 n writes'' e) same p
 
-pub ends_from : {T : Type 0} (writes writes' writes'' : ℕ) (result : Result T ReplayFault) → writes' ≡ writes → EndsAsCounted 0 0 writes' writes'' result → EndsAsCounted 0 0 writes writes'' result
-ends_from writes writes' writes'' result same p = subst (λ n. EndsAsCounted 0 0 n writes'' result) same p
-
 -- no read has failed
 pub ends_read : {T : Type 0} (reads reads' writes writes' : ℕ) (result : Result T ReplayFault) → reads' ≡ reads → EndsAsCounted 0 0 writes writes' result → EndsAsCounted reads reads' writes writes' result
 ends_read reads reads' writes writes' (Ok value) same p = (same, p.1)

@@ -6,7 +6,7 @@ use Rattle.std.proofs.KnownBytes.{Appends-kept}
 use Rattle.std.proofs.lemmas.Bool.{lt-leb}
 use Rattle.span_run.proofs.Fronts.{Known}
 use Rattle.span_run.specs.Device.{AppendsFront}
-use Rattle.span_replay.specs.inside.Reading.{ReadFails}
+use Rattle.span_replay.specs.Reading.{ReadFails}
 use Rattle.span_run.specs.Counted.{next_count}
 use Rattle.span_replay.specs.ReplayFault.{EndsAsCounted}
 use Rattle.span_replay.specs.declared.run.fault.ReplayFault.{ReplayFault}

@@ -4,7 +4,7 @@ use Rattle.std.specs.Io.KnownBytes.{Appends, Consumes}
 use Rattle.std.proofs.KnownBytes.{Appends-nil, Appends-trans, Appends-kept, Keeps-refl}
 use Rattle.std.proofs.lemmas.Bool.{lt-leb}
 use Rattle.span_run.specs.Device.{AppendsFront}
-use Rattle.span_replay.specs.inside.Reading.{ReadFails}
+use Rattle.span_replay.specs.Reading.{ReadFails}
 use Rattle.span_run.proofs.Fronts.{Known, front_none, front_after, front_more}
 use Rattle.span_replay.specs.Meaning.{Turn, Transcript, faulty, transcript_after, turn_then, run, meaning, line_turn, last_part}
 use Rattle.span_replay.specs.Replayed.{Fails, Runs, KeepsUnread}

@@ -5,6 +5,7 @@ pub use Rattle.span_run.specs.Device
 pub use Rattle.span_run.specs.Status
 -- The meaning of a script, and what a run leaves.
 pub mod ReplayFault
+pub mod Reading
 pub mod Answer
 pub mod Labels
 pub mod Faults

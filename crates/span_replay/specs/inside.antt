@@ -7,4 +7,3 @@ pub mod Calls
 pub mod Setup
 pub mod Ended
 pub mod Reaching
-pub mod Reading

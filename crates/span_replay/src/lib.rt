@@ -8,6 +8,7 @@
 pub mod laws;
 mod run;
 
+pub use run::device::read_script;
 pub use run::fault::ReplayFault;
 pub use run::hooks::replay_with_layers;
 pub use run::replay::replay;

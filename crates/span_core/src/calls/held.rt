@@ -11,7 +11,7 @@ use span_forest::{Forest, Span};
 use span_id::{Bits, Id};
 
 /// What a call that is judged sees of an open span: its count, its entries, its parent, and the layers that admit it. So
-/// the call needs no second look at it before it changes it.
+/// nothing of it is judged anew before it is changed.
 #[derive(Clone, Copy)]
 pub(crate) struct SeenSpan {
     pub(crate) count: u32,

@@ -2,7 +2,7 @@
 ghost use Rattle.std.specs.Prelude.{◌≡◌, true, ◌+◌, ◌≤◌, IfOk, IfErr, OnOk, OnErr, vec_len};
 ghost use Rattle.std.specs.Io.KnownBytes.{Appends, Consumes, IsAtEnd, Keeps};
 ghost use Rattle.span_replay.specs.ReplayFault.{EndsAsCounted};
-ghost use Rattle.span_replay.specs.inside.Reading.{ReadFails};
+ghost use Rattle.span_replay.specs.Reading.{ReadFails};
 ghost use Rattle.span_run.specs.Counted.{inner_of, calls_of, failed_of, flushes_of, flushed_of, next_count};
 ghost use Rattle.span_run.specs.Device.{AppendsFront};
 ghost use Rattle.span_script.specs.Script.{most_bytes};

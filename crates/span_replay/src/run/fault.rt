@@ -13,10 +13,13 @@ pub enum ReplayFault {
     /// The script is at fault in this line, counted from 1; 0 stands for the whole script.
     #[error("line {0}: {1}")]
     Script(u64, Reason),
+    /// Memory was refused.
     #[error("out of memory")]
     Memory,
+    /// The reader failed.
     #[error("device: read failed")]
     Read,
+    /// The writer failed, or took no byte of a text.
     #[error("device: write failed")]
     Write,
 }

@@ -35,9 +35,9 @@ use std::io::{Read, Write};
 /// a label names. So it does after a fault of the script too.
 ///
 /// The input is read to its end first. There may be so many layers. Where the result is `Ok` it is how many spans are
-/// open. After `Memory`, `Read` and `Write` a front of the text went out, and nothing where it was the reader that failed. The
-/// output is flushed by one call, which is the last, after a fault of the script too: where memory is refused or a
-/// device fails before it, there is none.
+/// open. After `Memory`, `Read` and `Write` a front of the text went out, and nothing where it was the reader that
+/// failed. The output is flushed by one call, which is the last, after a fault of the script too: where memory is
+/// refused or a device fails before it, there is none.
 pub fn why_with_layers<R: Read, W: Write>(
     alloc: Global,
     input: &mut Counted<R>,

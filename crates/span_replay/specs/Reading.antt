@@ -1,4 +1,4 @@
--- Why a script is not read to its end: no public clause cites it.
+-- Why a script is not read to its end.
 use Rattle.std.specs.Prelude.{◌≡◌, ℕ, ◌+◌, List, length, Option}
 use Rattle.std.specs.Io.KnownBytes.{Consumes}
 use Rattle.span_script.specs.Script.{most_bytes}
