@@ -10,10 +10,11 @@ use Rattle.std.specs.BTreeMap.{insert_entry, is_at}
 use Rattle.std.proofs.lemmas.Map.Text.{is_eq-slice_cmp}
 use Rattle.span_replay.specs.Labels.{Bound, id_in, with_label}
 
-abbrev Entry : Type 0
+abbrev pub Entry : Type 0
 Entry = String Global × ℕ
 
-abbrev seen : List Entry → Bound
+-- the labels as contracts see them
+abbrev pub seen : List Entry → Bound
 seen entries = map (λ entry. (string_bytes entry.0, entry.1)) entries
 
 -- the map finds at a label's bytes what the list has there

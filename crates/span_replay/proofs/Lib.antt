@@ -8,6 +8,7 @@ pub mod Flushes
 pub mod Turns
 pub mod Left
 pub mod BoundLabels
+pub mod BoundLately
 pub mod CallLemmas
 pub mod WrittenCalls
 pub mod Setups

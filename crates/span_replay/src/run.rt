@@ -6,6 +6,7 @@ pub mod explained;
 pub mod fault;
 pub mod hooks;
 pub mod labels;
+pub mod lately;
 pub mod opening;
 pub mod progress;
 pub mod reaching;

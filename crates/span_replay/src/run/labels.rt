@@ -1,6 +1,7 @@
 //! The labels by which a script's lines name spans.
-ghost use Rattle.std.specs.Prelude.{◌≡◌, [], map, OnOk, OnErr};
+ghost use Rattle.std.specs.Prelude.{◌≡◌, [], None, map, OnOk, OnErr};
 
+use crate::run::lately::Lately;
 use span_id::Id;
 use std::alloc::{AllocError, Global};
 use std::collections::BTreeMap;
@@ -12,15 +13,21 @@ use std::marker::Model;
 #[derive(Drop)]
 pub struct Labels {
     ids: BTreeMap<String, Id>,
+    // Those of them that were bound last: most lines name one of these, and need not look for it among all.
+    lately: Lately,
 }
 
 impl Model for Labels {
     ghost use Rattle.std.specs.Prelude.{map, string_bytes};
     ghost use Rattle.span_replay.specs.Labels.{Bound};
+    ghost use Rattle.span_replay.specs.inside.Lately.{AreBound};
 
     ghost Value = { Bound };
 
     ghost view = { λ labels. map (λ entry. (string_bytes entry.0, entry.1)) labels.ids.entries };
+
+    ghost invariant = { λ labels. AreBound (map (λ entry. (string_bytes entry.0, entry.1)) labels.ids.entries)
+        labels.lately.newest labels.lately.older };
 }
 
 impl Labels {
@@ -32,6 +39,7 @@ impl Labels {
     {
         Labels {
             ids: BTreeMap::new(alloc),
+            lately: Lately::new(),
         }
     }
 
@@ -39,7 +47,10 @@ impl Labels {
     pub fn get(&self, label: &str) -> Option<Id>
         ensures { result ≡ id_in self.now label.now }
     {
-        self.ids.get(label).copied()
+        match self.lately.get(label) {
+            Some(id) => Some(id),
+            None => self.ids.get(label).copied(),
+        }
     }
 
     /// Binds a label to an id, in place of what it named before. The other labels stay.
@@ -51,10 +62,23 @@ impl Labels {
     {
         if let Some(bound) = self.ids.get_mut(label) {
             *bound = id;
+            self.lately.bind(label, id);
             return Ok(());
         }
-        let label = String::from_str(alloc, label)?;
-        self.ids.insert(label, id)?;
+        self.bind_first(alloc, label, id)
+    }
+
+    /// Binds a label that names nothing yet to an id.
+    ///
+    /// Where memory is refused, no label has changed.
+    pub fn bind_first(&mut self, alloc: Global, label: &str, id: Id) -> Result<(), AllocError>
+        requires { id_in self.old label.now ≡ None }
+        ensures ok { OnOk result (self.new ≡ with_label self.old label.now id) }
+        ensures err { OnErr result (self.new ≡ self.old) }
+    {
+        let text = String::from_str(alloc, label)?;
+        self.ids.insert(text, id)?;
+        self.lately.bind(label, id);
         Ok(())
     }
 

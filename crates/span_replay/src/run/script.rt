@@ -1,6 +1,6 @@
 //! A script as far as its calls have run: the registry, the labels, and of how many batches the notes were written.
 ghost use Rattle.std.specs.Prelude.{◌≡◌, ◌<◌, ◌≤◌, ◌++◌, [], None, Ok, ℕ, IfOk, IfErr, OnOk, unwrap_or};
-ghost use Rattle.std.specs.Prelude.{length, flat_map, map, reverse};
+ghost use Rattle.std.specs.Prelude.{length, flat_map, is_some, map, reverse};
 ghost use Rattle.span_core.specs.Details.{plain_details, details_of};
 ghost use Rattle.span_outlet.specs.Latest.{lines_from};
 ghost use Rattle.span_replay.specs.Faults.{id_of_key};
@@ -42,7 +42,8 @@ impl<V: Say, A: Admit> Script<V, A> {
     ghost use Rattle.span_stack.specs.Stack.{current};
     ghost use Rattle.span_core.specs.World.{stack_of};
     ghost use Rattle.span_replay.specs.Answer.{answer_text};
-    ghost use Rattle.span_replay.specs.Faults.{is_taken, parent_of_key};
+    ghost use Rattle.span_replay.specs.Faults.{has_handles, parent_of_key};
+    ghost use Rattle.span_replay.specs.Labels.{id_in};
     ghost use Rattle.span_replay.specs.Meaning.{turn_of};
     ghost use Rattle.span_replay.specs.Requests.{request_of_call, request_of_new};
     ghost use Rattle.span_script.specs.Operation.{Stage, make, on_span, record_fields, tell, find as look_up};
@@ -179,16 +180,19 @@ impl<V: Say, A: Admit> Script<V, A> {
         ensures workers { self.new.workers ≡ self.old.workers }
     {
         let worker = worker_number(new.worker, self.workers);
-        match self.place(new, worker) {
-            Ok(parent) => self.make_under(alloc, new, worker, parent, text),
+        let named = self.labels.get(new.label);
+        let is_bound = named.is_some();
+        match self.place(new, worker, named) {
+            Ok(parent) => self.make_under(alloc, new, worker, parent, is_bound, text),
             Err(reason) => Err(Stop::Refused(reason)),
         }
     }
 
-    // The parent of a new span of this worker, whose label may name no span that has handles.
-    fn place(&self, new: &NewSpan<'_>, worker: u32) -> Result<Option<Id>, Reason>
+    // The parent of a new span of this worker, whose label may name no span that has handles. It names this one.
+    fn place(&self, new: &NewSpan<'_>, worker: u32, named: Option<Id>) -> Result<Option<Id>, Reason>
         requires worker { worker < self.now.workers }
         requires number { worker ≡ new.now.worker }
+        requires named { named ≡ id_in (labels_in self.now) new.now.label.now }
         requires written { IsWritten self.now }
         ensures { (stage : Stage) → Answers (λ parent. made_turn (state_at self.now stage) new.now.label.now
             (request_of_new (new_seen new.now) parent)) result (new_turn (state_at self.now stage) (new_seen new.now)) }
@@ -197,23 +201,25 @@ impl<V: Say, A: Admit> Script<V, A> {
             Ok(parent) => parent,
             Err(reason) => return Err(reason),
         };
-        if self.is_taken(new.label) {
+        if self.is_taken(named) {
             return Err(Reason::LabelTaken);
         }
         Ok(parent)
     }
 
-    // Makes a span under this parent and binds its label.
+    // Makes a span under this parent and binds its label, which may be bound already.
     fn make_under(
         &mut self,
         alloc: Global,
         new: &NewSpan<'_>,
         worker: u32,
         parent: Option<Id>,
+        is_bound: bool,
         text: &mut Vec<u8>,
     ) -> Result<(), Stop>
         requires worker { worker < self.old.workers }
         requires number { new.now.worker ≡ worker }
+        requires bound { is_bound ≡ is_some (id_in (labels_in self.old) new.now.label.now) }
         requires written { IsWritten self.old }
         ensures turn { (stage : Stage) →
             RunsAs (Ok (made_turn (state_at self.old stage) new.now.label.now
@@ -223,7 +229,7 @@ impl<V: Say, A: Admit> Script<V, A> {
         ensures workers { self.new.workers ≡ self.old.workers }
     {
         match calls::new_span(&mut self.core, new, worker, parent) {
-            Ok(answer) => match self.give_label(alloc, new.label, &answer) {
+            Ok(answer) => match self.give_label(alloc, new.label, is_bound, &answer) {
                 Ok(()) => self.answer(answer, text),
                 Err(_) => Err(Stop::Memory),
             },
@@ -320,15 +326,28 @@ impl<V: Say, A: Admit> Script<V, A> {
         }
     }
 
-    // Binds the label of a span, where it was made.
-    fn give_label(&mut self, alloc: Global, label: &str, answer: &Answer) -> Result<(), AllocError>
+    // Binds the label of a span, where it was made. It may be bound already.
+    fn give_label(
+        &mut self,
+        alloc: Global,
+        label: &str,
+        is_bound: bool,
+        answer: &Answer,
+    ) -> Result<(), AllocError>
+        requires { is_bound ≡ is_some (id_in (labels_in self.old) label.now) }
         ensures labels { OnOk result (labels_in self.new ≡ labels_after (labels_in self.old) label.now answer.now) }
         ensures core { core_in self.new ≡ core_in self.old }
         ensures written { self.new.written ≡ self.old.written }
         ensures workers { self.new.workers ≡ self.old.workers }
     {
         match answer {
-            Answer::Made(id) => self.labels.bind(alloc, label, *id),
+            Answer::Made(id) => {
+                if is_bound {
+                    self.labels.bind(alloc, label, *id)
+                } else {
+                    self.labels.bind_first(alloc, label, *id)
+                }
+            }
             _ => Ok(()),
         }
     }
@@ -351,11 +370,11 @@ impl<V: Say, A: Admit> Script<V, A> {
         }
     }
 
-    // Whether the label's span is open and has handles.
-    fn is_taken(&self, label: &str) -> bool
-        ensures { result ≡ is_taken (core_in self.now).world.spans (labels_in self.now) label.now }
+    // Whether the span that a label names, if any, is open and has handles.
+    fn is_taken(&self, named: Option<Id>) -> bool
+        ensures { result ≡ has_handles (core_in self.now).world.spans named }
     {
-        match self.labels.get(label) {
+        match named {
             Some(id) => self.handles(id) > 0,
             None => false,
         }

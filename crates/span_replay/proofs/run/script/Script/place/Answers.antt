@@ -1,3 +1,5 @@
+use Rattle.std.proofs.Common.{◌∙◌, ap}
+use Rattle.span_replay.specs.Faults.{has_handles}
 use Rattle.span_script.specs.Views.{new_seen}
 use Rattle.span_replay.proofs.WrittenCalls.{new_is, no_parent}
 use Rattle.span_replay.proofs.run.script.Script.place.Goals as goal
@@ -8,8 +10,8 @@ returns-in-Err g c = λ stage.
 
 pub returns-then-is_taken : goal.returns-then-is_taken
 returns-then-is_taken g c = λ stage.
-    new_is (record { core = c.args.self.now.core; labels = c.args.self.now.labels; stage = stage }) (new_seen c.args.new.now) _ _ _ _ c.requires.number c.in-Ok.ensures c.is_taken.ensures c.if-is_taken.true
+    new_is (record { core = c.args.self.now.core; labels = c.args.self.now.labels; stage = stage }) (new_seen c.args.new.now) _ _ _ _ c.requires.number c.in-Ok.ensures (c.is_taken.ensures ∙ ap (has_handles c.args.self.now.core.world.spans) c.requires.named) c.if-is_taken.true
 
 pub returns : goal.returns
 returns g c = λ stage.
-    new_is (record { core = c.args.self.now.core; labels = c.args.self.now.labels; stage = stage }) (new_seen c.args.new.now) _ _ _ _ c.requires.number c.in-Ok.ensures c.is_taken.ensures c.if-is_taken.false
+    new_is (record { core = c.args.self.now.core; labels = c.args.self.now.labels; stage = stage }) (new_seen c.args.new.now) _ _ _ _ c.requires.number c.in-Ok.ensures (c.is_taken.ensures ∙ ap (has_handles c.args.self.now.core.world.spans) c.requires.named) c.if-is_taken.false
