@@ -15,6 +15,9 @@ fn orders_levels_by_verbosity(rt: HostRuntime) {
     for pair in levels.windows(2) {
         holds(&rt, pair[0] < pair[1], "the levels in their order");
     }
+    for (verbosity, level) in levels.iter().enumerate() {
+        same(&rt, usize::from(level.verbosity()), verbosity, *level);
+    }
 }
 
 #[test]
