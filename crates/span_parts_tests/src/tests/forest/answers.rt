@@ -1,7 +1,7 @@
 //! Paths of layers, what closes with what, and refusals by limits.
 use crate::tests::compare::{id, same};
 use crate::tests::forest::fixtures::{Act, WIDE, played};
-use span_forest::{Forest, Holder};
+use span_forest::{Forest, Holder, PathText};
 use span_id::{Bits, Fault};
 use std::alloc::Global;
 use std::process::Abort;
@@ -134,15 +134,15 @@ fn forests_of_few_spans(rt: HostRuntime) {
     }
 }
 
-// A layer, a span, the text of the path, and the bits of the first four layers that see that path.
-type Seen = (u32, u64, &'static str, u64);
+// A layer, a span, the texts of its path and of a child's, and the bits of the first four layers that see that path.
+type Seen = (u32, u64, &'static str, &'static str, u64);
 
 static SEEN: [Seen; 5] = [
-    (0, 3, "a:b:c", 3),
-    (1, 3, "a:b:c", 3),
-    (2, 3, "b", 4),
-    (3, 3, "-", 8),
-    (64, 1, "-", 12),
+    (0, 3, "a:b:c", "a:b:c:d", 3),
+    (1, 3, "a:b:c", "a:b:c:d", 3),
+    (2, 3, "b", "b:d", 4),
+    (3, 3, "-", "d", 8),
+    (64, 1, "-", "d", 12),
 ];
 
 static THREE: [Act<'static>; 3] = [
@@ -151,12 +151,18 @@ static THREE: [Act<'static>; 3] = [
     Act::Add("c", 2, 3),
 ];
 
-fn sees(rt: &impl Abort, forest: &Forest, seen: &Seen) {
-    let (layer, number, text, bits) = *seen;
-    let path = forest.path_text(layer, id(rt, number));
+fn is_seen(rt: &impl Abort, path: Result<PathText, Fault>, want: (&str, u64), layer: u32) {
     let path = path.expect(rt, "an open span");
-    let seen = (path.text.as_str(), path.same.and(Bits(15)));
-    same(rt, seen, (text, Bits(bits)), layer);
+    let seen = (path.text.as_str(), path.same.and(Bits(15)).0);
+    same(rt, seen, want, layer);
+}
+
+fn sees(rt: &impl Abort, forest: &Forest, seen: &Seen) {
+    let (layer, number, text, below, bits) = *seen;
+    let span = id(rt, number);
+    is_seen(rt, forest.path_text(layer, span), (text, bits), layer);
+    let of_child = forest.path_text_below(layer, span, "d");
+    is_seen(rt, of_child, (below, bits), layer);
 }
 
 #[test]

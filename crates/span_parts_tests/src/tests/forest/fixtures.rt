@@ -1,4 +1,6 @@
 //! Forests, and what is asked of each.
+ghost use Rattle.std.specs.Prelude.{◌≡◌};
+
 use crate::tests::compare::{holds, id, same};
 use crate::values::meta;
 use span_forest::{Forest, Held, Holder};
@@ -7,11 +9,10 @@ use std::alloc::Global;
 use std::process::Abort;
 
 /// A forest with these limits.
-pub(crate) fn forest(
-    rt: &impl Abort,
-    alloc: Global,
-    (slots, last_generation, max_count): (u32, u32, u32),
-) -> Forest {
+pub(crate) fn forest(rt: &impl Abort, alloc: Global, limits: (u32, u32, u32)) -> Forest
+    ensures { result.max_count ≡ limits.2 }
+{
+    let (slots, last_generation, max_count) = limits;
     let limits = Limits {
         slots,
         last_generation,
@@ -32,22 +33,24 @@ pub(crate) fn named(rt: &impl Abort, alloc: Global, name: &str) -> SharedMeta {
     SharedMeta::copy_of(alloc, &meta).expect(rt, "memory")
 }
 
-// Adds a span that the layers of these bits admit, and answers its id.
-fn add(
+/// Adds a span that the layers of these bits admit, and answers its id.
+pub(crate) fn add(
     rt: &impl Abort,
     alloc: Global,
     forest: &mut Forest,
     name: &str,
     parent: Option<Id>,
     bits: u64,
-) -> Id {
+) -> Id
+    ensures { forest.new.max_count ≡ forest.old.max_count }
+{
     let meta = named(rt, alloc, name);
     let added = forest.add(meta, Fields::none(), parent, Bits(bits));
     added.expect(rt, "a span")
 }
 
-// Whether these are the ids of a list; `of` is the span that is asked about.
-fn are_listed(rt: &impl Abort, ids: &[Id], want: &[u64], of: u64) {
+/// Whether these are the ids of a list; `of` is the span that is asked about.
+pub(crate) fn are_listed(rt: &impl Abort, ids: &[Id], want: &[u64], of: u64) {
     same(rt, ids.len(), want.len(), of);
     for (id, number) in ids.iter().zip(want) {
         same(rt, id.get(), *number, of);

@@ -44,6 +44,15 @@ pub(crate) fn fields(rt: &impl Abort, alloc: Global, pairs: &[(&str, &str)]) -> 
     Fields::copy_of(alloc, list.as_slice()).expect(rt, "memory")
 }
 
+/// Whether the fields have these keys and values.
+pub(crate) fn are_fields(rt: &impl Abort, fields: &Fields, want: &[(&str, &str)]) {
+    same(rt, fields.len(), want.len(), "how many fields");
+    for (field, pair) in fields.as_slice().iter().zip(want) {
+        let found = (field.key.as_str(), field.value.as_str());
+        same(rt, found, *pair, "a field");
+    }
+}
+
 /// A note to the layer of this number: `new 1 w3 a k=1`.
 pub(crate) fn note(rt: &impl Abort, alloc: Global, layer: u32) -> Note {
     Note {

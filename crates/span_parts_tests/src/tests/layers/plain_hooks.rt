@@ -5,7 +5,7 @@ use crate::tests::compare::same;
 use crate::tests::layers::fixtures::note;
 use crate::values::meta;
 use span_id::Level;
-use span_layers::{Admit, Form, Rules, Say};
+use span_layers::{Admit, Form, Forms, Rules, Say};
 use std::alloc::Global;
 use std::process::Abort;
 
@@ -53,6 +53,13 @@ fn say<S: Say>(rt: &impl Abort, alloc: Global, says: &S, told: &Told) {
     same(rt, out.as_slice(), want.as_bytes(), layer);
 }
 
+// The forms of these layers, and of one that isn't there.
+fn have_forms(rt: &impl Abort, forms: &Forms) {
+    let found = [forms.get(0), forms.get(1), forms.get(2)];
+    let want = [Some(Form::Json), Some(Form::Compact), None];
+    same(rt, (forms.len(), found), (2, want), "the forms");
+}
+
 #[test]
 fn layers_without_closures_admit_and_tell(rt: HostRuntime) {
     let alloc = rt.alloc();
@@ -63,4 +70,5 @@ fn layers_without_closures_admit_and_tell(rt: HostRuntime) {
     for told in &TOLD {
         say(&rt, alloc, &tellers.formatters, told);
     }
+    have_forms(&rt, &tellers.forms);
 }

@@ -1,6 +1,7 @@
 //! What a drain writes, when a ring has room, and that both ends cross threads.
 ghost use Rattle.std.specs.Prelude.{◌≡◌, []};
 
+use crate::lines::shown;
 use crate::tests::compare::{crosses_threads, same};
 use crate::tests::outlet::batches::{FORMS, THREE_LINES, are_lines, are_lines_of, opened, sends};
 use span_layers::{Form, Kind, Say};
@@ -195,6 +196,13 @@ fn the_last_batches(rt: HostRuntime) {
     );
     takes_the_last(&rt, &mut drain, &mut ring, 3);
     are_lines(&rt, alloc, &drain, THREE_LINES);
+    moves_its_lines_out(&rt, alloc, drain);
+}
+
+fn moves_its_lines_out(rt: &impl Abort, alloc: Global, drain: Drain) {
+    let lines = shown(alloc, drain.into_lines().as_slice());
+    let lines = lines.expect(rt, "memory");
+    same(rt, lines.as_str(), THREE_LINES, "the lines moved out");
 }
 
 // The drain takes what is left in the ring, and has then taken so many batches.
