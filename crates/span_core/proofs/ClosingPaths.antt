@@ -5,7 +5,7 @@ use Rattle.std.specs.List.{list_any, range_with_len}
 use Rattle.std.specs.Option.{option_map_or}
 use Rattle.std.proofs.lemmas.Bool.{cases_Bool, cases_lt, true≢false, eqb-true, eq-eqb, ne_eqb}
 use Rattle.std.proofs.lemmas.Bool.Decides.{eqb_tells}
-use Rattle.std.proofs.lemmas.List.{append-nil, reverse-append, get_or-set_same, get_or-set_other, get_or_past}
+use Rattle.std.proofs.lemmas.List.{append-nil, reverse-append, length-set, get_or-set_same, get_or-set_other, get_or_past}
 use Rattle.std.proofs.lemmas.Map.Views.{any-filter_same}
 use Rattle.span_id.specs.Bits.{has_bit}
 use Rattle.span_layers.specs.declared.note.Kind.TheVariants.{OnClose}
@@ -20,7 +20,7 @@ use Rattle.span_forest.proofs.Ranks.{walk_more}
 use Rattle.span_core.specs.Step.{is_open_parent}
 use Rattle.span_core.specs.Happening.{bits_in, close_of, is_told, note_of, path_at}
 use Rattle.span_core.specs.inside.Sound.{hears}
-use Rattle.span_core.specs.inside.ClosingPaths.{GoesOn, IsChain, TellsBelow, IsBelow, AreBelow, AreBelowFirst, place_in, AreAscending, with_left}
+use Rattle.span_core.specs.inside.ClosingPaths.{GoesOn, IsChain, TellsBelow, IsBelow, AreBelow, AreBelowFirst, place_in, AreAscending, with_left, AreInTurn}
 use Rattle.span_core.specs.declared.notes.closing.Place.{Place}
 use Rattle.span_core.specs.declared.notes.closing.Below.{Below}
 use Rattle.span_core.proofs.NewSpans.{ParentsOpen, parent_is_open, path_is}
@@ -125,6 +125,12 @@ ascending test from (suc n) =
       | inr fails ↦ rw fails (AreAscending-lower test from (from + 1) (from + suc n) _ (omega arith) above)
     ]
 
+all_ascending : (test : ℕ → Bool) (end : ℕ) → AreAscending test 0 end (filter test (range_with_len 0 end))
+all_ascending test end = subst (λ n. AreAscending test 0 n (filter test (range_with_len 0 end))) zeros (ascending test 0 end)
+  where
+    zeros : 0 + end ≡ end
+    zeros = omega arith
+
 -- no number below the first bound is among them
 absent_below : (test : ℕ → Bool) (from end k : ℕ) (ns : List ℕ) → k < from → AreAscending test from end ns → list_any (λ other. eqb other k) ns ≡ false
 absent_below test from end k [] lt up = refl
@@ -172,23 +178,26 @@ not_first true b h k = absurd (true≢false (sym k ∙ h))
 not_first false b h k = refl
 
 -- a layer that is told: its place is that of its note
-pub below_turn : (rules : List Filter) (spans : Spans) (id layer worker : ℕ) (node : Node) (left rest : List ℕ) (notes after : List PlainNote) (places later : List (Option Place)) (count : ℕ)
-    → find spans id ≡ Some node → Ends (length spans) spans (Some id) → length places ≡ length rules → count ≡ length notes
-    → left ≡ layer ∷ rest → AreAscending (is_told rules (close_of spans id)) 0 (length rules) left
-    → AreBelow rules spans notes (with_left spans id left) places
+pub turn_more : (rules : List Filter) (spans : Spans) (id layer worker : ℕ) (node : Node) (left rest : List ℕ) (notes after : List PlainNote) (places later : List (Option Place)) (count : ℕ)
+    → find spans id ≡ Some node → Ends (length spans) spans (Some id) → count ≡ length notes
+    → left ≡ layer ∷ rest → AreInTurn rules spans id left notes places
     → after ≡ notes ++ note_of worker (close_of spans id) layer ∷ [] → later ≡ set places layer (Some (record { at = count; name = length node.name }))
-    → AreBelow rules spans after (with_left spans id rest) later
-below_turn rules spans id layer worker node left rest notes after places later count found ends long counted next up old after_is later_is =
+    → AreInTurn rules spans id rest after later
+turn_more rules spans id layer worker node left rest notes after places later count found ends counted next old after_is later_is =
     rw (after_is, later_is) (record {
-      below = λ k. elim (eqb_tells k layer) [
-        | inl same ↦ subst (λ (n : ℕ). IsBelow spans told n (with_left spans id rest n) (place_in placed n)) (sym same.1) here
-        | inr other ↦ below_at spans told k _ _ _ _ (past k other.1) (get_or-set_other places layer k (Some place) None other.1)
-            (below_more spans notes (note ∷ []) k _ _ (old.below k))
-      ];
-      wanted = λ k unwanted. elim (eqb_tells k layer) [
-        | inl same ↦ absurd (true≢false (sym both.1 ∙ ap (λ n. layer_wants rules n OnClose) (sym same.1) ∙ unwanted))
-        | inr other ↦ get_or-set_other places layer k (Some place) None other.1 ∙ old.wanted k unwanted
-      ];
+      ascending = AreAscending-lower (is_told rules (close_of spans id)) 0 (layer + 1) (length rules) rest (omega arith) first.3;
+      count = length-set places layer (Some place) ∙ old.count;
+      below = record {
+        below = λ k. elim (eqb_tells k layer) [
+          | inl same ↦ subst (λ (n : ℕ). IsBelow spans told n (with_left spans id rest n) (place_in placed n)) (sym same.1) here
+          | inr other ↦ below_at spans told k _ _ _ _ (past k other.1) (get_or-set_other places layer k (Some place) None other.1)
+              (below_more spans notes (note ∷ []) k _ _ (old.below.below k))
+        ];
+        wanted = λ k unwanted. elim (eqb_tells k layer) [
+          | inl same ↦ absurd (true≢false (sym both.1 ∙ ap (λ n. layer_wants rules n OnClose) (sym same.1) ∙ unwanted))
+          | inr other ↦ get_or-set_other places layer k (Some place) None other.1 ∙ old.below.wanted k unwanted
+        ];
+      };
     })
   where
     note : PlainNote
@@ -204,7 +213,7 @@ below_turn rules spans id layer worker node left rest notes after places later c
     placed = set places layer (Some place)
 
     first : AreAscending (is_told rules (close_of spans id)) 0 (length rules) (layer ∷ rest)
-    first = subst (λ layers. AreAscending (is_told rules (close_of spans id)) 0 (length rules) layers) next up
+    first = subst (λ layers. AreAscending (is_told rules (close_of spans id)) 0 (length rules) layers) next old.ascending
 
     both : (has_bit (bits_in spans id) layer ≡ true) × (layer_wants rules layer OnClose ≡ true)
     both = and_both (has_bit (bits_in spans id) layer) (layer_wants rules layer OnClose) first.2
@@ -219,7 +228,7 @@ below_turn rules spans id layer worker node left rest notes after places later c
     here =
         below_at spans told layer (parent_of spans id) _ (Some place) _
         (left_at spans id layer rest false (absent_below (is_told rules (close_of spans id)) (layer + 1) (length rules) layer rest (omega arith) first.3))
-        (get_or-set_same places layer (Some place) None (omega (arith, long, first.1)))
+        (get_or-set_same places layer (Some place) None (omega (arith, old.count, first.1)))
         (note, stands, (node.name, refl, ap path_text named))
 
     past : (k : ℕ) → k ≢ layer → with_left spans id rest k ≡ with_left spans id left k
@@ -227,37 +236,37 @@ below_turn rules spans id layer worker node left rest notes after places later c
         let apart : eqb layer k ≡ false = ne_eqb layer k (λ same. other (sym same)) in
         sym (left_at spans id k left _ (ap (list_any (λ n. eqb n k)) next ∙ ap (λ b. b || list_any (λ n. eqb n k) rest) apart))
 
--- the layers that are left after a turn, and before the first
-pub left_turn : (test : ℕ → Bool) (end layer : ℕ) (left rest : List ℕ) → left ≡ layer ∷ rest → AreAscending test 0 end left → AreAscending test 0 end rest
-left_turn test end layer left rest next up =
-    let first : AreAscending test 0 end (layer ∷ rest) = subst (λ layers. AreAscending test 0 end layers) next up in
-    AreAscending-lower test 0 (layer + 1) end rest (omega arith) first.3
-
 -- the layer whose turn it is
-pub left_there : (test : ℕ → Bool) (end layer : ℕ) (left rest : List ℕ) → left ≡ layer ∷ rest → AreAscending test 0 end left → layer < end
-left_there test end layer left rest next up =
-    let first : AreAscending test 0 end (layer ∷ rest) = subst (λ layers. AreAscending test 0 end layers) next up in first.1
+pub turn_there : (rules : List Filter) (spans : Spans) (id layer : ℕ) (left rest : List ℕ) (notes : List PlainNote) (places : List (Option Place))
+    → left ≡ layer ∷ rest → AreInTurn rules spans id left notes places → layer < length places
+turn_there rules spans id layer left rest notes places next old =
+    let first : AreAscending (is_told rules (close_of spans id)) 0 (length rules) (layer ∷ rest) = subst (λ layers. AreAscending (is_told rules (close_of spans id)) 0 (length rules) layers) next old.ascending in
+    omega (arith, first.1, old.count)
 
-pub left_below : (rules : List Filter) (spans : Spans) (id layer : ℕ) (left rest : List ℕ) (notes : List PlainNote) (places : List (Option Place))
-    → left ≡ layer ∷ rest → AreBelow rules spans notes (with_left spans id left) places → IsBelow spans notes layer (Some id) (place_in places layer)
-left_below rules spans id layer left rest notes places next old =
+pub turn_below : (rules : List Filter) (spans : Spans) (id layer : ℕ) (left rest : List ℕ) (notes : List PlainNote) (places : List (Option Place))
+    → left ≡ layer ∷ rest → AreInTurn rules spans id left notes places → IsBelow spans notes layer (Some id) (place_in places layer)
+turn_below rules spans id layer left rest notes places next old =
     below_at spans notes layer _ (Some id) _ _
     (sym (left_at spans id layer left true (ap (list_any (λ n. eqb n layer)) next ∙ ap (λ b. b || list_any (λ n. eqb n layer) rest) (eq-eqb layer layer refl)))) refl
-    (old.below layer)
+    (old.below.below layer)
 
 -- before the first turn: a layer that isn't told either has no place, as it wants no closes or isn't there, or doesn't
 -- admit the span, and its path stays
-pub below_start : (rules : List Filter) (spans : Spans) (id : ℕ) (node : Node) (left : List ℕ) (notes : List PlainNote) (places : List (Option Place))
+pub turn_start : (rules : List Filter) (spans : Spans) (id : ℕ) (node : Node) (left : List ℕ) (notes : List PlainNote) (places : List (Option Place))
     → find spans id ≡ Some node → Ends (length spans) spans (Some id) → length places ≡ length rules
     → left ≡ filter (is_told rules (close_of spans id)) (range_with_len 0 (length rules))
-    → AreBelow rules spans notes (λ layer. Some id) places → AreBelow rules spans notes (with_left spans id left) places
-below_start rules spans id node left notes places found ends long are old =
+    → AreBelow rules spans notes (λ layer. Some id) places → AreInTurn rules spans id left notes places
+turn_start rules spans id node left notes places found ends long are old =
     record {
-      below = λ k. elim (cases_Bool (list_any (λ other. eqb other k) left)) [
-        | inl told ↦ below_at spans notes k _ _ _ _ (left_at spans id k left true told) refl (old.below k)
-        | inr quiet ↦ below_at spans notes k (parent_of spans id) _ (place_in places k) _ (left_at spans id k left false quiet) refl (up k quiet)
-      ];
-      wanted = old.wanted;
+      ascending = subst (λ layers. AreAscending (is_told rules (close_of spans id)) 0 (length rules) layers) (sym are) (all_ascending (is_told rules (close_of spans id)) (length rules));
+      count = long;
+      below = record {
+        below = λ k. elim (cases_Bool (list_any (λ other. eqb other k) left)) [
+          | inl told ↦ below_at spans notes k _ _ _ _ (left_at spans id k left true told) refl (old.below k)
+          | inr quiet ↦ below_at spans notes k (parent_of spans id) _ (place_in places k) _ (left_at spans id k left false quiet) refl (up k quiet)
+        ];
+        wanted = old.wanted;
+      };
     }
   where
     same_path : (k : ℕ) → has_bit (bits_in spans id) k ≡ false → path k spans id ≡ path_at k spans (parent_of spans id)
@@ -279,19 +288,13 @@ below_start rules spans id node left notes places found ends long are old =
           | inr past ↦ none_below spans notes k (parent_of spans id) (place_in places k) (get_or_past places k None (omega (arith, long, past)))
         ]
 
-pub left_start : (test : ℕ → Bool) (end : ℕ) (left : List ℕ) → left ≡ filter test (range_with_len 0 end) → AreAscending test 0 end left
-left_start test end left are = subst (λ layers. AreAscending test 0 end layers) (sym are) (subst (λ n. AreAscending test 0 n (filter test (range_with_len 0 end))) zeros (ascending test 0 end))
-  where
-    zeros : 0 + end ≡ end
-    zeros = omega arith
-
 -- after the last turn
-pub below_end : (rules : List Filter) (spans : Spans) (id : ℕ) (left : List ℕ) (notes : List PlainNote) (places : List (Option Place))
-    → left ≡ [] → AreBelow rules spans notes (with_left spans id left) places → AreBelow rules spans notes (λ layer. parent_of spans id) places
-below_end rules spans id left notes places none old =
+pub turn_end : (rules : List Filter) (spans : Spans) (id : ℕ) (left : List ℕ) (notes : List PlainNote) (places : List (Option Place))
+    → left ≡ [] → AreInTurn rules spans id left notes places → AreBelow rules spans notes (λ layer. parent_of spans id) places
+turn_end rules spans id left notes places none old =
     record {
-      below = λ k. below_at spans notes k _ _ _ _ (sym (left_at spans id k left false (ap (list_any (λ other. eqb other k)) none))) refl (old.below k);
-      wanted = old.wanted;
+      below = λ k. below_at spans notes k _ _ _ _ (sym (left_at spans id k left false (ap (list_any (λ other. eqb other k)) none))) refl (old.below.below k);
+      wanted = old.below.wanted;
     }
 
 nowhere : (layers k : ℕ) → place_in (replicate layers None) k ≡ None

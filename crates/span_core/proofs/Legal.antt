@@ -131,7 +131,7 @@ stands_after id xs ys h = stands-append id xs ys ∙ or_right (stands_in id xs) 
 pub stands_either : (id : ℕ) (xs ys : List ℕ) (P : Type 0) → stands_in id (xs ++ ys) ≡ true → (stands_in id xs ≡ true → P) → (stands_in id ys ≡ true → P) → P
 stands_either id xs ys P h left right = either (stands_in id xs) (stands_in id ys) P (sym (stands-append id xs ys) ∙ h) left right
 
-stands_single : (id x : ℕ) → stands_in id (x ∷ []) ≡ true → x ≡ id
+pub stands_single : (id x : ℕ) → stands_in id (x ∷ []) ≡ true → x ≡ id
 stands_single id x h = elim (eqb_tells x id) [ inl t ↦ t.1 | inr t ↦ absurd (let h2 = rw t.0 at h in false≢true h2) ]
 
 pub stands_itself : (id : ℕ) → stands_in id (id ∷ []) ≡ true

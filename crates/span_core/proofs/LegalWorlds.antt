@@ -16,10 +16,9 @@ use Rattle.span_core.specs.Step.{Changes, stays_inside}
 use Rattle.span_core.specs.History.{issued, IsLegal}
 use Rattle.span_core.specs.History.IsLegal.{none, more}
 use Rattle.span_core.specs.ClosedSpans.{closed_in}
-use Rattle.span_core.proofs.Worlds.{world_kept_handle, world_changed, world_released_handle, world_entered}
+use Rattle.span_core.proofs.Worlds.{nobody_inside, world_kept_handle, world_changed, world_released_handle, world_entered}
 use Rattle.span_core.proofs.NewSpans.{world_new}
 use Rattle.span_core.proofs.Accepting.{held_open, world_after_exit}
-use Rattle.span_core.proofs.Soundness.{nobody_inside}
 use Rattle.span_core.proofs.Legal.{IsSettled, whole}
 
 -- no call changes how many stacks there are

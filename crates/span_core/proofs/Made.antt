@@ -24,23 +24,23 @@ use Rattle.span_core.proofs.NewSpans.{length-with_node}
 use Rattle.span_core.proofs.Legal.{whole, issued_more, closed_more}
 use Rattle.span_core.proofs.LegalWorlds.{legal_world}
 
-issued_length : (old mid new : List PlainBatch) (batch : PlainBatch) → mid ≡ old → new ≡ mid ++ batch ∷ [] → length (issued new) ≡ length (issued old) + length (id_issued batch.answer)
-issued_length old mid new batch same sent =
-    ap (λ history. length (issued history)) (sent ∙ ap (λ history. history ++ batch ∷ []) same)
+issued_length : (old new : List PlainBatch) (batch : PlainBatch) → new ≡ old ++ batch ∷ [] → length (issued new) ≡ length (issued old) + length (id_issued batch.answer)
+issued_length old new batch sent =
+    ap (λ history. length (issued history)) sent
     ∙ ap length (issued_more old batch)
     ∙ length-append (issued old) (id_issued batch.answer)
 
 -- a call that makes no span
-pub none_made : (count : ℕ) (old mid new : List PlainBatch) (batch : PlainBatch) → count ≡ length (issued old) → id_issued batch.answer ≡ [] → mid ≡ old → new ≡ mid ++ batch ∷ [] → count ≡ length (issued new)
-none_made count old mid new batch counted quiet same sent =
-    let more = issued_length old mid new batch same sent in
+pub none_made : (count : ℕ) (old new : List PlainBatch) (batch : PlainBatch) → count ≡ length (issued old) → id_issued batch.answer ≡ [] → new ≡ old ++ batch ∷ [] → count ≡ length (issued new)
+none_made count old new batch counted quiet sent =
+    let more = issued_length old new batch sent in
     let nothing = ap length quiet in
     omega (arith, counted, more, nothing)
 
 -- a call that makes one
-pub one_made : (count : ℕ) (old mid new : List PlainBatch) (batch : PlainBatch) (id : ℕ) → count ≡ length (issued old) → id_issued batch.answer ≡ id ∷ [] → mid ≡ old → new ≡ mid ++ batch ∷ [] → count + 1 ≡ length (issued new)
-one_made count old mid new batch id counted one same sent =
-    let more = issued_length old mid new batch same sent in
+pub one_made : (count : ℕ) (old new : List PlainBatch) (batch : PlainBatch) (id : ℕ) → count ≡ length (issued old) → id_issued batch.answer ≡ id ∷ [] → new ≡ old ++ batch ∷ [] → count + 1 ≡ length (issued new)
+one_made count old new batch id counted one sent =
+    let more = issued_length old new batch sent in
     let single = ap length one in
     omega (arith, counted, more, single)
 
@@ -58,7 +58,7 @@ pub few_made : (rules : List Filter) (workers : ℕ) (history : List PlainBatch)
 few_made rules workers [] world none = omega arith
 few_made rules workers history new (more {before} {old} batch legal step sent) =
     let rest = few_made rules workers before old legal in
-    let ids = issued_length before before history batch refl sent in
+    let ids = issued_length before history batch sent in
     let batches = ap length sent ∙ length-append before (batch ∷ []) in
     omega (arith, rest, ids, batches, one_at_most batch.answer)
 
@@ -106,6 +106,6 @@ made_or_closed rules workers [] world none = refl
 made_or_closed rules workers history new (more {before} {old} batch legal step sent) =
     let rest = made_or_closed rules workers before old legal in
     let step_is = balanced rules (issued before) old batch.request batch.answer new step.changes (whole rules workers before old legal).settled.upheld (legal_world rules workers before old legal) in
-    let ids = issued_length before before history batch refl sent in
+    let ids = issued_length before history batch sent in
     let gone = ap (λ h. length (closed_in h)) sent ∙ ap length (closed_more before batch) ∙ length-append (closed_in before) (closed_by batch.answer) in
     omega (arith, rest, step_is, ids, gone)

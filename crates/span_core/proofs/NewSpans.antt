@@ -1,6 +1,6 @@
 -- A new span: its path and its notes, as they can be said before it is there.
-use Rattle.std.proofs.Common.{◌≡◌, ◌≢◌, ℕ, zero, suc, ◌+◌, ◌<◌, ◌==◌, Bool, true, false, cond, ◌&&◌, ◌||◌, List, [], ◌∷◌, ◌++◌, length, map, filter, reverse, Option, Some, None, refl, sym, ap, ◌∙◌, subst, inl, inr, arith}
-use Rattle.std.specs.Prelude.{◌⊎◌, is_some, IfSome, All, slice_index, nat_lt}
+use Rattle.std.proofs.Common.{◌≡◌, ◌≢◌, ℕ, zero, suc, ◌<◌, Bool, true, false, cond, ◌&&◌, List, [], ◌∷◌, ◌++◌, length, map, filter, reverse, Option, Some, None, refl, sym, ap, ◌∙◌, subst, inl, inr, arith}
+use Rattle.std.specs.Prelude.{is_some, IfSome, All, slice_index, nat_lt}
 use Rattle.std.specs.Arc.{arc_str_bytes}
 use Rattle.std.specs.Option.{option_map_or}
 use Rattle.std.specs.List.{range_with_len}
@@ -11,7 +11,7 @@ use Rattle.std.proofs.lemmas.List.Elements.{All-map, All-weaker, filter_passes}
 use Rattle.span_id.specs.Bits.{has_bit}
 use Rattle.span_id.specs.Id.{slot_of, generation_of, IsId}
 use Rattle.span_id.specs.declared.limits.Limits.{Limits}
-use Rattle.span_slots.specs.Table.{issue, IsIssued}
+use Rattle.span_slots.specs.Table.{IsIssued}
 use Rattle.span_layers.specs.declared.note.Kind.TheVariants.{OnNew}
 use Rattle.span_id.specs.Meta.{KeyValue, PlainMeta}
 use Rattle.span_layers.specs.declared.note.Note.{Note}
@@ -23,21 +23,17 @@ use Rattle.span_forest.specs.declared.span.Holder.TheVariants.{Entry}
 use Rattle.span_forest.specs.Holders.{held_in}
 use Rattle.span_forest.specs.Forest.{ForestView, table_of, next_span_id}
 use Rattle.span_forest.specs.Live.{stands_in}
-use Rattle.span_forest.specs.Add.{with_span}
 use Rattle.span_forest.specs.Walk.{walk_within}
 use Rattle.span_forest.specs.Path.{path, path_text, names_for, name_for}
 use Rattle.span_forest.proofs.Adds.{find-with_same, find-with_other}
-use Rattle.span_forest.proofs.Slotted.{issue_more}
 use Rattle.span_core.specs.World.{IsWorld}
-use Rattle.span_outlet.specs.Request.{Request, new_span, made}
+use Rattle.span_outlet.specs.Request.{new_span, made}
 use Rattle.span_outlet.specs.Batch.{PlainBatch}
 use Rattle.span_core.specs.Step.{is_open_parent, IsStep, is_wanted_meta, made_node}
 use Rattle.span_core.specs.History.{issued}
-use Rattle.span_core.specs.NextId.{with_answer, slots_after, next_id_after}
+use Rattle.span_core.specs.NextId.{next_id_after}
 use Rattle.span_core.specs.Happening.{at_span, is_told, note_of, notes_of, notes_of_all, path_at}
-use Rattle.span_core.specs.inside.Sound.{first_note, hears, IsSound, forest_with}
-use Rattle.span_core.proofs.Soundness.{sound_more}
-use Rattle.span_core.proofs.Worlds.{same_key}
+use Rattle.span_core.specs.inside.Sound.{first_note, hears, IsSound}
 use Rattle.span_core.proofs.Telling.{one_happening}
 
 abbrev pub ParentsOpen : Spans → Type 0
@@ -172,13 +168,6 @@ world_new spans id node stacks gone none whole = record { entered = λ j. same j
           | inr t ↦ ap (held_in Entry) (find-with_other spans id j node t.1)
         ]
 
-only_one : (id x : ℕ) → ((id == x) || false) ≡ true → id ≡ x
-only_one id x h = same_key id x (sym (or_none (id == x)) ∙ h)
-  where
-    or_none : (b : Bool) → (b || false) ≡ b
-    or_none true = refl
-    or_none false = refl
-
 pub step_new : (rules : List Filter) (ids : List ℕ) (spans new_spans : Spans) (stacks : List (List ℕ)) (worker id : ℕ) (meta : PlainMeta) (fields : List KeyValue) (parent : Option ℕ) (notes : List PlainNote)
     → worker < length stacks → IsId id → stands_in id ids ≡ false → is_wanted_meta rules meta ≡ true → is_open_parent spans parent ≡ true
     → new_spans ≡ with_node spans id (made_node rules meta fields parent)
@@ -213,33 +202,3 @@ next_is_new limits rules forest stacks calls sent sound in_layout never =
     by_case : (o : Option ℕ) → IfSome o IsId → IfSome o (λ id. IsIssued (table_of forest) id → ⊥) → IfSome o (λ id. IsId id × (stands_in id (issued sent) ≡ false))
     by_case None there unissued = tt
     by_case (Some id) there unissued = (there, not_in_history limits rules forest stacks calls sent id sound unissued)
-
-pub sound_new : (limits : Limits) (rules : List Filter) (forest new_forest : ForestView) (stacks : List (List ℕ)) (calls : ℕ) (old mid new : List PlainBatch) (worker id : ℕ) (meta : PlainMeta) (fields : List KeyValue) (parent : Option ℕ) (written : Request) (notes : List PlainNote)
-    → IsSound limits forest stacks rules calls old
-    → worker < length stacks
-    → IsId id
-    → (generation_of id < slice_index forest.given (slot_of id) → ⊥)
-    → generation_of id < slice_index new_forest.given (slot_of id)
-    → ((x : ℕ) → IsId x → generation_of x < slice_index new_forest.given (slot_of x) → (generation_of x < slice_index forest.given (slot_of x)) ⊎ (stands_in x (id ∷ []) ≡ true))
-    → is_wanted_meta rules meta ≡ true
-    → is_open_parent forest.spans parent ≡ true
-    → find forest.spans id ≡ None
-    → new_forest ≡ with_span forest id (made_node rules meta fields parent)
-    → notes ≡ notes_of_all rules worker (at_span new_forest.spans OnNew id fields ∷ [])
-    → written ≡ new_span worker meta fields parent
-    → mid ≡ old → new ≡ mid ++ (record { request = written; answer = made id; notes = notes }) ∷ []
-    → IsSound limits new_forest stacks rules (calls + 1) new
-sound_new limits rules forest new_forest stacks calls old mid new worker id meta fields parent written notes sound within in_layout never now_issued no_other wanted there gone forest_is notes_are written_is same sent =
-    let node = made_node rules meta fields parent in
-    let spans_are = ap (λ f. f.spans) forest_is in
-    let given_is : new_forest.given ≡ issue forest.given (slot_of id) = ap (λ f. f.given) forest_is in
-    sound_more limits rules forest new_forest stacks stacks calls old mid new (record { request = new_span worker meta fields parent; answer = made id; notes = notes }) sound
-    (forest_is ∙ ap (λ (f : ForestView). with_span f id node) sound.forest_is
-    ∙ ap (λ s. forest_with limits s (with_answer limits.last_generation (slots_after limits.last_generation old) (made id))) (sym spans_are))
-    (λ x there_x. subst (λ (y : ℕ). generation_of y < slice_index new_forest.given (slot_of y)) (only_one id x there_x) now_issued)
-    (λ x before. rw given_is (issue_more forest.given (slot_of id) (slot_of x) (generation_of x) before))
-    no_other
-    refl
-    (subst (λ (spans : Spans). IsWorld (record { spans = spans; stacks = stacks })) (sym spans_are) (world_new forest.spans id node stacks gone refl sound.world))
-    (step_new rules (issued old) forest.spans new_forest.spans stacks worker id meta fields parent notes within in_layout (not_in_history limits rules forest stacks calls old id sound never) wanted there spans_are notes_are)
-    same (sent ∙ ap (λ (request : Request). mid ++ (record { request = request; answer = made id; notes = notes }) ∷ []) written_is)

@@ -23,8 +23,8 @@ use Rattle.span_core.specs.NextId.{SlotsUsed, slots_after, with_answer}
 use Rattle.span_core.specs.Core.{CoreView, id_after, IsDue}
 use Rattle.span_core.specs.Outcome.{answer_to, world_after, core_after}
 use Rattle.span_core.proofs.Deciding.{held_from}
-use Rattle.span_core.proofs.Soundness.{slots_more, nobody_inside}
-use Rattle.span_core.proofs.Worlds.{world_kept_handle, world_changed, world_released_handle, world_entered}
+use Rattle.span_core.proofs.Soundness.{slots_more}
+use Rattle.span_core.proofs.Worlds.{nobody_inside, world_kept_handle, world_changed, world_released_handle, world_entered}
 use Rattle.span_core.proofs.NewSpans.{world_new}
 use Rattle.span_core.proofs.Accepting.{held_open, inside_held, world_after_exit}
 use Rattle.span_core.proofs.UsedSlots.{Agrees, agrees_empty, agrees_fewer, agrees_closed, agrees_made}

@@ -1,9 +1,9 @@
 -- The entries of the spans and the workers' stacks agree after each change of the world.
-use Rattle.std.proofs.Common.{◌≡◌, ℕ, zero, suc, ◌+◌, ◌-◌, ◌<◌, ◌==◌, Bool, true, false, cond, not, ◌||◌, ◌&&◌, List, [], ◌∷◌, ◌++◌, length, filter, get_or, set, Option, Some, None, refl, sym, ap, ◌∙◌, arith, inl, inr}
+use Rattle.std.proofs.Common.{◌≡◌, ℕ, zero, suc, ◌+◌, ◌-◌, ◌<◌, ◌==◌, Bool, true, false, cond, not, ◌||◌, ◌&&◌, List, [], ◌∷◌, ◌++◌, length, filter, get_or, set, replicate, Option, Some, None, refl, sym, ap, ◌∙◌, arith, inl, inr}
 use Rattle.std.specs.List.{list_any}
 use Rattle.std.proofs.lemmas.Bool.{cases_Bool, eq-eqb, false≢true}
 use Rattle.std.proofs.lemmas.Bool.Decides.{nat_tests}
-use Rattle.std.proofs.lemmas.List.Folds.{list_any-append}
+use Rattle.std.proofs.lemmas.List.Folds.{sum_by-replicate, list_any-append}
 use Rattle.std.proofs.lemmas.List.Sums.{sum_by-set}
 use Rattle.span_forest.specs.declared.span.Holder.TheVariants.{Handle, Entry}
 use Rattle.span_forest.specs.Node.{Node}
@@ -59,6 +59,10 @@ world_changed f same spans id stacks whole = record { entered = λ j. entries-ch
 
 pub world_kept_handle : (spans : Spans) (id : ℕ) (stacks : List (List ℕ)) → IsWorld (record { spans = spans; stacks = stacks }) → IsWorld (record { spans = with_holder spans id Handle; stacks = stacks })
 world_kept_handle spans id stacks whole = world_changed (with_more Handle) (λ node. refl) spans id stacks whole
+
+-- no worker has entered anything
+pub nobody_inside : (workers id : ℕ) → workers_inside (replicate workers []) id ≡ 0
+nobody_inside workers id = sum_by-replicate (λ stack. cond (has stack id) 1 0) workers [] ∙ omega arith
 
 abbrev pub one : Bool → ℕ
 one b = cond b 1 0

@@ -8,7 +8,7 @@ use Rattle.span_layers.specs.Filter.{Filter, layer_wants}
 use Rattle.span_forest.specs.Spans.{Spans, IsOpen, parent_of}
 use Rattle.span_forest.specs.Path.{path_text}
 use Rattle.span_core.specs.declared.notes.closing.Place.{Place}
-use Rattle.span_core.specs.Happening.{path_at}
+use Rattle.span_core.specs.Happening.{close_of, is_told, path_at}
 
 -- the list ends, or goes on with this span
 abbrev pub GoesOn : Option ℕ → List ℕ → Type 0
@@ -59,3 +59,13 @@ AreAscending test from end (n ∷ ns) =
 -- its parent already
 abbrev pub with_left : Spans → ℕ → List ℕ → ℕ → Option ℕ
 with_left spans id left layer = if list_any (λ other. other == layer) left then Some id else parent_of spans id
+
+-- while a span is told of, layer by layer: the layers that are left ascend, there are as many places as layers, and the
+-- places of the layers that are left are at the span, those of the others at its parent
+pub record AreInTurn
+    (rules : List Filter) (spans : Spans) (id : ℕ) (left : List ℕ) (notes : List PlainNote)
+    (places : List (Option Place))
+    : Type 0 where
+  pub ascending : AreAscending (is_told rules (close_of spans id)) 0 (length rules) left
+  pub count : length places ≡ length rules
+  pub below : AreBelow rules spans notes (with_left spans id left) places

@@ -4,12 +4,14 @@ use Rattle.span_layers.specs.Note.{plain_note}
 use Rattle.span_forest.specs.declared.span.Holder.TheVariants.{Handle}
 use Rattle.span_forest.specs.Holders.{IsHeld}
 use Rattle.span_stack.specs.Stack.{has, ids_of_each}
+use Rattle.span_outlet.specs.Request.{enter, entered}
 use Rattle.span_core.specs.World.{stack_of}
 use Rattle.span_core.specs.Core.{CoreView, has_handle}
 use Rattle.span_core.specs.Happening.{at_span, notes_of, notes_of_all}
 use Rattle.span_core.proofs.Made.{none_made}
 use Rattle.span_core.proofs.Deciding.{held_from}
-use Rattle.span_core.proofs.Accepting.{step_enter, sound_enter}
+use Rattle.span_core.proofs.Soundness.{IsOneMore, put_on, sound_kept}
+use Rattle.span_core.proofs.Accepting.{step_enter}
 use Rattle.span_core.proofs.Telling.{one_happening}
 use Rattle.span_core.proofs.Clauses.{accepted_by}
 use Rattle.span_core.proofs.Remembering.{remembers_entered}
@@ -36,18 +38,30 @@ told g c =
     (c.in_ok-notes.ensures.notes
     ∙ ap (λ fields. notes_of c.self.inside.rules c.args.worker (at_span c.self.inside.forest.spans OnEnter c.args.id fields)) c.none.ensures)
 
+call : (g : given.Over) (c : After-put g) → IsOneMore c.self.inside.rules (g.O.Outlet.sent c.self.inside.outlet) (record { spans = c.self.inside.forest.spans; stacks = ids_of_each c.self.inside.stacks.items })
+    (record { request = enter c.args.worker c.args.id; answer = entered c.in_ok-entering.entering.first; notes = map plain_note c.in_ok-notes.notes.items })
+    (record { spans = c.keep_first.new.forest.spans; stacks = ids_of_each c.push_at.new.stacks.items }) (g.O.Outlet.sent c.put.new.self)
+call g c = record {
+  step = step_enter _ _ _ _ _ _ c.args.worker c.args.id _ _ (within g c) (held g c) (first g c)
+      (ap (λ f. f.spans) c.keep_first.ensures) c.in_ok-push_at.ensures.pushed (told g c);
+  sent = put_on _ _ _ _ c.in_ok-ask.ensures.sent c.put.ensures.sent;
+}
+
 pub invariant_of-self-2 : goal.invariant_of-self-2
 invariant_of-self-2 g c = (
-  sound_enter _ _ _ _ _ _ _ _ _ _ c.args.worker c.args.id _ _ c.self.invariant.0 (held g c) (within g c) (first g c)
-      c.keep_first.ensures c.in_ok-push_at.ensures.pushed (told g c) c.in_ok-ask.ensures.sent c.put.ensures.sent,
-  none_made _ _ _ _ _ c.self.invariant.1 refl c.in_ok-ask.ensures.sent c.put.ensures.sent,
+  sound_kept _ _ _ _ _ _ _ _ _ _ _ [] c.self.invariant.0 (call g c) refl refl c.keep_first.ensures,
+  none_made _ _ _ _ c.self.invariant.1 refl (call g c).sent,
   remembers_entered _ _ c.in_ok-entering.entering.first c.args.id _ c.keep_first.ensures c.in_ok-notes.ensures.remembers,
   summary_entered _ _ _ _ _ c.in_ok-entering.entering.first c.args.worker c.args.id (ap (λ f. f.spans) c.keep_first.ensures) (within g c) c.in_ok-push_at.ensures.pushed c.self.invariant.3,
 )
 
 pub returns-clause-accepted : goal.returns-clause-accepted
 returns-clause-accepted g c =
-    accepted_by _ _ _ _ _ _ _ _ _ _ _ _ _ _ _ c.self.view_is c.in_ok-entering.ensures.due
-    (step_enter _ _ _ _ _ _ c.args.worker c.args.id _ _ (within g c) (held g c) (first g c)
-    (ap (λ f. f.spans) c.keep_first.ensures) c.in_ok-push_at.ensures.pushed (told g c))
-    refl c.in_ok-ask.ensures.sent c.put.ensures.sent c.in_ok-ask.ensures.times_full c.put.ensures.times_full c.in_ok-ask.ensures.forms c.put.ensures.forms c.in_ok-ask.ensures.name c.put.ensures.name
+    accepted_by _ _ _ _ _ _ c.self.view_is c.in_ok-entering.ensures.due (call g c)
+    (record {
+      limits = refl;
+      rules = refl;
+      times_full = c.put.ensures.times_full ∙ c.in_ok-ask.ensures.times_full;
+      forms = c.put.ensures.forms ∙ c.in_ok-ask.ensures.forms;
+      name = c.put.ensures.name ∙ c.in_ok-ask.ensures.name;
+    })

@@ -1,8 +1,9 @@
-use Rattle.std.proofs.Common.{◌≡◌, ◌∙◌, ◌<◌, ℕ, cond, List, [], true, length, get_or, set, sym, ap, refl, subst, arith}
+use Rattle.std.proofs.Common.{◌≡◌, ◌∙◌, ◌<◌, ℕ, cond, List, [], true, length, map, get_or, set, sym, ap, refl, subst, arith}
+use Rattle.span_layers.specs.Note.{plain_note}
 use Rattle.span_forest.specs.declared.span.Holder.TheVariants.{Entry}
 use Rattle.span_forest.specs.Release.{closing_list}
 use Rattle.span_stack.specs.Stack.{has, without_last, ids_of_each}
-use Rattle.span_outlet.specs.Request.{exited}
+use Rattle.span_outlet.specs.Request.{exit, exited}
 use Rattle.span_forest.specs.Forest.{ForestView}
 use Rattle.span_outlet.specs.Batch.{PlainBatch}
 use Rattle.span_core.specs.World.{stack_of}
@@ -12,7 +13,8 @@ use Rattle.span_core.specs.inside.Summary.{IsSummary}
 use Rattle.span_core.specs.Core.{CoreView}
 use Rattle.span_core.specs.Step.{stays_inside, closed_by_exit}
 use Rattle.span_core.proofs.Made.{none_made}
-use Rattle.span_core.proofs.Accepting.{step_exit, sound_exit}
+use Rattle.span_core.proofs.Soundness.{IsOneMore, put_on, sound_kept}
+use Rattle.span_core.proofs.Accepting.{step_exit}
 use Rattle.span_core.proofs.Clauses.{accepted_as, accepted_by}
 use Rattle.span_core.proofs.KeptSummaries.{summary_exited}
 use Rattle.span_core.proofs.Core.exit_with.Given as given
@@ -61,11 +63,19 @@ invariant_of-self-in_err-ids g c =
       subst (λ (parts : ForestView × List (List ℕ)). IsSummary parts.0.spans parts.1 c.cut.new.self) (λ j. (sym forest_is j, (ids_are ∙ sym stacks_are) j)) cut,
     )
 
+call : (g : given.Over) (c : After-put g) → IsOneMore c.self.inside.rules (g.O.Outlet.sent c.self.inside.outlet) (record { spans = c.self.inside.forest.spans; stacks = ids_of_each c.self.inside.stacks.items })
+    (record { request = exit c.args.worker c.args.id; answer = exited c.in_ok-ids.field-0.ids.items; notes = map plain_note c.in_ok-ids.field-0.notes.items })
+    (record { spans = c.leave.new.forest.spans; stacks = ids_of_each c.leave.new.stacks.items }) (g.O.Outlet.sent c.put.new.self)
+call g c = record {
+  step = step_exit _ _ _ _ _ _ c.args.worker c.args.id c.in_ok-leaving.leaving.stays _ _ (within g c) (stands g c) (stays g c)
+      c.in_ok-ids.ensures.ids (ap (λ f. f.spans) c.in_ok-ids.ensures.forest) c.in_ok-ids.ensures.stacks c.in_ok-ids.ensures.notes;
+  sent = put_on _ _ _ _ c.in_ok-ask.ensures.sent c.put.ensures.sent;
+}
+
 pub invariant_of-self-2 : goal.invariant_of-self-2
 invariant_of-self-2 g c = (
-  sound_exit _ _ _ _ _ _ _ _ _ _ c.args.worker c.args.id c.in_ok-leaving.leaving.stays _ _ c.self.invariant.0 (within g c) (stands g c) (stays g c)
-      c.in_ok-ids.ensures.ids c.in_ok-ids.ensures.forest c.in_ok-ids.ensures.stacks c.in_ok-ids.ensures.notes c.in_ok-ask.ensures.sent c.put.ensures.sent,
-  none_made _ _ _ _ _ c.self.invariant.1 refl c.in_ok-ask.ensures.sent c.put.ensures.sent,
+  sound_kept _ _ _ _ _ _ _ _ _ _ _ _ c.self.invariant.0 (call g c) refl c.in_ok-ids.ensures.ids c.in_ok-ids.ensures.forest,
+  none_made _ _ _ _ c.self.invariant.1 refl (call g c).sent,
   c.in_ok-ids.ensures.remembers,
   summary_exited _ _ _ _ _ c.in_ok-leaving.leaving.stays c.args.id (ap (λ f. f.spans) c.in_ok-ids.ensures.forest) c.in_ok-ids.ensures.stacks (cut_after g c),
 )
@@ -73,10 +83,14 @@ invariant_of-self-2 g c = (
 pub returns-clause-accepted : goal.returns-clause-accepted
 returns-clause-accepted g c =
     accepted_as _ _ _ _ _ (ap (λ (ids : List ℕ). exited ids) (list_is g c))
-    (accepted_by _ _ _ _ _ _ _ _ _ _ _ _ _ _ _ c.self.view_is c.in_ok-leaving.ensures.due
-    (step_exit _ _ _ _ _ _ c.args.worker c.args.id c.in_ok-leaving.leaving.stays _ _ (within g c) (stands g c) (stays g c)
-    c.in_ok-ids.ensures.ids (ap (λ f. f.spans) c.in_ok-ids.ensures.forest) c.in_ok-ids.ensures.stacks c.in_ok-ids.ensures.notes)
-    refl c.in_ok-ask.ensures.sent c.put.ensures.sent c.in_ok-ask.ensures.times_full c.put.ensures.times_full c.in_ok-ask.ensures.forms c.put.ensures.forms c.in_ok-ask.ensures.name c.put.ensures.name)
+    (accepted_by _ _ _ _ _ _ c.self.view_is c.in_ok-leaving.ensures.due (call g c)
+    (record {
+      limits = refl;
+      rules = refl;
+      times_full = c.put.ensures.times_full ∙ c.in_ok-ask.ensures.times_full;
+      forms = c.put.ensures.forms ∙ c.in_ok-ask.ensures.forms;
+      name = c.put.ensures.name ∙ c.in_ok-ask.ensures.name;
+    }))
 
 pub returns-clause-shown : goal.returns-clause-shown
 returns-clause-shown g c = record {

@@ -1,8 +1,8 @@
-use Rattle.std.proofs.Common.{◌≡◌, ◌∙◌, ◌<◌, ◌-◌, ◌^◌, ℕ, Bool, ◌&&◌, true, false, [], ◌∷◌, map, filter, length, Option, Some, None, ap, sym, refl, subst, inl, inr, arith}
-use Rattle.std.specs.Prelude.{◌⊎◌, IfSome, slice_index}
+use Rattle.std.proofs.Common.{◌≡◌, ◌∙◌, ◌<◌, ◌-◌, ◌^◌, ℕ, Bool, ◌&&◌, true, false, [], ◌∷◌, ◌++◌, map, filter, length, Option, Some, None, ap, sym, refl, subst, arith}
+use Rattle.std.specs.Prelude.{IfSome}
 use Rattle.std.proofs.lemmas.Bool.{false≢true, ltb-true}
 use Rattle.std.specs.List.{range_with_len}
-use Rattle.span_id.specs.Id.{IsId, slot_of, generation_of}
+use Rattle.span_id.specs.Id.{IsId}
 use Rattle.span_slots.specs.Table.{IsIssued}
 use Rattle.span_layers.specs.declared.note.Kind.TheVariants.{OnNew}
 use Rattle.span_layers.specs.Note.{plain_note}
@@ -11,19 +11,19 @@ use Rattle.span_forest.specs.Node.{new_node}
 use Rattle.span_forest.specs.Spans.{find}
 use Rattle.span_forest.specs.Forest.{table_of, next_span_id}
 use Rattle.span_forest.specs.Add.{with_span}
-use Rattle.span_forest.specs.Live.{stands_in}
 use Rattle.span_stack.specs.Stack.{ids_of_each}
+use Rattle.span_outlet.specs.Request.{made}
 use Rattle.span_core.specs.Happening.{at_span, notes_of_all}
 use Rattle.span_core.specs.Step.{is_wanted_meta, made_node, is_open_parent}
-use Rattle.span_core.specs.History.{issued}
 use Rattle.span_core.specs.inside.Sound.{first_note, hears}
 use Rattle.span_core.specs.NextId.{next_id_after}
 use Rattle.span_core.specs.inside.Given.{meta_given, fields_given}
+use Rattle.span_core.specs.inside.Lent.{span_request}
 use Rattle.span_core.specs.Core.{CoreView}
-use Rattle.span_core.proofs.Legal.{stands_itself}
 use Rattle.span_core.proofs.Made.{few_made, one_made}
 use Rattle.span_core.proofs.Clauses.{accepted_by}
-use Rattle.span_core.proofs.NewSpans.{sound_new, step_new, new_notes, not_open, not_in_history}
+use Rattle.span_core.proofs.Soundness.{IsOneMore, sound_made}
+use Rattle.span_core.proofs.NewSpans.{step_new, new_notes, not_open, not_in_history}
 use Rattle.span_core.proofs.KeptSummaries.{summary_new}
 use Rattle.span_core.proofs.Core.make.Given as given
 use Rattle.span_core.proofs.Core.make.Goals as goal
@@ -58,16 +58,6 @@ in_layout g c = subst (λ (o : Option ℕ). IfSome o IsId) (next g c) c.next_id_
 gone : (g : given.Over) (c : After-put g) → find c.self.inside.forest.spans c.args.new.now.id ≡ None
 gone g c = not_open c.self.inside.forest.spans c.args.new.now.id (IsIssued (table_of c.self.inside.forest) c.args.new.now.id) (c.each_slot_has_one_open_id.ensures.issued c.args.new.now.id) (never g c)
 
-now_issued : (g : given.Over) (c : After-put g) → generation_of c.args.new.now.id < slice_index c.add_span.new.forest.given (slot_of c.args.new.now.id)
-now_issued g c = (c.in_ok-call.ensures.issued c.args.new.now.id (in_layout g c)).1 (inr refl)
-
-no_other : (g : given.Over) (c : After-put g) → (x : ℕ) → IsId x → generation_of x < slice_index c.add_span.new.forest.given (slot_of x) → (generation_of x < slice_index c.self.inside.forest.given (slot_of x)) ⊎ (stands_in x (c.args.new.now.id ∷ []) ≡ true)
-no_other g c x fits low =
-    elim ((c.in_ok-call.ensures.issued x fits).0 low) [
-      | inl before ↦ inl before
-      | inr same ↦ inr (subst (λ (j : ℕ). stands_in x (j ∷ []) ≡ true) (sym same) (stands_itself x))
-    ]
-
 forest_is : (g : given.Over) (c : After-put g) → c.add_span.new.forest ≡ with_span c.self.inside.forest c.args.new.now.id (made_node c.self.inside.rules (meta_given c.args.new.now.meta) (fields_given c.args.new.now.fields) c.args.new.now.parent)
 forest_is g c =
     c.in_ok-call.ensures.forest
@@ -80,6 +70,15 @@ told g c =
     (c.in_ok-call.ensures.notes
     ∙ (λ j. map (first_note c.self.inside.forest.spans c.args.new.now.worker c.args.new.now.id c.args.new.now.parent (meta_given c.args.new.now.meta).name (fields_given c.args.new.now.fields))
     (filter (hears c.self.inside.rules (bits_are g c j) OnNew) (range_with_len 0 (length c.self.inside.rules)))))
+
+call : (g : given.Over) (c : After-put g) → IsOneMore c.self.inside.rules (g.O.Outlet.sent c.self.inside.outlet) (record { spans = c.self.inside.forest.spans; stacks = ids_of_each c.self.inside.stacks.items })
+    (record { request = span_request c.args.new.now; answer = made c.args.new.now.id; notes = map plain_note c.in_ok-call.field-0.notes.items })
+    (record { spans = c.add_span.new.forest.spans; stacks = ids_of_each c.self.inside.stacks.items }) (g.O.Outlet.sent c.put.new.self)
+call g c = record {
+  step = step_new _ _ _ _ _ c.args.new.now.worker c.args.new.now.id (meta_given c.args.new.now.meta) (fields_given c.args.new.now.fields) c.args.new.now.parent _
+      (within g c) (in_layout g c) (not_in_history _ _ _ _ _ _ c.args.new.now.id c.self.invariant.0 (never g c)) (wanted g c) (parent_open g c) (ap (λ f. f.spans) (forest_is g c)) (told g c);
+  sent = c.put.ensures.sent ∙ (λ j. c.in_ok-ask.ensures.sent j ++ (record { request = c.in_ok-call.ensures.call j; answer = made c.args.new.now.id; notes = map plain_note c.in_ok-call.field-0.notes.items }) ∷ []);
+}
 
 and_second : (p q : Bool) → (p && q) ≡ true → q ≡ true
 and_second true q h = h
@@ -94,17 +93,19 @@ overflow_add-self-2 g c =
 
 pub invariant_of-self-2 : goal.invariant_of-self-2
 invariant_of-self-2 g c = (
-  sound_new _ _ _ _ _ _ _ _ _ c.args.new.now.worker c.args.new.now.id (meta_given c.args.new.now.meta) (fields_given c.args.new.now.fields) c.args.new.now.parent _ _
-      c.self.invariant.0 (within g c) (in_layout g c) (never g c) (now_issued g c) (no_other g c) (wanted g c) (parent_open g c) (gone g c) (forest_is g c) (told g c)
-      c.in_ok-call.ensures.call c.in_ok-ask.ensures.sent c.put.ensures.sent,
-  one_made _ _ _ _ _ _ c.self.invariant.1 refl c.in_ok-ask.ensures.sent c.put.ensures.sent,
+  sound_made _ _ _ _ _ _ _ _ _ _ c.args.new.now.id _ c.self.invariant.0 (call g c) (in_layout g c) (forest_is g c) c.in_ok-call.ensures.issued,
+  one_made _ _ _ _ _ c.self.invariant.1 refl (call g c).sent,
   c.in_ok-call.ensures.remembers,
   summary_new _ _ _ _ c.args.new.now.id _ (ap (λ f. f.spans) (forest_is g c)) (gone g c) c.self.invariant.0.world c.self.invariant.3,
 )
 
 pub returns-clause-made : goal.returns-clause-made
 returns-clause-made g c =
-    accepted_by _ _ _ _ _ _ _ _ _ _ _ _ _ _ _ c.self.view_is c.requires.due
-    (step_new c.self.inside.rules (issued (g.O.Outlet.sent c.self.inside.outlet)) c.self.inside.forest.spans c.add_span.new.forest.spans (ids_of_each c.self.inside.stacks.items) c.args.new.now.worker c.args.new.now.id (meta_given c.args.new.now.meta) (fields_given c.args.new.now.fields) c.args.new.now.parent _
-    (within g c) (in_layout g c) (not_in_history _ _ _ _ _ _ c.args.new.now.id c.self.invariant.0 (never g c)) (wanted g c) (parent_open g c) (ap (λ f. f.spans) (forest_is g c)) (told g c))
-    c.in_ok-call.ensures.call c.in_ok-ask.ensures.sent c.put.ensures.sent c.in_ok-ask.ensures.times_full c.put.ensures.times_full c.in_ok-ask.ensures.forms c.put.ensures.forms c.in_ok-ask.ensures.name c.put.ensures.name
+    accepted_by _ _ _ _ _ _ c.self.view_is c.requires.due (call g c)
+    (record {
+      limits = refl;
+      rules = refl;
+      times_full = c.put.ensures.times_full ∙ c.in_ok-ask.ensures.times_full;
+      forms = c.put.ensures.forms ∙ c.in_ok-ask.ensures.forms;
+      name = c.put.ensures.name ∙ c.in_ok-ask.ensures.name;
+    })

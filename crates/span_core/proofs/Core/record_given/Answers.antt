@@ -1,16 +1,18 @@
-use Rattle.std.proofs.Common.{◌≡◌, ◌<◌, [], true, length, map, sym, ap, refl, subst, arith}
-use Rattle.std.specs.Prelude.{◌∷◌}
+use Rattle.std.proofs.Common.{◌≡◌, ◌∙◌, ◌<◌, [], true, length, map, sym, ap, refl, subst, arith}
+use Rattle.std.specs.Prelude.{◌∷◌, ◌++◌}
 use Rattle.span_layers.specs.declared.note.Kind.TheVariants.{OnRecord}
 use Rattle.span_layers.specs.Note.{plain_note}
 use Rattle.span_forest.specs.declared.span.Holder.TheVariants.{Handle}
 use Rattle.span_forest.specs.Holders.{IsHeld}
 use Rattle.span_stack.specs.Stack.{ids_of_each}
+use Rattle.span_outlet.specs.Request.{record_fields, recorded}
 use Rattle.span_core.specs.Core.{CoreView, has_handle}
 use Rattle.span_core.specs.Happening.{at_span, notes_of_all}
 use Rattle.span_core.specs.inside.Given.{fields_given}
 use Rattle.span_core.proofs.Made.{none_made}
 use Rattle.span_core.proofs.Deciding.{held_from}
-use Rattle.span_core.proofs.Accepting.{step_record, sound_record}
+use Rattle.span_core.proofs.Soundness.{IsOneMore, sound_kept}
+use Rattle.span_core.proofs.Accepting.{step_record}
 use Rattle.span_core.proofs.Telling.{one_happening}
 use Rattle.span_core.proofs.Clauses.{accepted_by}
 use Rattle.span_core.proofs.KeptSummaries.{summary_changed}
@@ -31,17 +33,29 @@ told : (g : given.Over) (c : After-put g) → map plain_note c.in_ok-call.field-
 told g c =
     one_happening c.self.inside.rules c.args.worker (at_span c.self.inside.forest.spans OnRecord c.args.id (fields_given c.args.fields.now)) [] _ refl c.in_ok-call.ensures.notes
 
+call : (g : given.Over) (c : After-put g) → IsOneMore c.self.inside.rules (g.O.Outlet.sent c.self.inside.outlet) (record { spans = c.self.inside.forest.spans; stacks = ids_of_each c.self.inside.stacks.items })
+    (record { request = record_fields c.args.worker c.args.id (fields_given c.args.fields.now); answer = recorded; notes = map plain_note c.in_ok-call.field-0.notes.items })
+    (record { spans = c.push_fields.new.forest.spans; stacks = ids_of_each c.self.inside.stacks.items }) (g.O.Outlet.sent c.put.new.self)
+call g c = record {
+  step = step_record _ _ _ _ _ c.args.worker c.args.id (fields_given c.args.fields.now) _ (within g c) (held g c) (ap (λ f. f.spans) c.in_ok-call.ensures.forest) (told g c);
+  sent = c.put.ensures.sent ∙ (λ j. c.in_ok-ask.ensures.sent j ++ (record { request = c.in_ok-call.ensures.call j; answer = recorded; notes = map plain_note c.in_ok-call.field-0.notes.items }) ∷ []);
+}
+
 pub invariant_of-self-2 : goal.invariant_of-self-2
 invariant_of-self-2 g c = (
-  sound_record _ _ _ _ _ _ _ _ _ c.args.worker c.args.id (fields_given c.args.fields.now) _ _ c.self.invariant.0 (within g c) (held g c)
-      c.in_ok-call.ensures.forest (told g c) c.in_ok-call.ensures.call c.in_ok-ask.ensures.sent c.put.ensures.sent,
-  none_made _ _ _ _ _ c.self.invariant.1 refl c.in_ok-ask.ensures.sent c.put.ensures.sent,
+  sound_kept _ _ _ _ _ _ _ _ _ _ _ [] c.self.invariant.0 (call g c) refl refl c.in_ok-call.ensures.forest,
+  none_made _ _ _ _ c.self.invariant.1 refl (call g c).sent,
   c.in_ok-call.ensures.remembers,
   summary_changed _ _ _ _ _ c.args.id (more_fields (fields_given c.args.fields.now)) (ap (λ f. f.spans) c.in_ok-call.ensures.forest) c.self.invariant.3,
 )
 
 pub returns-clause-accepted : goal.returns-clause-accepted
 returns-clause-accepted g c =
-    accepted_by _ _ _ _ _ _ _ _ _ _ _ _ _ _ _ c.self.view_is c.in_ok-bits.ensures.due
-    (step_record _ _ _ _ _ c.args.worker c.args.id (fields_given c.args.fields.now) _ (within g c) (held g c) (ap (λ f. f.spans) c.in_ok-call.ensures.forest) (told g c))
-    c.in_ok-call.ensures.call c.in_ok-ask.ensures.sent c.put.ensures.sent c.in_ok-ask.ensures.times_full c.put.ensures.times_full c.in_ok-ask.ensures.forms c.put.ensures.forms c.in_ok-ask.ensures.name c.put.ensures.name
+    accepted_by _ _ _ _ _ _ c.self.view_is c.in_ok-bits.ensures.due (call g c)
+    (record {
+      limits = refl;
+      rules = refl;
+      times_full = c.put.ensures.times_full ∙ c.in_ok-ask.ensures.times_full;
+      forms = c.put.ensures.forms ∙ c.in_ok-ask.ensures.forms;
+      name = c.put.ensures.name ∙ c.in_ok-ask.ensures.name;
+    })

@@ -1,13 +1,15 @@
-use Rattle.std.proofs.Common.{◌≡◌, ◌∙◌, ◌<◌, ℕ, List, true, length, sym, ap, refl, subst, arith}
+use Rattle.std.proofs.Common.{◌≡◌, ◌∙◌, ◌<◌, ℕ, List, true, length, map, sym, ap, refl, subst, arith}
+use Rattle.span_layers.specs.Note.{plain_note}
 use Rattle.span_forest.specs.declared.span.Holder.TheVariants.{Handle}
 use Rattle.span_forest.specs.Holders.{IsHeld}
 use Rattle.span_forest.specs.Release.{closing_list}
 use Rattle.span_stack.specs.Stack.{ids_of_each}
-use Rattle.span_outlet.specs.Request.{released}
+use Rattle.span_outlet.specs.Request.{try_close, released}
 use Rattle.span_core.specs.Core.{CoreView, has_handle}
 use Rattle.span_core.proofs.Made.{none_made}
 use Rattle.span_core.proofs.Deciding.{held_from}
-use Rattle.span_core.proofs.Accepting.{step_close, sound_close}
+use Rattle.span_core.proofs.Soundness.{IsOneMore, put_on, sound_kept}
+use Rattle.span_core.proofs.Accepting.{step_close}
 use Rattle.span_core.proofs.Clauses.{accepted_as, accepted_by}
 use Rattle.span_core.proofs.KeptSummaries.{summary_released}
 use Rattle.span_core.proofs.Core.try_close_with.Given as given
@@ -24,11 +26,19 @@ held g c =
 list_is : (g : given.Over) (c : After-put g) → c.in_ok-ids.field-0.ids.items ≡ closing_list c.args.self.now.world.spans c.args.id Handle
 list_is g c = c.in_ok-ids.ensures.ids ∙ ap (λ (v : CoreView). closing_list v.world.spans c.args.id Handle) c.self.view_is
 
+call : (g : given.Over) (c : After-put g) → IsOneMore c.self.inside.rules (g.O.Outlet.sent c.self.inside.outlet) (record { spans = c.self.inside.forest.spans; stacks = ids_of_each c.self.inside.stacks.items })
+    (record { request = try_close c.args.worker c.args.id; answer = released c.in_ok-ids.field-0.ids.items; notes = map plain_note c.in_ok-ids.field-0.notes.items })
+    (record { spans = c.give_back.new.forest.spans; stacks = ids_of_each c.self.inside.stacks.items }) (g.O.Outlet.sent c.put.new.self)
+call g c = record {
+  step = step_close _ _ _ _ _ c.args.worker c.args.id _ _ (within g c) (held g c)
+      c.in_ok-ids.ensures.ids (ap (λ f. f.spans) c.in_ok-ids.ensures.forest) c.in_ok-ids.ensures.notes;
+  sent = put_on _ _ _ _ c.in_ok-ask.ensures.sent c.put.ensures.sent;
+}
+
 pub invariant_of-self-2 : goal.invariant_of-self-2
 invariant_of-self-2 g c = (
-  sound_close _ _ _ _ _ _ _ _ _ c.args.worker c.args.id _ _ c.self.invariant.0 (within g c) (held g c)
-      c.in_ok-ids.ensures.ids c.in_ok-ids.ensures.forest c.in_ok-ids.ensures.notes c.in_ok-ask.ensures.sent c.put.ensures.sent,
-  none_made _ _ _ _ _ c.self.invariant.1 refl c.in_ok-ask.ensures.sent c.put.ensures.sent,
+  sound_kept _ _ _ _ _ _ _ _ _ _ _ _ c.self.invariant.0 (call g c) refl c.in_ok-ids.ensures.ids c.in_ok-ids.ensures.forest,
+  none_made _ _ _ _ c.self.invariant.1 refl (call g c).sent,
   c.in_ok-ids.ensures.remembers,
   summary_released _ _ _ _ c.args.id Handle (ap (λ f. f.spans) c.in_ok-ids.ensures.forest) c.self.invariant.3,
 )
@@ -36,10 +46,14 @@ invariant_of-self-2 g c = (
 pub returns-clause-accepted : goal.returns-clause-accepted
 returns-clause-accepted g c =
     accepted_as _ _ _ _ _ (ap (λ (ids : List ℕ). released ids) (list_is g c))
-    (accepted_by _ _ _ _ _ _ _ _ _ _ _ _ _ _ _ c.self.view_is c.in_ok-seen.ensures.due
-    (step_close _ _ _ _ _ c.args.worker c.args.id _ _ (within g c) (held g c)
-    c.in_ok-ids.ensures.ids (ap (λ f. f.spans) c.in_ok-ids.ensures.forest) c.in_ok-ids.ensures.notes)
-    refl c.in_ok-ask.ensures.sent c.put.ensures.sent c.in_ok-ask.ensures.times_full c.put.ensures.times_full c.in_ok-ask.ensures.forms c.put.ensures.forms c.in_ok-ask.ensures.name c.put.ensures.name)
+    (accepted_by _ _ _ _ _ _ c.self.view_is c.in_ok-seen.ensures.due (call g c)
+    (record {
+      limits = refl;
+      rules = refl;
+      times_full = c.put.ensures.times_full ∙ c.in_ok-ask.ensures.times_full;
+      forms = c.put.ensures.forms ∙ c.in_ok-ask.ensures.forms;
+      name = c.put.ensures.name ∙ c.in_ok-ask.ensures.name;
+    }))
 
 pub returns-clause-shown : goal.returns-clause-shown
 returns-clause-shown g c = record {

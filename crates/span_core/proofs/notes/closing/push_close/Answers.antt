@@ -1,12 +1,12 @@
-use Rattle.std.proofs.Common.{◌≡◌, ◌∙◌, ◌++◌, length, map, filter, refl, sym, ap, arith}
+use Rattle.std.proofs.Common.{◌≡◌, ◌∙◌, ◌++◌, length, map, filter, refl, sym, ap}
 use Rattle.std.specs.Prelude.{is_some}
 use Rattle.std.specs.List.{range_with_len}
-use Rattle.std.proofs.lemmas.List.{length-map, length-set}
+use Rattle.std.proofs.lemmas.List.{length-map}
 use Rattle.span_layers.specs.Note.{plain_note}
 use Rattle.span_forest.specs.Path.{path_text}
 use Rattle.span_core.specs.Happening.{close_of, is_told, note_of}
 use Rattle.span_core.proofs.Telling.{layer_more, layers_end}
-use Rattle.span_core.proofs.ClosingPaths.{below_start, below_turn, below_end, left_start, left_turn, left_there, left_below, told_closes}
+use Rattle.span_core.proofs.ClosingPaths.{turn_start, turn_more, turn_end, turn_there, turn_below, told_closes}
 use Rattle.span_core.proofs.notes.closing.push_close.Goals as goal
 use Rattle.span_core.proofs.notes.closing.push_close.Goals.{After-into_iter-layer-iterator}
 
@@ -22,9 +22,7 @@ loop-layer-init c =
     let ends = c.walks_end.ensures c.args.what.now.id (ap is_some c.requires.found) in
     record {
       told = refl;
-      left = left_start (is_told c.args.rules.now (close_of c.args.forest.now.spans c.args.what.now.id)) (length c.args.rules.now) _ (layers c);
-      length = c.requires.length;
-      below = below_start c.args.rules.now c.args.forest.now.spans c.args.what.now.id _ _ _ _ c.requires.found ends c.requires.length (layers c) c.requires.below;
+      turn = turn_start c.args.rules.now c.args.forest.now.spans c.args.what.now.id _ _ _ _ c.requires.found ends c.requires.length (layers c) c.requires.below;
       known = c.requires.known;
       remembers = c.requires.remembers;
     }
@@ -37,10 +35,8 @@ loop-layer-preserved c =
     let was = c.loop-layer.invariant in
     record {
       told = layer_more (note_of c.args.what.now.worker what) c.in-Some.layer _ _ _ _ _ next was.told c.in_ok-push_close_note.ensures.notes;
-      left = left_turn (is_told c.args.rules.now what) (length c.args.rules.now) c.in-Some.layer _ _ next was.left;
-      length = ap length c.in_ok-push_close_note.ensures.places ∙ length-set c.loop-layer.places.items c.in-Some.layer _ ∙ was.length;
-      below = below_turn c.args.rules.now c.args.forest.now.spans c.args.what.now.id c.in-Some.layer c.args.what.now.worker _ _ _ _ _ _ _ _
-          c.requires.found ends was.length (sym (length-map c.loop-layer.notes.items plain_note)) next was.left was.below
+      turn = turn_more c.args.rules.now c.args.forest.now.spans c.args.what.now.id c.in-Some.layer c.args.what.now.worker _ _ _ _ _ _ _ _
+          c.requires.found ends (sym (length-map c.loop-layer.notes.items plain_note)) next was.turn
           c.in_ok-push_close_note.ensures.notes c.in_ok-push_close_note.ensures.places;
       known = c.in_ok-push_close_note.ensures.known;
       remembers = c.in_ok-push_close_note.ensures.remembers;
@@ -48,15 +44,14 @@ loop-layer-preserved c =
 
 pub push_close_note-requires-clause-there : goal.push_close_note-requires-clause-there
 push_close_note-requires-clause-there c =
-    let there = left_there (is_told c.args.rules.now (close_of c.args.forest.now.spans c.args.what.now.id)) (length c.args.rules.now) c.in-Some.layer _ _ c.in-Some.ensures.steps c.loop-layer.invariant.left in
-    omega (arith, there, c.loop-layer.invariant.length)
+    turn_there c.args.rules.now c.args.forest.now.spans c.args.what.now.id c.in-Some.layer _ _ _ _ c.in-Some.ensures.steps c.loop-layer.invariant.turn
 
 pub push_close_note-requires-clause-below : goal.push_close_note-requires-clause-below
 push_close_note-requires-clause-below c =
-    left_below c.args.rules.now c.args.forest.now.spans c.args.what.now.id c.in-Some.layer _ _ _ _ c.in-Some.ensures.steps c.loop-layer.invariant.below
+    turn_below c.args.rules.now c.args.forest.now.spans c.args.what.now.id c.in-Some.layer _ _ _ _ c.in-Some.ensures.steps c.loop-layer.invariant.turn
 
 pub returns-clause-length : goal.returns-clause-length
-returns-clause-length c = c.loop-layer.invariant.length
+returns-clause-length c = c.loop-layer.invariant.turn.count
 
 pub returns-clause-notes : goal.returns-clause-notes
 returns-clause-notes c =
@@ -65,7 +60,7 @@ returns-clause-notes c =
     ∙ ap (λ layers. map plain_note c.args.notes.now.items ++ map told layers) (layers (goal.at.returns-clause-notes c).After-into_iter-layer-iterator)
 
 pub returns-clause-below : goal.returns-clause-below
-returns-clause-below c = below_end c.args.rules.now c.args.forest.now.spans c.args.what.now.id _ _ _ c.in-None.ensures.steps.0 c.loop-layer.invariant.below
+returns-clause-below c = turn_end c.args.rules.now c.args.forest.now.spans c.args.what.now.id _ _ _ c.in-None.ensures.steps.0 c.loop-layer.invariant.turn
 
 pub returns-clause-known : goal.returns-clause-known
 returns-clause-known c = c.clear.ensures path_text c.args.forest.now.spans

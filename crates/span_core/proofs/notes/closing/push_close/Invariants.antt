@@ -1,9 +1,9 @@
-use Rattle.std.proofs.Common.{◌≡◌, ◌++◌, length, map}
+use Rattle.std.proofs.Common.{◌≡◌, ◌++◌, map}
 use Rattle.span_layers.specs.Note.{plain_note}
 use Rattle.span_forest.specs.Path.{path_text}
 use Rattle.span_core.specs.inside.Telling.{Knows}
-use Rattle.span_core.specs.Happening.{close_of, is_told, note_of}
-use Rattle.span_core.specs.inside.ClosingPaths.{AreAscending, AreBelow, with_left}
+use Rattle.span_core.specs.Happening.{close_of, note_of}
+use Rattle.span_core.specs.inside.ClosingPaths.{AreInTurn}
 use Rattle.span_core.specs.inside.Remembering.{Remembers}
 use Rattle.span_core.proofs.notes.closing.push_close.Given as goal
 
@@ -13,9 +13,7 @@ abbrev pub invariant-loop-layer : goal.invariant-loop-layer
 invariant-loop-layer l = record {
   told : map plain_note l.notes.items ++ map (note_of l.what.worker (close_of l.forest.spans l.what.id)) l.layer-iterator
       ≡ map plain_note l.initial.notes.items ++ map (note_of l.what.worker (close_of l.forest.spans l.what.id)) l.initial.layer-iterator;
-  left : AreAscending (is_told l.rules (close_of l.forest.spans l.what.id)) 0 (length l.rules) l.layer-iterator;
-  length : length l.places.items ≡ length l.rules;
-  below : AreBelow l.rules l.forest.spans (map plain_note l.notes.items) (with_left l.forest.spans l.what.id l.layer-iterator) l.places.items;
+  turn : AreInTurn l.rules l.forest.spans l.what.id l.layer-iterator (map plain_note l.notes.items) l.places.items;
   known : Knows path_text l.forest.spans l.paths;
   remembers : Remembers l.forest l.recent.paths;
 }
