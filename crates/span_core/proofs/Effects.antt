@@ -87,6 +87,11 @@ inside_one stacks worker id there =
       | inr t ↦ absurd (false≢true (ap (λ stack. has stack id) (sym (get_or_past stacks worker [] t)) ∙ there))
     ]
 
+-- a span that stands in a worker's stack is open
+pub stands_open : (world : World) (worker id : ℕ) → IsWorld world → has (stack_of world worker) id ≡ true → IsOpen world.spans id
+stands_open world worker id whole stands =
+    open_held world.spans id Entry (let inside = inside_one world.stacks worker id stands in let entries = whole.entered id in omega (arith, inside, entries))
+
 parent_open : (spans : Spans) (o : Option ℕ) → is_open_parent spans o ≡ true → (p : ℕ) → o ≡ Some p → IsOpen spans p
 parent_open spans None h p e = cc
 parent_open spans (Some q) h p e = (let same : q ≡ p = cc in rw (← same) h)
@@ -120,7 +125,7 @@ effect rules ids old (exit worker id) (exited closed) new h =
       | inr t ↦ frees (record {
         id = id;
         holder = Entry;
-        there = λ whole. (let inside = inside_one old.stacks worker id h.inside in let entries = whole.entered id in open_held old.spans id Entry (omega (arith, inside, entries)));
+        there = λ whole. stands_open old worker id whole h.inside;
         known = inr (worker, h.inside);
         spans = ap (λ (w : World). w.spans) h.after ∙ rw t refl;
         closed = h.closed_are ∙ rw t refl;

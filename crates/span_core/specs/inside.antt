@@ -3,6 +3,7 @@ pub mod Sound
 pub mod Lent
 pub mod Given
 pub mod ClosingPaths
+pub mod Leaving
 pub mod Telling
 pub mod Remembering
 pub mod Summary

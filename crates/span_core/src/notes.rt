@@ -1,9 +1,10 @@
 //! The notes that the layers are told of what happens.
-ghost use Rattle.std.specs.Prelude.{◌≡◌, ◌<◌, ◌++◌, ◌∷◌, [], if◌then◌else◌, map, flat_map, length, IfOk, OnOk, IfErr};
+ghost use Rattle.std.specs.Prelude.{◌≡◌, ◌<◌, ◌++◌, ◌∷◌, [], if◌then◌else◌, map, flat_map, length, IfOk, OnOk, IfErr, Some};
 ghost use Rattle.std.specs.Arc.{arc_str_bytes};
 ghost use Rattle.span_layers.specs.declared.note.Kind.TheVariants.{OnExit};
 ghost use Rattle.span_layers.specs.Note.{plain_note, told_of};
-ghost use Rattle.span_forest.specs.Spans.{IsOpen};
+ghost use Rattle.span_forest.specs.Node.{node_of};
+ghost use Rattle.span_forest.specs.Spans.{IsOpen, find};
 ghost use Rattle.span_forest.specs.Path.{path_text};
 ghost use Rattle.span_outlet.specs.Request.{record_fields, request_of};
 ghost use Rattle.span_core.specs.Happening.{at_span, close_of, bits_in, notes_of, notes_of_all, path_at};
@@ -22,7 +23,7 @@ use closing::{closes_count, push_closes};
 use events::{Around, span_seen};
 use layers::{is_told_to_none, told_layers};
 use paths::{ToldPaths, new_text, seen_text};
-use span_forest::Forest;
+use span_forest::{Forest, Span};
 use span_id::{Bits, Fault, Fields, Id, Level};
 use span_layers::{Kind, Note, Rules};
 use span_outlet::Call;
@@ -35,6 +36,15 @@ pub(crate) struct Happening {
     pub(crate) kind: Kind,
     pub(crate) id: Id,
     pub(crate) bits: Bits,
+}
+
+/// A span as a call found it: which worker calls, the span's id, and the span. So nothing of it is looked up anew, neither
+/// for what the layers are told of it nor before it is changed.
+#[derive(Clone, Copy)]
+pub(crate) struct SeenSpan<'a> {
+    pub(crate) worker: u32,
+    pub(crate) id: Id,
+    pub(crate) span: &'a Span,
 }
 
 /// What a call puts out: the call, and the notes for the layers.
@@ -329,17 +339,15 @@ pub(crate) fn record_told(
 }
 
 // The notes of an exit: those of the exit itself, then those of the spans that it closes. They share their paths.
-pub(crate) fn exit_notes(
+pub(crate) fn exit_notes<'a>(
     recent: &mut Recent,
     rules: &Rules,
-    forest: &Forest,
-    exit: &Happening,
+    forest: &'a Forest,
+    exit: &SeenSpan<'a>,
     closing: &[Id],
 ) -> Result<Vec<Note>, Fault>
-    requires kind { exit.now.kind ≡ OnExit }
     requires chain { IsChain forest.now.spans closing.now }
-    requires open { IsOpen forest.now.spans exit.now.id }
-    requires bits { exit.now.bits.0 ≡ bits_in forest.now.spans exit.now.id }
+    requires found { find forest.now.spans exit.now.id ≡ Some (node_of exit.now.span.now) }
     requires remembers { Remembers forest.now recent.old.paths }
     ensures notes { IfOk result (λ notes. map plain_note notes.items
         ≡ notes_of_all rules.now exit.now.worker
@@ -347,32 +355,24 @@ pub(crate) fn exit_notes(
     ensures remembers { Remembers forest.now recent.new.paths }
     ensures memory { IfErr result (λ fault. fault ≡ Fault.Memory) }
 {
+    let what = Happening {
+        worker: exit.worker,
+        kind: Kind::OnExit,
+        id: exit.id,
+        bits: exit.span.bits,
+    };
+    let none = Fields::none();
     if closing.is_empty() {
-        return span_notes(recent, rules, forest, exit, &Fields::none());
+        return span_notes(recent, rules, forest, &what, &none);
     }
-    let exits = told_layers(rules, exit.bits, exit.kind).len();
-    let closes = closes_count(rules, forest, closing, exit.bits);
+    let exits = told_layers(rules, what.bits, what.kind).len();
+    let closes = closes_count(rules, forest, closing, what.bits);
     let most = exits.saturating_add(closes);
     let mut notes = empty_list(recent.alloc, &mut recent.spare, most);
     let mut paths = ToldPaths::none(recent.alloc);
-    push_notes(
-        recent,
-        &mut notes,
-        &mut paths,
-        rules,
-        forest,
-        exit,
-        &Fields::none(),
-    )?;
+    push_notes(recent, &mut notes, &mut paths, rules, forest, &what, &none)?;
     push_closes(
-        recent,
-        &mut notes,
-        &mut paths,
-        rules,
-        forest,
-        exit.worker,
-        closing,
-        closes,
+        recent, &mut notes, &mut paths, rules, forest, exit, closing, closes,
     )?;
     Ok(notes)
 }

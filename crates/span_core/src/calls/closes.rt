@@ -1,21 +1,23 @@
-//! What a worker that leaves a span or a handle that is given back closes: each growth comes before the first change.
-ghost use Rattle.std.specs.Prelude.{◌≡◌, ◌<◌, ◌∷◌, [], false, if◌then◌else◌, length, map, slice_index_or, slice_set, IfOk, IfErr, OnOk, OnErr};
+//! What a worker that leaves a span or a handle that is given back closes: each growth comes before the first change,
+//! while the span that was found is still at hand.
+ghost use Rattle.std.specs.Prelude.{◌≡◌, ◌<◌, ◌∷◌, [], false, length, map, slice_index_or, slice_set, IfOk, IfErr, OnOk, OnErr, Some};
 ghost use Rattle.span_layers.specs.declared.note.Kind.TheVariants.{OnExit};
 ghost use Rattle.span_layers.specs.Note.{plain_note};
 ghost use Rattle.span_forest.specs.declared.span.Holder.TheVariants.{Handle, Entry};
-ghost use Rattle.span_forest.specs.Spans.{IsOpen, parent_of};
+ghost use Rattle.span_forest.specs.Node.{node_of};
+ghost use Rattle.span_forest.specs.Spans.{find, IsOpen};
 ghost use Rattle.span_forest.specs.Count.{reference_count};
 ghost use Rattle.span_forest.specs.Holders.{IsHeld};
-ghost use Rattle.span_forest.specs.Release.{closing_list, spans_left, freed_after};
+ghost use Rattle.span_forest.specs.Release.{closing_list};
 ghost use Rattle.span_stack.specs.Stack.{without_last, ids_of_each};
-ghost use Rattle.span_core.specs.Happening.{at_span, bits_in, close_of, notes_of_all};
+ghost use Rattle.span_core.specs.Happening.{at_span, close_of, notes_of_all};
 ghost use Rattle.span_core.specs.inside.ClosingPaths.{IsChain};
+ghost use Rattle.span_core.specs.inside.Leaving.{closed_on_exit, forest_exited, forest_released};
 ghost use Rattle.span_core.specs.declared.known_paths.KnownPaths.{KnownPaths};
 ghost use Rattle.span_core.specs.inside.Remembering.{Remembers};
 
-use crate::calls::held::SeenSpan;
 use crate::notes::closing::{close_notes, closing_lists_are_chains};
-use crate::notes::{Happening, exit_notes};
+use crate::notes::{SeenSpan, exit_notes};
 use crate::recent::Recent;
 use crate::stacks::pop_at;
 use span_forest::laws::{open_spans_are_counted, walks_end};
@@ -38,110 +40,125 @@ pub(crate) fn leave(
     rules: &Rules,
     forest: &mut Forest,
     stacks: &mut Vec<SpanStack>,
-    exit: &Happening,
+    worker: u32,
+    id: Id,
     stays: bool,
-    seen: &SeenSpan,
 ) -> Result<Closes, Fault>
-    requires within { exit.now.worker < length stacks.old.items }
-    requires kind { exit.now.kind ≡ OnExit }
-    requires open { IsOpen forest.old.spans exit.now.id }
-    requires bits { exit.now.bits.0 ≡ bits_in forest.old.spans exit.now.id }
-    requires held { stays ≡ false → IsHeld forest.old.spans exit.now.id Entry }
-    requires count { seen.now.count ≡ reference_count forest.old.spans exit.now.id }
-    requires parent { seen.now.parent ≡ parent_of forest.old.spans exit.now.id }
+    requires within { worker < length stacks.old.items }
+    requires open { IsOpen forest.old.spans id }
+    requires held { stays ≡ false → IsHeld forest.old.spans id Entry }
     requires remembers { Remembers forest.old recent.old.paths }
-    ensures ids { IfOk result (λ closes. closes.ids.items
-        ≡ if stays then [] else closing_list forest.old.spans exit.now.id Entry) }
+    ensures ids { IfOk result (λ closes. closes.ids.items ≡ closed_on_exit forest.old.spans id stays) }
     ensures notes { IfOk result (λ closes. map plain_note closes.notes.items
-        ≡ notes_of_all rules.now exit.now.worker (at_span forest.old.spans OnExit exit.now.id []
+        ≡ notes_of_all rules.now worker (at_span forest.old.spans OnExit id []
         ∷ map (close_of forest.old.spans) closes.ids.items)) }
-    ensures forest { OnOk result (forest.new ≡ record forest.old {
-      spans = if stays then forest.old.spans else spans_left forest.old.spans exit.now.id Entry;
-      freed = freed_after forest.old.last_generation forest.old.given forest.old.freed
-          (if stays then [] else closing_list forest.old.spans exit.now.id Entry);
-    }) }
+    ensures forest { OnOk result (forest.new ≡ forest_exited forest.old id stays) }
     ensures stacks { OnOk result (ids_of_each stacks.new.items
-        ≡ slice_set (ids_of_each stacks.old.items) exit.now.worker
-        (without_last (slice_index_or (ids_of_each stacks.old.items) exit.now.worker []) exit.now.id)) }
+        ≡ slice_set (ids_of_each stacks.old.items) worker
+        (without_last (slice_index_or (ids_of_each stacks.old.items) worker []) id)) }
     ensures unchanged { OnErr result (forest.new ≡ forest.old) }
     ensures stacks_unchanged { OnErr result (ids_of_each stacks.new.items ≡ ids_of_each stacks.old.items) }
     ensures remembers { Remembers forest.new recent.new.paths }
     ensures memory { IfErr result (λ fault. fault ≡ Fault.Memory) }
 {
-    let ids = closing_on_exit(recent.alloc, forest, stays, exit.id, seen)?;
-    let notes = exit_notes(recent, rules, forest, exit, ids.as_slice())?;
-    release_on_exit(forest, stays, exit.id, ids.as_slice());
+    let Closes { ids, notes } = closes_on_exit(recent, rules, forest, worker, id, stays)?;
+    release_on_exit(forest, stays, id, ids.as_slice());
     recent.paths.forget(ids.as_slice());
-    pop_at(stacks, exit.worker, exit.id);
+    pop_at(stacks, worker, id);
     Ok(Closes { ids, notes })
 }
 
-// A handle is given back. Nothing changes where memory is refused.
-pub(crate) fn give_back(
+// What a worker closes that leaves a span, which is looked up for the notes and for what closes.
+fn closes_on_exit(
     recent: &mut Recent,
     rules: &Rules,
-    forest: &mut Forest,
+    forest: &Forest,
     worker: u32,
     id: Id,
-    seen: &SeenSpan,
+    stays: bool,
 ) -> Result<Closes, Fault>
-    requires held { IsHeld forest.old.spans id Handle }
-    requires count { seen.now.count ≡ reference_count forest.old.spans id }
-    requires parent { seen.now.parent ≡ parent_of forest.old.spans id }
-    requires remembers { Remembers forest.old recent.old.paths }
-    ensures ids { IfOk result (λ closes. closes.ids.items ≡ closing_list forest.old.spans id Handle) }
+    requires open { IsOpen forest.now.spans id }
+    requires held { stays ≡ false → IsHeld forest.now.spans id Entry }
+    requires remembers { Remembers forest.now recent.old.paths }
+    ensures ids { IfOk result (λ closes. closes.ids.items ≡ closed_on_exit forest.now.spans id stays) }
     ensures notes { IfOk result (λ closes. map plain_note closes.notes.items
-        ≡ notes_of_all rules.now worker (map (close_of forest.old.spans) closes.ids.items)) }
-    ensures forest { OnOk result (forest.new ≡ record forest.old {
-      spans = spans_left forest.old.spans id Handle;
-      freed = freed_after forest.old.last_generation forest.old.given forest.old.freed
-          (closing_list forest.old.spans id Handle);
-    }) }
-    ensures unchanged { OnErr result (forest.new ≡ forest.old) }
-    ensures remembers { Remembers forest.new recent.new.paths }
+        ≡ notes_of_all rules.now worker (at_span forest.now.spans OnExit id []
+        ∷ map (close_of forest.now.spans) closes.ids.items)) }
+    ensures remembers { Remembers forest.now recent.new.paths }
     ensures memory { IfErr result (λ fault. fault ≡ Fault.Memory) }
 {
-    let ids = closing_of(forest, id, Holder::Handle, seen)?;
+    let Some(span) = forest.find(id) else {
+        unreachable!()
+    };
+    let exit = SeenSpan { worker, id, span };
+    let ids = closing_on_exit(recent.alloc, forest, &exit, stays)?;
+    let notes = exit_notes(recent, rules, forest, &exit, ids.as_slice())?;
+    Ok(Closes { ids, notes })
+}
+
+// What closes where a handle is given back.
+pub(crate) fn closes_on_release<'a>(
+    recent: &mut Recent,
+    rules: &Rules,
+    forest: &'a Forest,
+    release: &SeenSpan<'a>,
+) -> Result<Closes, Fault>
+    requires found { find forest.now.spans release.now.id ≡ Some (node_of release.now.span.now) }
+    requires count { release.now.span.now.count ≡ reference_count forest.now.spans release.now.id }
+    requires held { IsHeld forest.now.spans release.now.id Handle }
+    requires remembers { Remembers forest.now recent.old.paths }
+    ensures ids { IfOk result (λ closes. closes.ids.items ≡ closing_list forest.now.spans release.now.id Handle) }
+    ensures notes { IfOk result (λ closes. map plain_note closes.notes.items
+        ≡ notes_of_all rules.now release.now.worker (map (close_of forest.now.spans) closes.ids.items)) }
+    ensures remembers { Remembers forest.now recent.new.paths }
+    ensures memory { IfErr result (λ fault. fault ≡ Fault.Memory) }
+{
+    let ids = closing_of(forest, release, Holder::Handle)?;
+    let notes = close_notes(recent, rules, forest, release, ids.as_slice())?;
+    Ok(Closes { ids, notes })
+}
+
+// A handle is given back; these are the spans that close.
+pub(crate) fn give_back(recent: &mut Recent, forest: &mut Forest, id: Id, closing: &[Id])
+    requires held { IsHeld forest.old.spans id Handle }
+    requires list { closing.now ≡ closing_list forest.old.spans id Handle }
+    requires remembers { Remembers forest.old recent.old.paths }
+    ensures forest { forest.new ≡ forest_released forest.old id Handle }
+    ensures remembers { Remembers forest.new recent.new.paths }
+{
     walks_end(forest);
-    let notes = close_notes(recent, rules, forest, worker, ids.as_slice(), seen.bits)?;
-    forest.release_closing(id, Holder::Handle, ids.as_slice());
+    forest.release_closing(id, Holder::Handle, closing);
     walks_end(forest);
     open_spans_are_counted(forest);
-    recent.paths.forget(ids.as_slice());
-    Ok(Closes { ids, notes })
+    recent.paths.forget(closing);
 }
 
 // The spans that close where a worker leaves a span: none where the span stays in its stack.
 fn closing_on_exit(
     alloc: Global,
     forest: &Forest,
+    exit: &SeenSpan<'_>,
     stays: bool,
-    id: Id,
-    seen: &SeenSpan,
 ) -> Result<Vec<Id>, Fault>
-    requires held { stays ≡ false → IsHeld forest.now.spans id Entry }
-    requires count { seen.now.count ≡ reference_count forest.now.spans id }
-    requires parent { seen.now.parent ≡ parent_of forest.now.spans id }
-    ensures list { IfOk result (λ ids. ids.items ≡ if stays then [] else closing_list forest.now.spans id Entry) }
+    requires found { find forest.now.spans exit.now.id ≡ Some (node_of exit.now.span.now) }
+    requires count { exit.now.span.now.count ≡ reference_count forest.now.spans exit.now.id }
+    requires held { stays ≡ false → IsHeld forest.now.spans exit.now.id Entry }
+    ensures list { IfOk result (λ ids. ids.items ≡ closed_on_exit forest.now.spans exit.now.id stays) }
     ensures chain { IfOk result (λ ids. IsChain forest.now.spans ids.items) }
     ensures memory { IfErr result (λ fault. fault ≡ Fault.Memory) }
 {
     if stays {
         return Ok(Vec::new(alloc));
     }
-    closing_of(forest, id, Holder::Entry, seen)
+    closing_of(forest, exit, Holder::Entry)
 }
 
 // Gives the entry back, unless the span stays in the worker's stack; these are the spans that close. A span that stays
 // open keeps its path, so what is remembered stays true.
 fn release_on_exit(forest: &mut Forest, stays: bool, id: Id, closing: &[Id])
     requires held { stays ≡ false → IsHeld forest.old.spans id Entry }
-    requires list { closing.now ≡ if stays then [] else closing_list forest.old.spans id Entry }
-    ensures forest { forest.new ≡ record forest.old {
-      spans = if stays then forest.old.spans else spans_left forest.old.spans id Entry;
-      freed = freed_after forest.old.last_generation forest.old.given forest.old.freed
-          (if stays then [] else closing_list forest.old.spans id Entry);
-    } }
+    requires list { closing.now ≡ closed_on_exit forest.old.spans id stays }
+    ensures forest { forest.new ≡ forest_exited forest.old id stays }
     ensures remembers { (known : KnownPaths) → Remembers forest.old known → Remembers forest.new known }
 {
     if !stays {
@@ -152,17 +169,16 @@ fn release_on_exit(forest: &mut Forest, stays: bool, id: Id, closing: &[Id])
     }
 }
 
-// The spans that close where a holder that is there is given back, child first. The span itself was looked up when the
-// call was judged.
+// The spans that close where a holder that is there is given back, child first.
 #[inline]
-fn closing_of(forest: &Forest, id: Id, holder: Holder, seen: &SeenSpan) -> Result<Vec<Id>, Fault>
-    requires held { IsHeld forest.now.spans id holder }
-    requires count { seen.now.count ≡ reference_count forest.now.spans id }
-    requires parent { seen.now.parent ≡ parent_of forest.now.spans id }
-    ensures list { IfOk result (λ ids. ids.items ≡ closing_list forest.now.spans id holder) }
+fn closing_of(forest: &Forest, seen: &SeenSpan<'_>, holder: Holder) -> Result<Vec<Id>, Fault>
+    requires found { find forest.now.spans seen.now.id ≡ Some (node_of seen.now.span.now) }
+    requires count { seen.now.span.now.count ≡ reference_count forest.now.spans seen.now.id }
+    requires held { IsHeld forest.now.spans seen.now.id holder }
+    ensures list { IfOk result (λ ids. ids.items ≡ closing_list forest.now.spans seen.now.id holder) }
     ensures chain { IfOk result (λ ids. IsChain forest.now.spans ids.items) }
     ensures memory { IfErr result (λ fault. fault ≡ Fault.Memory) }
 {
     closing_lists_are_chains(forest);
-    forest.closing_above(id, holder, seen.count, seen.parent)
+    forest.closing_above(seen.id, holder, seen.span.count, seen.span.parent)
 }

@@ -1,7 +1,7 @@
 //! The calls that change a worker's stack.
-ghost use Rattle.std.specs.Prelude.{◌≡◌, ◌<◌, ◌↔◌, true, not, if◌then◌else◌, nat_lt, length, None, IsTrue, IfOk, IfErr, OnOk, OnErr};
+ghost use Rattle.std.specs.Prelude.{◌≡◌, ◌<◌, ◌↔◌, true, false, not, if◌then◌else◌, nat_lt, length, None, IsTrue, IfOk, IfErr, OnOk, OnErr};
 ghost use Rattle.span_forest.specs.declared.span.Holder.TheVariants.{Handle, Entry};
-ghost use Rattle.span_forest.specs.Spans.{find, parent_of};
+ghost use Rattle.span_forest.specs.Spans.{find};
 ghost use Rattle.span_forest.specs.Count.{reference_count};
 ghost use Rattle.span_forest.specs.Holders.{IsHeld};
 ghost use Rattle.span_forest.specs.Keep.{with_holder};
@@ -9,16 +9,19 @@ ghost use Rattle.span_outlet.specs.Request.{enter, entered, exit, exited};
 ghost use Rattle.span_stack.specs.Stack.{has};
 ghost use Rattle.span_core.specs.World.{stack_of};
 ghost use Rattle.span_core.specs.Happening.{bits_in};
-ghost use Rattle.span_core.specs.Step.{closed_by_exit, stays_inside};
+ghost use Rattle.span_core.specs.Step.{closed_by_exit, is_open, stays_inside};
 ghost use Rattle.span_core.specs.Core.{IsDue, IsAccepted, IsRefused};
 ghost use Rattle.span_core.specs.GivenBack.{ClosesWhatNothingHolds};
 ghost use Rattle.span_core.specs.Shown.{MayBeShown, IsShown};
 
 use crate::Core;
 use crate::calls::closes::{Closes, leave};
-use crate::calls::held::{SeenSpan, held_span, open_span};
+use crate::calls::held::held_span;
 use crate::calls::room::ask;
-use crate::laws::{accepted_releases_close_what_nothing_holds, the_named_span_closes_first};
+use crate::laws::{
+    accepted_releases_close_what_nothing_holds, entries_are_the_workers_inside,
+    the_named_span_closes_first,
+};
 use crate::notes::{Happening, span_notes};
 use crate::stacks::{is_outside, push_at, stays_inside};
 use span_forest::{Forest, Holder};
@@ -31,13 +34,6 @@ use span_outlet::{Batch, Call, Outlet, Reply};
 struct Entering {
     first: bool,
     bits: Bits,
-}
-
-/// What an exit would do: whether the worker stays inside the span, and what was seen of the span.
-#[derive(Clone, Copy)]
-struct Leaving {
-    stays: bool,
-    span: SeenSpan,
 }
 
 impl<O: Outlet, A> Core<O, A> {
@@ -120,24 +116,17 @@ impl<O: Outlet, A> Core<O, A> {
         ensures refused { IfErr result (λ fault. IsRefused self.old (exit worker id) fault self.new) }
         ensures not_shown { OnErr result (state.new ≡ state.old) }
     {
-        let leaving = self.leaving(worker, id)?;
+        let stays = self.leaving(worker, id)?;
         ask(&mut self.outlet, &mut self.recent.spare)?;
-        let what = Happening {
-            worker,
-            kind: Kind::OnExit,
-            id,
-            bits: leaving.span.bits,
-        };
-        let stacks = self.stacks.as_slice();
-        self.summary.cut(stacks, worker, id);
+        self.summary.cut(self.stacks.as_slice(), worker, id);
         let Closes { ids, notes } = leave(
             &mut self.recent,
             &self.rules,
             &mut self.forest,
             &mut self.stacks,
-            &what,
-            leaving.stays,
-            &leaving.span,
+            worker,
+            id,
+            stays,
         )?;
         see(state, ids.as_slice());
         let closed = !ids.is_empty();
@@ -172,26 +161,43 @@ impl<O: Outlet, A> Core<O, A> {
         })
     }
 
-    // What an exit would do, or why it is refused.
-    fn leaving(&self, worker: u32, id: Id) -> Result<Leaving, Fault>
+    // Whether a span stays in the stack of a worker that leaves it, or why the exit is refused. What stands in a stack is
+    // open, so the span is looked up only where it doesn't stand there.
+    fn leaving(&self, worker: u32, id: Id) -> Result<bool, Fault>
         requires { worker < self.now.limits.workers }
         ensures due { OnOk result (IsDue self.now (exit worker id)) }
-        ensures stays { IfOk result (λ leaving. leaving.stays ≡ stays_inside self.now.world worker id) }
-        ensures count { IfOk result (λ leaving. leaving.span.count ≡ reference_count self.now.world.spans id) }
-        ensures parent { IfOk result (λ leaving. leaving.span.parent ≡ parent_of self.now.world.spans id) }
-        ensures bits { IfOk result (λ leaving. leaving.span.bits.0 ≡ bits_in self.now.world.spans id) }
+        ensures stays { IfOk result (λ stays. stays ≡ stays_inside self.now.world worker id) }
         ensures refused { IfErr result (λ fault. IsRefused self.now (exit worker id) fault self.now) }
     {
-        let Some(span) = open_span(&self.forest, id) else {
-            return Err(Fault::Unknown);
+        self.inside_is_open(worker, id);
+        let Some(stays) = stays_inside(self.stacks.as_slice(), worker, id) else {
+            return Err(self.why_outside(worker, id));
         };
         if self.calls == u64::MAX {
             return Err(Fault::CountFull);
         }
-        let Some(stays) = stays_inside(self.stacks.as_slice(), worker, id) else {
-            return Err(Fault::NotEntered);
-        };
-        Ok(Leaving { stays, span })
+        Ok(stays)
+    }
+
+    // A span that stands in a worker's stack is open.
+    fn inside_is_open(&self, worker: u32, id: Id)
+        ensures { has (stack_of self.now.world worker) id ≡ true → is_open self.now.world.spans id ≡ true }
+    {
+        entries_are_the_workers_inside(self);
+    }
+
+    // Why a worker can't leave a span that doesn't stand in its stack.
+    fn why_outside(&self, worker: u32, id: Id) -> Fault
+        requires { has (stack_of self.now.world worker) id ≡ false }
+        ensures { IsRefused self.now (exit worker id) result self.now }
+    {
+        if self.forest.find(id).is_none() {
+            return Fault::Unknown;
+        }
+        if self.calls == u64::MAX {
+            return Fault::CountFull;
+        }
+        Fault::NotEntered
     }
 }
 

@@ -2,7 +2,7 @@
 ghost use Rattle.std.specs.Prelude.{◌≡◌, ◌<◌, ◌↔◌, nat_lt, length, map, None, IsTrue, OnOk, OnErr, IfOk, IfErr};
 ghost use Rattle.span_forest.specs.declared.span.Holder.TheVariants.{Handle};
 ghost use Rattle.span_forest.specs.Node.{with_fields};
-ghost use Rattle.span_forest.specs.Spans.{find, parent_of, with_change};
+ghost use Rattle.span_forest.specs.Spans.{find, with_change};
 ghost use Rattle.span_forest.specs.Count.{reference_count};
 ghost use Rattle.span_forest.specs.Holders.{IsHeld};
 ghost use Rattle.span_forest.specs.Release.{closing_list};
@@ -17,13 +17,13 @@ ghost use Rattle.span_core.specs.Shown.{MayBeShown, IsShown};
 ghost use Rattle.span_core.specs.inside.Remembering.{Remembers};
 
 use crate::Core;
-use crate::calls::closes::{Closes, give_back};
-use crate::calls::held::{SeenSpan, held_span};
+use crate::calls::closes::{Closes, closes_on_release, give_back};
+use crate::calls::held::{held_bits, held_span};
 use crate::calls::names::are_keys;
 use crate::calls::room::ask;
 use crate::given::GivenFields;
 use crate::laws::{accepted_releases_close_what_nothing_holds, the_named_span_closes_first};
-use crate::notes::{Announced, Happening, record_told};
+use crate::notes::{Announced, Happening, SeenSpan, record_told};
 use crate::recent::Recent;
 use span_forest::{Forest, Holder};
 use span_id::{Bits, Fault, Field, Fields, Id};
@@ -154,16 +154,17 @@ impl<O: Outlet, A> Core<O, A> {
         ensures refused { IfErr result (λ fault. IsRefused self.old (try_close worker id) fault self.new) }
         ensures not_shown { OnErr result (state.new ≡ state.old) }
     {
-        let seen = self.releasing(worker, id)?;
+        let Some(span) = held_span(&self.forest, id) else {
+            return Err(Fault::Unknown);
+        };
+        if self.calls == u64::MAX {
+            return Err(Fault::CountFull);
+        }
         ask(&mut self.outlet, &mut self.recent.spare)?;
-        let Closes { ids, notes } = give_back(
-            &mut self.recent,
-            &self.rules,
-            &mut self.forest,
-            worker,
-            id,
-            &seen,
-        )?;
+        let release = SeenSpan { worker, id, span };
+        let closes = closes_on_release(&mut self.recent, &self.rules, &self.forest, &release)?;
+        let Closes { ids, notes } = closes;
+        give_back(&mut self.recent, &mut self.forest, id, ids.as_slice());
         see(state, ids.as_slice());
         let closed = !ids.is_empty();
         self.calls += 1;
@@ -199,29 +200,13 @@ impl<O: Outlet, A> Core<O, A> {
         if !are_keys(fields.read()) {
             return Err(Fault::BadName);
         }
-        let Some(seen) = held_span(&self.forest, id) else {
+        let Some(bits) = held_bits(&self.forest, id) else {
             return Err(Fault::Unknown);
         };
         if self.calls == u64::MAX {
             return Err(Fault::CountFull);
         }
-        Ok(seen.bits)
-    }
-
-    // The span of which a handle is given back, or why it isn't taken.
-    fn releasing(&self, worker: u32, id: Id) -> Result<SeenSpan, Fault>
-        ensures due { OnOk result (IsDue self.now (try_close worker id)) }
-        ensures count { IfOk result (λ seen. seen.count ≡ reference_count self.now.world.spans id) }
-        ensures parent { IfOk result (λ seen. seen.parent ≡ parent_of self.now.world.spans id) }
-        ensures refused { IfErr result (λ fault. IsRefused self.now (try_close worker id) fault self.now) }
-    {
-        let Some(seen) = held_span(&self.forest, id) else {
-            return Err(Fault::Unknown);
-        };
-        if self.calls == u64::MAX {
-            return Err(Fault::CountFull);
-        }
-        Ok(seen)
+        Ok(bits)
     }
 }
 

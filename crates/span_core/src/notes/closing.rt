@@ -15,7 +15,7 @@ ghost use Rattle.span_core.specs.inside.Remembering.{Remembers};
 
 use crate::notes::layers::{is_wanted, told_layers};
 use crate::notes::paths::{ToldPaths, same_text, seen_text};
-use crate::notes::{Happening, push_notes};
+use crate::notes::{Happening, SeenSpan, push_notes};
 use crate::recent::{Recent, empty_list};
 use span_forest::laws::{
     closing_list_begins_the_walk, held_ids_are_open, open_spans_are_counted, walks_end,
@@ -40,14 +40,6 @@ struct Below<'a> {
     name: usize,
 }
 
-/// A span that closes: which worker caused it, its id, and what is still to be found of it.
-#[derive(Clone, Copy)]
-pub(crate) struct Closing<'a> {
-    worker: u32,
-    id: Id,
-    span: &'a Span,
-}
-
 // What a release closes is a chain: each further span is the parent of the one before.
 pub(crate) fn closing_lists_are_chains(forest: &Forest)
     ensures { (id : ℕ) (holder : Holder) → IsHeld forest.now.spans id holder →
@@ -59,48 +51,49 @@ pub(crate) fn closing_lists_are_chains(forest: &Forest)
     closing_list_begins_the_walk(forest);
 }
 
-// The notes of a chain of spans that close. These layers admit the first one.
-pub(crate) fn close_notes(
+// The notes of a chain of spans that close, of which the first one was found.
+pub(crate) fn close_notes<'a>(
     recent: &mut Recent,
     rules: &Rules,
-    forest: &Forest,
-    worker: u32,
+    forest: &'a Forest,
+    first: &SeenSpan<'a>,
     closed: &[Id],
-    first: Bits,
 ) -> Result<Vec<Note>, Fault>
     requires chain { IsChain forest.now.spans closed.now }
+    requires found { find forest.now.spans first.now.id ≡ Some (node_of first.now.span.now) }
     requires remembers { Remembers forest.now recent.old.paths }
     ensures notes { IfOk result (λ notes. map plain_note notes.items
-        ≡ flat_map (notes_of rules.now worker) (map (close_of forest.now.spans) closed.now)) }
+        ≡ flat_map (notes_of rules.now first.now.worker) (map (close_of forest.now.spans) closed.now)) }
     ensures remembers { Remembers forest.now recent.new.paths }
     ensures memory { IfErr result (λ fault. fault ≡ Fault.Memory) }
 {
-    let count = closes_count(rules, forest, closed, first);
+    let count = closes_count(rules, forest, closed, first.span.bits);
     let mut notes = empty_list(recent.alloc, &mut recent.spare, count);
     let mut paths = ToldPaths::none(recent.alloc);
     push_closes(
-        recent, &mut notes, &mut paths, rules, forest, worker, closed, count,
+        recent, &mut notes, &mut paths, rules, forest, first, closed, count,
     )?;
     Ok(notes)
 }
 
 // Appends the notes of a chain of spans that close, one span after the other. A layer's path is had by a walk once,
 // at the first span that the layer is told of, and at each further one from the note before. There are so many notes.
-pub(crate) fn push_closes(
+pub(crate) fn push_closes<'a>(
     recent: &mut Recent,
     notes: &mut Vec<Note>,
     paths: &mut ToldPaths,
     rules: &Rules,
-    forest: &Forest,
-    worker: u32,
+    forest: &'a Forest,
+    first: &SeenSpan<'a>,
     closed: &[Id],
     count: usize,
 ) -> Result<(), Fault>
     requires chain { IsChain forest.now.spans closed.now }
+    requires found { find forest.now.spans first.now.id ≡ Some (node_of first.now.span.now) }
     requires known { Knows path_text forest.now.spans paths.old }
     requires remembers { Remembers forest.now recent.old.paths }
     ensures notes { OnOk result (map plain_note notes.new.items ≡ map plain_note notes.old.items
-        ++ flat_map (notes_of rules.now worker) (map (close_of forest.now.spans) closed.now)) }
+        ++ flat_map (notes_of rules.now first.now.worker) (map (close_of forest.now.spans) closed.now)) }
     ensures remembers { Remembers forest.now recent.new.paths }
     ensures memory { IfErr result (λ fault. fault ≡ Fault.Memory) }
 {
@@ -111,47 +104,58 @@ pub(crate) fn push_closes(
         return Ok(());
     }
     if let [id] = closed {
-        return push_close_alone(recent, notes, paths, rules, forest, worker, *id);
+        return push_close_alone(recent, notes, paths, rules, forest, first, *id);
     }
     notes.reserve_exact(count)?;
     let mut places = no_places(recent.alloc, rules.len())?;
     for id in closed {
-        let Some(span) = forest.find(*id) else {
-            unreachable!()
-        };
-        let what = Closing {
-            worker,
+        let what = SeenSpan {
+            worker: first.worker,
             id: *id,
-            span,
+            span: span_at(forest, first, *id),
         };
         push_close(recent, notes, &mut places, paths, rules, forest, &what)?;
     }
     Ok(())
 }
 
+// A span that closes with the first one: it is looked up, unless it is that one.
+fn span_at<'a>(forest: &'a Forest, first: &SeenSpan<'a>, id: Id) -> &'a Span
+    requires found { find forest.now.spans first.now.id ≡ Some (node_of first.now.span.now) }
+    requires open { IsOpen forest.now.spans id }
+    ensures { find forest.now.spans id ≡ Some (node_of result.now) }
+{
+    if id == first.id {
+        return first.span;
+    }
+    let Some(span) = forest.find(id) else {
+        unreachable!()
+    };
+    span
+}
+
 // Appends the notes of a span that closes alone, as most do: no place is written down, since no span follows.
-fn push_close_alone(
+fn push_close_alone<'a>(
     recent: &mut Recent,
     notes: &mut Vec<Note>,
     paths: &mut ToldPaths,
     rules: &Rules,
-    forest: &Forest,
-    worker: u32,
+    forest: &'a Forest,
+    first: &SeenSpan<'a>,
     id: Id,
 ) -> Result<(), Fault>
+    requires found { find forest.now.spans first.now.id ≡ Some (node_of first.now.span.now) }
     requires open { IsOpen forest.now.spans id }
     requires known { Knows path_text forest.now.spans paths.old }
     requires remembers { Remembers forest.now recent.old.paths }
     ensures notes { OnOk result (map plain_note notes.new.items ≡ map plain_note notes.old.items
-        ++ notes_of rules.now worker (close_of forest.now.spans id)) }
+        ++ notes_of rules.now first.now.worker (close_of forest.now.spans id)) }
     ensures remembers { Remembers forest.now recent.new.paths }
     ensures memory { IfErr result (λ fault. fault ≡ Fault.Memory) }
 {
-    let Some(span) = forest.find(id) else {
-        unreachable!()
-    };
+    let span = span_at(forest, first, id);
     let what = Happening {
-        worker,
+        worker: first.worker,
         kind: Kind::OnClose,
         id,
         bits: span.bits,
@@ -197,7 +201,7 @@ fn push_close(
     paths: &mut ToldPaths,
     rules: &Rules,
     forest: &Forest,
-    what: &Closing<'_>,
+    what: &SeenSpan<'_>,
 ) -> Result<(), Fault>
     requires length { length places.old.items ≡ length rules.now }
     requires found { find forest.now.spans what.now.id ≡ Some (node_of what.now.span.now) }
@@ -229,7 +233,7 @@ fn push_close_note(
     places: &mut Vec<Option<Place>>,
     paths: &mut ToldPaths,
     forest: &Forest,
-    what: &Closing<'_>,
+    what: &SeenSpan<'_>,
     layer: u32,
 ) -> Result<(), Fault>
     requires there { layer < length places.old.items }
@@ -279,7 +283,7 @@ fn close_note(
     recent: &mut Recent,
     forest: &Forest,
     before: Option<Below<'_>>,
-    what: &Closing<'_>,
+    what: &SeenSpan<'_>,
     paths: &mut ToldPaths,
     layer: u32,
 ) -> Result<Note, Fault>

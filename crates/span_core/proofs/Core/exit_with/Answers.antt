@@ -29,11 +29,11 @@ stack_before g c = get_or (ids_of_each c.self.inside.stacks.items) c.args.worker
 
 stands : (g : given.Over) (c : After-put g) → has (stack_before g c) c.args.id ≡ true
 stands g c =
-    subst (λ (v : CoreView). has (stack_of v.world c.args.worker) c.args.id ≡ true) (sym c.self.view_is) c.in_ok-leaving.ensures.due.inside
+    subst (λ (v : CoreView). has (stack_of v.world c.args.worker) c.args.id ≡ true) (sym c.self.view_is) c.in_ok-stays.ensures.due.inside
 
-stays : (g : given.Over) (c : After-put g) → c.in_ok-leaving.leaving.stays ≡ has (without_last (stack_before g c) c.args.id) c.args.id
+stays : (g : given.Over) (c : After-put g) → c.in_ok-stays.stays ≡ has (without_last (stack_before g c) c.args.id) c.args.id
 stays g c =
-    c.in_ok-leaving.ensures.stays ∙ ap (λ (v : CoreView). stays_inside v.world c.args.worker c.args.id) (sym c.self.view_is)
+    c.in_ok-stays.ensures.stays ∙ ap (λ (v : CoreView). stays_inside v.world c.args.worker c.args.id) (sym c.self.view_is)
 
 list_is : (g : given.Over) (c : After-put g) → c.in_ok-ids.field-0.ids.items ≡ closed_by_exit c.args.self.now.world c.args.worker c.args.id
 list_is g c =
@@ -44,14 +44,14 @@ list_is g c =
 -- the summary was cut before the entry was taken out
 cut_after : (g : given.Over) (c : After-put g) → IsSummary c.self.inside.forest.spans (set (ids_of_each c.self.inside.stacks.items) c.args.worker (without_last (stack_before g c) c.args.id)) c.cut.new.self
 cut_after g c =
-    let ids_are = ap ids_of_each c.as_slice-stacks.ensures.value in
+    let ids_are = ap ids_of_each c.as_slice.ensures.value in
     subst (λ (all : List (List ℕ)). IsSummary c.self.inside.forest.spans (set all c.args.worker (without_last (get_or all c.args.worker []) c.args.id)) c.cut.new.self) ids_are
     (c.cut.ensures.after _ (subst (λ (all : List (List ℕ)). IsSummary c.self.inside.forest.spans all c.self.inside.summary) (sym ids_are) c.self.invariant.3))
 
 -- where memory is refused it is cut, and else nothing changes
 pub invariant_of-self-in_err-ids : goal.invariant_of-self-in_err-ids
 invariant_of-self-in_err-ids g c =
-    let ids_are = ap ids_of_each c.as_slice-stacks.ensures.value in
+    let ids_are = ap ids_of_each c.as_slice.ensures.value in
     let sent_is = c.in_ok-ask.ensures.sent in
     let forest_is = c.in_err-ids.ensures.unchanged in
     let stacks_are = c.in_err-ids.ensures.stacks_unchanged in
@@ -67,7 +67,7 @@ call : (g : given.Over) (c : After-put g) → IsOneMore c.self.inside.rules (g.O
     (record { request = exit c.args.worker c.args.id; answer = exited c.in_ok-ids.field-0.ids.items; notes = map plain_note c.in_ok-ids.field-0.notes.items })
     (record { spans = c.leave.new.forest.spans; stacks = ids_of_each c.leave.new.stacks.items }) (g.O.Outlet.sent c.put.new.self)
 call g c = record {
-  step = step_exit _ _ _ _ _ _ c.args.worker c.args.id c.in_ok-leaving.leaving.stays _ _ (within g c) (stands g c) (stays g c)
+  step = step_exit _ _ _ _ _ _ c.args.worker c.args.id c.in_ok-stays.stays _ _ (within g c) (stands g c) (stays g c)
       c.in_ok-ids.ensures.ids (ap (λ f. f.spans) c.in_ok-ids.ensures.forest) c.in_ok-ids.ensures.stacks c.in_ok-ids.ensures.notes;
   sent = put_on _ _ _ _ c.in_ok-ask.ensures.sent c.put.ensures.sent;
 }
@@ -77,13 +77,13 @@ invariant_of-self-2 g c = (
   sound_kept _ _ _ _ _ _ _ _ _ _ _ _ c.self.invariant.0 (call g c) refl c.in_ok-ids.ensures.ids c.in_ok-ids.ensures.forest,
   none_made _ _ _ _ c.self.invariant.1 refl (call g c).sent,
   c.in_ok-ids.ensures.remembers,
-  summary_exited _ _ _ _ _ c.in_ok-leaving.leaving.stays c.args.id (ap (λ f. f.spans) c.in_ok-ids.ensures.forest) c.in_ok-ids.ensures.stacks (cut_after g c),
+  summary_exited _ _ _ _ _ c.in_ok-stays.stays c.args.id (ap (λ f. f.spans) c.in_ok-ids.ensures.forest) c.in_ok-ids.ensures.stacks (cut_after g c),
 )
 
 pub returns-clause-accepted : goal.returns-clause-accepted
 returns-clause-accepted g c =
     accepted_as _ _ _ _ _ (ap (λ (ids : List ℕ). exited ids) (list_is g c))
-    (accepted_by _ _ _ _ _ _ c.self.view_is c.in_ok-leaving.ensures.due (call g c)
+    (accepted_by _ _ _ _ _ _ c.self.view_is c.in_ok-stays.ensures.due (call g c)
     (record {
       limits = refl;
       rules = refl;
@@ -95,11 +95,11 @@ returns-clause-accepted g c =
 pub returns-clause-shown : goal.returns-clause-shown
 returns-clause-shown g c = record {
   lent = _;
-  list = c.as_slice.result;
+  list = c.as_slice-2.result;
   answer = _;
   left = _;
   lent_is = refl;
-  list_is = c.as_slice.ensures.value ∙ list_is g c;
+  list_is = c.as_slice-2.ensures.value ∙ list_is g c;
   called = c.see.ensures;
   left_is = refl;
 }

@@ -1,13 +1,12 @@
-use Rattle.std.proofs.Common.{◌≡◌, ◌∙◌, ◌<◌, ℕ, List, true, length, map, sym, ap, refl, subst, arith}
+use Rattle.std.proofs.Common.{◌≡◌, ◌∙◌, ◌<◌, ℕ, List, true, length, map, ap, refl, subst, arith}
+use Rattle.std.proofs.lemmas.Bool.{lt-ltb}
 use Rattle.span_layers.specs.Note.{plain_note}
 use Rattle.span_forest.specs.declared.span.Holder.TheVariants.{Handle}
-use Rattle.span_forest.specs.Holders.{IsHeld}
 use Rattle.span_forest.specs.Release.{closing_list}
 use Rattle.span_stack.specs.Stack.{ids_of_each}
 use Rattle.span_outlet.specs.Request.{try_close, released}
-use Rattle.span_core.specs.Core.{CoreView, has_handle}
+use Rattle.span_core.specs.Core.{CoreView, IsDue, has_handle}
 use Rattle.span_core.proofs.Made.{none_made}
-use Rattle.span_core.proofs.Deciding.{held_from}
 use Rattle.span_core.proofs.Soundness.{IsOneMore, put_on, sound_kept}
 use Rattle.span_core.proofs.Accepting.{step_close}
 use Rattle.span_core.proofs.Clauses.{accepted_as, accepted_by}
@@ -19,34 +18,40 @@ use Rattle.span_core.proofs.Core.try_close_with.Goals.{After-put}
 within : (g : given.Over) (c : After-put g) → c.args.worker < length (ids_of_each c.self.inside.stacks.items)
 within g c = omega (arith, c.requires.worker, ap (λ (v : CoreView). v.limits.workers) c.self.view_is, c.self.invariant.0.stacks_are)
 
-held : (g : given.Over) (c : After-put g) → IsHeld c.self.inside.forest.spans c.args.id Handle
-held g c =
-    held_from c.self.inside.forest.spans c.args.id (subst (λ (v : CoreView). has_handle v.world.spans c.args.id ≡ true) (sym c.self.view_is) c.in_ok-seen.ensures.due.known)
+due : (g : given.Over) (c : After-put g) → IsDue c.args.self.now (try_close c.args.worker c.args.id)
+due g c = record {
+  named = refl;
+  wanted = refl;
+  known = subst (λ (v : CoreView). has_handle v.world.spans c.args.id ≡ true) c.self.view_is c.in-Some.ensures.known;
+  counts = lt-ltb _ _ (omega (arith, c.self.invariant.0.calls_are, ap (λ (v : CoreView). length v.sent) c.self.view_is));
+  slot = refl;
+  inside = refl;
+}
 
-list_is : (g : given.Over) (c : After-put g) → c.in_ok-ids.field-0.ids.items ≡ closing_list c.args.self.now.world.spans c.args.id Handle
-list_is g c = c.in_ok-ids.ensures.ids ∙ ap (λ (v : CoreView). closing_list v.world.spans c.args.id Handle) c.self.view_is
+list_is : (g : given.Over) (c : After-put g) → c.in_ok-closes.closes.ids.items ≡ closing_list c.args.self.now.world.spans c.args.id Handle
+list_is g c = c.in_ok-closes.ensures.ids ∙ ap (λ (v : CoreView). closing_list v.world.spans c.args.id Handle) c.self.view_is
 
 call : (g : given.Over) (c : After-put g) → IsOneMore c.self.inside.rules (g.O.Outlet.sent c.self.inside.outlet) (record { spans = c.self.inside.forest.spans; stacks = ids_of_each c.self.inside.stacks.items })
-    (record { request = try_close c.args.worker c.args.id; answer = released c.in_ok-ids.field-0.ids.items; notes = map plain_note c.in_ok-ids.field-0.notes.items })
+    (record { request = try_close c.args.worker c.args.id; answer = released c.in_ok-closes.closes.ids.items; notes = map plain_note c.in_ok-closes.closes.notes.items })
     (record { spans = c.give_back.new.forest.spans; stacks = ids_of_each c.self.inside.stacks.items }) (g.O.Outlet.sent c.put.new.self)
 call g c = record {
-  step = step_close _ _ _ _ _ c.args.worker c.args.id _ _ (within g c) (held g c)
-      c.in_ok-ids.ensures.ids (ap (λ f. f.spans) c.in_ok-ids.ensures.forest) c.in_ok-ids.ensures.notes;
+  step = step_close _ _ _ _ _ c.args.worker c.args.id _ _ (within g c) c.in-Some.ensures.held
+      c.in_ok-closes.ensures.ids (ap (λ f. f.spans) c.give_back.ensures.forest) c.in_ok-closes.ensures.notes;
   sent = put_on _ _ _ _ c.in_ok-ask.ensures.sent c.put.ensures.sent;
 }
 
 pub invariant_of-self-2 : goal.invariant_of-self-2
 invariant_of-self-2 g c = (
-  sound_kept _ _ _ _ _ _ _ _ _ _ _ _ c.self.invariant.0 (call g c) refl c.in_ok-ids.ensures.ids c.in_ok-ids.ensures.forest,
+  sound_kept _ _ _ _ _ _ _ _ _ _ _ _ c.self.invariant.0 (call g c) refl c.in_ok-closes.ensures.ids c.give_back.ensures.forest,
   none_made _ _ _ _ c.self.invariant.1 refl (call g c).sent,
-  c.in_ok-ids.ensures.remembers,
-  summary_released _ _ _ _ c.args.id Handle (ap (λ f. f.spans) c.in_ok-ids.ensures.forest) c.self.invariant.3,
+  c.give_back.ensures.remembers,
+  summary_released _ _ _ _ c.args.id Handle (ap (λ f. f.spans) c.give_back.ensures.forest) c.self.invariant.3,
 )
 
 pub returns-clause-accepted : goal.returns-clause-accepted
 returns-clause-accepted g c =
     accepted_as _ _ _ _ _ (ap (λ (ids : List ℕ). released ids) (list_is g c))
-    (accepted_by _ _ _ _ _ _ c.self.view_is c.in_ok-seen.ensures.due (call g c)
+    (accepted_by _ _ _ _ _ _ c.self.view_is (due g c) (call g c)
     (record {
       limits = refl;
       rules = refl;
@@ -58,11 +63,11 @@ returns-clause-accepted g c =
 pub returns-clause-shown : goal.returns-clause-shown
 returns-clause-shown g c = record {
   lent = _;
-  list = c.as_slice.result;
+  list = c.as_slice-2.result;
   answer = _;
   left = _;
   lent_is = refl;
-  list_is = c.as_slice.ensures.value ∙ list_is g c;
+  list_is = c.as_slice-2.ensures.value ∙ list_is g c;
   called = c.see.ensures;
   left_is = refl;
 }

@@ -7,4 +7,4 @@ pub returns-clause-remembers : goal.returns-clause-remembers
 returns-clause-remembers c =
     c.forget.ensures _
     (remembers_released _ _ c.args.id Handle _ (ap (λ f. f.spans) c.release_closing.ensures) (ap (λ f. f.given) c.release_closing.ensures)
-    c.open_spans_are_counted.ensures.parent c.walks_end.ensures c.walks_end-2.ensures c.in_ok-notes.ensures.remembers)
+    c.open_spans_are_counted.ensures.parent c.walks_end.ensures c.walks_end-2.ensures c.requires.remembers)

@@ -11,8 +11,8 @@ use Rattle.span_core.proofs.notes.closing.push_closes.Given as goal
 -- the notes so far, with those of the spans that are left, are those of all; the places are at the next span
 abbrev pub invariant-loop-id : goal.invariant-loop-id
 invariant-loop-id l = record {
-  told : map plain_note l.notes.items ++ flat_map (notes_of l.rules l.worker) (map (close_of l.forest.spans) (drop l.id-index l.closed))
-      ≡ map plain_note l.initial.notes.items ++ flat_map (notes_of l.rules l.worker) (map (close_of l.forest.spans) l.closed);
+  told : map plain_note l.notes.items ++ flat_map (notes_of l.rules l.first.worker) (map (close_of l.forest.spans) (drop l.id-index l.closed))
+      ≡ map plain_note l.initial.notes.items ++ flat_map (notes_of l.rules l.first.worker) (map (close_of l.forest.spans) l.closed);
   length : length l.places.items ≡ length l.rules;
   chain : IsChain l.forest.spans (drop l.id-index l.closed);
   below : AreBelowFirst l.rules l.forest.spans (map plain_note l.notes.items) (drop l.id-index l.closed) l.places.items;
