@@ -60,31 +60,41 @@ module _ {T : Type 0} where
   given_kept : (cells : List (Cell T)) (k : ℕ) (cell new : Cell T) → cell ≡ get_or cells k cell → new.given ≡ cell.given → map (λ c. c.given) (set cells k new) ≡ map (λ c. c.given) cells
   given_kept cells k cell new e same = map-set_same (λ c. c.given) cells k new cell (same ∙ ap (λ c. c.given) e)
 
-  entries_taken : (cells : List (Cell T)) (id k : ℕ) (cell new : Cell T) (v : T) → IsId id → length cells ≤ 16777216 → slot_of id ≡ k → k < length cells → cell ≡ get_or cells k cell → cell.given ≡ generation_of id + 1 → cell.value ≡ Some v → new.given ≡ cell.given → new.value ≡ None → entries_from 0 (map row_of (set cells k new)) ≡ without_entry (entries_from 0 (map row_of cells)) id
-  entries_taken cells id k cell new v i n s l e g f same none =
-      let r : get_or (map row_of cells) k (0, None) ≡ (cell.given, Some v) = row_at cells k cell l e ∙ ap (λ x. (cell.given, x)) f in
-      let w = without_rows (map row_of cells) 0 k k cell.given v (0, None) (simp length-map (omega arith)) (omega arith) (simp length-map (omega arith)) r in
-      let q : id_of k (cell.given - 1) ≡ id = (let a = id_again id i in omega arith) in
+  -- the cell of an id that is there: it stands at the id's slot, the id is the last that it gave, and this is its value
+  pub record IsCellOf (cells : List (Cell T)) (id k : ℕ) (cell : Cell T) (v : T) : Type 0 where
+    pub layout : IsId id
+    pub small : length cells ≤ 16777216
+    pub slot : slot_of id ≡ k
+    pub within : k < length cells
+    pub is : cell ≡ get_or cells k cell
+    pub given : cell.given ≡ generation_of id + 1
+    pub value : cell.value ≡ Some v
+
+  entries_taken : (cells : List (Cell T)) (id k : ℕ) (cell new : Cell T) (v : T) → IsCellOf cells id k cell v → new.given ≡ cell.given → new.value ≡ None → entries_from 0 (map row_of (set cells k new)) ≡ without_entry (entries_from 0 (map row_of cells)) id
+  entries_taken cells id k cell new v h same none =
+      let r : get_or (map row_of cells) k (0, None) ≡ (cell.given, Some v) = row_at cells k cell h.within h.is ∙ ap (λ x. (cell.given, x)) h.value in
+      let w = without_rows (map row_of cells) 0 k k cell.given v (0, None) (simp length-map (omega (arith, h.small))) (omega arith) (simp length-map (omega (arith, h.within))) r in
+      let q : id_of k (cell.given - 1) ≡ id = (let a = id_again id h.layout in omega (arith, a, h.slot, h.given)) in
       let put : row_of new ≡ (cell.given, None) = pair_same new.given new.value cell.given None same none in
       ap (λ x. entries_from 0 x) (map-set row_of cells k new) ∙ (ap (λ x. entries_from 0 (set (map row_of cells) k x)) put ∙ (sym w ∙ ap (λ x. without_entry (entries_from 0 (map row_of cells)) x) q))
 
   -- taking a value out, where its slot may be given again
-  pub taken_free : (slots last id k : ℕ) (cells : List (Cell T)) (freed freed2 : List ℕ) (cell new : Cell T) (v : T) → IsId id → length cells ≤ 16777216 → slot_of id ≡ k → k < length cells → cell ≡ get_or cells k cell → cell.given ≡ generation_of id + 1 → cell.value ≡ Some v → new.given ≡ cell.given → new.value ≡ None → IsSome (value_at (entries_from 0 (map row_of cells)) id) → cell.given ≤ last → freed2 ≡ freed ++ k ∷ [] → table_of slots last (set cells k new) freed2 ≡ table_removed (table_of slots last cells freed) id
-  taken_free slots last id k cells freed freed2 cell new v i n s l e g f same none there le p =
-      let a = entries_taken cells id k cell new v i n s l e g f same none in
-      let b = given_kept cells k cell new e same in
-      let at = given_at cells k cell l e in
+  pub taken_free : (slots last id k : ℕ) (cells : List (Cell T)) (freed freed2 : List ℕ) (cell new : Cell T) (v : T) → IsCellOf cells id k cell v → new.given ≡ cell.given → new.value ≡ None → IsSome (value_at (entries_from 0 (map row_of cells)) id) → cell.given ≤ last → freed2 ≡ freed ++ k ∷ [] → table_of slots last (set cells k new) freed2 ≡ table_removed (table_of slots last cells freed) id
+  taken_free slots last id k cells freed freed2 cell new v h same none there le p =
+      let a = entries_taken cells id k cell new v h same none in
+      let b = given_kept cells k cell new h.is same in
+      let at = given_at cells k cell h.within h.is in
       let test = le-leb cell.given last le in
-      rw (there, a, b, p, reverse-append, s, at, test) refl
+      rw (there, a, b, p, reverse-append, h.slot, at, test) refl
 
   -- and where it gave its last id
-  pub taken_retired : (slots last id k : ℕ) (cells : List (Cell T)) (freed : List ℕ) (cell new : Cell T) (v : T) → IsId id → length cells ≤ 16777216 → slot_of id ≡ k → k < length cells → cell ≡ get_or cells k cell → cell.given ≡ generation_of id + 1 → cell.value ≡ Some v → new.given ≡ cell.given → new.value ≡ None → IsSome (value_at (entries_from 0 (map row_of cells)) id) → last < cell.given → table_of slots last (set cells k new) freed ≡ table_removed (table_of slots last cells freed) id
-  taken_retired slots last id k cells freed cell new v i n s l e g f same none there lt =
-      let a = entries_taken cells id k cell new v i n s l e g f same none in
-      let b = given_kept cells k cell new e same in
-      let at = given_at cells k cell l e in
+  pub taken_retired : (slots last id k : ℕ) (cells : List (Cell T)) (freed : List ℕ) (cell new : Cell T) (v : T) → IsCellOf cells id k cell v → new.given ≡ cell.given → new.value ≡ None → IsSome (value_at (entries_from 0 (map row_of cells)) id) → last < cell.given → table_of slots last (set cells k new) freed ≡ table_removed (table_of slots last cells freed) id
+  taken_retired slots last id k cells freed cell new v h same none there lt =
+      let a = entries_taken cells id k cell new v h same none in
+      let b = given_kept cells k cell new h.is same in
+      let at = given_at cells k cell h.within h.is in
       let test = lt-leb_false last cell.given lt in
-      rw (there, a, b, s, at, test) refl
+      rw (there, a, b, h.slot, at, test) refl
 
   -- the cell of an id that is there
   pub record Found (cells : List (Cell T)) (id k : ℕ) : Type 0 where
@@ -150,14 +160,14 @@ module _ {T : Type 0} where
       rw (slot_of_id k 0 (omega arith), past, len, outside, a, b, none) refl
 
   -- another value under an id that is there
-  pub written_table : (slots last id k : ℕ) (cells : List (Cell T)) (freed : List ℕ) (cell : Cell T) (v w : T) → IsId id → length cells ≤ 16777216 → slot_of id ≡ k → k < length cells → cell ≡ get_or cells k cell → cell.given ≡ generation_of id + 1 → cell.value ≡ Some v → table_of slots last (set cells k (record { given = cell.given; value = Some w })) freed ≡ record (table_of slots last cells freed) { entries = with_value (entries_from 0 (map row_of cells)) id w }
-  written_table slots last id k cells freed cell v w i n s l e g f =
+  pub written_table : (slots last id k : ℕ) (cells : List (Cell T)) (freed : List ℕ) (cell : Cell T) (v w : T) → IsCellOf cells id k cell v → table_of slots last (set cells k (record { given = cell.given; value = Some w })) freed ≡ record (table_of slots last cells freed) { entries = with_value (entries_from 0 (map row_of cells)) id w }
+  written_table slots last id k cells freed cell v w h =
       let new : Cell T = record { given = cell.given; value = Some w } in
-      let r : get_or (map row_of cells) k (0, None) ≡ (cell.given, Some v) = row_at cells k cell l e ∙ ap (λ x. (cell.given, x)) f in
-      let u = written_rows (map row_of cells) 0 k k cell.given v w (0, None) (simp length-map (omega arith)) (omega arith) (simp length-map (omega arith)) r in
-      let q : id_of k (cell.given - 1) ≡ id = (let a = id_again id i in omega arith) in
+      let r : get_or (map row_of cells) k (0, None) ≡ (cell.given, Some v) = row_at cells k cell h.within h.is ∙ ap (λ x. (cell.given, x)) h.value in
+      let u = written_rows (map row_of cells) 0 k k cell.given v w (0, None) (simp length-map (omega (arith, h.small))) (omega arith) (simp length-map (omega (arith, h.within))) r in
+      let q : id_of k (cell.given - 1) ≡ id = (let a = id_again id h.layout in omega (arith, a, h.slot, h.given)) in
       let a : entries_from 0 (map row_of (set cells k new)) ≡ with_value (entries_from 0 (map row_of cells)) id w = ap (λ x. entries_from 0 x) (map-set row_of cells k new) ∙ (sym u ∙ ap (λ x. with_value (entries_from 0 (map row_of cells)) x w) q) in
-      let b = given_kept cells k cell new e refl in
+      let b = given_kept cells k cell new h.is refl in
       rw (a, b) refl
 
   cond_same : (b : Bool) (o : Option T) → o ≡ None → cond b o None ≡ None

@@ -6,7 +6,7 @@ use Rattle.span_slots.specs.declared.cells.Cell.{Cell}
 use Rattle.span_slots.specs.inside.Cells.{row_of}
 use Rattle.span_slots.specs.Table.{value_at}
 use Rattle.span_slots.specs.inside.Rows.{entries_from, IsSound}
-use Rattle.span_slots.proofs.CellLemmas.{found_cell, row_at}
+use Rattle.span_slots.proofs.CellLemmas.{IsCellOf, found_cell, row_at}
 use Rattle.span_slots.proofs.Sound.{free_row}
 
 module _ {T : Type 0} where
@@ -18,6 +18,7 @@ module _ {T : Type 0} where
     pub given : (cell : Cell T) → cell ≡ get_or cells k cell → cell.given ≡ generation_of id + 1
     pub value : (cell : Cell T) → cell ≡ get_or cells k cell → value_at (entries_from 0 (map row_of cells)) id ≡ cell.value
     pub row : (cell : Cell T) (v : T) → cell ≡ get_or cells k cell → cell.value ≡ Some v → get_or (map row_of cells) k (0, None) ≡ (cell.given, Some v)
+    pub cell_of : (cell : Cell T) (v : T) → cell ≡ get_or cells k cell → cell.value ≡ Some v → IsCellOf cells id k cell v
 
   pub found : (slots last len rc rf id k : ℕ) (cells : List (Cell T)) (freed : List ℕ) → IsSound slots last len rc rf (map row_of cells) freed → IsId id → k ≡ slot_of id → IsSome (value_at (entries_from 0 (map row_of cells)) id) → IsFound cells id k
   found slots last len rc rf id k cells freed s layout e there =
@@ -31,6 +32,7 @@ module _ {T : Type 0} where
         given = f.given;
         value = f.value;
         row = λ cell v at some. row_at cells k cell f.within at ∙ ap (λ x. (cell.given, x)) some;
+        cell_of = λ cell v at some. record { layout = layout; small = n; slot = sym e; within = f.within; is = at; given = f.given cell at; value = some };
       }
 
   -- the cell of the slot that was freed last

@@ -70,7 +70,7 @@ returns-then-given-from g c =
     let le : cell.given ≤ i.last_generation = omega (arith, c.if-given-from.true, c.from.ensures) in
     record {
       value = rw (← c.self.view_is) (f.value cell at ∙ some);
-      table = rw (← c.self.view_is) (taken_free i.slots i.last_generation c.args.id c.slot-slot.result i.cells.items i.freed.items c.push_reserved.new.self.items cell (record { given = cell.given; value = c.take.new.self }) c.in-Some.value c.get-layout.ensures.layout f.small (sym c.slot-slot.ensures.value) f.within at (f.given cell at) some refl c.take.ensures.after there le c.push_reserved.ensures.items);
+      table = rw (← c.self.view_is) (taken_free i.slots i.last_generation c.args.id c.slot-slot.result i.cells.items i.freed.items c.push_reserved.new.self.items cell (record { given = cell.given; value = c.take.new.self }) c.in-Some.value (f.cell_of cell _ at some) refl c.take.ensures.after there le c.push_reserved.ensures.items);
     }
 
 pub returns-else-given-from : goal.returns-else-given-from
@@ -84,5 +84,5 @@ returns-else-given-from g c =
     let lt : i.last_generation < cell.given = omega (arith, c.if-given-from.false, c.from.ensures) in
     record {
       value = rw (← c.self.view_is) (f.value cell at ∙ some);
-      table = rw (← c.self.view_is) (taken_retired i.slots i.last_generation c.args.id c.slot-slot.result i.cells.items i.freed.items cell (record { given = cell.given; value = c.take.new.self }) c.in-Some.value c.get-layout.ensures.layout f.small (sym c.slot-slot.ensures.value) f.within at (f.given cell at) some refl c.take.ensures.after there lt);
+      table = rw (← c.self.view_is) (taken_retired i.slots i.last_generation c.args.id c.slot-slot.result i.cells.items i.freed.items cell (record { given = cell.given; value = c.take.new.self }) c.in-Some.value (f.cell_of cell _ at some) refl c.take.ensures.after there lt);
     }
