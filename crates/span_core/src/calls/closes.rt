@@ -1,15 +1,14 @@
 //! What a worker that leaves a span or a handle that is given back closes: each growth comes before the first change,
 //! while the span that was found is still at hand.
-ghost use Rattle.std.specs.Prelude.{◌≡◌, ◌<◌, ◌∷◌, [], false, length, map, slice_index_or, slice_set, IfOk, IfErr, OnOk, OnErr, Some};
+ghost use Rattle.std.specs.Prelude.{◌≡◌, ◌∷◌, [], false, map, IfOk, IfErr, Some};
 ghost use Rattle.span_layers.specs.declared.note.Kind.TheVariants.{OnExit};
 ghost use Rattle.span_layers.specs.Note.{plain_note};
 ghost use Rattle.span_forest.specs.declared.span.Holder.TheVariants.{Handle, Entry};
 ghost use Rattle.span_forest.specs.Node.{node_of};
-ghost use Rattle.span_forest.specs.Spans.{find, IsOpen};
+ghost use Rattle.span_forest.specs.Spans.{find};
 ghost use Rattle.span_forest.specs.Count.{reference_count};
 ghost use Rattle.span_forest.specs.Holders.{IsHeld};
 ghost use Rattle.span_forest.specs.Release.{closing_list};
-ghost use Rattle.span_stack.specs.Stack.{without_last, ids_of_each};
 ghost use Rattle.span_core.specs.Happening.{at_span, close_of, notes_of_all};
 ghost use Rattle.span_core.specs.inside.ClosingPaths.{IsChain};
 ghost use Rattle.span_core.specs.inside.Leaving.{closed_on_exit, forest_exited, forest_released};
@@ -19,12 +18,10 @@ ghost use Rattle.span_core.specs.inside.Remembering.{Remembers};
 use crate::notes::closing::{close_notes, closing_lists_are_chains};
 use crate::notes::{SeenSpan, exit_notes};
 use crate::recent::Recent;
-use crate::stacks::pop_at;
 use span_forest::laws::{open_spans_are_counted, walks_end};
 use span_forest::{Forest, Holder};
 use span_id::{Fault, Id};
 use span_layers::{Note, Rules};
-use span_stack::SpanStack;
 use std::alloc::Global;
 
 /// The spans that a call closes, child first, and the call's notes.
@@ -34,66 +31,40 @@ pub(crate) struct Closes {
     pub(crate) notes: Vec<Note>,
 }
 
-// A worker leaves a span, which stays in its stack or not. Nothing changes where memory is refused.
-pub(crate) fn leave(
+// What closes where a worker leaves a span, which stays in its stack or not.
+pub(crate) fn closes_on_exit<'a>(
     recent: &mut Recent,
     rules: &Rules,
-    forest: &mut Forest,
-    stacks: &mut Vec<SpanStack>,
-    worker: u32,
-    id: Id,
+    forest: &'a Forest,
+    exit: &SeenSpan<'a>,
     stays: bool,
 ) -> Result<Closes, Fault>
-    requires within { worker < length stacks.old.items }
-    requires open { IsOpen forest.old.spans id }
-    requires held { stays ≡ false → IsHeld forest.old.spans id Entry }
-    requires remembers { Remembers forest.old recent.old.paths }
-    ensures ids { IfOk result (λ closes. closes.ids.items ≡ closed_on_exit forest.old.spans id stays) }
-    ensures notes { IfOk result (λ closes. map plain_note closes.notes.items
-        ≡ notes_of_all rules.now worker (at_span forest.old.spans OnExit id []
-        ∷ map (close_of forest.old.spans) closes.ids.items)) }
-    ensures forest { OnOk result (forest.new ≡ forest_exited forest.old id stays) }
-    ensures stacks { OnOk result (ids_of_each stacks.new.items
-        ≡ slice_set (ids_of_each stacks.old.items) worker
-        (without_last (slice_index_or (ids_of_each stacks.old.items) worker []) id)) }
-    ensures unchanged { OnErr result (forest.new ≡ forest.old) }
-    ensures stacks_unchanged { OnErr result (ids_of_each stacks.new.items ≡ ids_of_each stacks.old.items) }
-    ensures remembers { Remembers forest.new recent.new.paths }
-    ensures memory { IfErr result (λ fault. fault ≡ Fault.Memory) }
-{
-    let Closes { ids, notes } = closes_on_exit(recent, rules, forest, worker, id, stays)?;
-    release_on_exit(forest, stays, id, ids.as_slice());
-    recent.paths.forget(ids.as_slice());
-    pop_at(stacks, worker, id);
-    Ok(Closes { ids, notes })
-}
-
-// What a worker closes that leaves a span, which is looked up for the notes and for what closes.
-fn closes_on_exit(
-    recent: &mut Recent,
-    rules: &Rules,
-    forest: &Forest,
-    worker: u32,
-    id: Id,
-    stays: bool,
-) -> Result<Closes, Fault>
-    requires open { IsOpen forest.now.spans id }
-    requires held { stays ≡ false → IsHeld forest.now.spans id Entry }
+    requires found { find forest.now.spans exit.now.id ≡ Some (node_of exit.now.span.now) }
+    requires count { exit.now.span.now.count ≡ reference_count forest.now.spans exit.now.id }
+    requires held { stays ≡ false → IsHeld forest.now.spans exit.now.id Entry }
     requires remembers { Remembers forest.now recent.old.paths }
-    ensures ids { IfOk result (λ closes. closes.ids.items ≡ closed_on_exit forest.now.spans id stays) }
+    ensures ids { IfOk result (λ closes. closes.ids.items ≡ closed_on_exit forest.now.spans exit.now.id stays) }
     ensures notes { IfOk result (λ closes. map plain_note closes.notes.items
-        ≡ notes_of_all rules.now worker (at_span forest.now.spans OnExit id []
+        ≡ notes_of_all rules.now exit.now.worker (at_span forest.now.spans OnExit exit.now.id []
         ∷ map (close_of forest.now.spans) closes.ids.items)) }
     ensures remembers { Remembers forest.now recent.new.paths }
     ensures memory { IfErr result (λ fault. fault ≡ Fault.Memory) }
 {
-    let Some(span) = forest.find(id) else {
-        unreachable!()
-    };
-    let exit = SeenSpan { worker, id, span };
-    let ids = closing_on_exit(recent.alloc, forest, &exit, stays)?;
-    let notes = exit_notes(recent, rules, forest, &exit, ids.as_slice())?;
+    let ids = closing_on_exit(recent.alloc, forest, exit, stays)?;
+    let notes = exit_notes(recent, rules, forest, exit, ids.as_slice())?;
     Ok(Closes { ids, notes })
+}
+
+// A worker leaves a span, which stays in its stack or not; these are the spans that close.
+pub(crate) fn leave(recent: &mut Recent, forest: &mut Forest, stays: bool, id: Id, closing: &[Id])
+    requires held { stays ≡ false → IsHeld forest.old.spans id Entry }
+    requires list { closing.now ≡ closed_on_exit forest.old.spans id stays }
+    requires remembers { Remembers forest.old recent.old.paths }
+    ensures forest { forest.new ≡ forest_exited forest.old id stays }
+    ensures remembers { Remembers forest.new recent.new.paths }
+{
+    release_on_exit(forest, stays, id, closing);
+    recent.paths.forget(closing);
 }
 
 // What closes where a handle is given back.

@@ -1,5 +1,5 @@
 //! The calls that change a worker's stack.
-ghost use Rattle.std.specs.Prelude.{◌≡◌, ◌<◌, ◌↔◌, true, false, not, if◌then◌else◌, nat_lt, length, None, IsTrue, IfOk, IfErr, OnOk, OnErr};
+ghost use Rattle.std.specs.Prelude.{◌≡◌, ◌<◌, ◌↔◌, true, not, if◌then◌else◌, nat_lt, length, None, IsTrue, IfOk, IfErr, OnOk, OnErr};
 ghost use Rattle.span_forest.specs.declared.span.Holder.TheVariants.{Handle, Entry};
 ghost use Rattle.span_forest.specs.Spans.{find};
 ghost use Rattle.span_forest.specs.Count.{reference_count};
@@ -15,15 +15,12 @@ ghost use Rattle.span_core.specs.GivenBack.{ClosesWhatNothingHolds};
 ghost use Rattle.span_core.specs.Shown.{MayBeShown, IsShown};
 
 use crate::Core;
-use crate::calls::closes::{Closes, leave};
-use crate::calls::held::held_span;
+use crate::calls::closes::{Closes, closes_on_exit, leave};
+use crate::calls::held::{held_span, open_span};
 use crate::calls::room::ask;
-use crate::laws::{
-    accepted_releases_close_what_nothing_holds, entries_are_the_workers_inside,
-    the_named_span_closes_first,
-};
-use crate::notes::{Happening, span_notes};
-use crate::stacks::{is_outside, push_at, stays_inside};
+use crate::laws::{accepted_releases_close_what_nothing_holds, the_named_span_closes_first};
+use crate::notes::{Happening, SeenSpan, span_notes};
+use crate::stacks::{is_outside, pop_at, push_at, stays_inside};
 use span_forest::{Forest, Holder};
 use span_id::{Bits, Fault, Fields, Id};
 use span_layers::Kind;
@@ -116,18 +113,28 @@ impl<O: Outlet, A> Core<O, A> {
         ensures refused { IfErr result (λ fault. IsRefused self.old (exit worker id) fault self.new) }
         ensures not_shown { OnErr result (state.new ≡ state.old) }
     {
-        let stays = self.leaving(worker, id)?;
+        let Some(span) = open_span(&self.forest, id) else {
+            return Err(Fault::Unknown);
+        };
+        if self.calls == u64::MAX {
+            return Err(Fault::CountFull);
+        }
+        let Some(stays) = stays_inside(self.stacks.as_slice(), worker, id) else {
+            return Err(Fault::NotEntered);
+        };
         ask(&mut self.outlet, &mut self.recent.spare)?;
         self.summary.cut(self.stacks.as_slice(), worker, id);
-        let Closes { ids, notes } = leave(
+        let exit = SeenSpan { worker, id, span };
+        let closes = closes_on_exit(&mut self.recent, &self.rules, &self.forest, &exit, stays)?;
+        let Closes { ids, notes } = closes;
+        leave(
             &mut self.recent,
-            &self.rules,
             &mut self.forest,
-            &mut self.stacks,
-            worker,
-            id,
             stays,
-        )?;
+            id,
+            ids.as_slice(),
+        );
+        pop_at(&mut self.stacks, worker, id);
         see(state, ids.as_slice());
         let closed = !ids.is_empty();
         self.calls += 1;
@@ -159,45 +166,6 @@ impl<O: Outlet, A> Core<O, A> {
             first,
             bits: seen.bits,
         })
-    }
-
-    // Whether a span stays in the stack of a worker that leaves it, or why the exit is refused. What stands in a stack is
-    // open, so the span is looked up only where it doesn't stand there.
-    fn leaving(&self, worker: u32, id: Id) -> Result<bool, Fault>
-        requires { worker < self.now.limits.workers }
-        ensures due { OnOk result (IsDue self.now (exit worker id)) }
-        ensures stays { IfOk result (λ stays. stays ≡ stays_inside self.now.world worker id) }
-        ensures refused { IfErr result (λ fault. IsRefused self.now (exit worker id) fault self.now) }
-    {
-        self.inside_is_open(worker, id);
-        let Some(stays) = stays_inside(self.stacks.as_slice(), worker, id) else {
-            return Err(self.why_outside(worker, id));
-        };
-        if self.calls == u64::MAX {
-            return Err(Fault::CountFull);
-        }
-        Ok(stays)
-    }
-
-    // A span that stands in a worker's stack is open.
-    fn inside_is_open(&self, worker: u32, id: Id)
-        ensures { has (stack_of self.now.world worker) id ≡ true → is_open self.now.world.spans id ≡ true }
-    {
-        entries_are_the_workers_inside(self);
-    }
-
-    // Why a worker can't leave a span that doesn't stand in its stack.
-    fn why_outside(&self, worker: u32, id: Id) -> Fault
-        requires { has (stack_of self.now.world worker) id ≡ false }
-        ensures { IsRefused self.now (exit worker id) result self.now }
-    {
-        if self.forest.find(id).is_none() {
-            return Fault::Unknown;
-        }
-        if self.calls == u64::MAX {
-            return Fault::CountFull;
-        }
-        Fault::NotEntered
     }
 }
 

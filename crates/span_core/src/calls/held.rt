@@ -5,6 +5,7 @@ ghost use Rattle.span_forest.specs.Spans.{find};
 ghost use Rattle.span_forest.specs.Count.{reference_count};
 ghost use Rattle.span_forest.specs.Holders.{IsHeld, held_in};
 ghost use Rattle.span_core.specs.Happening.{bits_in};
+ghost use Rattle.span_core.specs.Step.{is_open};
 ghost use Rattle.span_core.specs.Core.{has_handle};
 
 use span_forest::{Forest, Span};
@@ -25,6 +26,16 @@ pub(crate) fn held_span(forest: &Forest, id: Id) -> Option<&Span>
         return None;
     }
     Some(span)
+}
+
+// The span of an id, if it is open.
+pub(crate) fn open_span(forest: &Forest, id: Id) -> Option<&Span>
+    ensures open { OnSome result (is_open forest.now.spans id ≡ true) }
+    ensures found { IfSome result (λ span. find forest.now.spans id ≡ Some (node_of span.now)) }
+    ensures count { IfSome result (λ span. span.now.count ≡ reference_count forest.now.spans id) }
+    ensures not_open { IfNone result (is_open forest.now.spans id ≡ false) }
+{
+    forest.find(id)
 }
 
 // The layers that admit a span of which a handle is out.
