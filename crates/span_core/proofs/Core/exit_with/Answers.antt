@@ -5,14 +5,13 @@ use Rattle.span_forest.specs.declared.span.Holder.TheVariants.{Entry}
 use Rattle.span_forest.specs.Release.{closing_list}
 use Rattle.span_stack.specs.Stack.{has, without_last, ids_of_each}
 use Rattle.span_outlet.specs.Request.{exit, exited}
-use Rattle.span_forest.specs.Forest.{ForestView}
 use Rattle.span_outlet.specs.Batch.{PlainBatch}
 use Rattle.span_core.specs.World.{stack_of}
 use Rattle.span_core.specs.History.{issued}
 use Rattle.span_core.specs.inside.Sound.{IsSound}
 use Rattle.span_core.specs.inside.Summary.{IsSummary}
 use Rattle.span_core.specs.Core.{CoreView, IsDue}
-use Rattle.span_core.specs.Step.{is_open, stays_inside, closed_by_exit}
+use Rattle.span_core.specs.Step.{is_open, closed_by_exit}
 use Rattle.span_core.proofs.Made.{none_made}
 use Rattle.span_core.proofs.Soundness.{IsOneMore, put_on, sound_kept}
 use Rattle.span_core.proofs.Accepting.{step_exit}
