@@ -2,7 +2,7 @@ use Rattle.std.proofs.Common.{refl, ap}
 use Rattle.span_registry.specs.Worker.{WorkerView}
 use Rattle.span_registry.proofs.Exited.{stack_left}
 use Rattle.span_registry.proofs.Free.{free_worker, free_room, free_longer, free_as_long, free_seated, free_refused, free_counted}
-use Rattle.span_registry.proofs.Happens.{exit_happened}
+use Rattle.span_registry.proofs.Happens.{happened_here}
 use Rattle.span_registry.proofs.under_lock.entries.exit.Goals as goal
 
 pub exit-requires-clause-worker : goal.exit-requires-clause-worker
@@ -33,8 +33,15 @@ returns-clause-left g c =
 pub returns-clause-was_released : goal.returns-clause-was_released
 returns-clause-was_released g c =
     let accepted = c.in-Ok.ensures.accepted.accepted in
-    exit_happened c.args.worker.now c.count_call.new.worker _ c.worker.inside.number c.args.id c.in-Ok.closed
-    c.locked.invariant c.count_call.ensures.seen (ap (λ (w : WorkerView). w.seen) c.count_call.ensures.worker) c.count_call.ensures.legal c.count_call.ensures.within (ap (λ (w : WorkerView). w.number) c.worker.view_is)
-    (c.accepted_releases_close_what_nothing_holds.ensures _ _ _ accepted refl)
-    (rw c.in-Ok.ensures.closed (c.the_named_span_closes_first.ensures.exit _ _ _ _ accepted))
-    (stack_left _ _ _ _ _ _ _ _ accepted.step)
+    happened_here c.locked.invariant
+    (record {
+      seen_before = c.count_call.ensures.seen;
+      seen_after = ap (λ (w : WorkerView). w.seen) c.count_call.ensures.worker;
+      legal = c.count_call.ensures.legal;
+      within = c.count_call.ensures.within;
+    })
+    (rw (← c.worker.view_is) (
+      c.accepted_releases_close_what_nothing_holds.ensures _ _ _ accepted refl,
+      rw c.in-Ok.ensures.closed (c.the_named_span_closes_first.ensures.exit _ _ _ _ accepted),
+      stack_left _ _ _ _ _ _ _ _ accepted.step,
+    ))

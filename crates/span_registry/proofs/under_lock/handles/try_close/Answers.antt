@@ -2,8 +2,7 @@ use Rattle.std.proofs.Common.{refl, ap, ◌∙◌}
 use Rattle.std.proofs.Math.Nat.{add-zero}
 use Rattle.span_registry.proofs.Free.{free_worker, free_room, free_longer, free_as_long, free_seated, free_refused, free_counted}
 use Rattle.span_registry.specs.Worker.{WorkerView}
-use Rattle.span_seats.specs.declared.view.HandleView.{HandleView}
-use Rattle.span_registry.proofs.Happens.{close_happened}
+use Rattle.span_registry.proofs.Happens.{happened_here}
 use Rattle.span_registry.proofs.under_lock.handles.try_close.Goals as goal
 
 pub try_close-requires-clause-worker : goal.try_close-requires-clause-worker
@@ -34,8 +33,14 @@ returns-clause-released g c =
 pub returns-clause-was_released : goal.returns-clause-was_released
 returns-clause-was_released g c =
     let accepted = c.in-Ok.ensures.done.0.accepted in
-    let told = ap (λ (w : WorkerView). w.seen) c.take_back.ensures.worker ∙ ap (λ (w : WorkerView). w.seen) c.count_call.ensures.worker in
-    close_happened c.args.worker.now c.take_back.new.worker _ c.worker.inside.number _ _ c.in-Ok.closed
-    c.locked.invariant c.count_call.ensures.seen told c.count_call.ensures.legal c.count_call.ensures.within (ap (λ (w : WorkerView). w.number) c.worker.view_is) (ap (λ (h : HandleView). h.id) c.handle.view_is)
-    (c.accepted_releases_close_what_nothing_holds.ensures _ _ _ accepted refl)
-    (rw c.in-Ok.ensures.done.1 (c.the_named_span_closes_first.ensures.try_close _ _ _ _ accepted))
+    happened_here c.locked.invariant
+    (record {
+      seen_before = c.count_call.ensures.seen;
+      seen_after = ap (λ (w : WorkerView). w.seen) c.take_back.ensures.worker ∙ ap (λ (w : WorkerView). w.seen) c.count_call.ensures.worker;
+      legal = c.count_call.ensures.legal;
+      within = c.count_call.ensures.within;
+    })
+    (rw (← c.worker.view_is, ← c.handle.view_is) (
+      c.accepted_releases_close_what_nothing_holds.ensures _ _ _ accepted refl,
+      rw c.in-Ok.ensures.done.1 (c.the_named_span_closes_first.ensures.try_close _ _ _ _ accepted),
+    ))
