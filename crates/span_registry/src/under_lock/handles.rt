@@ -1,15 +1,13 @@
 //! The calls that make one more handle of a span or give one back.
 ghost use Rattle.std.specs.Prelude.{◌≡◌, ◌≢◌, ◌+◌, ◌-◌, ◌<◌, ◌↔◌, nat_lt, length, None, IsTrue, IfOk, IfErr, OnOk, OnErr, MatchResult};
 ghost use Rattle.span_id.specs.declared.fault.Fault.TheVariants.{Unknown, CountFull};
-ghost use Rattle.span_forest.specs.declared.span.Holder.TheVariants.{Handle};
 ghost use Rattle.span_forest.specs.Spans.{find};
-ghost use Rattle.span_forest.specs.Release.{closing_list};
 ghost use Rattle.span_outlet.specs.Request.{clone_span, cloned, try_close, released};
 ghost use Rattle.span_core.specs.Core.{IsAccepted, IsRefused};
 ghost use mathlib.Core.List.{IsPrefix};
 ghost use Rattle.span_core.specs.GivenBack.{ClosesWhatNothingHolds};
 ghost use Rattle.span_registry.specs.Worker.{after_call, HasOneMore, HasNoMore};
-ghost use Rattle.span_registry.specs.Happened.{Happened};
+ghost use Rattle.span_registry.specs.Happened.{Happened, closed_by_close};
 
 use crate::books::{count_call, make_handle, see, take_back};
 use crate::locked::Locked;
@@ -85,14 +83,13 @@ pub fn try_close<H: Ledger, C: Ledger, S: Setup, O: Outlet, A>(
     ensures seen { IsPrefix worker.old.seen worker.new.seen }
     ensures own { MatchResult result (λ _. HasOneMore worker.old worker.new) (λ _. HasNoMore worker.old worker.new) }
     ensures happened { IfOk result (λ closed. Happened S.limits S.rules worker.old worker.new (λ old new.
-        IsAccepted old (try_close worker.old.number handle.id) (released (closing_list old.world.spans handle.id Handle)) new
-        × (closed ≡ nat_lt 0 (length (closing_list old.world.spans handle.id Handle))))) }
+        IsAccepted old (try_close worker.old.number handle.id) (released (closed_by_close old.world handle.id)) new
+        × (closed ≡ nat_lt 0 (length (closed_by_close old.world handle.id))))) }
     ensures was_refused { IfErr result (λ e. Happened S.limits S.rules worker.old worker.new (λ old new.
         IsRefused old (try_close worker.old.number handle.id) e.1 new)) }
     ensures step { OnOk result (IsAccepted locked.old (try_close worker.old.number handle.id)
-        (released (closing_list locked.old.world.spans handle.id Handle)) locked.new) }
-    ensures closed { IfOk result (λ closed. closed
-        ≡ nat_lt 0 (length (closing_list locked.old.world.spans handle.id Handle))) }
+        (released (closed_by_close locked.old.world handle.id)) locked.new) }
+    ensures closed { IfOk result (λ closed. closed ≡ nat_lt 0 (length (closed_by_close locked.old.world handle.id))) }
     ensures gone { IfOk result (λ closed. IsTrue closed ↔ (find locked.new.world.spans handle.id ≡ None)) }
     ensures released { OnOk result (ClosesWhatNothingHolds locked.old (try_close worker.old.number handle.id) locked.new) }
     ensures was_released { IfOk result (λ closed. Happened S.limits S.rules worker.old worker.new (λ old new.

@@ -4,16 +4,18 @@ ghost use mathlib.Core.List.{IsPrefix};
 ghost use Rattle.span_outlet.specs.Lines.{lines_of, plain_line};
 ghost use Rattle.span_outlet.specs.Kept.{AreTold, HasNoLine, NumberedNote, numbered};
 ghost use Rattle.span_outlet.specs.LineReader.{AreLeft};
+ghost use Rattle.span_forest.specs.Count.{total_handles};
 ghost use Rattle.span_core.specs.World.{entries_in};
 ghost use Rattle.span_core.specs.History.{IsLegal};
 ghost use Rattle.span_history.specs.Own.{IsFront};
 ghost use Rattle.span_registry.specs.Share.{IsWhole};
-ghost use Rattle.span_registry.specs.Report.{AreCounts, IsWithin, Tells};
+ghost use Rattle.span_registry.specs.Report.{AreCounts, IsWithin, HasEnded, Tells};
 
 use crate::locked::Locked;
 use crate::report::{Counts, Report};
 use crate::setup::Setup;
 use crate::share::Share;
+use span_core::Core;
 use span_core::laws::{
     counts_and_calls_have_bounds, each_slot_has_one_open_span, empty_where_nothing_is_held,
     entries_are_counted_once, made_spans_are_open_or_closed,
@@ -123,6 +125,30 @@ pub fn finish_reading<H: Ledger, C: Ledger, S: Setup, V, A: Drop>(
 }
 
 impl Counts {
+    // What this core has, whose spans have so many handles and which accepted so many calls.
+    fn of<O: Outlet, A>(core: &Core<O, A>, handles: u64, calls: u64) -> Counts
+        requires handles { handles ≡ total_handles core.now.world.spans }
+        requires calls { calls ≡ length core.now.sent }
+        ensures handles { result.handles ≡ handles }
+        ensures calls { result.calls ≡ calls }
+        ensures counted { AreCounts core.now result }
+        ensures emptied { handles ≡ 0 → entries_in core.now.world.stacks ≡ 0 → core.now.world.spans ≡ [] }
+        ensures empty { (result.left ≡ 0) ↔ ((result.handles ≡ 0) × (result.entries ≡ 0)) }
+        ensures balance { result.made ≡ result.closed + result.left }
+    {
+        empty_where_nothing_is_held(core);
+        entries_are_counted_once(core);
+        made_spans_are_open_or_closed(core);
+        Counts {
+            left: core.len(),
+            handles,
+            entries: core.entries(),
+            calls,
+            made: core.made(),
+            closed: core.closed(),
+        }
+    }
+
     // The report with these lines.
     fn report(self, lines: Vec<Line>, refused: u64) -> Report
         ensures { result ≡ record {
@@ -155,21 +181,16 @@ fn end<H: Ledger, C: Ledger, S: Setup, O: Outlet, A: Drop>(
     share: Share<H, C, S>,
 ) -> (Counts, O)
     requires { IsWhole H.parts C.parts share }
-    ensures setup { (locked.limits ≡ S.limits) × (locked.rules ≡ S.rules) × (locked.name ≡ S.ring) }
-    ensures legal { IsLegal S.rules S.limits.workers locked.sent locked.world }
-    ensures within { IsWithin S.limits locked }
-    ensures fronts { length share.seen ≡ S.limits.workers }
-    ensures seen { All (λ front. IsFront front locked.sent) share.seen }
+    ensures ended { HasEnded S.limits S.rules share locked }
     ensures counted { AreCounts locked result.0 }
     ensures units { result.0.handles ≡ share.units }
     ensures accepted { result.0.calls ≡ share.accepted }
-    ensures emptied { share.units ≡ 0 → entries_in locked.world.stacks ≡ 0 → locked.world.spans ≡ [] }
     ensures empty { (result.0.left ≡ 0) ↔ ((result.0.handles ≡ 0) × (result.0.entries ≡ 0)) }
     ensures balance { result.0.made ≡ result.0.closed + result.0.left }
     ensures sent { O.sent result.1 ≡ locked.sent }
     ensures times_full { O.times_full result.1 ≡ locked.times_full }
     ensures forms { O.forms result.1 ≡ S.forms }
-    ensures name { O.name result.1 ≡ S.ring }
+    ensures name { (O.name result.1 ≡ S.ring) × (locked.name ≡ S.ring) }
 {
     let Locked {
         core,
@@ -190,19 +211,9 @@ fn end<H: Ledger, C: Ledger, S: Setup, O: Outlet, A: Drop>(
     audit(calls, call_parts);
     let mut keeper = keeper;
     keeper.show_all(seen);
-    empty_where_nothing_is_held(&core);
-    entries_are_counted_once(&core);
-    made_spans_are_open_or_closed(&core);
     counts_and_calls_have_bounds(&core);
     each_slot_has_one_open_span(&core);
-    let counts = Counts {
-        left: core.len(),
-        handles: units,
-        entries: core.entries(),
-        calls: accepted,
-        made: core.made(),
-        closed: core.closed(),
-    };
+    let counts = Counts::of(&core, units, accepted);
     (counts, core.into_outlet())
 }
 
