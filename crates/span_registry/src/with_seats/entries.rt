@@ -55,11 +55,7 @@ pub(crate) fn exit<T: TableName, O: Outlet, A>(
 {
     core.calls();
     each_slot_has_one_open_span(core);
-    match core.exit_with(worker, id, root, RootSeat::mark_closed) {
-        Ok(closed) => {
-            core.calls();
-            Ok(closed)
-        }
-        Err(fault) => Err(fault),
-    }
+    let closed = core.exit_with(worker, id, root, RootSeat::mark_closed)?;
+    core.calls();
+    Ok(closed)
 }

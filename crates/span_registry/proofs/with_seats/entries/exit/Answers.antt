@@ -10,16 +10,16 @@ exit_with-requires-clause-may g c due lent list lent_is list_is =
     rw (lent_is, list_is)
     (exited_may_close c.args.core.now c.args.worker c.args.id c.calls.ensures.legal (sound_of _ l.one_slot l.in_layout) due.known c.args.root.now c.requires.seated)
 
-pub returns-in-Ok-clause-seated : goal.returns-in-Ok-clause-seated
-returns-in-Ok-clause-seated g c =
+pub returns-clause-seated : goal.returns-clause-seated
+returns-clause-seated g c =
     let l = c.each_slot_has_one_open_span.ensures in
-    let shown = c.in-Ok.ensures.shown in
-    seated_exited c.args.core.now c.args.worker c.args.id c.calls.ensures.legal (sound_of _ l.one_slot l.in_layout) c.in-Ok.ensures.accepted.due.known c.args.root.now c.requires.seated
-    c.exit_with.new.self c.in-Ok.ensures.accepted c.exit_with.new.state
+    let shown = c.in_ok-closed.ensures.shown in
+    seated_exited c.args.core.now c.args.worker c.args.id c.calls.ensures.legal (sound_of _ l.one_slot l.in_layout) c.in_ok-closed.ensures.accepted.due.known c.args.root.now c.requires.seated
+    c.exit_with.new.self c.in_ok-closed.ensures.accepted c.exit_with.new.state
     (shown_handles _ _ c.args.root.now c.exit_with.new.state shown.lent_is shown.left_is shown.called.0)
     (shown_words _ _ c.args.root.now c.exit_with.new.state _ _ shown.lent_is shown.left_is shown.list_is shown.called.1.1)
 
-pub returns-in-Ok-clause-accepted : goal.returns-in-Ok-clause-accepted
-returns-in-Ok-clause-accepted g c =
+pub returns-clause-accepted : goal.returns-clause-accepted
+returns-clause-accepted g c =
     let fits : length c.exit_with.new.self.sent < 2 ^ 64 = search rules in
-    counted_of _ _ _ _ c.calls.ensures.legal c.calls-in-Ok.ensures.legal fits c.in-Ok.ensures.accepted
+    counted_of _ _ _ _ c.calls.ensures.legal c.calls-2.ensures.legal fits c.in_ok-closed.ensures.accepted
