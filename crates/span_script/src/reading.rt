@@ -255,20 +255,15 @@ fn new_span<'v, V: JsonValue<'v>, M: Metas>(
         Ok(parent) => parent,
         Err(reason) => return Err(Stop::Refused(reason)),
     };
-    let fields = match fields(alloc, line) {
-        Ok(fields) => fields,
-        Err(stop) => return Err(stop),
-    };
-    match meta_and_label(alloc, line, workers, &head, metas) {
-        Ok((meta, label, worker)) => Ok(Operation::New(NewSpan {
-            meta,
-            fields,
-            parent,
-            label,
-            worker,
-        })),
-        Err(stop) => Err(stop),
-    }
+    let fields = fields(alloc, line)?;
+    let (meta, label, worker) = meta_and_label(alloc, line, workers, &head, metas)?;
+    Ok(Operation::New(NewSpan {
+        meta,
+        fields,
+        parent,
+        label,
+        worker,
+    }))
 }
 
 /// The meta of a new span, its label and its worker.
@@ -284,13 +279,9 @@ fn meta_and_label<'v, V: JsonValue<'v>, M: Metas>(
     ensures meta { IfOk result (λ given. given.0
         ≡ record { name = head.now.text.now; target = head.now.target.now; level = head.now.level }) }
 {
-    match label_and_worker(line, head.text, workers) {
-        Ok((label, worker)) => match metas.give(alloc, head.text, head.target, head.level) {
-            Ok(meta) => Ok((meta, label, worker)),
-            Err(stop) => Err(stop),
-        },
-        Err(reason) => Err(Stop::Refused(reason)),
-    }
+    let (label, worker) = label_and_worker(line, head.text, workers)?;
+    let meta = metas.give(alloc, head.text, head.target, head.level)?;
+    Ok((meta, label, worker))
 }
 
 /// The label of a new span of this name, and its worker.
@@ -359,13 +350,9 @@ fn event<'v, V: JsonValue<'v>, M: Metas>(
 ) -> Result<Operation<'v>, Stop>
     ensures { AnswersOrStops operation_seen result (event_of workers (V.json line)) }
 {
-    match read_head(line, Key::Message) {
-        Ok(head) => match fields(alloc, line) {
-            Ok(fields) => event_with(alloc, line, workers, &head, fields, metas),
-            Err(stop) => Err(stop),
-        },
-        Err(reason) => Err(Stop::Refused(reason)),
-    }
+    let head = read_head(line, Key::Message)?;
+    let fields = fields(alloc, line)?;
+    event_with(alloc, line, workers, &head, fields, metas)
 }
 
 /// The event of a line that gives these fields.
@@ -380,18 +367,14 @@ fn event_with<'v, V: JsonValue<'v>, M: Metas>(
     ensures { AnswersOrStops operation_seen result
         (event_rest workers (V.json line) (head_seen head.now) fields) }
 {
-    match worker(line, workers) {
-        Ok(worker) => match event_texts(alloc, head, metas) {
-            Ok((meta, message)) => Ok(Operation::Event(NewEvent {
-                meta,
-                message,
-                fields,
-                worker,
-            })),
-            Err(stop) => Err(stop),
-        },
-        Err(reason) => Err(Stop::Refused(reason)),
-    }
+    let worker = worker(line, workers)?;
+    let (meta, message) = event_texts(alloc, head, metas)?;
+    Ok(Operation::Event(NewEvent {
+        meta,
+        message,
+        fields,
+        worker,
+    }))
 }
 
 /// The meta and the message of an event. The only error is `Memory`.
@@ -405,13 +388,9 @@ fn event_texts<M: Metas>(
         × (arc_str_bytes texts.1 ≡ head.now.text.now)) }
     ensures memory { IfErr result (λ stop. stop ≡ Stop.Memory) }
 {
-    match metas.give(alloc, "event", head.target, head.level) {
-        Ok(meta) => match ArcStr::from_str(alloc, head.text) {
-            Ok(message) => Ok((meta, message)),
-            Err(_) => Err(Stop::Memory),
-        },
-        Err(stop) => Err(stop),
-    }
+    let meta = metas.give(alloc, "event", head.target, head.level)?;
+    let message = ArcStr::from_str(alloc, head.text)?;
+    Ok((meta, message))
 }
 
 /// The look-up that a line asks for.
