@@ -16,7 +16,6 @@ use Rattle.span_core.specs.History.{issued}
 use Rattle.span_core.specs.ClosedSpans.{closed_in}
 use Rattle.span_core.specs.Parent.{parent_found}
 use Rattle.span_core.specs.Core.{CoreView, id_after, IsAccepted, IsRefused, IsNotWanted}
-use Rattle.span_ffi.specs.declared.data.SpanMeta.{SpanMeta}
 use Rattle.span_ffi.specs.declared.data.SpanField.{SpanField}
 use Rattle.span_ffi.specs.declared.data.SpanFound.{SpanFound}
 use Rattle.span_ffi.specs.declared.data.SpanCounts.{SpanCounts}
@@ -25,6 +24,7 @@ use Rattle.span_border.specs.declared.status.Status.TheVariants.{Done, Refused, 
 use Rattle.span_border.specs.Ends.{IfDone}
 use Rattle.span_border.specs.Numbers.{flag, id_number}
 use Rattle.span_ffi.specs.Data.{IsSpan, IsEvent, AreFields, said_meta, said_fields, said_parent, behind_meta}
+use Rattle.span_ffi.specs.Said.{SaidSpan, SaidEvent}
 
 -- the registry has a worker of this number
 abbrev pub HasWorker : CoreView → ℕ → Type 0
@@ -84,12 +84,13 @@ Records worker id fields bytes =
     AnswersData worker (AreFields fields bytes) (record_fields worker id (said_fields fields bytes)) recorded
 
 -- an event is told under the parent that is said
-abbrev pub TellsEvent : ℕ → ℕ → ℕ → SpanMeta → ℕ → List SpanField → List ℕ → CoreView → Status → CoreView → Type 0
-TellsEvent worker kind parent meta message_len fields bytes =
-    let behind = behind_meta meta bytes in
-    AnswersData worker ((kind ≤ 2) × IsEvent meta message_len fields bytes)
-    (event worker (said_meta meta bytes) (take message_len behind) (said_fields fields (drop message_len behind))
-    (said_parent kind parent)) told
+abbrev pub TellsEvent : SaidEvent → CoreView → Status → CoreView → Type 0
+TellsEvent said =
+    let behind = behind_meta said.meta said.texts in
+    AnswersData said.worker
+    ((said.parent_kind ≤ 2) × IsEvent said.meta said.message_len said.fields said.texts)
+    (event said.worker (said_meta said.meta said.texts) (take said.message_len behind)
+    (said_fields said.fields (drop said.message_len behind)) (said_parent said.parent_kind said.parent)) told
 
 -- a span with this meta and these fields, under the parent that is meant
 abbrev pub span_asked : ℕ → ℕ → ℕ → PlainMeta → List KeyValue → CoreView → Request
@@ -119,12 +120,12 @@ MakesAsked worker Says request id old (Refused Memory) new = HasWorker old worke
 MakesAsked worker Says request id old status new =
     HasWorker old worker × Says × IsMadeOrRefused request id old status new
 
--- the same of the meta and the fields that the data say
-abbrev pub MakesSaid : ℕ → ℕ → ℕ → SpanMeta → List SpanField → List ℕ → ℕ → CoreView → Status → CoreView → Type 0
-MakesSaid worker kind parent meta fields bytes id old =
-    let said = said_fields fields (behind_meta meta bytes) in
-    MakesAsked worker (IsSpan kind meta fields bytes)
-    (span_asked worker kind parent (said_meta meta bytes) said old) id old
+-- the same of the span that is said
+abbrev pub MakesSaid : SaidSpan → ℕ → CoreView → Status → CoreView → Type 0
+MakesSaid said id old =
+    let fields = said_fields said.fields (behind_meta said.meta said.texts) in
+    MakesAsked said.worker (IsSpan said.parent_kind said.meta said.fields said.texts)
+    (span_asked said.worker said.parent_kind said.parent (said_meta said.meta said.texts) fields old) id old
 
 -- ---- questions, which change nothing
 

@@ -6,10 +6,10 @@ use Rattle.span_id.specs.Meta.{PlainMeta}
 use Rattle.span_outlet.specs.Request.{event, told}
 use Rattle.span_core.specs.Core.{CoreView}
 use Rattle.span_ffi.specs.declared.data.SpanMeta.{SpanMeta}
-use Rattle.span_ffi.specs.declared.data.SpanField.{SpanField}
 use Rattle.span_border.specs.declared.status.Status.{Status}
 use Rattle.span_border.specs.declared.status.Status.TheVariants.{Done, Refused, BadData, NoSuchWorker, NoSuchCallsite}
 use Rattle.span_ffi.specs.Data.{IsCallsite, IsSpanAt, IsEventAt, said_meta, said_fields, said_parent}
+use Rattle.span_ffi.specs.Said.{SaidSpanAt, SaidEventAt}
 use Rattle.span_ffi.specs.Calls.{HasWorker, LacksWorker, AnswersData, MakesAsked, span_asked}
 
 -- A callsite is added: it has the meta that the data say, and the next number is told. It is refused, and nothing
@@ -36,18 +36,16 @@ AtCallsite worker found Does old NoSuchCallsite new = HasWorker old worker × (f
 AtCallsite worker found Does old status new = IsSomeAnd found (λ meta. Does meta old status new)
 
 -- a worker makes a span with the meta of a callsite, as `MakesSaid` says of a meta
-abbrev pub MakesSpanAt : ℕ → ℕ → ℕ → ℕ → List SpanField → List ℕ → ℕ
-    → List PlainMeta → CoreView → Status → CoreView → Type 0
-MakesSpanAt worker kind parent callsite fields bytes id callsites =
-    AtCallsite worker (slice_get callsites callsite) (λ meta old.
-    MakesAsked worker (IsSpanAt kind fields bytes) (span_asked worker kind parent meta (said_fields fields bytes) old)
-    id old)
+abbrev pub MakesSpanAt : SaidSpanAt → ℕ → List PlainMeta → CoreView → Status → CoreView → Type 0
+MakesSpanAt said id callsites =
+    AtCallsite said.worker (slice_get callsites said.callsite) (λ meta old.
+    MakesAsked said.worker (IsSpanAt said.parent_kind said.fields said.texts)
+    (span_asked said.worker said.parent_kind said.parent meta (said_fields said.fields said.texts) old) id old)
 
 -- an event is told with the meta of a callsite, as `TellsEvent` says of a meta
-abbrev pub TellsAt : ℕ → ℕ → ℕ → ℕ → ℕ → List SpanField → List ℕ
-    → List PlainMeta → CoreView → Status → CoreView → Type 0
-TellsAt worker kind parent callsite message_len fields bytes callsites =
-    AtCallsite worker (slice_get callsites callsite) (λ meta.
-    AnswersData worker ((kind ≤ 2) × IsEventAt message_len fields bytes)
-    (event worker meta (take message_len bytes) (said_fields fields (drop message_len bytes)) (said_parent kind parent))
-    told)
+abbrev pub TellsAt : SaidEventAt → List PlainMeta → CoreView → Status → CoreView → Type 0
+TellsAt said callsites =
+    AtCallsite said.worker (slice_get callsites said.callsite) (λ meta.
+    AnswersData said.worker ((said.parent_kind ≤ 2) × IsEventAt said.message_len said.fields said.texts)
+    (event said.worker meta (take said.message_len said.texts)
+    (said_fields said.fields (drop said.message_len said.texts)) (said_parent said.parent_kind said.parent)) told)

@@ -1,5 +1,6 @@
 pub mod Abi
 pub mod Data
+pub mod Said
 pub mod Registry
 pub mod Opening
 pub mod Calls

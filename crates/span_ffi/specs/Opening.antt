@@ -16,6 +16,7 @@ use Rattle.span_ffi.specs.declared.data.SpanRule.{SpanRule}
 use Rattle.span_border.specs.declared.status.Status.{Status}
 use Rattle.span_border.specs.declared.status.Status.TheVariants.{Done, Refused, BadData, HandleInUse}
 use Rattle.span_ffi.specs.Data.{BeginsWithText, said_level}
+use Rattle.span_ffi.specs.Said.{SaidRegistry}
 use Rattle.span_ffi.specs.Registry.{RegistryView}
 
 -- the limits that the numbers say
@@ -116,14 +117,15 @@ WhyNone limits layers rules bytes _ = ⊥
 
 -- Two empty handles get a new registry and the other end of its ring; else both stay as they were, and the status says
 -- why: a handle isn't empty, or there is no new registry.
-abbrev pub Opens : SpanLimits → List SpanLayer → List SpanRule → List ℕ → Option RegistryView → Option LineReaderView
+abbrev pub Opens : SaidRegistry → Option RegistryView → Option LineReaderView
     → Option Status → Option RegistryView → Option LineReaderView → Type 0
-Opens limits layers rules bytes registry reader None registry' reader' = ⊥
-Opens limits layers rules bytes registry reader (Some Done) registry' reader' =
+Opens said registry reader None registry' reader' = ⊥
+Opens said registry reader (Some Done) registry' reader' =
     (registry ≡ None) × (reader ≡ None)
-    × IsSomeAnd registry' (λ new. IsSomeAnd reader' (λ other. AreNew limits layers rules bytes new other))
-Opens limits layers rules bytes registry reader (Some HandleInUse) registry' reader' =
+    × IsSomeAnd registry' (λ new. IsSomeAnd reader' (λ other.
+    AreNew said.limits said.layers said.rules said.texts new other))
+Opens said registry reader (Some HandleInUse) registry' reader' =
     ((is_some registry || is_some reader) ≡ true) × (registry' ≡ registry) × (reader' ≡ reader)
-Opens limits layers rules bytes registry reader (Some status) registry' reader' =
-    (registry ≡ None) × (reader ≡ None) × WhyNone limits layers rules bytes status
+Opens said registry reader (Some status) registry' reader' =
+    (registry ≡ None) × (reader ≡ None) × WhyNone said.limits said.layers said.rules said.texts status
     × (registry' ≡ registry) × (reader' ≡ reader)

@@ -99,7 +99,15 @@ fn event(
     fields: &[SpanField],
     texts: &[u8],
 ) -> Status
-    ensures { TellsEvent worker parent_kind parent meta.now message_len fields.now texts.now core.old result core.new }
+    ensures { TellsEvent (record {
+      worker = worker;
+      parent_kind = parent_kind;
+      parent = parent;
+      meta = meta.now;
+      message_len = message_len;
+      fields = fields.now;
+      texts = texts.now;
+    }) core.old result core.new }
 {
     if !has_worker(core, worker) {
         return Status::NoSuchWorker;
@@ -175,8 +183,15 @@ pub extern "C" fn span_registry_event(
     fields: &[SpanField],
     texts: &[u8],
 ) -> u32
-    ensures { OnHeld registry.old.held (OnCore (TellsEvent worker 1 0 meta.now message_len fields.now texts.now))
-        (meant result) registry.new.held }
+    ensures { OnHeld registry.old.held (OnCore (TellsEvent (record {
+      worker = worker;
+      parent_kind = 1;
+      parent = 0;
+      meta = meta.now;
+      message_len = message_len;
+      fields = fields.now;
+      texts = texts.now;
+    }))) (meant result) registry.new.held }
 {
     span_registry_event_in(
         alloc,
@@ -205,8 +220,15 @@ pub extern "C" fn span_registry_event_in(
     fields: &[SpanField],
     texts: &[u8],
 ) -> u32
-    ensures { OnHeld registry.old.held (OnCore (TellsEvent worker parent_kind parent meta.now message_len fields.now
-        texts.now)) (meant result) registry.new.held }
+    ensures { OnHeld registry.old.held (OnCore (TellsEvent (record {
+      worker = worker;
+      parent_kind = parent_kind;
+      parent = parent;
+      meta = meta.now;
+      message_len = message_len;
+      fields = fields.now;
+      texts = texts.now;
+    }))) (meant result) registry.new.held }
 {
     let Some(mut held) = registry.take(alloc) else {
         return Status::EmptyHandle.number();
@@ -238,8 +260,15 @@ fn tell_at(
     fields: &[SpanField],
     texts: &[u8],
 ) -> Status
-    ensures { TellsAt worker parent_kind parent callsite message_len fields.now texts.now callsites.now
-        core.old result core.new }
+    ensures { TellsAt (record {
+      worker = worker;
+      parent_kind = parent_kind;
+      parent = parent;
+      callsite = callsite;
+      message_len = message_len;
+      fields = fields.now;
+      texts = texts.now;
+    }) callsites.now core.old result core.new }
 {
     if !has_worker(core, worker) {
         return Status::NoSuchWorker;
@@ -273,8 +302,15 @@ pub extern "C" fn span_registry_event_at(
     fields: &[SpanField],
     texts: &[u8],
 ) -> u32
-    ensures { OnHeld registry.old.held (WithCallsites (TellsAt worker 1 0 callsite message_len fields.now texts.now))
-        (meant result) registry.new.held }
+    ensures { OnHeld registry.old.held (WithCallsites (TellsAt (record {
+      worker = worker;
+      parent_kind = 1;
+      parent = 0;
+      callsite = callsite;
+      message_len = message_len;
+      fields = fields.now;
+      texts = texts.now;
+    }))) (meant result) registry.new.held }
 {
     span_registry_event_in_at(
         alloc,
@@ -303,8 +339,15 @@ pub extern "C" fn span_registry_event_in_at(
     fields: &[SpanField],
     texts: &[u8],
 ) -> u32
-    ensures { OnHeld registry.old.held (WithCallsites (TellsAt worker parent_kind parent callsite message_len fields.now
-        texts.now)) (meant result) registry.new.held }
+    ensures { OnHeld registry.old.held (WithCallsites (TellsAt (record {
+      worker = worker;
+      parent_kind = parent_kind;
+      parent = parent;
+      callsite = callsite;
+      message_len = message_len;
+      fields = fields.now;
+      texts = texts.now;
+    }))) (meant result) registry.new.held }
 {
     let Some(mut held) = registry.take(alloc) else {
         return Status::EmptyHandle.number();

@@ -22,7 +22,9 @@ pub extern "C" fn span_registry_new(
     rules: &[SpanRule],
     texts: &[u8],
 ) -> u32
-    ensures { Opens limits.now layers.now rules.now texts.now registry.old.held drain.old.held (meant result)
+    ensures { Opens
+        (record { limits = limits.now; layers = layers.now; rules = rules.now; texts = texts.now })
+        registry.old.held drain.old.held (meant result)
         registry.new.held drain.new.held }
 {
     if !(registry.is_empty(alloc) && drain.is_empty(alloc)) {

@@ -75,7 +75,14 @@ fn make_span(
     texts: &[u8],
     id: &mut u64,
 ) -> Status
-    ensures made { MakesSaid worker parent_kind parent meta.now fields.now texts.now id.new core.old result core.new }
+    ensures made { MakesSaid (record {
+      worker = worker;
+      parent_kind = parent_kind;
+      parent = parent;
+      meta = meta.now;
+      fields = fields.now;
+      texts = texts.now;
+    }) id.new core.old result core.new }
     ensures kept { Keeps (Some result) id.old id.new }
 {
     if !has_worker(core, worker) {
@@ -104,8 +111,14 @@ pub extern "C" fn span_registry_new_span(
     texts: &[u8],
     id: &mut u64,
 ) -> u32
-    ensures made { OnHeld registry.old.held (OnCore (MakesSaid worker parent_kind parent meta.now fields.now texts.now
-        id.new)) (meant result) registry.new.held }
+    ensures made { OnHeld registry.old.held (OnCore (MakesSaid (record {
+      worker = worker;
+      parent_kind = parent_kind;
+      parent = parent;
+      meta = meta.now;
+      fields = fields.now;
+      texts = texts.now;
+    }) id.new)) (meant result) registry.new.held }
     ensures kept { Keeps (meant result) id.old id.new }
 {
     let Some(mut held) = registry.take(alloc) else {
@@ -139,8 +152,14 @@ fn make_span_at(
     texts: &[u8],
     id: &mut u64,
 ) -> Status
-    ensures made { MakesSpanAt worker parent_kind parent callsite fields.now texts.now id.new callsites.now
-        core.old result core.new }
+    ensures made { MakesSpanAt (record {
+      worker = worker;
+      parent_kind = parent_kind;
+      parent = parent;
+      callsite = callsite;
+      fields = fields.now;
+      texts = texts.now;
+    }) id.new callsites.now core.old result core.new }
     ensures kept { Keeps (Some result) id.old id.new }
 {
     if !has_worker(core, worker) {
@@ -172,8 +191,14 @@ pub extern "C" fn span_registry_new_span_at(
     texts: &[u8],
     id: &mut u64,
 ) -> u32
-    ensures made { OnHeld registry.old.held (WithCallsites (MakesSpanAt worker parent_kind parent callsite fields.now
-        texts.now id.new)) (meant result) registry.new.held }
+    ensures made { OnHeld registry.old.held (WithCallsites (MakesSpanAt (record {
+      worker = worker;
+      parent_kind = parent_kind;
+      parent = parent;
+      callsite = callsite;
+      fields = fields.now;
+      texts = texts.now;
+    }) id.new)) (meant result) registry.new.held }
     ensures kept { Keeps (meant result) id.old id.new }
 {
     let Some(mut held) = registry.take(alloc) else {
