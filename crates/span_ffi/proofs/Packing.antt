@@ -1,7 +1,7 @@
 -- The texts of a span, measured and written one after another, are read as what was said of it.
 use Rattle.std.proofs.Common.{◌≡◌, ℕ, ◌+◌, ◌<◌, ◌≤◌, ◌^◌, Bool, true, false, cond, ◌&&◌, List, [], ◌∷◌, ◌++◌, length, map, take, drop, get_or, All, Option, Some, None, is_some, IfSome, refl, sym, ap, subst, ◌∙◌, inl, inr, append-nil, append_assoc, length-append, drop-drop, take_at, drop_at, true≢false, zero, suc, lit<, arith}
 use Rattle.std.proofs.lemmas.Bool.{cases_Bool, cases_lt, lt-ltb, le-ltb}
-use Rattle.std.proofs.lemmas.List.{map_more, drop_more, flat_map_more, length-map, take-append-drop}
+use Rattle.std.proofs.lemmas.List.{map_more, drop_more, flat_map_more, take-append-drop}
 use Rattle.std.proofs.lemmas.List.Elements.{All-head, All-tail, All-push}
 use Rattle.std.specs.Prelude.{nat_lt, string_bytes}
 use Rattle.std.specs.List.{list_all}
@@ -16,7 +16,7 @@ use Rattle.span_border.specs.declared.status.Status.TheVariants.{Done}
 use Rattle.span_ffi.specs.declared.data.SpanMeta.{SpanMeta}
 use Rattle.span_ffi.specs.declared.data.SpanField.{SpanField}
 use Rattle.span_ffi.specs.Data.{BeginsWithText, said_level, AreFields, said_fields, behind_field}
-use Rattle.span_ffi.specs.Details.{text_pairs, packed, are_short, is_tellable, ReadAsSaid, FillsWith, TellsSaid}
+use Rattle.span_ffi.specs.Details.{text_pairs, packed, are_short, is_tellable, ReadAsSaid, Filling, FillsWith, TellsSaid}
 use Rattle.span_ffi.specs.inside.Packing.{field_lengths, AreTexts, WritesAt}
 
 -- ---- how long the texts are
@@ -248,7 +248,8 @@ pub same_numbers : (meta : SpanMeta) (level name_len target_len : ℕ) → meta.
 same_numbers meta level name_len target_len l n t =
     ap (λ v. numbers v meta.name_len meta.target_len) l ∙ (ap (λ v. numbers level v meta.target_len) n ∙ ap (λ v. numbers level name_len v) t)
 
-filled : {X : Type 0} (old new things : List X) (len : ℕ) → len ≡ length things → len ≤ length old → take len new ≡ things
+-- what was written from the beginning of a buffer on, with how much it is
+pub filled : {X : Type 0} (old new things : List X) (len : ℕ) → len ≡ length things → len ≤ length old → take len new ≡ things
     → drop len new ≡ drop len old → FillsWith things (record { old = old; new = new; len = len })
 filled old new things len many room front rest = (
   omega (arith, many, room),
@@ -256,21 +257,25 @@ filled old new things len many room front rest = (
   many,
 )
 
-pub tells_said : (node : Node) (meta : SpanMeta) (fields fields' : List SpanField) (into into' : List ℕ) (count len : ℕ)
-    → is_tellable node ≡ true → meta ≡ meta_lengths node → count ≡ length node.fields → len ≡ length (packed (text_pairs node))
-    → count ≤ length fields → len ≤ length into
-    → take count fields' ≡ map field_lengths node.fields → drop count fields' ≡ drop count fields
-    → WritesAt (packed (text_pairs node)) 0 into into' (length (packed (text_pairs node))) → All AreTexts (text_pairs node)
-    → TellsSaid node meta (record { old = fields; new = fields'; len = count }) (record { old = into; new = into'; len = len }) Done
-tells_said node meta fields fields' into into' count len tellable meta_is count_is len_is room texts_room front rest written texts =
-    let many = length-map node.fields field_lengths in (
-      tellable,
-      (
-        map field_lengths node.fields,
-        packed (text_pairs node),
-        subst (λ m. ReadAsSaid node m (map field_lengths node.fields) (packed (text_pairs node))) (sym meta_is) (reads_as_said node texts),
-        filled fields fields' (map field_lengths node.fields) count (count_is ∙ sym many) room front rest,
-        filled into into' (packed (text_pairs node)) len len_is texts_room (ap (λ n. take n into') len_is ∙ written.1)
-            (ap (λ n. drop n into') len_is ∙ (written.2 ∙ ap (λ n. drop n into) (sym len_is))),
-      ),
-    )
+-- the same of bytes that were written at place 0
+pub filled_texts : (old new bytes : List ℕ) (len : ℕ) → len ≡ length bytes → len ≤ length old → WritesAt bytes 0 old new (length bytes)
+    → FillsWith bytes (record { old = old; new = new; len = len })
+filled_texts old new bytes len many room written =
+    filled old new bytes len many room (ap (λ n. take n new) many ∙ written.1)
+    (ap (λ n. drop n new) many ∙ (written.2 ∙ ap (λ n. drop n old) (sym many)))
+
+-- what was said of a span is told where the one buffer has the lengths of its fields and the other its texts
+pub tells_said : (node : Node) (meta : SpanMeta) (fields : Filling SpanField) (into : Filling ℕ)
+    → is_tellable node ≡ true → All AreTexts (text_pairs node) → meta ≡ meta_lengths node
+    → FillsWith (map field_lengths node.fields) fields → FillsWith (packed (text_pairs node)) into
+    → TellsSaid node meta fields into Done
+tells_said node meta fields into tellable texts meta_is lengths_filled texts_filled = (
+  tellable,
+  (
+    map field_lengths node.fields,
+    packed (text_pairs node),
+    subst (λ m. ReadAsSaid node m (map field_lengths node.fields) (packed (text_pairs node))) (sym meta_is) (reads_as_said node texts),
+    lengths_filled,
+    texts_filled,
+  ),
+)

@@ -4,7 +4,8 @@ use Rattle.span_id.specs.Level.{verbosity}
 use Rattle.span_id.specs.Meta.{PlainMeta, key_value}
 use Rattle.span_forest.specs.Node.{node_of}
 use Rattle.span_ffi.specs.inside.Packing.{field_lengths}
-use Rattle.span_ffi.proofs.Packing.{meta_lengths, same_numbers, tells_said}
+use Rattle.span_ffi.specs.Details.{text_pairs, packed}
+use Rattle.span_ffi.proofs.Packing.{meta_lengths, same_numbers, filled, filled_texts, tells_said}
 use Rattle.span_ffi.proofs.exports.details.tell_span.Goals as goal
 
 pub returns-clause-said : goal.returns-clause-said
@@ -18,7 +19,9 @@ returns-clause-said c =
     (c.meta_lengths.ensures.name ∙ ap (λ (m : PlainMeta). length m.name) meta)
     (c.meta_lengths.ensures.target ∙ ap (λ (m : PlainMeta). length m.target) meta) in
     let count_is : length list ≡ length node.fields = sym (length-map list key_value) ∙ ap length c.as_slice-list.ensures in
-    tells_said node c.meta_lengths.result c.args.fields.now c.write_lengths.new.into c.args.into.now c.write_texts.new.into (length list) c.in-Some.texts
-    (sym c.in-Some.ensures.exact) meta_is count_is c.in-Some.ensures.len c.if-list-fields.false c.if-texts-into.false
-    (c.write_lengths.ensures.lengths ∙ ap (map field_lengths) c.as_slice-list.ensures) c.write_lengths.ensures.behind
-    c.write_texts.ensures.written c.write_texts.ensures.utf8
+    tells_said node c.meta_lengths.result _ _ (sym c.in-Some.ensures.exact) c.write_texts.ensures.utf8 meta_is
+    (filled c.args.fields.now c.write_lengths.new.into (map field_lengths node.fields) (length list)
+    (count_is ∙ sym (length-map node.fields field_lengths)) c.if-list-fields.false
+    (c.write_lengths.ensures.lengths ∙ ap (map field_lengths) c.as_slice-list.ensures) c.write_lengths.ensures.behind)
+    (filled_texts c.args.into.now c.write_texts.new.into (packed (text_pairs node)) c.in-Some.texts
+    c.in-Some.ensures.len c.if-texts-into.false c.write_texts.ensures.written)
