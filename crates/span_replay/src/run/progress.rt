@@ -60,10 +60,7 @@ where
     ensures err { IfErr result (λ stop. (hooks : ℕ) → HasHooks hooks progress.old →
         StopsFor (line_turn hooks (state_of progress.old) line.now) stop) }
 {
-    let value = match json_line(alloc, line, scratch) {
-        Ok(value) => value,
-        Err(stop) => return Err(stop),
-    };
+    let value = json_line(alloc, line, scratch)?;
     if let Progress::Opening(setup) = progress {
         if is_setup_line(&value) {
             return setup.run(alloc, &value, text);
@@ -91,13 +88,10 @@ where
     ensures state { OnOk result (state_of progress.new ≡ record (state_of progress.old) { stage = running }) }
 {
     match mem::replace(progress, Progress::Lost) {
-        Progress::Opening(setup) => match open(alloc, setup) {
-            Ok(script) => {
-                *progress = Progress::Running(script);
-                Ok(())
-            }
-            Err(refused) => Err(refused),
-        },
+        Progress::Opening(setup) => {
+            *progress = Progress::Running(open(alloc, setup)?);
+            Ok(())
+        }
         Progress::Running(script) => {
             *progress = Progress::Running(script);
             Ok(())
@@ -148,8 +142,6 @@ fn call<V: Say, A: Admit>(
 {
     text.clear();
     let workers = script.workers as usize;
-    match operation_with_metas(alloc, line, workers, Stage::Running, metas) {
-        Ok(operation) => script.run(alloc, &operation, text),
-        Err(stop) => Err(stop),
-    }
+    let operation = operation_with_metas(alloc, line, workers, Stage::Running, metas)?;
+    script.run(alloc, &operation, text)
 }

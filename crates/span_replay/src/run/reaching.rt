@@ -118,10 +118,8 @@ fn run_line<V: Say, A: Admit>(
         (reached_at reaching.old running) (reached_at reaching.new running) stop) }
     ensures workers { reaching.new.script.workers ≡ reaching.old.script.workers }
 {
-    match json_line(alloc, line, scratch) {
-        Ok(value) => run_value(alloc, number, &value, reaching, text),
-        Err(stop) => Err(stop),
-    }
+    let value = json_line(alloc, line, scratch)?;
+    run_value(alloc, number, &value, reaching, text)
 }
 
 /// Runs the line of a JSON value.
@@ -143,15 +141,9 @@ fn run_value<V: Say, A: Admit>(
         (reached_at reaching.old running) (reached_at reaching.new running) stop) }
     ensures workers { reaching.new.script.workers ≡ reaching.old.script.workers }
 {
-    match operation_in_line(
-        alloc,
-        value,
-        reaching.script.workers as usize,
-        span_script::Stage::Running,
-    ) {
-        Ok(operation) => run_operation(alloc, number, &operation, reaching, text),
-        Err(stop) => Err(stop),
-    }
+    let workers = reaching.script.workers as usize;
+    let operation = operation_in_line(alloc, value, workers, span_script::Stage::Running)?;
+    run_operation(alloc, number, &operation, reaching, text)
 }
 
 /// Runs a call or `find`, and notes which line made the span, if one was made.
@@ -177,15 +169,11 @@ fn run_operation<V: Say, A: Admit>(
     let label = label_of(operation);
     let before = named_by(&reaching.script.labels, label);
     text.clear();
-    match reaching.script.run(alloc, operation, text) {
-        Ok(()) => {
-            let made = other_id(before, named_by(&reaching.script.labels, label));
-            match note_line(&mut reaching.lines, number, made) {
-                Ok(()) => Ok(()),
-                Err(_) => Err(Stop::Memory),
-            }
-        }
-        Err(stop) => Err(stop),
+    reaching.script.run(alloc, operation, text)?;
+    let made = other_id(before, named_by(&reaching.script.labels, label));
+    match note_line(&mut reaching.lines, number, made) {
+        Ok(()) => Ok(()),
+        Err(_) => Err(Stop::Memory),
     }
 }
 

@@ -91,10 +91,8 @@ where
     ensures flushes { flushes_of output.new ≡ flushes_of output.old }
     ensures reads { calls_of input.new ≤ calls_of input.old + 16777217 }
 {
-    match read_script(alloc, input) {
-        Ok(script) => run_script(alloc, &script, output, hooks, remains),
-        Err(fault) => Err(fault),
-    }
+    let script = read_script(alloc, input)?;
+    run_script(alloc, &script, output, hooks, remains)
 }
 
 /// Runs a script that was read, and then frees what it kept, or leaves it where the run ended well.

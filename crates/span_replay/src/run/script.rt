@@ -120,10 +120,8 @@ impl<V: Say, A: Admit> Script<V, A> {
         ensures labels { labels_in self.new ≡ labels_in self.old }
         ensures memory { IfErr result (λ stop. stop ≡ Stop.Memory) }
     {
-        match calls::call(&mut self.core, call, worker, id) {
-            Ok(answer) => self.answer(answer, text),
-            Err(stop) => Err(stop),
-        }
+        let answer = calls::call(&mut self.core, call, worker, id)?;
+        self.answer(answer, text)
     }
 
     /// The ids of the worker's entries, the topmost first. The only error is `Memory`.
@@ -197,10 +195,7 @@ impl<V: Say, A: Admit> Script<V, A> {
         ensures { (stage : Stage) → Answers (λ parent. made_turn (state_at self.now stage) new.now.label.now
             (request_of_new (new_seen new.now) parent)) result (new_turn (state_at self.now stage) (new_seen new.now)) }
     {
-        let parent = match self.parent(worker, &new.parent) {
-            Ok(parent) => parent,
-            Err(reason) => return Err(reason),
-        };
+        let parent = self.parent(worker, &new.parent)?;
         if self.is_taken(named) {
             return Err(Reason::LabelTaken);
         }
@@ -228,12 +223,10 @@ impl<V: Say, A: Admit> Script<V, A> {
         ensures written { OnOk result (IsWritten self.new) }
         ensures workers { self.new.workers ≡ self.old.workers }
     {
-        match calls::new_span(&mut self.core, new, worker, parent) {
-            Ok(answer) => match self.give_label(alloc, new.label, is_bound, &answer) {
-                Ok(()) => self.answer(answer, text),
-                Err(_) => Err(Stop::Memory),
-            },
-            Err(stop) => Err(stop),
+        let answer = calls::new_span(&mut self.core, new, worker, parent)?;
+        match self.give_label(alloc, new.label, is_bound, &answer) {
+            Ok(()) => self.answer(answer, text),
+            Err(_) => Err(Stop::Memory),
         }
     }
 
@@ -258,10 +251,8 @@ impl<V: Say, A: Admit> Script<V, A> {
             Err(reason) => return Err(Stop::Refused(reason)),
         };
         let worker = worker_number(worker, self.workers);
-        match calls::call(&mut self.core, call, worker, id) {
-            Ok(answer) => self.answer(answer, text),
-            Err(stop) => Err(stop),
-        }
+        let answer = calls::call(&mut self.core, call, worker, id)?;
+        self.answer(answer, text)
     }
 
     // Adds fields to a span.
@@ -285,10 +276,8 @@ impl<V: Say, A: Admit> Script<V, A> {
             Err(reason) => return Err(Stop::Refused(reason)),
         };
         let worker = worker_number(worker, self.workers);
-        match calls::record(&mut self.core, worker, id, fields) {
-            Ok(answer) => self.answer(answer, text),
-            Err(stop) => Err(stop),
-        }
+        let answer = calls::record(&mut self.core, worker, id, fields)?;
+        self.answer(answer, text)
     }
 
     // Tells an event.
@@ -302,10 +291,8 @@ impl<V: Say, A: Admit> Script<V, A> {
         ensures workers { self.new.workers ≡ self.old.workers }
     {
         let worker = worker_number(event.worker, self.workers);
-        match calls::event(&mut self.core, event, worker) {
-            Ok(answer) => self.answer(answer, text),
-            Err(stop) => Err(stop),
-        }
+        let answer = calls::event(&mut self.core, event, worker)?;
+        self.answer(answer, text)
     }
 
     // Looks a span up.
@@ -363,10 +350,7 @@ impl<V: Say, A: Admit> Script<V, A> {
         match parent {
             Parent::Current => Ok(self.core.stack(worker).current()),
             Parent::Root => Ok(None),
-            Parent::Named(key) => match id_of(&self.labels, key) {
-                Ok(id) => Ok(Some(id)),
-                Err(reason) => Err(reason),
-            },
+            Parent::Named(key) => Ok(Some(id_of(&self.labels, key)?)),
         }
     }
 
@@ -392,13 +376,8 @@ impl<V: Say, A: Admit> Script<V, A> {
         ensures workers { self.new.workers ≡ self.old.workers }
         ensures memory { IfErr result (λ stop. stop ≡ Stop.Memory) }
     {
-        match write_notes(self.core.outlet(), self.written, text) {
-            Ok(written) => {
-                self.written = written;
-                write_answer(text, answer)
-            }
-            Err(stop) => Err(stop),
-        }
+        self.written = write_notes(self.core.outlet(), self.written, text)?;
+        write_answer(text, answer)
     }
 }
 

@@ -72,18 +72,11 @@ impl<A: Drop, F: Drop> Setup<A, F> {
         ensures hooks { OnOk result (hooks_in self.new ≡ hooks_in self.old) }
     {
         let workers = self.checked.limits().workers as usize;
-        let operation = match operation_in_line(alloc, line, workers, self.stage) {
-            Ok(operation) => operation,
-            Err(stop) => return Err(stop),
-        };
-        match self.obey(operation) {
-            Ok(answer) => {
-                self.stage = Stage::InSetup;
-                text.clear();
-                write_answer(text, answer)
-            }
-            Err(stop) => Err(stop),
-        }
+        let operation = operation_in_line(alloc, line, workers, self.stage)?;
+        let answer = self.obey(operation)?;
+        self.stage = Stage::InSetup;
+        text.clear();
+        write_answer(text, answer)
     }
 
     /// Runs `limits` or `layer`.

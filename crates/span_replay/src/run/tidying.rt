@@ -277,8 +277,6 @@ fn finish<W: Write>(
     if write_left(text, left).is_err() {
         return Err(ReplayFault::Memory);
     }
-    match send(output, text.as_slice()) {
-        Ok(()) => Ok(u64::from(left)),
-        Err(fault) => Err(fault),
-    }
+    send(output, text.as_slice())?;
+    Ok(u64::from(left))
 }

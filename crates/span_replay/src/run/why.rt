@@ -58,10 +58,8 @@ pub fn why_with_layers<R: Read, W: Write>(
         (failed_of input.old) (failed_of input.new) (failed_of output.old) (failed_of output.new) result }
     ensures reads { calls_of input.new ≤ calls_of input.old + 16777217 }
 {
-    match explain_input(alloc, input, layers, about) {
-        Ok(explained) => tell(explained, output),
-        Err(fault) => Err(fault),
-    }
+    let explained = explain_input(alloc, input, layers, about)?;
+    tell(explained, output)
 }
 
 /// Writes a text, flushes, and ends as was found.
@@ -190,18 +188,12 @@ fn set_up<'s, A: Drop, F: Drop>(
     ensures hooks { OnOk result (hooks_in setup.new ≡ hooks_in setup.old) }
     ensures err { IfErr result (StopsFor (line_turn (hooks_in setup.old) (setup_state setup.old) line.now)) }
 {
-    match json_line(alloc, line, scratch) {
-        Ok(value) => {
-            if !is_setup_line(&value) {
-                return Ok(Some(value));
-            }
-            match setup.run(alloc, &value, text) {
-                Ok(()) => Ok(None),
-                Err(stop) => Err(stop),
-            }
-        }
-        Err(stop) => Err(stop),
+    let value = json_line(alloc, line, scratch)?;
+    if !is_setup_line(&value) {
+        return Ok(Some(value));
     }
+    setup.run(alloc, &value, text)?;
+    Ok(None)
 }
 
 /// Runs what is left of a script, with the limits and the layers that its first lines gave. The only error is `Memory`.

@@ -1,4 +1,5 @@
 use Rattle.std.proofs.Common.{Ok, ap, refl}
+use Rattle.std.proofs.lemmas.Result.{err_from_is_err_and}
 use Rattle.span_replay.specs.Meaning.{call_turn}
 use Rattle.span_script.specs.Reason.{◌>>=◌}
 use Rattle.span_outlet.specs.Request.{record_fields}
@@ -6,23 +7,25 @@ use Rattle.span_replay.proofs.WrittenCalls.{made_by, made_enough, still_written,
 use Rattle.span_replay.proofs.run.script.Script.record.Goals as goal
 
 pub answer-requires : goal.answer-requires
-answer-requires g c = made_enough _ _ _ _ _ c.in-Ok-record.ensures.made c.requires.written.lines
+answer-requires g c = made_enough _ _ _ _ _ c.in_ok-answer.ensures.made c.requires.written.lines
 
-pub returns-in-Ok-record-clause-turn : goal.returns-in-Ok-record-clause-turn
-returns-in-Ok-record-clause-turn g c = λ hooks stage.
+pub returns-clause-turn : goal.returns-clause-turn
+returns-clause-turn g c = λ hooks stage.
     turn_made _ _ _ _ _ _ _ _ _ _
     (ap (λ found. found >>= λ id. Ok (call_turn (record { core = c.args.self.now.core; labels = c.args.self.now.labels; stage = stage }) (record_fields c.args.worker id c.args.fields.now))) c.in-Ok.ensures)
-    (made_by (λ worker. record_fields worker c.in-Ok.id c.args.fields.now) _ _ _ _ _ c.worker_number-worker.ensures c.in-Ok-record.ensures.made)
+    (made_by (λ worker. record_fields worker c.in-Ok.id c.args.fields.now) _ _ _ _ _ c.worker_number-worker.ensures c.in_ok-answer.ensures.made)
     c.requires.written.lines
     (λ i. record { core = c.answer.ensures.core i; labels = c.answer.ensures.labels i; stage = stage })
     c.answer.ensures.text c.answer.ensures.memory
 
-pub returns-in-Ok-record-clause-written : goal.returns-in-Ok-record-clause-written
-returns-in-Ok-record-clause-written g c =
-    still_written _ _ _ _ _ _ _ c.in-Ok-record.ensures.made c.answer.ensures.core c.requires.written.workers c.requires.written.some c.answer.ensures.written c.answer.ensures.workers
+pub returns-clause-written : goal.returns-clause-written
+returns-clause-written g c =
+    still_written _ _ _ _ _ _ _ c.in_ok-answer.ensures.made c.answer.ensures.core c.requires.written.workers c.requires.written.some c.answer.ensures.written c.answer.ensures.workers
 
-pub returns-in-Err-record-clause-turn : goal.returns-in-Err-record-clause-turn
-returns-in-Err-record-clause-turn g c = λ hooks stage. stops _ _ _ _ _ _ c.in-Err-record.ensures.memory
+pub returns-in_err-answer-clause-turn : goal.returns-in_err-answer-clause-turn
+returns-in_err-answer-clause-turn g c =
+    let p = err_from_is_err_and c.from_residual.result c.from_residual.ensures.1 in
+    rw (p.1, p.2) (λ hooks stage. stops _ _ _ _ _ _ c.in_err-answer.ensures.memory)
 
 pub returns-in-Err-clause-turn : goal.returns-in-Err-clause-turn
 returns-in-Err-clause-turn g c = λ hooks stage.
