@@ -35,13 +35,9 @@ pub(crate) fn work<H: Ledger, C: Ledger, S: Setup, G: Gate, R: Wait>(
 {
     let mut worker = worker;
     let _none = worker.accepted();
-    match make_rounds(rt, registry, gate, metas, &mut worker, rounds) {
-        Ok(()) => {
-            let _own = worker.accepted();
-            Ok(worker.leave())
-        }
-        Err(stopped) => Err(stopped),
-    }
+    make_rounds(rt, registry, gate, metas, &mut worker, rounds)?;
+    let _own = worker.accepted();
+    Ok(worker.leave())
 }
 
 // Makes so many rounds.
@@ -91,10 +87,8 @@ fn round<H: Ledger, C: Ledger, S: Setup, G: Gate, R: Wait>(
     ensures fewer { OnErr result (worker.new.accepted < worker.old.accepted + 9) }
     ensures stopped { IfErr result (IsWorkersStop S.limits S.rules (G.holds gate.now) (IsAt worker.new)) }
 {
-    match open(rt, registry, gate, worker, &metas.job, ParentOf::Root) {
-        Ok(job) => with_job(rt, registry, gate, metas, worker, job),
-        Err(stopped) => Err(stopped),
-    }
+    let job = open(rt, registry, gate, worker, &metas.job, ParentOf::Root)?;
+    with_job(rt, registry, gate, metas, worker, job)
 }
 
 // Eight calls: what is made with a job, which is closed at the end.
@@ -119,10 +113,8 @@ fn with_job<H: Ledger, C: Ledger, S: Setup, G: Gate, R: Wait>(
     ensures stopped { IfErr result (IsWorkersStop S.limits S.rules (G.holds gate.now) (IsAt worker.new)) }
 {
     let mut job = job;
-    match with_clone(rt, registry, gate, metas, worker, &mut job.handle) {
-        Ok(()) => close(rt, registry, gate, worker, job),
-        Err(stopped) => Err(stopped),
-    }
+    with_clone(rt, registry, gate, metas, worker, &mut job.handle)?;
+    close(rt, registry, gate, worker, job)
 }
 
 // Seven calls: the job has two handles while the worker is inside it.
@@ -147,10 +139,8 @@ fn with_clone<H: Ledger, C: Ledger, S: Setup, G: Gate, R: Wait>(
     ensures stopped { IfErr result (IsWorkersStop S.limits S.rules (G.holds gate.now) (IsAt worker.new)) }
 {
     let other = clone_handle(rt, registry, gate, worker, job)?;
-    match inside(rt, registry, gate, metas, worker, job) {
-        Ok(()) => close(rt, registry, gate, worker, other),
-        Err(stopped) => Err(stopped),
-    }
+    inside(rt, registry, gate, metas, worker, job)?;
+    close(rt, registry, gate, worker, other)
 }
 
 // Five calls: the worker enters the job, tells the event, makes a step and closes it, and leaves the job.

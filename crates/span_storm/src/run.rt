@@ -145,9 +145,6 @@ fn run<
     let Ok((registry, workers)) = made else {
         return Err(StormFault::Memory);
     };
-    let back = in_threads(rt, alloc, &registry, gate, metas, workers, rounds, drain);
-    match back {
-        Ok((whole, drain)) => Ok(registry.finish(whole, drain)),
-        Err(fault) => Err(fault),
-    }
+    let (whole, drain) = in_threads(rt, alloc, &registry, gate, metas, workers, rounds, drain)?;
+    Ok(registry.finish(whole, drain))
 }

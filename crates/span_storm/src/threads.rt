@@ -67,13 +67,9 @@ fn both_back<H: Ledger, C: Ledger, S: Setup, V: Drop>(
 ) -> Result<(Share<H, C, S>, Drain<V>), StormFault>
     ensures { result ≡ share_and_drain whole drain }
 {
-    match whole {
-        Ok(whole) => match drain {
-            Ok(drain) => Ok((whole, drain)),
-            Err(fault) => Err(fault),
-        },
-        Err(fault) => Err(fault),
-    }
+    let whole = whole?;
+    let drain = drain?;
+    Ok((whole, drain))
 }
 
 // Starts the workers and joins them.
@@ -177,11 +173,7 @@ fn both<H: Ledger, C: Ledger, S: Setup>(
     requires { Fit one other }
     ensures { result ≡ both_shares one other }
 {
-    match one {
-        Ok(one) => match other {
-            Ok(other) => Ok(one.join(other)),
-            Err(fault) => Err(fault),
-        },
-        Err(fault) => Err(fault),
-    }
+    let one = one?;
+    let other = other?;
+    Ok(one.join(other))
 }

@@ -1,4 +1,5 @@
 use Rattle.std.proofs.Common.{rules, ◌≡◌, ℕ, ◌<◌, ◌∙◌, List, ap, sym, subst, arith}
+use Rattle.std.proofs.lemmas.Result.{err_from_is_err_and}
 use Rattle.std.specs.Prelude.{Option, Some, IsSomeAnd, slice_index_or}
 use Rattle.span_id.specs.declared.limits.Limits.{Limits}
 use Rattle.span_layers.specs.declared.form.Form.{Form}
@@ -42,14 +43,14 @@ storm_end limits rounds rules forms drain ring share workers report same name pl
       told = subst (λ f. Tells end.end.core f report) same end.end.told;
     }
 
-pub returns-in-Ok-back-clause-ended : goal.returns-in-Ok-back-clause-ended
-returns-in-Ok-back-clause-ended g c =
-    let back = c.in-Ok-back.ensures.back in
+pub returns-clause-ended : goal.returns-clause-ended
+returns-clause-ended g c =
+    let back = c.in_ok-whole.ensures.back in
     storm_end _ _ _ _ _ _ _ _ _ back.drain.forms back.drain.name c.requires.places back.whole c.in-Ok.ensures.each c.finish.ensures.ended
 
-pub returns-in-Ok-back-clause-numbers : goal.returns-in-Ok-back-clause-numbers
-returns-in-Ok-back-clause-numbers g c =
-    let none = nothing_left _ _ _ _ _ (returns-in-Ok-back-clause-ended g c) in
+pub returns-clause-numbers : goal.returns-clause-numbers
+returns-clause-numbers g c =
+    let none = nothing_left _ _ _ _ _ (returns-clause-ended g c) in
     record {
       calls = search rules;
       handles = search rules;
@@ -64,10 +65,11 @@ storm_fault limits rounds rules holds Memory stop = tt
 storm_fault limits rounds rules holds (Refused fault) stop = stop
 storm_fault limits rounds rules holds (Held party) stop = stop
 
-pub returns-in-Err-clause-faults : goal.returns-in-Err-clause-faults
-returns-in-Err-clause-faults g c =
-    let limits = g.S.Setup.limits in
+pub returns-in_err-whole-clause-faults : goal.returns-in_err-whole-clause-faults
+returns-in_err-whole-clause-faults g c =
+    let p = err_from_is_err_and c.from_residual.result c.from_residual.ensures.1 in
+    rw (p.1, p.2) (let limits = g.S.Setup.limits in
     let rules = g.S.Setup.rules in
     let rounds = c.args.rounds in
     let holds = g.G.Gate.holds c.args.gate.now in
-    storm_fault limits rounds rules holds c.in-Err.fault (subst (λ count. IsStormStop limits rules holds count rounds c.in-Err.fault) c.in-Ok.ensures.count.0 c.in-Err.ensures.stopped)
+    storm_fault limits rounds rules holds c.in_err-whole.field-0.0 (subst (λ count. IsStormStop limits rules holds count rounds c.in_err-whole.field-0.0) c.in-Ok.ensures.count.0 c.in_err-whole.ensures.stopped))
