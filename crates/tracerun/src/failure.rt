@@ -1,4 +1,6 @@
 //! Why the program ends early.
+ghost use Rattle.std.specs.Prelude.{◌≡◌};
+ghost use Rattle.tracerun.specs.Failure.{failure_status};
 
 use span_replay::ReplayFault;
 use span_run::{FAILED_STATUS, WriteFailed};
@@ -22,7 +24,9 @@ pub enum Failure {
 
 impl Failure {
     /// The status with which the program ends.
-    pub fn status(&self) -> u8 {
+    pub fn status(&self) -> u8
+        ensures { result ≡ failure_status self.now }
+    {
         match self {
             Failure::Memory => FAILED_STATUS,
             Failure::Replay(fault) => fault.status(),

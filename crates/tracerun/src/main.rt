@@ -1,7 +1,9 @@
 //! The program `tracerun`, which runs scripts of calls, and storms of workers, on the span registry.
 #![tactic(auto)]
 
-ghost use Rattle.std.specs.Prelude.{IfOk};
+ghost use Rattle.std.specs.Prelude.{◌≡◌, IfOk};
+ghost use Rattle.std.specs.Process.{exit_status};
+ghost use Rattle.tracerun.specs.Failure.{ended_status};
 ghost use Rattle.tracerun_command_line.specs.Order.{IsInRange};
 
 mod failure;
@@ -49,10 +51,7 @@ fn order(rt: &HostRuntime) -> Result<Order, NoOrder>
     ensures { IfOk result IsInRange }
 {
     match words(rt) {
-        Ok(words) => match order_of(rt.alloc(), words.as_slice()) {
-            Ok(order) => Ok(order),
-            Err(error) => Err(NoOrder::Words(error)),
-        },
+        Ok(words) => order_of(rt.alloc(), words.as_slice()).map_err(NoOrder::Words),
         Err(error) if matches!(error.kind(), ErrorKind::OutOfMemory) => Err(NoOrder::Memory),
         Err(_) => Err(NoOrder::NoText),
     }
@@ -113,7 +112,9 @@ fn why(rt: &HostRuntime, span: &Option<String>) -> Result<(), Failure> {
 }
 
 /// The status with which the program ends. A failure is told on standard error as one line.
-fn status_of<R: Eprint>(rt: &R, ended: Result<(), Failure>) -> io::Result<ExitCode> {
+fn status_of<R: Eprint>(rt: &R, ended: Result<(), Failure>) -> io::Result<ExitCode>
+    ensures { IfOk result (λ code. exit_status code ≡ ended_status ended) }
+{
     match ended {
         Ok(()) => Ok(ExitCode::SUCCESS),
         Err(failure) => {
