@@ -96,6 +96,13 @@ typedef struct SpanSizes {
     uint32_t limits, layer, rule, meta, field, found, held, counts;
 } SpanSizes;
 
+/* batch: its number, from 0. id: the span; of an event the one that it is told in, 0 for none. kind: 0 new, 1 record,
+ * 2 event, 3 enter, 4 exit, 5 close. level, message_len: an event's, else 0. Its size isn't told. */
+typedef struct SpanNote {
+    uint64_t batch, id;
+    uint32_t layer, kind, worker, level, path_len, message_len;
+} SpanNote;
+
 /* The version of this interface that the program was built for, and the one that the library has. They rise where a
  * program that was built for an earlier one would go wrong, so they are compared before any other call. */
 #define SPAN_ABI_VERSION 2
@@ -209,6 +216,10 @@ uint32_t span_registry_max_level(SpanRegistry *registry, uint32_t *levels);
 /* SPAN_UNKNOWN where the span isn't open. */
 uint32_t span_registry_find(SpanRegistry *registry, uint64_t id, SpanFound *found);
 
+/* layers: bit n is set where layer n admits the span, so that it is told of it; 0 where there is no layer. It never
+ * changes. At which callsite a span was made isn't kept. SPAN_UNKNOWN where the span isn't open. */
+uint32_t span_registry_layers_of(SpanRegistry *registry, uint64_t id, uint64_t *layers);
+
 /* What was said of an open span, as span_registry_new_span takes it: meta, one SpanField for each field, and texts:
  * name, target, then each key and its value. What was recorded stands behind what the span was made with. fields and
  * texts are buffers that have room for fields_room of them and for texts_room bytes; the rest of them stays as it was.
@@ -249,6 +260,21 @@ uint32_t span_registry_times_full(SpanRegistry *registry, uint64_t *times);
  * batches are taken out of the ring until one is, also where the status is SPAN_NO_LINE or SPAN_SHORT_BUFFER then. A
  * line that doesn't fit stays the next one. */
 uint32_t span_drain_line(SpanDrain *drain, uint32_t *layer, uint8_t *into, size_t into_len, size_t *len);
+
+/* The next line as of span_drain_line, but its note is told in its place. texts: the path (the names of the span and of
+ * what is above it that the layer admits, root first, with ':' between them; '-' for none), an event's message, then
+ * each key and its value. fields, texts and their rooms: as of span_registry_details. A note that isn't told stays the
+ * next one: SPAN_SHORT_BUFFER, and SPAN_COUNT_FULL as there.
+ * Each accepted call is one batch, in their order: its number is `calls` of span_registry_counts before the call. By it
+ * a program finds what it keeps of a call beside the registry, as a time or the types of its values. A span's level and
+ * target are told by span_registry_details as long as it is open. */
+uint32_t span_drain_note(SpanDrain *drain, SpanNote *note, SpanField *fields, size_t fields_room, size_t *fields_len,
+    uint8_t *texts, size_t texts_room, size_t *texts_len);
+
+/* Gives up the lines that are left of the batch whose lines are at hand. Where none is at hand, batches are taken as of
+ * span_drain_line, and all lines of the first batch that has one are given up. skipped: how many they were.
+ * SPAN_NO_LINE where there was none. */
+uint32_t span_drain_skip_batch(SpanDrain *drain, size_t *skipped);
 
 /* How many batches were taken, and how many notes were missed for want of memory. */
 uint32_t span_drain_counts(SpanDrain *drain, uint64_t *batches, uint64_t *refused);

@@ -31,6 +31,7 @@ PROGRAMS = [
     ("callsites", WRAPS, CHECKED),
     ("holding", WRAPS, CHECKED),
     ("telling", WRAPS, CHECKED),
+    ("notes", WRAPS, CHECKED),
     ("strangers", [], CHECKED),
     ("million", WRAPS, AT_SPEED),
 ]

@@ -110,6 +110,19 @@ pub(crate) struct SpanCounts {
 }
 
 #[repr(C)]
+#[allow(dead_code)]
+struct SpanNote {
+    batch: u64,
+    id: u64,
+    layer: u32,
+    kind: u32,
+    worker: u32,
+    level: u32,
+    path_len: u32,
+    message_len: u32,
+}
+
+#[repr(C)]
 #[derive(Clone, Copy, Debug, Default, PartialEq, Eq)]
 struct SpanSizes {
     limits: u32,
@@ -274,6 +287,7 @@ unsafe extern "C" {
     fn span_registry_callsite_wants(registry: *mut SpanRegistry, callsite: u32, wanted: *mut u32) -> u32;
     fn span_registry_max_level(registry: *mut SpanRegistry, levels: *mut u32) -> u32;
     fn span_registry_find(registry: *mut SpanRegistry, id: u64, found: *mut SpanFound) -> u32;
+    fn span_registry_layers_of(registry: *mut SpanRegistry, id: u64, layers: *mut u64) -> u32;
     fn span_registry_details(
         registry: *mut SpanRegistry,
         id: u64,
@@ -312,6 +326,19 @@ unsafe extern "C" {
     ) -> u32;
 
     fn span_drain_line(drain: *mut SpanDrain, layer: *mut u32, into: *mut u8, into_len: usize, len: *mut usize) -> u32;
+    // The package writes its notes from the text of their lines, which it hands out too.
+    #[allow(dead_code)]
+    fn span_drain_note(
+        drain: *mut SpanDrain,
+        note: *mut SpanNote,
+        fields: *mut SpanField,
+        fields_room: usize,
+        fields_len: *mut usize,
+        texts: *mut u8,
+        texts_room: usize,
+        texts_len: *mut usize,
+    ) -> u32;
+    fn span_drain_skip_batch(drain: *mut SpanDrain, skipped: *mut usize) -> u32;
     fn span_drain_counts(drain: *mut SpanDrain, batches: *mut u64, refused: *mut u64) -> u32;
     fn span_drain_free(drain: *mut SpanDrain) -> u32;
 
@@ -350,6 +377,7 @@ mod tests {
         assert_eq!((size_of::<SpanFound>(), offset_of!(SpanFound, level)), (24, 20));
         assert_eq!((size_of::<SpanHeld>(), offset_of!(SpanHeld, entries)), (16, 12));
         assert_eq!((size_of::<SpanCounts>(), offset_of!(SpanCounts, open)), (40, 32));
+        assert_eq!((size_of::<SpanNote>(), offset_of!(SpanNote, message_len)), (40, 36));
         assert_eq!(size_of::<SpanSizes>(), 32);
     }
 

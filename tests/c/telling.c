@@ -1,6 +1,7 @@
 /* Which spans a call closed, the places of a stack, how often the ring was full, up to which level something is wanted,
- * which span follows from which, and what was said of a span: what goes into buffers, and what of them stays. The last line that it prints is 'N passed, M failed'. It is linked with --wrap=malloc and
- * --wrap=realloc, so that memory can be refused. */
+ * which layers admit a span, which span follows from which, what was said of a span, and lines that are given up: what
+ * goes into buffers, and what of them stays. The last line that it prints is 'N passed, M failed'. It is linked with
+ * --wrap=malloc and --wrap=realloc, so that memory can be refused. */
 #include "checks.h"
 #include "span_registry.h"
 
@@ -183,6 +184,43 @@ static void test_max_level(void) {
     }
 }
 
+static void check_layers(uint64_t id, uint32_t status, uint64_t wanted) {
+    uint64_t layers = 9;
+    allocations_left = 0;
+    CHECK(span_registry_layers_of(&registry, id, &layers) == status && layers == wanted);
+    allocations_left = -1;
+}
+
+static void test_layers_of(void) {
+    const SpanLimits limits = {2, 9, 9, 1, 9};
+    SpanLayer layers[64];
+    SpanRule rules[64];
+    uint64_t id;
+    uint32_t closed;
+    check_layers(1, SPAN_EMPTY_HANDLE, 9);
+    open_with_ring(9);
+    check_layers(make_span(0), SPAN_OK, 0);
+    close_both();
+    for (uint32_t layer = 0; layer < 64; layer++) {
+        layers[layer] = (SpanLayer){0, 0, 1};
+        rules[layer] = (SpanRule){0, 2};
+    }
+    CHECK(span_registry_new(&registry, &drain, &limits, layers, 64, rules, 64, (const uint8_t *)"", 0) == SPAN_OK);
+    check_layers(make_span(0), SPAN_OK, UINT64_MAX);
+    close_both();
+    /* by its level the first one doesn't admit it, and by its target the last but one; the third has no rule */
+    rules[0].level = 1, layers[2].rules = 0, rules[2] = (SpanRule){1, 4};
+    CHECK(span_registry_new(&registry, &drain, &limits, layers, 5, rules, 4, (const uint8_t *)"u", 1) == SPAN_OK);
+    id = make_span(0);
+    check_layers(id, SPAN_OK, 1 << 1 | 1 << 4);
+    check_layers(0, SPAN_UNKNOWN, 9);
+    check_layers(id + 1, SPAN_UNKNOWN, 9);
+    check_layers(UINT64_MAX, SPAN_UNKNOWN, 9);
+    CHECK(span_registry_try_close(&registry, 0, id, &closed) == SPAN_OK && closed == 1);
+    check_layers(id, SPAN_UNKNOWN, 9);
+    close_both();
+}
+
 /* a compact layer that lets everything in, and wants no notes of spans but those of records */
 static void open_told(void) {
     const SpanLimits limits = {16, 4294967295u, 4294967295u, 2, 64};
@@ -232,6 +270,53 @@ static void test_follows_from(void) {
     CHECK(status == SPAN_OK && refused > 3);
     check_line("record 2 w0 a follows_from=7");
     close_both();
+}
+
+static void check_skipped(uint32_t status, size_t wanted) {
+    size_t skipped = 99;
+    CHECK(span_drain_skip_batch(&drain, &skipped) == status && skipped == wanted);
+}
+
+static void check_counts(uint64_t batches, uint64_t refused) {
+    uint64_t taken = 99, missed = 99;
+    CHECK(span_drain_counts(&drain, &taken, &missed) == SPAN_OK && taken == batches && missed == refused);
+}
+
+static void test_skip_batch(void) {
+    const SpanLimits limits = {16, 4294967295u, 4294967295u, 2, 64};
+    const SpanLayer layers[] = {{0, 15, 1}, {1, 15, 1}};
+    const SpanRule rules[] = {{0, 4}, {0, 4}};
+    uint64_t id;
+    uint32_t answer;
+    check_skipped(SPAN_EMPTY_HANDLE, 99);
+    CHECK(span_registry_new(&registry, &drain, &limits, layers, 2, rules, 2, (const uint8_t *)"", 0) == SPAN_OK);
+    check_skipped(SPAN_NO_LINE, 99);
+    id = make_span(0);
+    CHECK(span_registry_enter(&registry, 1, id, &answer) == SPAN_OK);
+    CHECK(span_registry_clone_span(&registry, 0, id) == SPAN_OK);
+    CHECK(span_registry_exit(&registry, 1, id, &answer) == SPAN_OK);
+    check_skipped(SPAN_OK, 2);
+    check_counts(1, 0);
+    /* what is left of a batch */
+    check_line("enter 1 w1 a");
+    check_skipped(SPAN_OK, 1);
+    check_counts(2, 0);
+    /* a batch without a line is passed over */
+    check_skipped(SPAN_OK, 2);
+    check_counts(4, 0);
+    CHECK(span_registry_try_close(&registry, 0, id, &answer) == SPAN_OK && answer == 0);
+    check_skipped(SPAN_NO_LINE, 99);
+    check_counts(5, 0);
+    /* a line for which memory is refused is missed and not given up */
+    CHECK(span_registry_enter(&registry, 0, id, &answer) == SPAN_OK);
+    CHECK(span_registry_exit(&registry, 0, id, &answer) == SPAN_OK);
+    allocations_left = 1;
+    check_skipped(SPAN_OK, 1);
+    allocations_left = -1;
+    check_counts(6, 1);
+    check_line("exit 1 w0 a");
+    close_both();
+    check_skipped(SPAN_EMPTY_HANDLE, 99);
 }
 
 static SpanMeta told_meta;
@@ -314,7 +399,9 @@ int main(void) {
     test_entries();
     test_times_full();
     test_max_level();
+    test_layers_of();
     test_follows_from();
+    test_skip_batch();
     test_details();
     printf("%d passed, %d failed\n", passed, failed);
     return failed == 0 ? EXIT_SUCCESS : EXIT_FAILURE;

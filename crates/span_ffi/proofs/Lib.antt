@@ -8,4 +8,5 @@ pub mod Told
 mod Examples
 mod DataExamples
 mod DetailsExamples
+mod NotesExamples
 mod TellingExamples

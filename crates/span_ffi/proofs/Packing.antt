@@ -16,8 +16,8 @@ use Rattle.span_border.specs.declared.status.Status.TheVariants.{Done}
 use Rattle.span_ffi.specs.declared.data.SpanMeta.{SpanMeta}
 use Rattle.span_ffi.specs.declared.data.SpanField.{SpanField}
 use Rattle.span_ffi.specs.Data.{BeginsWithText, said_level, AreFields, said_fields, behind_field}
-use Rattle.span_ffi.specs.Details.{text_pairs, packed, are_short, is_tellable, ReadAsSaid, Filling, FillsWith, TellsSaid}
-use Rattle.span_ffi.specs.inside.Packing.{field_lengths, AreTexts, WritesAt}
+use Rattle.span_ffi.specs.Details.{text_pairs, packed, are_short, are_tellable, is_tellable, ReadAsSaid, Filling, FillsWith, TellsSaid, field_lengths}
+use Rattle.span_ffi.specs.inside.Packing.{AreTexts, WritesAt}
 
 -- ---- how long the texts are
 
@@ -106,14 +106,14 @@ module _ (xs : List Field) (k : ℕ) (x : Field) (within : k < length xs) (is : 
   pub len_more : length (packed (plain_fields (drop k xs))) ≡ (length (string_bytes x.key) + length (string_bytes x.value)) + length (packed (plain_fields (drop (k + 1) xs)))
   len_more = ap (λ ps. length (packed ps)) left_more ∙ length_packed (key_value x) (plain_fields (drop (k + 1) xs))
 
-pub measured_tellable : (node : Node) → is_some (measured (2 ^ 64) 0 (text_pairs node)) ≡ is_tellable node
-measured_tellable node =
-    let start : 0 + length (packed (text_pairs node)) ≡ length (packed (text_pairs node)) = omega arith in
-    measured_some (2 ^ 64) 0 (text_pairs node) (lit< tt) ∙ ap (λ n. list_all are_short (text_pairs node) && nat_lt n (2 ^ 64)) start
+pub measured_tellable : (pairs : List KeyValue) → is_some (measured (2 ^ 64) 0 pairs) ≡ are_tellable pairs
+measured_tellable pairs =
+    let start : 0 + length (packed pairs) ≡ length (packed pairs) = omega arith in
+    measured_some (2 ^ 64) 0 pairs (lit< tt) ∙ ap (λ n. list_all are_short pairs && nat_lt n (2 ^ 64)) start
 
-pub measured_packed : (node : Node) (len : ℕ) → Some len ≡ measured (2 ^ 64) 0 (text_pairs node) → len ≡ length (packed (text_pairs node))
-measured_packed node len is =
-    let all : len ≡ 0 + length (packed (text_pairs node)) = subst (λ o. IfSome o (λ n. n ≡ 0 + length (packed (text_pairs node)))) (sym is) (measured_len (2 ^ 64) 0 (text_pairs node)) in
+pub measured_packed : (pairs : List KeyValue) (len : ℕ) → Some len ≡ measured (2 ^ 64) 0 pairs → len ≡ length (packed pairs)
+measured_packed pairs len is =
+    let all : len ≡ 0 + length (packed pairs) = subst (λ o. IfSome o (λ n. n ≡ 0 + length (packed pairs))) (sym is) (measured_len (2 ^ 64) 0 pairs) in
     omega arith
 
 -- the pass at one field
@@ -214,20 +214,6 @@ reads_as_said node texts =
     }
 
 -- ---- what is told of a span
-
--- the name and the target are short, and all fields are
-pub short_meta : (node : Node) → is_tellable node ≡ true → are_short (node.name, node.target) ≡ true
-short_meta node tellable = elim (cases_Bool (are_short (node.name, node.target))) [
-  | inl short ↦ short
-  | inr long ↦ absurd (true≢false (sym tellable ∙ ap (λ b. (b && list_all are_short node.fields) && nat_lt (length (packed (text_pairs node))) (2 ^ 64)) long))
-]
-
-pub short_fields : (node : Node) → is_tellable node ≡ true → list_all are_short node.fields ≡ true
-short_fields node tellable = elim (cases_Bool (list_all are_short node.fields)) [
-  | inl short ↦ short
-  | inr long ↦ (let none : (are_short (node.name, node.target) && list_all are_short node.fields) ≡ false = ap (λ b. are_short (node.name, node.target) && b) long ∙ and_false (are_short (node.name, node.target)) in
-      absurd (true≢false (sym tellable ∙ ap (λ b. b && nat_lt (length (packed (text_pairs node))) (2 ^ 64)) none)))
-]
 
 -- a pair at a place
 pub short_at : (ps : List KeyValue) (k : ℕ) (d : KeyValue) → list_all are_short ps ≡ true → k < length ps → are_short (get_or ps k d) ≡ true

@@ -1,5 +1,5 @@
--- Worked cases of what is told of closed spans, of a worker's stack, of the ring and of levels, and of which span is
--- followed.
+-- Worked cases of what is told of closed spans, of a worker's stack, of a span's layers, of the ring and of levels, and
+-- of which span is followed.
 use Rattle.std.proofs.Common.{◌≡◌, ℕ, ◌<◌, ◌≤◌, true, refl, sym, ap, List, [], ◌∷◌, get_or, codes, Option, Some, None, arith}
 use Rattle.std.proofs.lemmas.Bool.{true≢false}
 use Rattle.std.proofs.lemmas.List.Elements.{All-nil, All-cons}
@@ -18,7 +18,7 @@ use Rattle.span_border.specs.declared.status.Status.TheVariants.{Done, Refused, 
 use Rattle.span_ffi.specs.Closing.{WritesFirst, TellsClosed}
 use Rattle.span_ffi.specs.Data.{said_fields}
 use Rattle.span_ffi.specs.Follows.{follows_field, FollowsFrom}
-use Rattle.span_ffi.specs.Questions.{SeesEntry, TellsTimesFull}
+use Rattle.span_ffi.specs.Questions.{SeesEntry, TellsLayers, TellsTimesFull}
 use Rattle.span_ffi.specs.Wants.{levels_up_to, TellsLevels}
 
 -- ---- buffers
@@ -98,6 +98,33 @@ no_worker = (omega arith, refl)
 
 worker_there : SeesEntry 1 0 0 0 (core []) NoSuchWorker (core []) → ⊥
 worker_there sees = let lacks = sees.0 in omega (arith, lacks)
+
+-- ---- layers
+
+-- the second has no rule, and the third lets warnings in alone
+abbrev four_layers : CoreView
+four_layers = record (core ((5, root) ∷ [])) {
+  rules =
+      record { pairs = ([], Info) ∷ []; spans = 0 }
+      ∷ record { pairs = []; spans = 15 }
+      ∷ record { pairs = ([], Warn) ∷ []; spans = 0 }
+      ∷ record { pairs = ([], Trace) ∷ []; spans = 0 }
+      ∷ [];
+}
+
+first_and_fourth : TellsLayers 5 9 four_layers Done four_layers
+unfolding is_admitted
+first_and_fourth = (refl, refl)
+
+all_that_have_a_rule : TellsLayers 5 13 four_layers Done four_layers → ⊥
+unfolding is_admitted
+all_that_have_a_rule tells = let bits = tells.0 in omega (arith, bits)
+
+without_layers : TellsLayers 5 0 (core ((5, root) ∷ [])) Done (core ((5, root) ∷ []))
+without_layers = (refl, refl)
+
+layers_of_no_span : TellsLayers 6 7 four_layers (Refused Unknown) four_layers
+layers_of_no_span = (refl, refl)
 
 three_times : TellsTimesFull 3 (core []) Done (core [])
 three_times = (refl, refl)

@@ -26,9 +26,17 @@ packed pairs = flat_map (λ pair. pair.0 ++ pair.1) pairs
 abbrev pub are_short : KeyValue → Bool
 are_short pair = nat_lt (length pair.0) (2 ^ 32) && nat_lt (length pair.1) (2 ^ 32)
 
--- numbers can tell how long the texts of a span are: each has a length below 2^32, and all together one below 2^64
+-- numbers can tell how long pairs of texts are: each text has a length below 2^32, and all together one below 2^64
+abbrev pub are_tellable : List KeyValue → Bool
+are_tellable pairs = list_all are_short pairs && nat_lt (length (packed pairs)) (2 ^ 64)
+
+-- the same of the texts of a span
 abbrev pub is_tellable : Node → Bool
-is_tellable node = list_all are_short (text_pairs node) && nat_lt (length (packed (text_pairs node))) (2 ^ 64)
+is_tellable node = are_tellable (text_pairs node)
+
+-- how long a key and its value are
+abbrev pub field_lengths : KeyValue → SpanField
+field_lengths pair = record { key_len = length pair.0; value_len = length pair.1 }
 
 -- Data that are read as what was said of a span: as `MakesSaid` reads those of a new root.
 pub record ReadAsSaid (node : Node) (meta : SpanMeta) (fields : List SpanField) (bytes : List ℕ) : Type 0 where

@@ -12,4 +12,5 @@ pub mod Details
 pub mod Callsites
 pub mod Wants
 pub mod Lines
+pub mod Notes
 pub mod inside

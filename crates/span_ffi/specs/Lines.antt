@@ -1,7 +1,7 @@
 -- What the calls on a drain do, by their status, and how a text goes into a buffer.
 use Rattle.std.specs.Prelude.{◌≡◌, ℕ, ◌<◌, List, [], ◌∷◌, ◌++◌, length, slice_get, Option, Some, None, IsSomeAnd}
 use Rattle.span_outlet.specs.Lines.{PlainLine}
-use Rattle.span_outlet.specs.LineReader.{LineReaderView, TakesBatches, looks_of_fill}
+use Rattle.span_outlet.specs.LineReader.{LineReaderView, TakesBatches, AreOfLast, looks_of_fill}
 use Rattle.span_border.specs.declared.status.Status.{Status}
 use Rattle.span_border.specs.declared.status.Status.TheVariants.{Done, BadData, NoLine, ShortBuffer}
 use Rattle.span_border.specs.Buffers.{WritesAll}
@@ -33,6 +33,16 @@ GivesLine layer into into' len old ShortBuffer new =
     Fills old new × IsSomeAnd (slice_get new.waiting 0) (λ line. WritesAll line.text into ShortBuffer into' len)
 GivesLine layer into into' len old NoLine new = Fills old new × (new.waiting ≡ [])
 GivesLine layer into into' len old _ new = ⊥
+
+-- The lines that wait are given up, all of one batch, and how many they are is told: they are given out behind those
+-- before them, and nobody sees them. Where no line waits, no batch that was taken has one.
+abbrev pub SkipsBatch : ℕ → LineReaderView → Status → LineReaderView → Type 0
+SkipsBatch skipped old Done new =
+    (lines : List PlainLine) × Fills old (record new { given = old.given; waiting = lines })
+    × (0 < length lines) × AreOfLast (record new { waiting = lines })
+    × (new.given ≡ old.given ++ lines) × (new.waiting ≡ []) × (skipped ≡ length lines)
+SkipsBatch skipped old NoLine new = Fills old new × (new.waiting ≡ [])
+SkipsBatch skipped old _ new = ⊥
 
 -- how many batches were taken, and how many notes were missed
 abbrev pub CountsLines : ℕ → ℕ → LineReaderView → Status → LineReaderView → Type 0

@@ -1,9 +1,12 @@
--- What is told of a worker's stack and of the ring.
-use Rattle.std.specs.Prelude.{◌≡◌, ℕ, length, slice_get}
+-- What is told of a worker's stack, of a span's layers and of the ring.
+use Rattle.std.specs.Prelude.{◌≡◌, ℕ, length, slice_get, None, IsSomeAnd}
+use Rattle.span_id.specs.declared.fault.Fault.TheVariants.{Unknown}
+use Rattle.span_layers.specs.Filter.{admission_set}
+use Rattle.span_forest.specs.Spans.{find}
 use Rattle.span_core.specs.World.{stack_of}
 use Rattle.span_core.specs.Core.{CoreView}
 use Rattle.span_border.specs.declared.status.Status.{Status}
-use Rattle.span_border.specs.declared.status.Status.TheVariants.{Done, NoSuchWorker}
+use Rattle.span_border.specs.declared.status.Status.TheVariants.{Done, Refused, NoSuchWorker}
 use Rattle.span_border.specs.Numbers.{id_number}
 use Rattle.span_ffi.specs.Calls.{HasWorker, LacksWorker}
 
@@ -15,6 +18,14 @@ SeesEntry worker place id depth old Done new =
     × (depth ≡ length (stack_of old.world worker)) × (new ≡ old)
 SeesEntry worker place id depth old NoSuchWorker new = LacksWorker old worker new
 SeesEntry worker place id depth old _ new = ⊥
+
+-- Which layers admit an open span, as bits, of which bit n is layer n's: those whose rule admits its target and its
+-- level.
+abbrev pub TellsLayers : ℕ → ℕ → CoreView → Status → CoreView → Type 0
+TellsLayers id layers old Done new =
+    IsSomeAnd (find old.world.spans id) (λ node. layers ≡ admission_set old.rules node.target node.level) × (new ≡ old)
+TellsLayers id layers old (Refused Unknown) new = (find old.world.spans id ≡ None) × (new ≡ old)
+TellsLayers id layers old _ new = ⊥
 
 -- how often a call found no place in the ring
 abbrev pub TellsTimesFull : ℕ → CoreView → Status → CoreView → Type 0

@@ -79,7 +79,23 @@ pub struct SpanCounts {
     pub workers: u32,
 }
 
-/// How many bytes each of the other structs of numbers takes.
+/// A note: the number of its batch, from 0; the span, or 0 where an event is told in none; the layer; the kind (0 new,
+/// 1 record, 2 event, 3 enter, 4 exit, 5 close); the worker; an event's level; and how long the path and an event's
+/// message are. Of other notes the level and the message's length are 0.
+#[repr(C)]
+#[derive(Clone, Copy)]
+pub struct SpanNote {
+    pub batch: u64,
+    pub id: u64,
+    pub layer: u32,
+    pub kind: u32,
+    pub worker: u32,
+    pub level: u32,
+    pub path_len: u32,
+    pub message_len: u32,
+}
+
+/// How many bytes each of the other structs of numbers takes, but for notes.
 #[repr(C)]
 #[derive(Clone, Copy)]
 pub struct SpanSizes {

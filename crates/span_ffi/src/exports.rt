@@ -11,6 +11,8 @@ mod events;
 mod follows;
 mod handles;
 mod holding;
+mod notes;
+mod packing;
 mod queries;
 mod registry;
 mod spans;

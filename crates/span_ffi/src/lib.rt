@@ -15,8 +15,8 @@ mod registry_handle;
 mod valid;
 
 pub use data::{
-    SpanCounts, SpanField, SpanFound, SpanHeld, SpanLayer, SpanLimits, SpanMeta, SpanRule,
-    SpanSizes,
+    SpanCounts, SpanField, SpanFound, SpanHeld, SpanLayer, SpanLimits, SpanMeta, SpanNote,
+    SpanRule, SpanSizes,
 };
 pub use drain_handle::SpanDrain;
 pub use registry_handle::SpanRegistry;

@@ -26,7 +26,7 @@ AreApart (note ∷ notes) = All (λ other. IsOther note other.batch other.place)
 
 -- ---- the line of a note has its batch and its place
 
-stands_there : (batch : ℕ) (note : ℕ × PlainNote) (form : Option Form) (line : PlainLine)
+pub stands_there : (batch : ℕ) (note : ℕ × PlainNote) (form : Option Form) (line : PlainLine)
     → option_map (λ form. record { batch = batch; place = note.0; layer = note.1.layer; text = text_of form note.1 }) form ≡ Some line → (line.batch ≡ batch) × (line.place ≡ note.0)
 stands_there batch note None line says = absurd (none-some line says)
 stands_there batch note (Some form) line says =

@@ -1,4 +1,5 @@
 pub mod Keeping
+pub mod Noting
 pub mod Latests
 pub mod Apart
 pub mod Draining

@@ -178,3 +178,18 @@ rest_left name looks forms taken given after lines rest line refused is one_more
 pub rest_of_last : (taken : List Posted) (lines rest : List Line) (line : Line) → lines ≡ line ∷ rest → OfLast taken lines → OfLast taken rest
 rest_of_last taken lines rest line is each =
     All-tail (λ line. line.batch + 1 ≡ length (map plain_posted taken)) (plain_line line) (map plain_line rest) (subst (OfLast taken) is each)
+
+-- ---- lines are given up
+
+pub one_more_given : (first before after : LineReaderView) (line : PlainLine) → before.given ++ before.waiting ≡ first.given ++ first.waiting
+    → before.waiting ≡ line ∷ after.waiting → after.given ≡ before.given ++ line ∷ [] → after.given ++ after.waiting ≡ first.given ++ first.waiting
+one_more_given first before after line all out more =
+    ap (λ ls. ls ++ after.waiting) more ∙ append_assoc before.given (line ∷ []) after.waiting ∙ ap (λ ls. before.given ++ ls) (sym out) ∙ all
+
+pub none_left : (first last : LineReaderView) → last.given ++ last.waiting ≡ first.given ++ first.waiting
+    → last ≡ record first { given = last.given; waiting = last.waiting } → last.waiting ≡ []
+    → last ≡ record first { given = first.given ++ first.waiting; waiting = [] }
+none_left first last all rest nothing =
+    let given : last.given ≡ first.given ++ first.waiting = sym (append-nil last.given) ∙ ap (λ ls. last.given ++ ls) (sym nothing) ∙ all in
+    rest ∙ ap (λ (ls : List PlainLine). record first { given = ls; waiting = last.waiting }) given
+    ∙ ap (λ (ls : List PlainLine). record first { given = first.given ++ first.waiting; waiting = ls }) nothing

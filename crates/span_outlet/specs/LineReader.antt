@@ -1,10 +1,11 @@
 -- What a contract sees of a line reader, and what it does when it takes batches.
-use Rattle.std.specs.Prelude.{◌≡◌, ℕ, ◌+◌, List, [], ◌∷◌, ◌++◌, flat_map, length, All}
+use Rattle.std.specs.Prelude.{◌≡◌, ℕ, ◌+◌, List, [], ◌∷◌, ◌++◌, flat_map, length, slice_get, All, Some, IsSomeAnd}
 use Rattle.std.specs.List.{enumerate_from}
 use Rattle.span_layers.specs.declared.form.Form.{Form}
+use Rattle.span_layers.specs.Note.{PlainNote}
 use Rattle.span_outlet.specs.Batch.{PlainBatch}
 use Rattle.span_outlet.specs.Outlet.{RingName, one_more}
-use Rattle.span_outlet.specs.Lines.{PlainLine}
+use Rattle.span_outlet.specs.Lines.{PlainLine, line_of}
 use Rattle.span_outlet.specs.Kept.{AreKept, GainsLines, NumberedNote, numbered, numbered_in}
 
 -- the name of its ring, how often it asked it for batches, the forms in which it writes, the batches that it took,
@@ -47,3 +48,10 @@ pub record HasGiven (history : List PlainBatch) (view : LineReaderView) : Type 0
 -- No more waits than one batch brought: each line that waits is of the last batch taken.
 abbrev pub AreOfLast : LineReaderView → Type 0
 AreOfLast view = All (λ line. line.batch + 1 ≡ length view.taken) view.waiting
+
+-- The note has this line: it stands where the line says in one of the batches that were taken, and the line is what is
+-- written of it.
+abbrev pub IsNoteOf : LineReaderView → PlainLine → PlainNote → Type 0
+IsNoteOf view line note =
+    IsSomeAnd (slice_get view.taken line.batch) (λ batch. slice_get batch.notes line.place ≡ Some note)
+    × (line_of view.forms line.batch (line.place, note) ≡ Some line)

@@ -1,27 +1,28 @@
 //! What takes the batches out of a ring and gives out the lines of their notes, one after another.
-ghost use Rattle.std.specs.Prelude.{◌≡◌, ◌<◌, ◌+◌, ◌∷◌, [], ◌++◌, ◌↔◌, false, Some, IfSome, IfNone, IsTrue, map, take, length, slice_get};
+ghost use Rattle.std.specs.Prelude.{◌≡◌, ◌<◌, ◌+◌, ◌∷◌, [], ◌++◌, ◌↔◌, false, Some, IfSome, IsSomeAnd, IfNone, IsTrue, map, take, length, slice_get};
 ghost use Rattle.rtrb.specs.Ring.{received, known_items, ConsumerLooked};
 ghost use Rattle.span_outlet.specs.Lines.{plain_line, lines_of};
 ghost use Rattle.span_outlet.specs.Outlet.{one_more};
-ghost use Rattle.span_outlet.specs.LineReader.{AreLeft, AreOfLast, HasGiven, TakesBatches, looks_of_fill};
+ghost use Rattle.span_layers.specs.Note.{plain_note};
+ghost use Rattle.span_outlet.specs.LineReader.{AreLeft, AreOfLast, HasGiven, IsNoteOf, TakesBatches, looks_of_fill};
 ghost use Rattle.span_outlet.specs.inside.Ends.{name_of_consumer};
 ghost use Rattle.span_outlet.specs.Posted.{plain_posted};
-ghost use Rattle.span_outlet.specs.inside.Reading.{reader_view};
+ghost use Rattle.span_outlet.specs.inside.Reading.{reader_view, HaveNotes};
 
 use crate::given_out::GivenOut;
 use crate::line::Line;
 use crate::ring::{Consuming, Ring, Tap};
 use crate::told::Told;
 use span_known::KnownValue;
-use span_layers::{Formatters, Say, Tellers};
+use span_layers::{Formatters, Note, Say, Tellers};
 use std::alloc::Global;
 use std::marker::Model;
 
 /// Takes the batches out of a ring, and gives out the lines of their notes, each once and in order.
 ///
 /// It keeps no line that it gave out, which contracts alone know, and takes a batch only where no line waits. So it keeps
-/// at most the lines of one batch. It takes no lock, so it may run beside the core, in a thread of its own. Notes are
-/// missed as by a `Drain`. `V` makes the texts.
+/// at most the lines and the notes of one batch. It takes no lock, so it may run beside the core, in a thread of its own.
+/// Notes are missed as by a `Drain`. `V` makes the texts.
 #[derive(Drop)]
 pub struct LineReader<V = Formatters> {
     consumer: Consuming,
@@ -30,6 +31,8 @@ pub struct LineReader<V = Formatters> {
     taken: u64,
     // The lines that wait, the last one first: so the first one can be popped.
     told: Told,
+    // The notes of the last batch that was taken: of each line that waits the note stands here at its place.
+    notes: Vec<Note>,
     // The lines that it gave out. It has no bytes.
     given: KnownValue<GivenOut>,
     formatters: V,
@@ -42,7 +45,7 @@ impl<V> Model for LineReader<V> {
     ghost use Rattle.span_outlet.specs.LineReader.{AreLeft, AreOfLast, LineReaderView};
     ghost use Rattle.span_outlet.specs.inside.Ends.{name_of_consumer};
     ghost use Rattle.span_outlet.specs.inside.GivenOut.{lines_given};
-    ghost use Rattle.span_outlet.specs.inside.Reading.{reader_view};
+    ghost use Rattle.span_outlet.specs.inside.Reading.{reader_view, HaveNotes};
 
     ghost Value = { LineReaderView };
 
@@ -55,7 +58,8 @@ impl<V> Model for LineReader<V> {
         (lines_given reader.given.value) (reverse reader.told.lines.items) reader.told.refused)
         × AreOfLast (reader_view (name_of_consumer reader.consumer) reader.looks reader.told.forms (received reader.consumer)
         (lines_given reader.given.value) (reverse reader.told.lines.items) reader.told.refused)
-        × (reader.taken ≡ length (received reader.consumer)) };
+        × (reader.taken ≡ length (received reader.consumer))
+        × HaveNotes reader.told.forms (received reader.consumer) reader.notes.items (reverse reader.told.lines.items) };
 }
 
 // Looks into the ring for batches, and counts the look. How many are known to stand there then.
@@ -68,11 +72,13 @@ fn look(consumer: &mut Consuming, looks: &mut u64) -> usize
     consumer.slots()
 }
 
-// Takes the batches that are known to stand in the ring, one by one, and tells their notes, until there is a line.
+// Takes the batches that are known to stand in the ring, one by one, and tells their notes, until there is a line. The
+// notes of the last one are kept.
 fn take_until_told<V: Say>(
     consumer: &mut Consuming,
     taken: &mut u64,
     told: &mut Told,
+    notes: &mut Vec<Note>,
     formatters: &V,
     standing: usize,
 )
@@ -89,12 +95,13 @@ fn take_until_told<V: Say>(
     ensures last { AreOfLast
         (reader_view (name_of_consumer consumer.new) 0 told.new.forms (received consumer.new) [] told.new.lines.items
         told.new.refused) }
+    ensures notes { HaveNotes told.new.forms (received consumer.new) notes.new.items told.new.lines.items }
     ensures fifo { map plain_posted (received consumer.new ++ known_items consumer.new)
         ≡ map plain_posted (received consumer.old ++ known_items consumer.old) }
     ensures none_left { told.new.lines.items ≡ [] → known_items consumer.new ≡ [] }
 {
     for _ in 0..standing {
-        told.tell_next(formatters, consumer, taken);
+        *notes = told.tell_next(formatters, consumer, taken);
         if !told.lines.is_empty() {
             return;
         }
@@ -126,6 +133,7 @@ impl<F: Drop> LineReader<Formatters<F>> {
                 spare: Vec::new(alloc),
                 refused: 0,
             },
+            notes: Vec::new(alloc),
             given: GivenOut::nothing(),
             formatters,
         }
@@ -152,6 +160,7 @@ impl<V: Say> LineReader<V> {
             looks,
             taken,
             told,
+            notes,
             given: _,
             formatters,
         } = self;
@@ -159,7 +168,7 @@ impl<V: Say> LineReader<V> {
             return true;
         }
         let standing = look(consumer, looks);
-        take_until_told(consumer, taken, told, &*formatters, standing);
+        take_until_told(consumer, taken, told, notes, &*formatters, standing);
         told.lines.reverse();
         !told.lines.is_empty()
     }
@@ -187,6 +196,7 @@ impl<V: Say> LineReader<V> {
             looks,
             taken,
             told,
+            notes,
             given: _,
             formatters,
         } = self;
@@ -195,7 +205,7 @@ impl<V: Say> LineReader<V> {
         }
         *looks = looks.saturating_add(1);
         let standing = ring.look_beside(consumer);
-        take_until_told(consumer, taken, told, &*formatters, standing);
+        take_until_told(consumer, taken, told, notes, &*formatters, standing);
         told.lines.reverse();
         !told.lines.is_empty()
     }
@@ -210,6 +220,16 @@ impl<V> LineReader<V> {
         ensures level { AreOfLast self.now }
     {
         self.told.lines.last()
+    }
+
+    /// The note whose line is the first one that waits. None where no line waits.
+    pub fn peek_note(&self) -> Option<&Note>
+        ensures some { IfSome result (λ note.
+            IsSomeAnd (slice_get self.now.waiting 0) (λ line. IsNoteOf self.now line (plain_note note.now))) }
+        ensures none { IfNone result (self.now.waiting ≡ []) }
+    {
+        let line = self.peek()?;
+        Some(&self.notes[line.place as usize])
     }
 
     /// Gives the first line that waits out. None where no line waits.
@@ -227,6 +247,18 @@ impl<V> LineReader<V> {
         let line = told.lines.pop()?;
         GivenOut::add(given, &line);
         Some(line)
+    }
+
+    /// Gives all lines that wait out at once, and lets go of them. How many they were: they are of the last batch taken.
+    pub fn skip(&mut self) -> usize
+        ensures value { result ≡ length self.old.waiting }
+        ensures given { self.new ≡ record self.old { given = self.old.given ++ self.old.waiting; waiting = [] } }
+        ensures left { AreLeft self.new }
+        ensures level { AreOfLast self.old }
+    {
+        let waited = self.told.lines.len();
+        while let Some(_line) = self.next() {}
+        waited
     }
 
     /// How many batches still stand in the ring, in a thread that has both of its ends: those that were taken are the

@@ -10,6 +10,7 @@ ghost use Rattle.rtrb.specs.Ring.{received, known_items};
 
 use crate::line::Line;
 use crate::memory::{Place, keep};
+use crate::posted::Posted;
 use crate::ring::Consuming;
 use span_layers::{Form, Forms, Note, Say};
 use std::alloc::AllocError;
@@ -172,18 +173,18 @@ impl Told {
         }
     }
 
-    // Takes the batch that is known to stand first in the ring, and tells its notes.
+    // Takes the batch that is known to stand first in the ring, and tells its notes, which it hands on.
     pub(crate) fn tell_next<V: Say>(
         &mut self,
         formatters: &V,
         consumer: &mut Consuming,
         taken: &mut u64,
-    )
+    ) -> Vec<Note>
         requires standing { 0 < length (known_items consumer.old) }
         requires number { taken.old ≡ length (received consumer.old) }
         ensures next { TellsNext self.old.forms taken.old (received consumer.old) (known_items consumer.old)
             (received consumer.new) (known_items consumer.new)
-            self.old.lines.items self.old.refused self.new.lines.items self.new.refused }
+            self.old.lines.items self.old.refused self.new.lines.items self.new.refused result.items }
         ensures forms { self.new.forms ≡ self.old.forms }
         ensures number { taken.new ≡ length (received consumer.new) }
         ensures name { name_of_consumer consumer.new ≡ name_of_consumer consumer.old }
@@ -191,5 +192,7 @@ impl Told {
         let batch = consumer.pop_known();
         self.tell_all(formatters, *taken, batch.notes.as_slice());
         *taken += 1;
+        let Posted { said: _, notes } = batch;
+        notes
     }
 }

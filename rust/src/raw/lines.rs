@@ -1,5 +1,5 @@
 //! The owner of a drain's handle.
-use super::{span_drain_counts, span_drain_free, span_drain_line, SpanDrain, OK, SHORT_BUFFER};
+use super::{span_drain_counts, span_drain_free, span_drain_line, span_drain_skip_batch, SpanDrain, OK, SHORT_BUFFER};
 
 /// What stands next in a drain.
 pub(crate) enum Next {
@@ -36,6 +36,17 @@ impl Lines {
             SHORT_BUFFER => Next::Long { length },
             _ => Next::None,
         }
+    }
+
+    /// Gives up the lines that are left of the batch whose lines are at hand, or of the next one that has some. How many
+    /// they were; 0 where there is none.
+    #[cfg_attr(not(test), allow(dead_code))]
+    pub(crate) fn skip_batch(&mut self) -> usize {
+        let mut skipped = 0;
+        // SAFETY: the handle is full and lent to this call alone, and `skipped` is this call's.
+        let status = unsafe { span_drain_skip_batch(&mut self.handle, &mut skipped) };
+        debug_assert!(status == OK || skipped == 0);
+        skipped
     }
 
     /// How many batches were taken, and how many notes were missed for want of memory.

@@ -1,7 +1,10 @@
-//! What the package itself asks of no registry, since it knows it already: the places of a stack, how often the ring was
-//! full, above which level nothing is wanted. And that a span follows from another, of which it keeps the kind too.
+//! What the package itself asks of no registry, since it knows it already: the places of a stack, which layers admit a
+//! span, how often the ring was full, above which level nothing is wanted. And that a span follows from another, of which it keeps the kind too.
 #![cfg_attr(not(test), allow(dead_code))]
-use super::{span_registry_entry, span_registry_follows_from, span_registry_max_level, span_registry_times_full, Core};
+use super::{
+    span_registry_entry, span_registry_follows_from, span_registry_layers_of, span_registry_max_level,
+    span_registry_times_full, Core,
+};
 use crate::level::Level;
 use crate::meta::RawId;
 use crate::refusal::Refusal;
@@ -13,6 +16,14 @@ impl Core {
         // SAFETY: the handle is full and lent to this call alone, and both outputs are this call's.
         Refusal::of_status(unsafe { span_registry_entry(&mut self.handle, worker, place, &mut id, &mut depth) })?;
         Ok((RawId::from_u64(id), depth))
+    }
+
+    /// The layers that admit an open span: bit n is set where layer n does.
+    pub(crate) fn layers_of(&mut self, id: RawId) -> Result<u64, Refusal> {
+        let mut layers = 0;
+        // SAFETY: the handle is full and lent to this call alone, and `layers` is this call's.
+        Refusal::of_status(unsafe { span_registry_layers_of(&mut self.handle, id.get(), &mut layers) })?;
+        Ok(layers)
     }
 
     /// How often a call was refused for want of a place in the ring.
@@ -128,6 +139,16 @@ mod tests {
             assert_eq!(core.entry(1, place), Ok((id, 3)));
         }
         assert_eq!(core.entry(0, 0), Ok((None, 0)));
+    }
+
+    #[test]
+    fn a_registry_without_layers_has_no_bit_and_no_line() {
+        let (mut core, mut lines) = registry(64);
+        let id = new_span(&mut core, RawParent::Root, &[]);
+        assert_eq!(core.layers_of(id), Ok(0));
+        assert_eq!(core.try_close(0, id), Ok(true));
+        assert_eq!(core.layers_of(id), Err(Refusal::UNKNOWN));
+        assert_eq!((lines.skip_batch(), lines.counts()), (0, (2, 0)));
     }
 
     #[test]

@@ -2,11 +2,6 @@
 use Rattle.std.specs.Prelude.{◌≡◌, ℕ, ◌+◌, List, ◌++◌, length, take, drop}
 use Rattle.std.specs.Str.{IsUtf8}
 use Rattle.span_id.specs.Meta.{KeyValue}
-use Rattle.span_ffi.specs.declared.data.SpanField.{SpanField}
-
--- how long a key and its value are
-abbrev pub field_lengths : KeyValue → SpanField
-field_lengths pair = record { key_len = length pair.0; value_len = length pair.1 }
 
 -- both are texts
 abbrev pub AreTexts : KeyValue → Type 0

@@ -4,8 +4,8 @@ ghost use Rattle.span_border.specs.Status.{meant};
 ghost use Rattle.span_ffi.specs.Abi.{abi_version, struct_sizes};
 
 use crate::data::{
-    SpanCounts, SpanField, SpanFound, SpanHeld, SpanLayer, SpanLimits, SpanMeta, SpanRule,
-    SpanSizes,
+    SpanCounts, SpanField, SpanFound, SpanHeld, SpanLayer, SpanLimits, SpanMeta, SpanNote,
+    SpanRule, SpanSizes,
 };
 use span_border::Status;
 use std::mem::size_of;
@@ -25,6 +25,8 @@ const _: () = prove!(size_of::<SpanFound>() == 24);
 const _: () = prove!(size_of::<SpanHeld>() == 16);
 
 const _: () = prove!(size_of::<SpanCounts>() == 40);
+
+const _: () = prove!(size_of::<SpanNote>() == 40);
 
 /// The version of this interface. It rises where a program that was built for an earlier one would go wrong.
 #[unsafe(no_mangle)]

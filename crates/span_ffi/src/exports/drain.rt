@@ -3,7 +3,7 @@ ghost use Rattle.std.specs.Prelude.{◌≡◌, Some, None, is_some, if◌then◌
 ghost use Rattle.span_border.specs.Status.{meant};
 ghost use Rattle.span_border.specs.Ends.{OnHeld, Keeps};
 ghost use Rattle.span_border.specs.Buffers.{KeepsLength};
-ghost use Rattle.span_ffi.specs.Lines.{GivesLine, CountsLines};
+ghost use Rattle.span_ffi.specs.Lines.{GivesLine, SkipsBatch, CountsLines};
 ghost use Rattle.span_ffi.specs.inside.Giving.{GivesFirst};
 
 use crate::drain_handle::SpanDrain;
@@ -59,6 +59,37 @@ pub extern "C" fn span_drain_line(
         return Status::EmptyHandle.number();
     };
     let status = give_line(&mut held.lines, layer, into, len);
+    drain.put(held);
+    status.number()
+}
+
+#[tactic(auto, using(crate::proofs::Given::filled_skips))]
+fn skip_batch(lines: &mut Lines, skipped: &mut usize) -> Status
+    ensures batch { SkipsBatch skipped.new lines.old result lines.new }
+    ensures kept { Keeps (Some result) skipped.old skipped.new }
+{
+    if !lines.fill() {
+        return Status::NoLine;
+    }
+    *skipped = lines.skip();
+    Status::Done
+}
+
+/// Gives up the lines that are left of the batch whose lines are at hand, and tells how many. Where none is at hand, it
+/// takes batches out of the ring until one is, and gives up all lines of that batch.
+#[unsafe(no_mangle)]
+pub extern "C" fn span_drain_skip_batch(
+    alloc: Global,
+    drain: &mut SpanDrain,
+    skipped: &mut usize,
+) -> u32
+    ensures batch { OnHeld drain.old.held (SkipsBatch skipped.new) (meant result) drain.new.held }
+    ensures kept { Keeps (meant result) skipped.old skipped.new }
+{
+    let Some(mut held) = drain.take(alloc) else {
+        return Status::EmptyHandle.number();
+    };
+    let status = skip_batch(&mut held.lines, skipped);
     drain.put(held);
     status.number()
 }

@@ -4,13 +4,14 @@ ghost use Rattle.span_border.specs.Status.{meant};
 ghost use Rattle.span_ffi.specs.Registry.{OnCore};
 ghost use Rattle.span_border.specs.Ends.{OnHeld, Keeps};
 ghost use Rattle.span_ffi.specs.Calls.{Finds, SeesCurrent, Counts};
-ghost use Rattle.span_ffi.specs.Questions.{SeesEntry, TellsTimesFull};
+ghost use Rattle.span_ffi.specs.Questions.{SeesEntry, TellsLayers, TellsTimesFull};
 
 use crate::data::{SpanCounts, SpanFound};
 use crate::exports::callers::{has_worker, id_of};
 use crate::registry::RingCore;
 use crate::registry_handle::SpanRegistry;
 use span_border::{Holds, Status, id_number};
+use span_core::laws::layers_admit_spans_by_their_rules;
 use span_id::Fault;
 use std::alloc::Global;
 
@@ -49,6 +50,40 @@ pub extern "C" fn span_registry_find(
         return Status::EmptyHandle.number();
     };
     let status = find(&held.core, id, found);
+    registry.put(held);
+    status.number()
+}
+
+fn layers_of(core: &RingCore, id: u64, layers: &mut u64) -> Status
+    ensures layers { TellsLayers id layers.new core.now result core.now }
+    ensures kept { Keeps (Some result) layers.old layers.new }
+{
+    layers_admit_spans_by_their_rules(core);
+    let Some(id) = id_of(core, id) else {
+        return Status::Refused(Fault::Unknown);
+    };
+    let Some(span) = core.find(id) else {
+        return Status::Refused(Fault::Unknown);
+    };
+    *layers = span.bits.0;
+    Status::Done
+}
+
+/// Which layers admit an open span, as bits, of which bit n is layer n's.
+#[unsafe(no_mangle)]
+pub extern "C" fn span_registry_layers_of(
+    alloc: Global,
+    registry: &mut SpanRegistry,
+    id: u64,
+    layers: &mut u64,
+) -> u32
+    ensures layers { OnHeld registry.old.held (OnCore (TellsLayers id layers.new)) (meant result) registry.new.held }
+    ensures kept { Keeps (meant result) layers.old layers.new }
+{
+    let Some(held) = registry.take(alloc) else {
+        return Status::EmptyHandle.number();
+    };
+    let status = layers_of(&held.core, id, layers);
     registry.put(held);
     status.number()
 }

@@ -2,6 +2,7 @@
 use Rattle.std.specs.Prelude.{ℕ, ◌≡◌, List, [], ◌∷◌, ◌++◌, map}
 use Rattle.std.specs.List.{enumerate_from}
 use Rattle.span_layers.specs.declared.form.Form.{Form}
+use Rattle.span_layers.specs.declared.note.Note.{Note}
 use Rattle.span_layers.specs.Note.{PlainNote}
 use Rattle.span_outlet.specs.declared.posted.Posted.{Posted}
 use Rattle.span_outlet.specs.declared.line.Line.{Line}
@@ -13,12 +14,13 @@ use Rattle.span_outlet.specs.Posted.{plain_posted}
 abbrev pub numbered_notes : ℕ → List PlainNote → List NumberedNote
 numbered_notes batch notes = map (λ note. record { batch = batch; place = note.0; note = note.1 }) (enumerate_from 0 notes)
 
--- the batch that stood first was taken, and its notes were told, as those of the batch of this number
+-- the batch that stood first was taken, and its notes, which are these, were told, as those of the batch of this number
 pub record TellsNext
     (forms : List Form) (number : ℕ) (taken standing now left : List Posted)
-    (lines : List Line) (refused : ℕ) (after : List Line) (more : ℕ)
+    (lines : List Line) (refused : ℕ) (after : List Line) (more : ℕ) (notes : List Note)
     : Type 0 where
   pub batch : Posted
   pub moved : now ≡ taken ++ batch ∷ []
   pub stood : standing ≡ batch ∷ left
+  pub brought : batch.notes.items ≡ notes
   pub gains : GainsLines forms (numbered_in (number, plain_posted batch)) (map plain_line lines) refused (map plain_line after) more

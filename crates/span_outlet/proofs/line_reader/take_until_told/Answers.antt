@@ -1,6 +1,7 @@
 use Rattle.std.proofs.Common.{rules, length, refl, ap, ◌∙◌, arith}
 use Rattle.std.proofs.lemmas.List.{nil_from_length}
 use Rattle.span_outlet.proofs.Draining.{moved_on}
+use Rattle.span_outlet.proofs.Noting.{of_last_batch, none_has}
 use Rattle.span_outlet.proofs.Reading.{takes_nothing, takes_more, of_batch, none_of_last}
 use Rattle.span_outlet.proofs.line_reader.take_until_told.Goals as goal
 
@@ -32,6 +33,12 @@ returns-then-not-is_empty-clause-last g c =
     let next = c.tell_next.ensures.next in
     of_batch _ _ _ next.batch _ _ _ _ _ before.nothing before.number next.moved next.gains
 
+pub returns-then-not-is_empty-clause-notes : goal.returns-then-not-is_empty-clause-notes
+returns-then-not-is_empty-clause-notes g c =
+    let before = c.loop.invariant in
+    let next = c.tell_next.ensures.next in
+    of_last_batch _ _ _ _ next.batch _ _ _ _ _ _ c.tell_next.ensures.forms before.nothing before.number next.moved next.brought next.gains
+
 pub loop-preserved : goal.loop-preserved
 loop-preserved g c =
     let before = c.loop.invariant in
@@ -50,6 +57,9 @@ loop-preserved g c =
 
 pub returns-clause-last : goal.returns-clause-last
 returns-clause-last g c = none_of_last _ _ c.loop.invariant.nothing
+
+pub returns-clause-notes : goal.returns-clause-notes
+returns-clause-notes g c = none_has _ _ _ _ c.loop.invariant.nothing
 
 pub returns-clause-none_left : goal.returns-clause-none_left
 returns-clause-none_left g c = λ _. nil_from_length _ (omega (arith, c.loop.invariant.standing, c.loop-test.false, c.loop.auto.counter-end))

@@ -75,6 +75,10 @@ enum Act<'a> {
     Fill(u64, u64),
     // No line is known to wait, and so many batches were taken.
     Peek(u64),
+    // The note of the line that waits is of this kind, and told to this layer.
+    Note(Kind, u32),
+    // So many lines that wait are given up.
+    Skip(usize),
 }
 
 fn looks<V: Say>(rt: &impl Abort, alloc: Global, reader: &mut LineReader<V>, act: &Act<'_>) {
@@ -84,6 +88,8 @@ fn looks<V: Say>(rt: &impl Abort, alloc: Global, reader: &mut LineReader<V>, act
         Act::Wait(place) => waits(rt, reader, *place),
         Act::Fill(taken, refused) => fills_to(rt, reader, *taken, *refused),
         Act::Peek(taken) => has_none(rt, reader, *taken),
+        Act::Note(kind, layer) => has_note(rt, reader, (*kind, *layer)),
+        Act::Skip(lines) => skips(rt, reader, *lines),
         Act::Send(..) => {}
     }
 }
@@ -116,7 +122,7 @@ fn plays_new(rt: &impl Abort, alloc: Global, play: &Play) {
 // The places of a ring, the forms in which a reader of it writes, and what is done in this order.
 type Play = (u32, &'static [Form], &'static [Act<'static>]);
 
-static PLAYS: [Play; 4] = [
+static PLAYS: [Play; 5] = [
     // Lines of three batches.
     (
         8,
@@ -142,6 +148,27 @@ static PLAYS: [Play; 4] = [
             Act::Peek(1),
             Act::Read("1 0 0 exit 1 w0 a\n"),
             Act::StandAt(2, 0),
+        ],
+    ),
+    // Notes are looked at, and lines given up.
+    (
+        8,
+        &[Form::Compact, Form::Compact],
+        &[
+            Act::Skip(0),
+            Act::Send(Kind::OnEnter, &[1, 0, 1], true),
+            Act::Send(Kind::OnClose, &[0], true),
+            Act::Send(Kind::OnExit, &[0, 1], true),
+            Act::Note(Kind::OnEnter, 1),
+            Act::Wait(0),
+            Act::Note(Kind::OnEnter, 0),
+            Act::Skip(2),
+            Act::Peek(1),
+            Act::Note(Kind::OnClose, 0),
+            Act::Skip(1),
+            Act::Skip(0),
+            Act::Read("2 0 0 exit 1 w0 a\n2 1 1 exit 1 w0 a\n"),
+            Act::StandAt(3, 0),
         ],
     ),
     // Batches' texts are refused memory.
@@ -189,8 +216,35 @@ fn waits<V: Say>(rt: &impl Abort, reader: &mut LineReader<V>, place: u32) {
 
 // No line is known to wait, and so many batches were taken.
 fn has_none<V>(rt: &impl Abort, reader: &LineReader<V>, taken: u64) {
-    let stands = (peeked(reader), counts(reader).0);
-    same(rt, stands, (None, taken), "the line that waits, and taken");
+    let stands = (peeked(reader), noted(reader), counts(reader).0);
+    same(
+        rt,
+        stands,
+        (None, None, taken),
+        "the line that waits, and taken",
+    );
+}
+
+// The kind and the layer of the note whose line waits.
+fn noted<V>(reader: &LineReader<V>) -> Option<(Kind, u32)> {
+    reader.peek_note().map(|note| (note.kind, note.layer))
+}
+
+// The note of the line that waits once the reader was filled.
+fn has_note<V: Say>(rt: &impl Abort, reader: &mut LineReader<V>, want: (Kind, u32)) {
+    let stands = (reader.fill(), noted(reader));
+    same(
+        rt,
+        stands,
+        (true, Some(want)),
+        "the note of the line that waits",
+    );
+}
+
+// So many lines are given up, and none waits then.
+fn skips<V>(rt: &impl Abort, reader: &mut LineReader<V>, want: usize) {
+    let stands = (reader.skip(), peeked(reader), noted(reader));
+    same(rt, stands, (want, None, None), "lines given up");
 }
 
 // A line waits once the reader was filled, and then so many batches were taken, and so many notes missed.

@@ -2,6 +2,7 @@ use Rattle.std.proofs.Common.{rules, ◌≡◌, [], sym, ap, ◌∙◌, subst, a
 use mathlib.Core.List.{reverse}
 use Rattle.rtrb.specs.Ring.{received}
 use Rattle.std.proofs.lemmas.List.{nil_from_length}
+use Rattle.span_outlet.specs.inside.Reading.{HaveNotes}
 use Rattle.span_outlet.proofs.Reading.{takes_none, as_told, filled_left, filled_takes, all_taken, all_given, all_whole, OfLast}
 use Rattle.span_outlet.proofs.Waiting.{some_wait, no_lines, none_wait, none_wait_here, answered, not_looked, none_waited}
 use Rattle.span_outlet.proofs.line_reader.LineReader.fill_beside.Goals as goal
@@ -17,6 +18,7 @@ invariant_of-self-2 g c =
       filled_left _ _ _ _ _ _ _ _ _ _ _ _ _ _ _ _ (ap reverse nothing) c.take_until_told.ensures.forms looks told c.self.invariant.0 c.take_until_told.ensures.batches,
       subst (OfLast _) (sym told) c.take_until_told.ensures.last,
       c.take_until_told.ensures.number,
+      subst (HaveNotes _ _ _) (sym told) c.take_until_told.ensures.notes,
     )
 
 pub returns-clause-taken : goal.returns-clause-taken

@@ -1,3 +1,4 @@
+use Rattle.std.proofs.Common.{refl}
 use Rattle.span_outlet.proofs.Keeping.{as_shown}
 use Rattle.span_outlet.proofs.Draining.{one_more_taken}
 use Rattle.span_outlet.proofs.told.Told.tell_next.Goals as goal
@@ -7,6 +8,7 @@ returns-clause-next g c = record {
   batch = c.pop_known-batch.result;
   moved = c.pop_known-batch.ensures.received.0;
   stood = c.pop_known-batch.ensures.received.1;
+  brought = refl;
   gains = as_shown _ _ _ _ _ _ _ _ c.as_slice.ensures.value c.tell_all.ensures.told;
 }
 

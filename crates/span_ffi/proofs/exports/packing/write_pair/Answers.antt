@@ -1,5 +1,5 @@
 use Rattle.span_ffi.proofs.Packing.{writes_then}
-use Rattle.span_ffi.proofs.exports.details.write_pair.Goals as goal
+use Rattle.span_ffi.proofs.exports.packing.write_pair.Goals as goal
 
 pub returns-clause-written : goal.returns-clause-written
 returns-clause-written c =

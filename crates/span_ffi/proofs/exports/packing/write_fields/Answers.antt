@@ -5,7 +5,7 @@ use Rattle.span_id.specs.Meta.{plain_fields}
 use Rattle.span_ffi.specs.Details.{packed}
 use Rattle.span_ffi.specs.inside.Packing.{AreTexts, WritesAt}
 use Rattle.span_ffi.proofs.Packing.{writes_then, packed_more, texts_more, len_more}
-use Rattle.span_ffi.proofs.exports.details.write_fields.Goals as goal
+use Rattle.span_ffi.proofs.exports.packing.write_fields.Goals as goal
 
 pub loop-field-preserved : goal.loop-field-preserved
 loop-field-preserved c =

@@ -1,7 +1,7 @@
 use Rattle.std.proofs.Common.{◌≡◌, length, map, take, drop}
 use Rattle.span_id.specs.Meta.{plain_fields}
-use Rattle.span_ffi.specs.inside.Packing.{field_lengths}
-use Rattle.span_ffi.proofs.exports.details.write_lengths.Given as goal
+use Rattle.span_ffi.specs.Details.{field_lengths}
+use Rattle.span_ffi.proofs.exports.packing.write_lengths.Given as goal
 
 abbrev pub invariant-loop-place : goal.invariant-loop-place
 invariant-loop-place l = record {

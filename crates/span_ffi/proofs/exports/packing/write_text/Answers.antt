@@ -1,6 +1,6 @@
 use Rattle.std.proofs.Common.{◌≡◌, ◌++◌, ◌+◌, ◌-◌, ◌∙◌, length, take, refl, ap, arith}
 use Rattle.std.proofs.lemmas.Slice.{take-put_mid, drop-put_mid}
-use Rattle.span_ffi.proofs.exports.details.write_text.Goals as goal
+use Rattle.span_ffi.proofs.exports.packing.write_text.Goals as goal
 
 pub returns-clause-written : goal.returns-clause-written
 returns-clause-written c =

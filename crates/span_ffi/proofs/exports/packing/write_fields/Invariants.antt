@@ -2,7 +2,7 @@ use Rattle.std.proofs.Common.{◌≤◌, ◌+◌, length, take, drop, All}
 use Rattle.span_id.specs.Meta.{plain_fields}
 use Rattle.span_ffi.specs.Details.{packed}
 use Rattle.span_ffi.specs.inside.Packing.{AreTexts, WritesAt}
-use Rattle.span_ffi.proofs.exports.details.write_fields.Given as goal
+use Rattle.span_ffi.proofs.exports.packing.write_fields.Given as goal
 
 abbrev pub invariant-loop-field : goal.invariant-loop-field
 invariant-loop-field l = record {

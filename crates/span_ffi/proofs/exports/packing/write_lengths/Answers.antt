@@ -3,7 +3,7 @@ use Rattle.std.proofs.lemmas.List.{get_or-map, length-map}
 use Rattle.span_id.specs.Meta.{KeyValue, key_value, plain_fields}
 use Rattle.span_ffi.specs.Details.{are_short}
 use Rattle.span_ffi.proofs.Packing.{short_at}
-use Rattle.span_ffi.proofs.exports.details.write_lengths.Goals as goal
+use Rattle.span_ffi.proofs.exports.packing.write_lengths.Goals as goal
 
 pub lengths_of-requires : goal.lengths_of-requires
 lengths_of-requires c =
