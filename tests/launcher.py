@@ -22,7 +22,7 @@ TOP = os.path.dirname(os.path.dirname(os.path.realpath(__file__)))
 SOURCE = "crates/tracerun_command_line/src/lib.rt"
 VERSION = re.search(r'\.version\("(.*)"\)', open(f"{TOP}/{SOURCE}", encoding="utf-8").read())[1]
 LOGIC = re.search(r"^Proved with the logic `(\w+)`", open(f"{TOP}/README.md", encoding="utf-8").read(), re.M)[1]
-COPIED = ["tracerun", "README.md", "tools/running.py", "tools/prove.py", "tools/unproved.py", SOURCE, "crates/tracerun/src/main.rt"]
+COPIED = ["tracerun", "README.md", "tools/page.txt", "tools/running.py", "tools/prove.py", "tools/unproved.py", SOURCE, "crates/tracerun/src/main.rt"]
 PROGRAM = r"""
 #include <stdio.h>
 #include <string.h>
