@@ -65,7 +65,7 @@ def keep(name, values, clone):
 
 def measured(source, keep):
     """The status of ./check in a fresh clone of a repository, whose figures are kept where all was proved."""
-    os.environ.setdefault("RT_JOBS", str(parts.jobs()))
+    os.environ.setdefault("RT_JOBS", str(parts.JOBS))
     with tempfile.TemporaryDirectory(prefix="gate-") as folder:
         os.chmod(folder, 0o755)  # (rt ci runs programs as nobody)
         clone = Path(folder) / "clone"

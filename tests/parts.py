@@ -24,9 +24,9 @@ import subprocess
 import sys
 import tempfile
 import time
+from collections import namedtuple
 from concurrent.futures import ThreadPoolExecutor
 from pathlib import Path
-from typing import NamedTuple
 
 TOP = Path(__file__).resolve().parent.parent
 sys.path.insert(0, str(TOP / "tools"))
@@ -35,28 +35,13 @@ from running import Command, clock, exit_at_signals, of_this_clone, processors  
 COPY = of_this_clone("libraries")
 COUNTS = re.compile(r"(\d+) passed, (\d+) failed\b")
 AS_ONE = "sh -c '{} && echo 1 passed, 0 failed || echo 0 passed, 1 failed'"
-MEMORY_OF_A_CHECK = 4 << 30
+JOBS = processors(4 << 30)  # (how many crates are proved at once)
 
 
-class Part(NamedTuple):
-    """A row of the table."""
-
-    when: str
-    name: str
-    needs: str
-    command: str
-    folder: str = ""
-
-
-class Ended(NamedTuple):
-    """A part that ended: what it said, what it counted, and its seconds on the clock and of processors."""
-
-    name: str
-    lines: list
-    passed: int
-    failed: int
-    seconds: float = 0
-    cpu: float = 0
+# A row of the table.
+Part = namedtuple("Part", "when name needs command folder", defaults=[""])
+# A part that ended: what it said, what it counted, and its seconds on the clock and of processors.
+Ended = namedtuple("Ended", "name lines passed failed seconds cpu", defaults=[0, 0])
 
 
 def table():
@@ -72,11 +57,6 @@ QUICK = [it for it in table() if it.when != "whole"]
 # What parts need of crates.
 BUILT = {it: TOP / f"crates/{it}/out/{it}" for it in ("tracerun", "hostile_use", "workloads", "span_benchmark")}
 BUILT.update({it: COPY / f"crates/{it}/out/lib{it}.a" for it in LIBRARIES})
-
-
-def jobs():
-    """How many crates are proved at once."""
-    return processors(MEMORY_OF_A_CHECK)
 
 
 def counted(lines, status):
@@ -179,13 +159,13 @@ def shown(ended):
 
 def all_parts(runs, is_anew):
     """Runs each part, and gives it when it has ended and been shown."""
-    os.environ.setdefault("RT_JOBS", str(jobs()))
+    os.environ.setdefault("RT_JOBS", str(JOBS))
     lay_copy(is_anew)
     *others, last = PARTS
     on_libraries = [it for it in others if LIBRARIES.keys() & {*it.needs.split()}]
     on_programs = [it for it in others if it.needs and it not in on_libraries]
     # (each lane runs what is mapped in it one after the other)
-    alone, library_lane, lanes = ThreadPoolExecutor(1), ThreadPoolExecutor(1), ThreadPoolExecutor(jobs())
+    alone, library_lane, lanes = ThreadPoolExecutor(1), ThreadPoolExecutor(1), ThreadPoolExecutor(JOBS)
     alone_ended = alone.map(runs.run, [it for it in others if not it.needs])
     libraries = library_lane.map(runs.make, LIBRARIES), library_lane.map(runs.run, on_libraries)
     begun = time.time()
@@ -200,11 +180,6 @@ def all_parts(runs, is_anew):
     yield runs.run(last, shows=True)
 
 
-def quick_parts(runs):
-    """The parts that need no proof."""
-    yield from map(shown, ThreadPoolExecutor(len(QUICK)).map(runs.run, QUICK))
-
-
 def crates_alone(runs, crates):
     """The check and the tests of these crates."""
     for crate in crates:
@@ -215,22 +190,23 @@ def crates_alone(runs, crates):
         yield runs.run(Part("", crate, "", AS_ONE.format("rt check && rt test"), f"crates/{crate}"), shows=True)
 
 
-def run_all(words):
-    with tempfile.TemporaryDirectory(prefix="check-") as room:
-        runs = Runs(room)
-        try:
-            if words in ([], ["--anew"]):
-                return list(all_parts(runs, bool(words)))
-            return list(quick_parts(runs) if words == ["--quick"] else crates_alone(runs, words))
-        finally:
-            runs.end()
+def those_of(words, runs):
+    """Runs the parts that these words want."""
+    if words == ["--quick"]:
+        return map(shown, ThreadPoolExecutor(len(QUICK)).map(runs.run, QUICK))
+    return all_parts(runs, bool(words)) if words in ([], ["--anew"]) else crates_alone(runs, words)
 
 
 def main():
     sys.stdout.reconfigure(encoding="utf-8", errors="replace")
     exit_at_signals()
     start = time.monotonic()
-    ended = run_all(sys.argv[1:])
+    with tempfile.TemporaryDirectory(prefix="check-") as room:
+        runs = Runs(room)
+        try:
+            ended = list(those_of(sys.argv[1:], runs))
+        finally:
+            runs.end()
     for it in ended:
         print(f"{it.name}: {it.passed} passed, {it.failed} failed, {clock(it.seconds)}, {clock(it.cpu)} of processors")
     used = resource.getrusage(resource.RUSAGE_CHILDREN)
