@@ -30,7 +30,7 @@ from pathlib import Path
 
 TOP = Path(__file__).resolve().parent.parent
 sys.path.insert(0, str(TOP / "tools"))
-from running import Command, clock, exit_at_signals, of_this_clone, processors  # noqa: E402
+from running import Command, clock, end_all, exit_at_signals, of_this_clone, processors  # noqa: E402
 
 COPY = of_this_clone("libraries")
 COUNTS = re.compile(r"(\d+) passed, (\d+) failed\b")
@@ -67,12 +67,12 @@ def counted(lines, status):
 
 
 class Runs:
-    """Runs parts over what is made in this run, and ends those that run when it ends itself."""
+    """Runs parts over what is made in this run, until it is over."""
 
     def __init__(self, room):
         self.files = {"gate": Path(room) / "gate", **BUILT}
         self.places = {"room": room, "cc": os.environ.get("CC", "cc"), "library": BUILT["span_ffi"].parent, **self.files}
-        self.made, self.running, self.is_over = set(), [], False
+        self.made, self.is_over = set(), False
 
     def why_not(self, part):
         """Why a part can't run, and how many failures that is."""
@@ -90,13 +90,9 @@ class Runs:
         said, failed = self.why_not(part)
         if said:
             return Ended(part.name, [said], 0, failed)
-        try:
-            run = Command(shlex.split(part.command.format(**self.places)), TOP / part.folder)
-        except OSError as error:
-            return Ended(part.name, [f"FAILED: {error!r}\n"], 0, 1)
-        self.running.append(run)
-        run.follow(lambda line: shows and print(line, end="", flush=True))
-        self.running.remove(run)
+        run = Command(shlex.split(part.command.format(**self.places)), TOP / part.folder,
+                      lambda line: shows and print(line, end="", flush=True))
+        run.thread.join()
         return Ended(part.name, run.lines, *counted(run.lines, run.status), run.seconds, run.cpu)
 
     def make(self, library):
@@ -111,11 +107,6 @@ class Runs:
         for name in names:
             if name in BUILT and BUILT[name].exists():
                 os.utime(BUILT[name], (begun, begun))
-
-    def end(self):
-        self.is_over = True
-        for run in list(self.running):
-            run.end()
 
 
 def anew():
@@ -206,7 +197,8 @@ def main():
         try:
             ended = list(those_of(sys.argv[1:], runs))
         finally:
-            runs.end()
+            runs.is_over = True
+            end_all()
     for it in ended:
         print(f"{it.name}: {it.passed} passed, {it.failed} failed, {clock(it.seconds)}, {clock(it.cpu)} of processors")
     used = resource.getrusage(resource.RUSAGE_CHILDREN)

@@ -5,14 +5,13 @@ usage: prove.py CRATE..
 
 The crates are named lowest first. Each is proved by `rt lib` once those below it are, side by side with others, and the
 program is proved and built by `rt run`. Since a run of rt has the crates below to itself, each crate is proved in a room
-of its own, in kozhumir/proving of the user's cache: the sources, what rt kept of the crates below when it proved them, so
-that none is proved twice, and the crate's folder out/ of the clone, with which rt begins (one make of rt can use it in any
-place). That folder goes back into the clone at the end, also where not all is proved.
+of its own, in kozhumir/proving of the user's cache: the sources, what rt kept of the crates below when it proved them,
+so that none is proved twice, and the folder out/ that the crate has in the clone, with which rt begins (one make of rt
+can use it in any place). That goes back into the clone at the end, also where not all is proved.
 
-Standard error tells how far it is: on a terminal in one line that is drawn anew, elsewhere in a line for each crate and
-one each minute. What is left is guessed by the times of the last run on this machine that proved a crate from nothing,
-kept in kozhumir/prove_times there, else by prove_times.txt beside this file: a line for each crate, with its number of
-functions and the seconds on the clock. The status is 0, or 4 where not all is proved, after what rt said of that.
+Standard error tells how far it is. What is left is guessed by the times of the last run on this machine that proved a
+crate from nothing, which stand in kozhumir/prove_times, else by prove_times.txt beside this file: a line for each crate,
+with its functions and the seconds on the clock. The status is 0, or 4 where not all is proved, after what rt said.
 """
 import contextlib
 import fcntl
@@ -23,7 +22,7 @@ import sys
 import threading
 import time
 
-from running import CACHE, TOP, Command, clock, exit_at_signals, of_this_clone, processors, tell
+from running import CACHE, TOP, Command, clock, end_all, exit_at_signals, of_this_clone, processors, tell
 
 LISTED, LAST = TOP / "tools/prove_times.txt", CACHE / "prove_times"
 ROOMS = of_this_clone("proving")
@@ -46,12 +45,6 @@ class Proof:
         # Where rt keeps what it proved, in the clone and in the room.
         self.out, self.kept = (it / "crates" / name / "out" for it in (TOP, self.room))
 
-    def begin(self, words, niceness):
-        self.is_from_nothing = not self.kept.exists()
-        self.run = Command(words, self.kept.parent, niceness)
-        self.reader = threading.Thread(target=self.run.follow, args=(self.reads,), daemon=True)
-        self.reader.start()
-
     def reads(self, line):
         found = SO_FAR.match(line)
         if found:
@@ -60,7 +53,7 @@ class Proof:
             self.functions = functions if self.is_from_nothing else max(self.functions, functions)
 
     def is_at_work(self):
-        return self.run is not None and self.reader.is_alive()
+        return self.run is not None and self.run.is_at_work()
 
     def is_proved(self):
         return self.run is not None and self.run.status == 0
@@ -129,17 +122,13 @@ class Progress:
         at_work = f"{' '.join(it.name for it in self.proofs if it.is_at_work())} ({self.so_far()})"
         minute = int(time.monotonic() - self.start) // 60
         if self.is_drawn:
-            self.draw(f"tracerun: {at_work}"[: shutil.get_terminal_size().columns - 1])
+            tell(at_work[: shutil.get_terminal_size().columns - 12], end="")
         elif proved:
             took = f"it took {clock(proved.run.seconds)}, {clock(proved.run.cpu)} of processors"
             tell(f"  {proved.name} is proved ({self.so_far()}; {took})")
         elif minute > self.minute:
             tell(f"  at work on {at_work}")
         self.minute = minute
-
-    def draw(self, line=""):
-        if self.is_drawn:
-            print(f"\r{line}\033[K", end="", file=sys.stderr, flush=True)
 
 
 def begin_those_that_can(proofs, jobs):
@@ -157,7 +146,8 @@ def begin_those_that_can(proofs, jobs):
         lay_room(proof)
         is_longest = all(ways[proof] >= ways[it] for it in proofs if it.is_at_work())
         words = "rt run --jobs {} -- replay" if proof is proofs[-1] else "rt lib --jobs {}"
-        proof.begin(words.format(jobs).split(), 0 if is_longest else 10)
+        proof.is_from_nothing = not proof.kept.exists()
+        proof.run = Command(words.format(jobs).split(), proof.kept.parent, proof.reads, 0 if is_longest else 10)
     return begun
 
 
@@ -243,12 +233,10 @@ def prove_and_keep(proofs, progress):
     try:
         return prove(proofs, progress)
     except SystemExit:
-        progress.draw()
         tell(f"broken off after {progress.took()}; what is proved stays so")
         raise
     finally:
-        for proof in (it for it in proofs if it.run):
-            proof.run.end()
+        end_all()
         keep_times(proofs)
         put_back(proofs)
         # What was edited since it began is newer than the program.
@@ -270,9 +258,9 @@ def main():
     except (OSError, KeyError) as error:
         tell(f"the program was not built: {error!r}")
         sys.exit(4)
-    progress.draw()
     if failed:
-        print(*(line for line in failed.run.lines if not GOOD.match(line)), sep="", end="", file=sys.stderr)
+        over = "\r\033[K" if progress.is_drawn else ""
+        print(over, *(line for line in failed.run.lines if not GOOD.match(line)), sep="", end="", file=sys.stderr)
         tell(f"the program was not built: {failed.name} is not proved")
         sys.exit(4)
     cpu = sum(it.run.cpu for it in proofs)

@@ -5,6 +5,7 @@ import re
 import signal
 import subprocess
 import sys
+import threading
 import time
 from pathlib import Path
 
@@ -27,8 +28,10 @@ def clock(seconds):
     return f"{int(seconds) // 60} min {int(seconds) % 60:02} s"
 
 
-def tell(text):
-    print(f"tracerun: {text}", file=sys.stderr, flush=True)
+def tell(text, end="\n"):
+    """Tells it on standard error: on a terminal over what is drawn there."""
+    line = f"\rtracerun: {text}\033[K" if sys.stderr.isatty() else f"tracerun: {text}"
+    print(line, end=end, file=sys.stderr, flush=True)
 
 
 def exit_at_signals():
@@ -38,33 +41,51 @@ def exit_at_signals():
 
 
 class Command:
-    """A command that runs in a group of processes of its own. Its status is None until it has ended, and 0 if all is well."""
+    """A command that runs in a group of processes of its own. Its status is 0 where it has ended and all is well."""
 
-    def __init__(self, words, folder, niceness=0):
+    begun = []
+
+    def __init__(self, words, folder, tells, niceness=0):
+        """Begins it. Each of its lines is kept, and told."""
+        self.lines, self.process, self.status, self.seconds, self.cpu = [], None, None, 0, 0
+        # (it is begun in a thread, where no signal comes between, so that none is lost that is begun)
+        self.thread = threading.Thread(target=self.run, args=(words, folder, tells, niceness), daemon=True)
+        self.begun.append(self)
+        self.thread.start()
+
+    def run(self, words, folder, tells, niceness):
         def alone():
             # (setpgid and not setsid, across which nice counts nothing)
             os.setpgid(0, 0)
             os.nice(niceness)
 
-        self.lines, self.status, self.seconds, self.cpu, self.start = [], None, 0, 0, time.monotonic()
-        # (what it begins keeps the locks that are held here)
-        self.process = subprocess.Popen(
-            words, cwd=folder, preexec_fn=alone, close_fds=False, encoding="utf-8", errors="replace",
-            stdin=subprocess.DEVNULL, stdout=subprocess.PIPE, stderr=subprocess.STDOUT)
-
-    def follow(self, tells):
-        """Keeps its lines and tells each one, and waits until it has ended."""
+        start = time.monotonic()
+        try:
+            # (what it begins keeps the locks that are held here)
+            self.process = subprocess.Popen(
+                words, cwd=folder, preexec_fn=alone, close_fds=False, encoding="utf-8", errors="replace",
+                stdin=subprocess.DEVNULL, stdout=subprocess.PIPE, stderr=subprocess.STDOUT)
+        except OSError as error:
+            self.lines, self.status = [f"FAILED: {error!r}\n"], 127
+            return
         for line in self.process.stdout:
             self.lines.append(line)
             tells(line)
         with contextlib.suppress(ChildProcessError):  # (it was broken off)
             _, status, used = os.wait4(self.process.pid, 0)
-            self.seconds, self.cpu = time.monotonic() - self.start, used.ru_utime + used.ru_stime
+            self.seconds, self.cpu = time.monotonic() - start, used.ru_utime + used.ru_stime
             self.status = self.process.returncode = status
 
-    def end(self):
-        """Breaks it off, where it hasn't ended."""
-        if self.status is None:
+    def is_at_work(self):
+        return self.thread.is_alive()
+
+
+def end_all():
+    """Breaks off the commands that haven't ended."""
+    for it in Command.begun:
+        while it.is_at_work() and not it.process:
+            time.sleep(0.01)
+        if it.process and it.status is None:
             with contextlib.suppress(ProcessLookupError):
-                os.killpg(self.process.pid, signal.SIGTERM)
-            self.process.wait()
+                os.killpg(it.process.pid, signal.SIGTERM)
+            it.process.wait()
