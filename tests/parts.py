@@ -13,7 +13,6 @@ what the parts say in such a line.
 `rt` proves as many crates at once as RT_JOBS says, which is set here where it isn't: one for each processor, as far as
 memory goes.
 """
-import filecmp
 import itertools
 import os
 import re
@@ -30,7 +29,7 @@ from pathlib import Path
 
 TOP = Path(__file__).resolve().parent.parent
 sys.path.insert(0, str(TOP / "tools"))
-from running import Command, clock, end_all, exit_at_signals, of_this_clone, processors  # noqa: E402
+from running import Command, clock, end_all, exit_at_signals, lay_copy, of_this_clone, processors  # noqa: E402
 
 COPY = of_this_clone("libraries")
 COUNTS = re.compile(r"(\d+) passed, (\d+) failed\b")
@@ -90,8 +89,8 @@ class Runs:
         said, failed = self.why_not(part)
         if said:
             return Ended(part.name, [said], 0, failed)
-        run = Command(shlex.split(part.command.format(**self.places)), TOP / part.folder,
-                      lambda line: shows and print(line, end="", flush=True))
+        run = Command(lambda line: shows and print(line, end="", flush=True))
+        run.begin(shlex.split(part.command.format(**self.places)), TOP / part.folder)
         run.thread.join()
         return Ended(part.name, run.lines, *counted(run.lines, run.status), run.seconds, run.cpu)
 
@@ -115,26 +114,6 @@ def anew():
     return " --anew" if "--anew" in told else ""
 
 
-def sources(top):
-    """What rt reads of the sources, by its place."""
-    folders = [it for it in top.glob("crates/*/*") if it.name not in ("out", "must-fail")]
-    files = [top / "HANDLES", top / "crates.txt", *folders, *(file for it in folders for file in it.rglob("*"))]
-    return {it.relative_to(top) for it in files if it.is_file()}
-
-
-def lay_copy(is_anew):
-    """Brings the copy of the sources up to date; what rt kept there of proofs stays, unless it is to begin anew."""
-    if is_anew:
-        shutil.rmtree(COPY, ignore_errors=True)
-    wanted = sources(TOP)
-    for place in sources(COPY) - wanted:
-        (COPY / place).unlink()
-    for place in wanted:
-        if not ((COPY / place).is_file() and filecmp.cmp(TOP / place, COPY / place, shallow=False)):
-            (COPY / place).parent.mkdir(parents=True, exist_ok=True)
-            shutil.copy(TOP / place, COPY / place)
-
-
 def hand_over(names):
     """Copies the libraries from where they were made to where they are looked for, as old as their sources."""
     for name in names:
@@ -151,7 +130,9 @@ def shown(ended):
 def all_parts(runs, is_anew):
     """Runs each part, and gives it when it has ended and been shown."""
     os.environ.setdefault("RT_JOBS", str(JOBS))
-    lay_copy(is_anew)
+    if is_anew:
+        shutil.rmtree(COPY, ignore_errors=True)
+    lay_copy([it.name for it in TOP.glob("crates/*")], COPY)
     *others, last = PARTS
     on_libraries = [it for it in others if LIBRARIES.keys() & {*it.needs.split()}]
     on_programs = [it for it in others if it.needs and it not in on_libraries]

@@ -22,7 +22,7 @@ import sys
 import threading
 import time
 
-from running import CACHE, TOP, Command, clock, end_all, exit_at_signals, of_this_clone, processors, tell
+from running import CACHE, TOP, Command, clock, end_all, exit_at_signals, lay_copy, of_this_clone, processors, tell
 
 LISTED, LAST = TOP / "tools/prove_times.txt", CACHE / "prove_times"
 ROOMS = of_this_clone("proving")
@@ -35,12 +35,13 @@ GOOD = re.compile(
     r"|logic=proved |only=|rt: (chose|note|waiting for another|the quick pass|running|\w+: begins with)\b")
 
 
-class Proof:
+class Proof(Command):
     """The proof of a crate: the proofs of all below it, and how far it is."""
 
-    def __init__(self, name, below, functions=0, seconds=0):
-        self.name, self.below, self.functions, self.seconds = name, below, functions, seconds
-        self.run, self.checked, self.is_from_nothing = None, 0, False
+    def __init__(self, name, below, functions=0, listed=0):
+        super().__init__(self.reads)
+        self.name, self.below, self.functions, self.listed = name, below, functions, listed
+        self.checked, self.is_from_nothing = 0, False
         self.room = ROOMS / name
         # Where rt keeps what it proved, in the clone and in the room.
         self.out, self.kept = (it / "crates" / name / "out" for it in (TOP, self.room))
@@ -52,11 +53,8 @@ class Proof:
             self.checked = max(self.checked, checked)
             self.functions = functions if self.is_from_nothing else max(self.functions, functions)
 
-    def is_at_work(self):
-        return self.run is not None and self.run.is_at_work()
-
     def is_proved(self):
-        return self.run is not None and self.run.status == 0
+        return self.status == 0
 
     def done(self):
         """The functions that are checked."""
@@ -64,7 +62,7 @@ class Proof:
 
     def left(self):
         """The seconds that are left of it by its listed time."""
-        return self.seconds * (1 - (self.done() / self.functions if self.functions else self.is_proved()))
+        return self.listed * (1 - (self.done() / self.functions if self.functions else self.is_proved()))
 
 
 def proofs_of(crates):
@@ -93,7 +91,7 @@ def times_in(path):
 
 def keep_times(proofs):
     """Keeps the times of the crates that were proved from nothing, for the next run's guess."""
-    new = {it.name: (it.functions, round(it.run.seconds)) for it in proofs if it.is_proved() and it.is_from_nothing}
+    new = {it.name: (it.functions, round(it.seconds)) for it in proofs if it.is_proved() and it.is_from_nothing}
     rows = (f"{name} {functions} {took}\n" for name, (functions, took) in {**times_in(LAST), **new}.items())
     with contextlib.suppress(OSError):  # (else the next run guesses by the listed times)
         LAST.write_text("".join(rows), encoding="utf-8")
@@ -111,9 +109,9 @@ class Progress:
     def so_far(self):
         """With the longest way through what is left, at the pace until now, where all times are known."""
         done, whole = sum(it.done() for it in self.proofs), sum(it.functions for it in self.proofs)
-        ended = [it for it in self.proofs if it.is_proved() and it.seconds and it.is_from_nothing]
-        pace = sum(it.run.seconds for it in ended) / sum(it.seconds for it in ended) if ended else 1
-        left = max(ways_through(self.proofs).values()) * pace if all(it.seconds for it in self.proofs) else 0
+        ended = [it for it in self.proofs if it.is_proved() and it.listed and it.is_from_nothing]
+        pace = sum(it.seconds for it in ended) / sum(it.listed for it in ended) if ended else 1
+        left = max(ways_through(self.proofs).values()) * pace if all(it.listed for it in self.proofs) else 0
         guess = f", about {max(round(left / 60), 1)} min left" if left else ""
         return f"{done} of {whole} functions, {self.took()}{guess}"
 
@@ -124,7 +122,7 @@ class Progress:
         if self.is_drawn:
             tell(at_work[: shutil.get_terminal_size().columns - 12], end="")
         elif proved:
-            took = f"it took {clock(proved.run.seconds)}, {clock(proved.run.cpu)} of processors"
+            took = f"it took {clock(proved.seconds)}, {clock(proved.cpu)} of processors"
             tell(f"  {proved.name} is proved ({self.so_far()}; {took})")
         elif minute > self.minute:
             tell(f"  at work on {at_work}")
@@ -139,7 +137,7 @@ def begin_those_that_can(proofs, jobs):
     four processors: so those with short ways run beside the last ones, which leave the most.
     """
     ways = ways_through(proofs)
-    ready = [it for it in proofs if not it.run and all(below.is_proved() for below in it.below)]
+    ready = [it for it in proofs if not it.thread and all(below.is_proved() for below in it.below)]
     room = max(jobs * 3 // 4, min(jobs, 2)) - sum(it.is_at_work() for it in proofs)
     begun = sorted(ready, key=ways.get, reverse=True)[: max(room, 0)]
     for proof in begun:
@@ -147,20 +145,8 @@ def begin_those_that_can(proofs, jobs):
         is_longest = all(ways[proof] >= ways[it] for it in proofs if it.is_at_work())
         words = "rt run --jobs {} -- replay" if proof is proofs[-1] else "rt lib --jobs {}"
         proof.is_from_nothing = not proof.kept.exists()
-        proof.run = Command(words.format(jobs).split(), proof.kept.parent, proof.reads, 0 if is_longest else 10)
+        proof.begin(words.format(jobs).split(), proof.kept.parent, 0 if is_longest else 10)
     return begun
-
-
-def lay_sources(proofs):
-    """Copies the sources, so that what is edited from now on counts for no crate."""
-    names = [it.name for it in proofs]
-    for crate in (f"crates/{name}" for name in names):
-        shutil.copytree(TOP / crate, SOURCES / crate, ignore=shutil.ignore_patterns("out", "must-fail"))
-    shutil.copy(TOP / "HANDLES", SOURCES)
-    # (rt wants the folder of each crate that is listed)
-    lines = (TOP / "crates.txt").read_text(encoding="utf-8").splitlines(keepends=True)
-    listed = "".join(it for it in lines if re.split(r"[\s:#]", it)[0] in names)
-    (SOURCES / "crates.txt").write_text(listed, encoding="utf-8")
 
 
 def lay_room(proof):
@@ -212,7 +198,8 @@ def lock_rooms():
 
 def prove(proofs, progress):
     """The proof that failed, if one did."""
-    lay_sources(proofs)
+    # (a copy, so that what is edited from now on counts for no crate)
+    lay_copy([it.name for it in proofs], SOURCES)
     jobs, at_work = processors(MEMORY), []
     while not all(it.is_proved() for it in proofs):
         at_work += begin_those_that_can(proofs, jobs)
@@ -260,10 +247,10 @@ def main():
         sys.exit(4)
     if failed:
         over = "\r\033[K" if progress.is_drawn else ""
-        print(over, *(line for line in failed.run.lines if not GOOD.match(line)), sep="", end="", file=sys.stderr)
+        print(over, *(line for line in failed.lines if not GOOD.match(line)), sep="", end="", file=sys.stderr)
         tell(f"the program was not built: {failed.name} is not proved")
         sys.exit(4)
-    cpu = sum(it.run.cpu for it in proofs)
+    cpu = sum(it.cpu for it in proofs)
     tell(f"the program is proved and built ({progress.took()}, {clock(cpu)} of processors)")
 
 

@@ -1,7 +1,9 @@
-"""What ./check and ./tracerun share: places in the user's cache, how many jobs fit, and commands that run beside others."""
+"""What ./check and ./tracerun share: copies in the user's cache, how many jobs fit, commands that run beside others."""
 import contextlib
+import filecmp
 import os
 import re
+import shutil
 import signal
 import subprocess
 import sys
@@ -40,20 +42,45 @@ def exit_at_signals():
         signal.signal(number, lambda number, _: sys.exit(128 + number))
 
 
+def sources(top, crates):
+    """What rt reads of the sources of these crates, by its place."""
+    folders = [it for crate in crates for it in top.glob(f"crates/{crate}/*") if it.name not in ("out", "must-fail")]
+    files = [top / "HANDLES", *folders, *(file for it in folders for file in it.rglob("*"))]
+    return {it.relative_to(top) for it in files if it.is_file()}
+
+
+def lay_copy(crates, copy):
+    """Brings a copy of the sources of these crates up to date; what rt kept there of proofs stays."""
+    wanted = sources(TOP, crates)
+    for place in sources(copy, crates) - wanted:
+        (copy / place).unlink()
+    for place in wanted:
+        if not ((copy / place).is_file() and filecmp.cmp(TOP / place, copy / place, shallow=False)):
+            (copy / place).parent.mkdir(parents=True, exist_ok=True)
+            shutil.copy(TOP / place, copy / place)
+    # (rt wants the folder of each crate that is listed)
+    lines = (TOP / "crates.txt").read_text(encoding="utf-8").splitlines(keepends=True)
+    listed = "".join(it for it in lines if re.split(r"[\s:#]", it)[0] in crates)
+    (copy / "crates.txt").write_text(listed, encoding="utf-8")
+
+
 class Command:
     """A command that runs in a group of processes of its own. Its status is 0 where it has ended and all is well."""
 
     begun = []
 
-    def __init__(self, words, folder, tells, niceness=0):
-        """Begins it. Each of its lines is kept, and told."""
-        self.lines, self.process, self.status, self.seconds, self.cpu = [], None, None, 0, 0
-        # (it is begun in a thread, where no signal comes between, so that none is lost that is begun)
-        self.thread = threading.Thread(target=self.run, args=(words, folder, tells, niceness), daemon=True)
+    def __init__(self, tells):
+        """One whose lines are kept and told."""
+        self.tells, self.lines, self.status, self.seconds, self.cpu = tells, [], None, 0, 0
+        self.process = self.thread = None
+
+    def begin(self, words, folder, niceness=0):
+        """Begins it in a thread, where no signal comes between, so that none is lost that is begun."""
+        self.thread = threading.Thread(target=self.run, args=(words, folder, niceness), daemon=True)
         self.begun.append(self)
         self.thread.start()
 
-    def run(self, words, folder, tells, niceness):
+    def run(self, words, folder, niceness):
         def alone():
             # (setpgid and not setsid, across which nice counts nothing)
             os.setpgid(0, 0)
@@ -70,14 +97,14 @@ class Command:
             return
         for line in self.process.stdout:
             self.lines.append(line)
-            tells(line)
+            self.tells(line)
         with contextlib.suppress(ChildProcessError):  # (it was broken off)
             _, status, used = os.wait4(self.process.pid, 0)
             self.seconds, self.cpu = time.monotonic() - start, used.ru_utime + used.ru_stime
             self.status = self.process.returncode = status
 
     def is_at_work(self):
-        return self.thread.is_alive()
+        return self.thread is not None and self.thread.is_alive()
 
 
 def end_all():
