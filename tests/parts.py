@@ -4,22 +4,18 @@
 usage: parts.py [--quick|--anew|CRATE..]
 
 `rt ci` has the crates to itself. Beside it run the parts that need nothing, one after the other, and `rt lib`, in a
-copy of the sources in kozhumir/libraries of the user's cache, and then the parts on the libraries. Those on the programs
-that `rt ci` leaves in crates/NAME/out/ run after it, side by side, and the libraries are copied there. A part whose
-program or library wasn't made failed; one whose tool isn't on the PATH isn't run, and says so. With --quick nothing is
-proved, and the parts that need no proof run side by side; with --anew neither `rt ci` nor the copy takes a proof of an
-earlier run; with names of crates these alone are checked and tested. The last line is 'N passed, M failed', the sums of
-what the parts say in such a line.
-`rt` proves as many crates at once as RT_JOBS says, which is set here where it isn't: one for each processor, as far as
-memory goes.
+copy of the sources in kozhumir/libraries of the user's cache, and then the parts on the libraries. Those on the
+programs that `rt ci` leaves in crates/NAME/out/ run after it, side by side, and the libraries are copied there. A part
+whose program or library wasn't made failed; one whose tool isn't on the PATH isn't run, and says so. With --quick
+nothing is proved, and the parts for which that is enough run side by side; with --anew neither `rt ci` nor the copy
+takes a proof of an earlier run; crates that are named are checked and tested, and nothing else is. RT_JOBS, which says
+how many crates `rt` proves at once, is set where it isn't. The last line is 'N passed, M failed', the parts' sums.
 """
-import itertools
 import os
 import re
 import resource
 import shlex
 import shutil
-import subprocess
 import sys
 import tempfile
 import time
@@ -35,8 +31,6 @@ COPY = of_this_clone("libraries")
 COUNTS = re.compile(r"(\d+) passed, (\d+) failed\b")
 AS_ONE = "sh -c '{} && echo 1 passed, 0 failed || echo 0 passed, 1 failed'"
 JOBS = processors(4 << 30)  # (how many crates are proved at once)
-
-
 # A row of the table.
 Part = namedtuple("Part", "when name needs command folder", defaults=[""])
 # A part that ended: what it said, what it counted, and its seconds on the clock and of processors.
@@ -49,6 +43,8 @@ def table():
 
 
 GATE = Part("whole", "the gate", "", "rt ci")
+# (some makes of rt take an earlier run's proofs, and know a word that keeps them from it)
+ANEW = GATE._replace(command="sh -c 'rt ci $(rt help 2>&1 | grep -q -e --anew && echo --anew)'")
 LIBRARIES = {it: Part("whole", f"the static library {it}", "", AS_ONE.format("rt lib"), f"{COPY}/crates/{it}")
              for it in ("span_ffi", "span_store_ffi")}
 PARTS = [it for it in table() if it.when != "quick"]
@@ -70,7 +66,8 @@ class Runs:
 
     def __init__(self, room):
         self.files = {"gate": Path(room) / "gate", **BUILT}
-        self.places = {"room": room, "cc": os.environ.get("CC", "cc"), "library": BUILT["span_ffi"].parent, **self.files}
+        library, compiler = BUILT["span_ffi"].parent, os.environ.get("CC", "cc")
+        self.places = {"room": room, "cc": compiler, "library": library, **self.files}
         self.made, self.is_over = set(), False
 
     def why_not(self, part):
@@ -84,9 +81,9 @@ class Runs:
 
     def run(self, part, shows=False):
         """Runs a part, if it can, and shows its lines as they come."""
-        if shows:
-            print(f"== {part.name}", flush=True)
         said, failed = self.why_not(part)
+        if shows:
+            print(f"== {part.name}\n{said}", end="", flush=True)
         if said:
             return Ended(part.name, [said], 0, failed)
         run = Command(lambda line: shows and print(line, end="", flush=True))
@@ -103,23 +100,8 @@ class Runs:
         """Gives what was made the time when that began, since it is of the sources as they were then (./tracerun and
         others look whether one is newer)."""
         self.made.update(names)
-        for name in names:
-            if name in BUILT and BUILT[name].exists():
-                os.utime(BUILT[name], (begun, begun))
-
-
-def anew():
-    """What keeps rt ci from taking an earlier run's proofs, where it would."""
-    told = subprocess.run(["rt", "help"], stdout=subprocess.PIPE, stderr=subprocess.STDOUT, encoding="utf-8").stdout
-    return " --anew" if "--anew" in told else ""
-
-
-def hand_over(names):
-    """Copies the libraries from where they were made to where they are looked for, as old as their sources."""
-    for name in names:
-        place = TOP / f"crates/{name}/out"
-        place.mkdir(exist_ok=True)
-        shutil.copy2(BUILT[name], place)
+        for path in (BUILT[name] for name in names if name in BUILT and BUILT[name].exists()):
+            os.utime(path, (begun, begun))
 
 
 def shown(ended):
@@ -141,23 +123,26 @@ def all_parts(runs, is_anew):
     alone_ended = alone.map(runs.run, [it for it in others if not it.needs])
     libraries = library_lane.map(runs.make, LIBRARIES), library_lane.map(runs.run, on_libraries)
     begun = time.time()
-    gate = runs.run(GATE._replace(command=GATE.command + (anew() if is_anew else "")), shows=True)
+    gate = runs.run(ANEW if is_anew else GATE, shows=True)
     yield gate
     yield from map(shown, alone_ended)
     said = "".join(gate.lines)
     runs.files["gate"].write_text(said, encoding="utf-8")
     runs.has_made({"gate", *re.findall(r"^rt: (\w+) (?:proved$|is kept:)", said, re.M)} - {*LIBRARIES}, begun)
-    yield from map(shown, itertools.chain(lanes.map(runs.run, on_programs), *libraries))
-    hand_over(runs.made & {*LIBRARIES})
+    for lane in lanes.map(runs.run, on_programs), *libraries:
+        yield from map(shown, lane)
+    # (the libraries go to where they are looked for, as old as their sources)
+    for name in runs.made & {*LIBRARIES}:
+        os.makedirs(f"{TOP}/crates/{name}/out", exist_ok=True)
+        shutil.copy2(BUILT[name], f"{TOP}/crates/{name}/out")
     yield runs.run(last, shows=True)
 
 
 def crates_alone(runs, crates):
     """The check and the tests of these crates."""
-    for crate in crates:
-        if not (TOP / "crates" / crate).is_dir():
-            print(f"check: there is no crate {crate}", file=sys.stderr)
-            sys.exit(2)
+    for crate in (it for it in crates if not (TOP / "crates" / it).is_dir()):
+        print(f"check: there is no crate {crate}", file=sys.stderr)
+        sys.exit(2)
     for crate in crates:
         yield runs.run(Part("", crate, "", AS_ONE.format("rt check && rt test"), f"crates/{crate}"), shows=True)
 

@@ -4,14 +4,14 @@
 usage: prove.py CRATE..
 
 The crates are named lowest first. Each is proved by `rt lib` once those below it are, side by side with others, and the
-program is proved and built by `rt run`. Since a run of rt has the crates below to itself, each crate is proved in a room
-of its own, in kozhumir/proving of the user's cache: the sources, what rt kept of the crates below when it proved them,
-so that none is proved twice, and the folder out/ that the crate has in the clone, with which rt begins (one make of rt
-can use it in any place). That goes back into the clone at the end, also where not all is proved.
+program is proved and built by `rt run`. Since a run of rt has the crates below to itself, each crate is proved in a
+room of its own, in kozhumir/proving of the user's cache: the sources, what rt kept of the crates below when it proved
+them, and the crate's folder out/ of the clone, with which rt begins (one make of rt can use it in any place). That
+goes back into the clone at the end, also where not all is proved.
 
 Standard error tells how far it is. What is left is guessed by the times of the last run on this machine that proved a
-crate from nothing, which stand in kozhumir/prove_times, else by prove_times.txt beside this file: a line for each crate,
-with its functions and the seconds on the clock. The status is 0, or 4 where not all is proved, after what rt said.
+crate from nothing, kept in kozhumir/prove_times, else by prove_times.txt beside this file: a crate, its functions, and
+the seconds on the clock. The status is 0, or 4 where not all is proved, after what rt said of that.
 """
 import contextlib
 import fcntl
@@ -28,7 +28,7 @@ LISTED, LAST = TOP / "tools/prove_times.txt", CACHE / "prove_times"
 ROOMS = of_this_clone("proving")
 SOURCES = ROOMS / ".sources"
 MEMORY = 3_000_000_000  # bytes that a job may take
-SO_FAR = re.compile(r"so far: (\d+) of (\d+) functions checked")
+SO_FAR = re.compile(r"^so far: (\d+) of (\d+) functions checked")
 # What rt says where all goes well.
 GOOD = re.compile(
     r".*: (proved|ok)\b|(so far|by-macro|empty contracts): |(logic|statements|library|crate|axioms|linked) "
@@ -47,11 +47,9 @@ class Proof(Command):
         self.out, self.kept = (it / "crates" / name / "out" for it in (TOP, self.room))
 
     def reads(self, line):
-        found = SO_FAR.match(line)
-        if found:
-            checked, functions = map(int, found.groups())
-            self.checked = max(self.checked, checked)
-            self.functions = functions if self.is_from_nothing else max(self.functions, functions)
+        for checked, functions in SO_FAR.findall(line):
+            self.checked = max(self.checked, int(checked))
+            self.functions = max(int(functions), 0 if self.is_from_nothing else self.functions)
 
     def is_proved(self):
         return self.status == 0
@@ -162,9 +160,8 @@ def lay_room(proof):
 
 def clear_room(proof):
     """Leaves of the room of a crate that is proved what rt kept of it: at the end that would take its time."""
-    for crate in proof.room.glob("crates/*"):
-        if crate.name != proof.name:
-            shutil.rmtree(crate, ignore_errors=True)
+    for crate in (it for it in proof.room.glob("crates/*") if it.name != proof.name):
+        shutil.rmtree(crate, ignore_errors=True)
 
 
 def move(kept, place):
@@ -250,8 +247,7 @@ def main():
         print(over, *(line for line in failed.lines if not GOOD.match(line)), sep="", end="", file=sys.stderr)
         tell(f"the program was not built: {failed.name} is not proved")
         sys.exit(4)
-    cpu = sum(it.cpu for it in proofs)
-    tell(f"the program is proved and built ({progress.took()}, {clock(cpu)} of processors)")
+    tell(f"the program is proved and built ({progress.took()}, {clock(sum(it.cpu for it in proofs))} of processors)")
 
 
 if __name__ == "__main__":

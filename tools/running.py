@@ -1,4 +1,4 @@
-"""What ./check and ./tracerun share: copies in the user's cache, how many jobs fit, commands that run beside others."""
+"""What ./check and ./tracerun share: copies in the user's cache, and commands that run beside others."""
 import contextlib
 import filecmp
 import os

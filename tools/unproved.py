@@ -32,24 +32,21 @@ def tried(words):
 def main():
     exit_at_signals()
     output, errors = tried(sys.argv[1:])
-    ended, no_answer = ENDED.search(errors), NO_ANSWER.search(errors)
-    status = int(ended[1]) if ended else 4
-    if no_answer:
-        errors = b""
+    ended, no_answer, status = ENDED.search(errors), NO_ANSWER.search(errors), 4
     if ended:
-        errors = errors[: ended.start()]
+        errors, status = errors[: ended.start()], int(ended[1])
         try:
             while output:
                 output = output[os.write(1, output):]
         except OSError:  # (the program ends so too)
             errors, status = b"device: write failed\n", 3
-    sys.stderr.buffer.write(errors)
-    sys.stderr.flush()
-    if no_answer:
-        tell(f"rt try gives no answer: {no_answer[1].decode(errors='replace')}; "
-             "./tracerun --prove builds the program that has no such limit")
-    elif not ended:
-        tell("rt try gives no answer, and says why above")
+    if ended or not no_answer:
+        sys.stderr.buffer.write(errors)
+        sys.stderr.flush()
+    if not ended:
+        why = f": {no_answer[1].decode(errors='replace')}" if no_answer else ", and says why above"
+        limit = "; ./tracerun --prove builds the program that has no such limit" if no_answer else ""
+        tell(f"rt try gives no answer{why}{limit}")
     return status
 
 
