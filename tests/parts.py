@@ -129,7 +129,7 @@ def all_parts(runs, is_anew):
     said = "".join(gate.lines)
     runs.files["gate"].write_text(said, encoding="utf-8")
     runs.has_made({"gate", *re.findall(r"^rt: (\w+) (?:proved$|is kept:)", said, re.M)} - {*LIBRARIES}, begun)
-    for lane in lanes.map(runs.run, on_programs), *libraries:
+    for lane in (lanes.map(runs.run, on_programs), *libraries):
         yield from map(shown, lane)
     # (the libraries go to where they are looked for, as old as their sources)
     for name in runs.made & {*LIBRARIES}:
