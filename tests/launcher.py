@@ -9,6 +9,7 @@ M failed'; the status is 0 where nothing failed.
 import os
 import pty
 import re
+import select
 import shutil
 import signal
 import subprocess
@@ -22,7 +23,8 @@ TOP = os.path.dirname(os.path.dirname(os.path.realpath(__file__)))
 SOURCE = "crates/tracerun_command_line/src/lib.rt"
 VERSION = re.search(r'\.version\("(.*)"\)', open(f"{TOP}/{SOURCE}", encoding="utf-8").read())[1]
 LOGIC = re.search(r"^Proved with the logic `(\w+)`", open(f"{TOP}/README.md", encoding="utf-8").read(), re.M)[1]
-COPIED = ["tracerun", "README.md", "tools/page.txt", "tools/running.py", "tools/prove.py", "tools/unproved.py", SOURCE, "crates/tracerun/src/main.rt"]
+COPIED = ["tracerun", "README.md", "tools/page.txt", "tools/running.py", "tools/prove.py", "tools/unproved.py", SOURCE,
+          "crates/tracerun/src/main.rt"]
 PROGRAM = r"""
 #include <stdio.h>
 #include <string.h>
@@ -238,7 +240,10 @@ def proving(rows, clone):
     rows.wants("not proved: the program", os.path.exists(f"{clone.at}/crates/tracerun/out/tracerun"), False)
     above, below = pty.openpty()
     rows.wants("on a terminal", clone.run("--prove", rt="refuses", stderr=below), ("", None, 4))
-    drawn = re.search(rb"\rtracerun: low \(0 of 7 functions, 0 min \d\d s, about 3 min left\)", os.read(above, 65536))
+    told = b""
+    while select.select([above], [], [], 1)[0]:
+        told += os.read(above, 65536)
+    drawn = re.search(rb"\rtracerun: low \(0 of 7 functions, 0 min \d\d s, about 3 min left\)", told)
     rows.wants("on a terminal: one line", bool(drawn), True)
     run = clone.start("--prove", rt="hangs_later")
     calls = clone.calls()
@@ -321,6 +326,19 @@ def killed(rows, clone):
     rows.wants("its proofs", found, (["lib low", "lib mid", "run tracerun"], ["low", "mid", "tracerun"]))
 
 
+def edited(rows, clone):
+    """That what is edited while it proves isn't counted as proved."""
+    run = clone.start("--prove", rt="is_slow")
+    while not clone.calls():
+        time.sleep(0.1)
+    write(f"{clone.at}/crates/mid/src/lib.rt", "pub fn other() {}\n")
+    write(f"{clone.fake}/go", "")
+    rows.wants("an edit while it proves", clone.ended(run)[0::2], ("", 0))
+    told = f"{UNPROVED}crates/mid/src/lib.rt is newer than the proved program{TELLS}"
+    rows.wants("an edit while it proves: it isn't proved", clone.run("replay"), ("unproved: a script\n", told, 0))
+    rows.wants("an edit while it proves: it is proved next", (clone.run("--prove")[2], clone.proofs()[-1]), (0, "mid"))
+
+
 def proved(rows, clone):
     clone.run("--prove")
     clone.calls()
@@ -352,7 +370,7 @@ def main():
     rows = Rows()
     with tempfile.TemporaryDirectory() as folder:
         compile_programs(folder)
-        for part in (pages, unproved, no_answers, proving, nothing_twice, proved):
+        for part in (pages, unproved, no_answers, proving, nothing_twice, edited, proved):
             part(rows, Clone(f"{folder}/for_{part.__name__}", folder))
     print(f"{rows.passed} passed, {rows.failed} failed")
     return 1 if rows.failed else 0
