@@ -27,7 +27,6 @@ from running import CACHE, TOP, Command, clock, end_all, exit_at_signals, lay_co
 LISTED, LAST = TOP / "tools/prove_times.txt", CACHE / "prove_times"
 ROOMS = of_this_clone("proving")
 SOURCES = ROOMS / ".sources"
-MEMORY = 3_000_000_000  # bytes that a job may take
 SO_FAR = re.compile(r"^so far: (\d+) of (\d+) functions checked")
 # What rt says where all goes well.
 GOOD = re.compile(
@@ -197,7 +196,7 @@ def prove(proofs, progress):
     """The proof that failed, if one did."""
     # (a copy, so that what is edited from now on counts for no crate)
     lay_copy([it.name for it in proofs], SOURCES)
-    jobs, at_work = processors(MEMORY), []
+    jobs, at_work = processors(3_000_000_000), []  # (the bytes are what a job may take)
     while not all(it.is_proved() for it in proofs):
         at_work += begin_those_that_can(proofs, jobs)
         progress.shows()

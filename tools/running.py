@@ -74,7 +74,7 @@ class Command:
         self.tells, self.lines, self.status, self.seconds, self.cpu = tells, [], None, 0, 0
         self.process = self.thread = None
 
-    def begin(self, words, folder, niceness=0):
+    def begin(self, words, folder, niceness=None):
         """Begins it in a thread, where no signal comes between, so that none is lost that is begun."""
         self.thread = threading.Thread(target=self.run, args=(words, folder, niceness), daemon=True)
         self.begun.append(self)
@@ -82,7 +82,7 @@ class Command:
 
     def run(self, words, folder, niceness):
         def alone():
-            # (setpgid and not setsid, across which nice counts nothing)
+            # (and no session of its own, across which nice counts nothing)
             os.setpgid(0, 0)
             os.nice(niceness)
 
@@ -90,8 +90,9 @@ class Command:
         try:
             # (what it begins keeps the locks that are held here)
             self.process = subprocess.Popen(
-                words, cwd=folder, preexec_fn=alone, close_fds=False, encoding="utf-8", errors="replace",
-                stdin=subprocess.DEVNULL, stdout=subprocess.PIPE, stderr=subprocess.STDOUT)
+                words, cwd=folder, close_fds=False, encoding="utf-8", errors="replace", stdin=subprocess.DEVNULL,
+                stdout=subprocess.PIPE, stderr=subprocess.STDOUT, start_new_session=niceness is None,
+                preexec_fn=None if niceness is None else alone)
         except OSError as error:
             self.lines, self.status = [f"FAILED: {error!r}\n"], 127
             return
