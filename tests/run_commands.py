@@ -153,7 +153,7 @@ BESIDE = {
 def commands():
     """The commands of all pages, but for the names of files."""
     found = dict.fromkeys(it for text in read_pages().values() for it in commands_of(text))
-    return [it for it in found if not re.fullmatch(r"\w[\w./-]*", it)]
+    return [it for it in found if not re.fullmatch(r"\w[\w./{},-]*", it)]
 
 
 def listed():
