@@ -3,6 +3,7 @@
 use crate::error::Error;
 use crate::meta::{Fields, Given, Id, Meta, Parent, RawId};
 use crate::names::{named, NO_NAME};
+use crate::packed::packed;
 use crate::part::Part;
 use crate::registry::Registry;
 use crate::span::Span;
@@ -109,7 +110,9 @@ impl Registry {
     ) -> Result<Option<T>, Error> {
         let (at, parent) = self.own_parent(parent)?;
         let made = named(NO_NAME, fields, move |_, given| {
-            at.call(move |state, worker| state.new_span_at(worker, number, parent, given))
+            packed(&[], given.fields, |texts| {
+                at.call(move |state, worker| state.new_span_at(worker, number, parent, given, texts))
+            })
         })?;
         Ok(made.map(|id| told(at.part, id)))
     }
@@ -147,7 +150,9 @@ impl Registry {
     ) -> Result<(), Error> {
         let (at, parent) = self.own_parent(parent)?;
         named(NO_NAME, fields, move |_, given| {
-            at.call(move |state, worker| state.event_at(worker, number, parent, message, given))
+            packed(&[message], given.fields, |texts| {
+                at.call(move |state, worker| state.event_at(worker, number, parent, message, given, texts))
+            })
         })
     }
 }

@@ -3,6 +3,7 @@
 use crate::error::Error;
 use crate::kind::Kind;
 use crate::meta::{Given, Id};
+use crate::packed::packed;
 use crate::registry::Registry;
 use std::fmt::Write;
 
@@ -50,6 +51,9 @@ impl Registry {
             fields: &fields,
             kinds: &[Kind::Integer],
         };
-        Ok(at.call(move |state, worker| state.record(worker, id, &given))?)
+        let given = &given;
+        Ok(packed(&[], given.fields, |texts| {
+            at.call(move |state, worker| state.record(worker, id, given, texts))
+        })?)
     }
 }

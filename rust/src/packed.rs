@@ -3,7 +3,12 @@
 use crate::meta::Fields;
 use crate::raw::SpanField;
 use crate::refusal::Refusal;
+use std::cell::Cell;
 
+/// Texts of so many bytes are packed on the caller's stack.
+const SHORT: usize = 192;
+/// With so many fields.
+const FEW: usize = 6;
 /// A buffer of texts that grew past this is given back before the next call.
 const KEPT: usize = 8 * 1024;
 /// The same of one of fields.
@@ -20,6 +25,69 @@ impl Names {
     pub(crate) fn bytes(self) -> usize {
         self.name + self.target
     }
+}
+
+/// The packed texts of a call: what comes first, then the keys and values.
+#[derive(Clone, Copy)]
+pub(crate) struct Texts<'a> {
+    pub(crate) fields: &'a [SpanField],
+    pub(crate) bytes: &'a [u8],
+}
+
+thread_local! {
+    // The memory of the last call whose texts were long.
+    static LONG: Cell<Packed> = Cell::default();
+}
+
+/// Makes a call with `first` and the keys and values, packed before it: so that is done under no lock. Where they are few
+/// and short it takes no memory but the stack.
+#[inline(always)]
+pub(crate) fn packed<T>(
+    first: &[&str],
+    fields: Fields<'_>,
+    call: impl FnOnce(Texts<'_>) -> Result<T, Refusal>,
+) -> Result<T, Refusal> {
+    let (mut few, mut short, mut long) = ([SpanField::default(); FEW], [0; SHORT], None);
+    let texts = match pack_short(&mut few, &mut short, first, fields) {
+        Some(texts) => texts,
+        None => Packed::with_long(&mut long, first, fields)?,
+    };
+    let answer = call(texts);
+    if let Some(long) = long {
+        long.keep();
+    }
+    answer
+}
+
+// Packs them where these have room for them.
+#[inline(always)]
+fn pack_short<'a>(
+    few: &'a mut [SpanField; FEW],
+    short: &'a mut [u8; SHORT],
+    first: &[&str],
+    fields: Fields<'_>,
+) -> Option<Texts<'a>> {
+    let few = few.get_mut(..fields.len())?;
+    let mut end = 0;
+    let mut push = |text: &str| {
+        let begin = end;
+        end += text.len();
+        short.get_mut(begin..end)?.copy_from_slice(text.as_bytes());
+        u32::try_from(text.len()).ok()
+    };
+    for text in first {
+        push(text)?;
+    }
+    for (place, (key, value)) in few.iter_mut().zip(fields) {
+        *place = SpanField {
+            key_len: push(key)?,
+            value_len: push(value)?,
+        };
+    }
+    Some(Texts {
+        fields: few,
+        bytes: &short[..end],
+    })
 }
 
 /// The texts of one call, or of what one says. Its memory is used again for the next call.
@@ -49,6 +117,25 @@ impl Packed {
             self.push(value)?;
         }
         Ok(())
+    }
+
+    // Texts of any length, in memory that is to be kept after the call. (A thread that ends may have none.)
+    #[cold]
+    #[inline(never)]
+    fn with_long<'a>(long: &'a mut Option<Packed>, first: &[&str], fields: Fields<'_>) -> Result<Texts<'a>, Refusal> {
+        let long = long.insert(LONG.try_with(Cell::take).unwrap_or_default());
+        long.pack(first, fields)?;
+        Ok(Texts {
+            fields: &long.fields,
+            bytes: &long.texts,
+        })
+    }
+
+    #[cold]
+    #[inline(never)]
+    fn keep(mut self) {
+        self.give_back();
+        let _is_kept = LONG.try_with(|kept| kept.set(self));
     }
 
     /// Its memory, where that has grown past what is kept.

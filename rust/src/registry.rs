@@ -6,6 +6,7 @@ use crate::error::Error;
 use crate::level::Level;
 use crate::meta::{Counts, Fields, Found, Id, Meta, Parent, RawId, RawParent};
 use crate::names::{named, NO_NAME};
+use crate::packed::packed;
 use crate::part::{wait, Part};
 use crate::parts::Parts;
 use crate::refusal::Refusal;
@@ -200,7 +201,9 @@ impl Registry {
     fn made(&self, meta: &Meta<'_>, parent: Parent, fields: Fields<'_>) -> Result<Option<(&Part, RawId)>, Error> {
         let (at, parent) = self.own_parent(parent)?;
         let made = named(meta, &fields.into(), move |meta, given| {
-            at.call(move |state, worker| state.new_span(worker, meta, parent, given))
+            packed(&[meta.name, meta.target], given.fields, |texts| {
+                at.call(move |state, worker| state.new_span(worker, meta, parent, given, texts))
+            })
         })?;
         Ok(made.map(|id| (&**at.part, id)))
     }
@@ -213,7 +216,9 @@ impl Registry {
     pub fn record(&self, id: Id, fields: Fields<'_>) -> Result<(), Error> {
         let (at, id) = self.own(id)?;
         named(NO_NAME, &fields.into(), move |_, given| {
-            at.call(move |state, worker| state.record(worker, id, given))
+            packed(&[], given.fields, |texts| {
+                at.call(move |state, worker| state.record(worker, id, given, texts))
+            })
         })
     }
 
@@ -250,7 +255,9 @@ impl Registry {
     pub fn event_in(&self, meta: &Meta<'_>, parent: Parent, message: &str, fields: Fields<'_>) -> Result<(), Error> {
         let (at, parent) = self.own_parent(parent)?;
         named(meta, &fields.into(), move |meta, given| {
-            at.call(move |state, worker| state.event(worker, meta, parent, message, given))
+            packed(&[meta.name, meta.target, message], given.fields, |texts| {
+                at.call(move |state, worker| state.event(worker, meta, parent, message, given, texts))
+            })
         })
     }
 

@@ -10,7 +10,7 @@ use crate::meta::{Counts, Fields, Given, Meta, RawId, RawParent};
 use crate::notes::{known_as_written, What};
 use crate::origins::Origins;
 use crate::owed::{Debt, Owed, Owing};
-use crate::packed::Packed;
+use crate::packed::{packed, Packed, Texts};
 use crate::raw::{Core, SpanFound};
 use crate::refusal::Refusal;
 use crate::ring::Ring;
@@ -23,9 +23,9 @@ use std::sync::Arc;
 trait Noting: Fn(&Origins) -> Result<What, Refusal> + Copy {}
 impl<F: Fn(&Origins) -> Result<What, Refusal> + Copy> Noting for F {}
 
-/// A call of the core with the packed texts.
-trait Sending<T>: Fn(&mut Core, &Packed) -> Result<T, Refusal> + Copy {}
-impl<T, F: Fn(&mut Core, &Packed) -> Result<T, Refusal> + Copy> Sending<T> for F {}
+/// A call of the core.
+trait Sending<T>: Fn(&mut Core) -> Result<T, Refusal> + Copy {}
+impl<T, F: Fn(&mut Core) -> Result<T, Refusal> + Copy> Sending<T> for F {}
 
 /// It begins in a line of the processors' caches of its own: threads that wait look at the lock's word again and again,
 /// which would take from the one that has the lock what it works on.
@@ -35,7 +35,8 @@ pub(crate) struct State {
     // Workers are numbered from 0 on here and in the core, and from this one on where they are told.
     first_worker: u32,
     ring: Arc<Ring>,
-    packed: Packed,
+    // What the core said of a span.
+    said: Packed,
     owing: Owing,
     // The core has one worker more, the outsider, which is inside of no span.
     seats: Seats,
@@ -55,7 +56,7 @@ impl State {
             origins: Origins::new(ring.notes().is_some()),
             has_more: ring.notes().is_some() || ring.stamps().is_some(),
             ring,
-            packed: Packed::default(),
+            said: Packed::default(),
             owing: Owing::new(workers as usize, debt)?,
             seats: Seats::new(workers)?,
             carried: Carried::default(),
@@ -194,7 +195,7 @@ impl State {
         if self.has_more {
             Ok(self.sent_with_more(what, call)?)
         } else {
-            call(&mut self.core, &self.packed)
+            call(&mut self.core)
         }
     }
 
@@ -211,7 +212,7 @@ impl State {
         if let Some(stamps) = self.ring.stamps() {
             stamps.begin();
         }
-        let answer = call(&mut self.core, &self.packed);
+        let answer = call(&mut self.core);
         let sent = answer.as_ref().map_or(Sent::Nothing, Answer::sent);
         if let Some(stamps) = self.ring.stamps() {
             stamps.end(sent != Sent::Nothing);
@@ -245,13 +246,13 @@ impl State {
         meta: &Meta<'_>,
         parent: RawParent,
         given: &Given<'_>,
+        texts: Texts<'_>,
     ) -> Result<Option<RawId>, Refusal> {
         self.owing.reserve_span()?;
-        self.packed.pack(&[meta.name, meta.target], given.fields)?;
         self.origins.reserve_span()?;
         let id = self.placed(
             move |_| Ok(What::Made(known_as_written(meta, given)?)),
-            move |core, packed| core.new_span(worker, parent, meta, packed),
+            move |core| core.new_span(worker, parent, meta, texts),
         )?;
         if let Some(id) = id {
             self.made(id, None);
@@ -261,11 +262,10 @@ impl State {
 
     /// Its number.
     pub(crate) fn add_callsite(&mut self, meta: &Meta<'_>, site: Option<&'static Site>) -> Result<u32, Refusal> {
-        self.packed.pack(&[meta.name, meta.target], &[])?;
-        let State {
-            core, packed, origins, ..
-        } = self;
-        origins.add(meta, site, || core.add_callsite(meta, packed))
+        let State { core, origins, .. } = self;
+        packed(&[meta.name, meta.target], &[], |texts| {
+            origins.add(meta, site, || core.add_callsite(meta, texts))
+        })
     }
 
     /// The number of the callsite of a place in the program, if it was added.
@@ -280,13 +280,13 @@ impl State {
         callsite: u32,
         parent: RawParent,
         given: &Given<'_>,
+        texts: Texts<'_>,
     ) -> Result<Option<RawId>, Refusal> {
         self.owing.reserve_span()?;
-        self.packed.pack(&[], given.fields)?;
         self.origins.reserve_span()?;
         let id = self.placed(
             move |origins| Ok(What::Made(origins.known(callsite, given)?)),
-            move |core, packed| core.new_span_at(worker, parent, callsite, packed),
+            move |core| core.new_span_at(worker, parent, callsite, texts),
         )?;
         if let Some(id) = id {
             self.made(id, Some(callsite));
@@ -302,7 +302,7 @@ impl State {
 
     pub(crate) fn clone_span(&mut self, worker: u32, id: RawId) -> Result<(), Refusal> {
         self.owing.reserve_handle()?;
-        self.placed(|_| Ok(What::Other), move |core, _| core.clone_span(worker, id))?;
+        self.placed(|_| Ok(What::Other), move |core| core.clone_span(worker, id))?;
         self.owing.cloned();
         Ok(())
     }
@@ -310,7 +310,7 @@ impl State {
     #[inline(always)]
     pub(crate) fn enter(&mut self, worker: u32, id: RawId) -> Result<bool, Refusal> {
         self.owing.reserve_entry(worker)?;
-        let first = self.placed(|_| Ok(What::Other), move |core, _| core.enter(worker, id))?;
+        let first = self.placed(|_| Ok(What::Other), move |core| core.enter(worker, id))?;
         self.seats.entered(worker);
         self.owing.entered(worker, id);
         Ok(first)
@@ -326,7 +326,7 @@ impl State {
     #[inline(always)]
     fn give_back_entry(&mut self, worker: u32, id: RawId) -> Result<bool, Refusal> {
         let closed = if self.carried.is_nothing() {
-            self.placed(|_| Ok(What::Other), move |core, _| core.exit(worker, id))?
+            self.placed(|_| Ok(What::Other), move |core| core.exit(worker, id))?
         } else {
             self.closing(Core::exit_closing, worker, id)?
         };
@@ -338,7 +338,7 @@ impl State {
     #[inline(always)]
     pub(crate) fn try_close(&mut self, worker: u32, id: RawId) -> Result<bool, Refusal> {
         let closed = if self.carried.is_nothing() {
-            self.placed(|_| Ok(What::Other), move |core, _| core.try_close(worker, id))?
+            self.placed(|_| Ok(What::Other), move |core| core.try_close(worker, id))?
         } else {
             self.closing(Core::try_close_closing, worker, id)?
         };
@@ -346,11 +346,16 @@ impl State {
         Ok(closed)
     }
 
-    pub(crate) fn record(&mut self, worker: u32, id: RawId, given: &Given<'_>) -> Result<(), Refusal> {
-        self.packed.pack(&[], given.fields)?;
+    pub(crate) fn record(
+        &mut self,
+        worker: u32,
+        id: RawId,
+        given: &Given<'_>,
+        texts: Texts<'_>,
+    ) -> Result<(), Refusal> {
         self.placed(
             move |_| Ok(What::Record(id, given.all_kinds()?)),
-            move |core, packed| core.record(worker, id, packed),
+            move |core| core.record(worker, id, texts),
         )
     }
 
@@ -361,11 +366,11 @@ impl State {
         parent: RawParent,
         message: &str,
         given: &Given<'_>,
+        texts: Texts<'_>,
     ) -> Result<(), Refusal> {
-        self.packed.pack(&[meta.name, meta.target, message], given.fields)?;
         self.placed(
             move |_| Ok(What::Made(known_as_written(meta, given)?)),
-            move |core, packed| core.event(worker, parent, meta, message, packed),
+            move |core| core.event(worker, parent, meta, message, texts),
         )
     }
 
@@ -376,23 +381,24 @@ impl State {
         parent: RawParent,
         message: &str,
         given: &Given<'_>,
+        texts: Texts<'_>,
     ) -> Result<(), Refusal> {
-        self.packed.pack(&[message], given.fields)?;
         self.placed(
             move |origins| Ok(What::Made(origins.known(callsite, given)?)),
-            move |core, packed| core.event_at(worker, parent, callsite, message, packed),
+            move |core| core.event_at(worker, parent, callsite, message, texts),
         )
     }
 
     /// Tells something of the registry itself, as the outsider, if the ring has room: nothing is thrown away for it.
     fn tell_of_itself(&mut self, message: &str, fields: Fields<'_>) -> Result<(), Refusal> {
         let meta = Meta::event(Level::Warn, TARGET);
-        self.packed.pack(&[meta.name, meta.target, message], fields)?;
         let outsider = self.seats.outsider();
-        self.sent(
-            |_| Ok(What::Made(known_as_written(&meta, &fields.into())?)),
-            |core, packed| core.event(outsider, RawParent::Root, &meta, message, packed),
-        )
+        packed(&[meta.name, meta.target, message], fields, |texts| {
+            self.sent(
+                |_| Ok(What::Made(known_as_written(&meta, &fields.into())?)),
+                |core| core.event(outsider, RawParent::Root, &meta, message, texts),
+            )
+        })
     }
 
     /// Tells what was lost, as the outsider, if the ring has room. It takes memory, unlike the losses themselves.

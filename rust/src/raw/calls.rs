@@ -8,7 +8,7 @@ use super::{
 };
 use crate::error::Error;
 use crate::meta::{Meta, RawId, RawParent};
-use crate::packed::{length, Packed};
+use crate::packed::{length, Texts};
 use crate::refusal::Refusal;
 
 /// What a registry is made of.
@@ -58,11 +58,11 @@ impl Core {
         worker: u32,
         parent: RawParent,
         meta: &Meta<'_>,
-        packed: &Packed,
+        texts: Texts<'_>,
     ) -> Result<Option<RawId>, Refusal> {
         let meta = raw_meta(meta)?;
         let (kind, parent) = raw_parent(parent);
-        let (fields, texts) = (packed.fields(), packed.texts());
+        let Texts { fields, bytes } = texts;
         let mut id = 0;
         // SAFETY: the handle is full and lent to this call alone, and each pointer is of a value or of a slice with
         // its length.
@@ -75,8 +75,8 @@ impl Core {
                 &meta,
                 fields.as_ptr(),
                 fields.len(),
-                texts.as_ptr(),
-                texts.len(),
+                bytes.as_ptr(),
+                bytes.len(),
                 &mut id,
             )
         };
@@ -85,14 +85,14 @@ impl Core {
     }
 
     /// The number of the callsite that is added. The texts are its name and its target.
-    pub(crate) fn add_callsite(&mut self, meta: &Meta<'_>, packed: &Packed) -> Result<u32, Refusal> {
+    pub(crate) fn add_callsite(&mut self, meta: &Meta<'_>, texts: Texts<'_>) -> Result<u32, Refusal> {
         let meta = raw_meta(meta)?;
-        let texts = packed.texts();
+        let bytes = texts.bytes;
         let mut number = 0;
         // SAFETY: the handle is full and lent to this call alone, and each pointer is of a value or of a slice with
         // its length.
         Refusal::of_status(unsafe {
-            span_registry_add_callsite(&mut self.handle, &meta, texts.as_ptr(), texts.len(), &mut number)
+            span_registry_add_callsite(&mut self.handle, &meta, bytes.as_ptr(), bytes.len(), &mut number)
         })?;
         Ok(number)
     }
@@ -103,10 +103,10 @@ impl Core {
         worker: u32,
         parent: RawParent,
         callsite: u32,
-        packed: &Packed,
+        texts: Texts<'_>,
     ) -> Result<Option<RawId>, Refusal> {
         let (kind, parent) = raw_parent(parent);
-        let (fields, texts) = (packed.fields(), packed.texts());
+        let Texts { fields, bytes } = texts;
         let mut id = 0;
         // SAFETY: the handle is full and lent to this call alone, and each pointer is of a value or of a slice with
         // its length.
@@ -119,8 +119,8 @@ impl Core {
                 callsite,
                 fields.as_ptr(),
                 fields.len(),
-                texts.as_ptr(),
-                texts.len(),
+                bytes.as_ptr(),
+                bytes.len(),
                 &mut id,
             )
         };
@@ -157,8 +157,8 @@ impl Core {
         Ok(closed != 0)
     }
 
-    pub(crate) fn record(&mut self, worker: u32, id: RawId, packed: &Packed) -> Result<(), Refusal> {
-        let (fields, texts) = (packed.fields(), packed.texts());
+    pub(crate) fn record(&mut self, worker: u32, id: RawId, texts: Texts<'_>) -> Result<(), Refusal> {
+        let Texts { fields, bytes } = texts;
         // SAFETY: the handle is full and lent to this call alone, and each pointer is of a slice with its length.
         Refusal::of_status(unsafe {
             span_registry_record(
@@ -167,8 +167,8 @@ impl Core {
                 id.get(),
                 fields.as_ptr(),
                 fields.len(),
-                texts.as_ptr(),
-                texts.len(),
+                bytes.as_ptr(),
+                bytes.len(),
             )
         })
     }
@@ -179,12 +179,12 @@ impl Core {
         parent: RawParent,
         meta: &Meta<'_>,
         message: &str,
-        packed: &Packed,
+        texts: Texts<'_>,
     ) -> Result<(), Refusal> {
         let meta = raw_meta(meta)?;
         let (kind, parent) = raw_parent(parent);
         let message_len = length(message)?;
-        let (fields, texts) = (packed.fields(), packed.texts());
+        let Texts { fields, bytes } = texts;
         // SAFETY: the handle is full and lent to this call alone, and each pointer is of a value or of a slice with
         // its length.
         Refusal::of_status(unsafe {
@@ -197,8 +197,8 @@ impl Core {
                 message_len,
                 fields.as_ptr(),
                 fields.len(),
-                texts.as_ptr(),
-                texts.len(),
+                bytes.as_ptr(),
+                bytes.len(),
             )
         })
     }
@@ -209,11 +209,11 @@ impl Core {
         parent: RawParent,
         callsite: u32,
         message: &str,
-        packed: &Packed,
+        texts: Texts<'_>,
     ) -> Result<(), Refusal> {
         let message_len = length(message)?;
         let (kind, parent) = raw_parent(parent);
-        let (fields, texts) = (packed.fields(), packed.texts());
+        let Texts { fields, bytes } = texts;
         // SAFETY: the handle is full and lent to this call alone, and each pointer is of a slice with its length.
         Refusal::of_status(unsafe {
             span_registry_event_in_at(
@@ -225,8 +225,8 @@ impl Core {
                 message_len,
                 fields.as_ptr(),
                 fields.len(),
-                texts.as_ptr(),
-                texts.len(),
+                bytes.as_ptr(),
+                bytes.len(),
             )
         })
     }

@@ -57,7 +57,7 @@ mod tests {
     use super::super::{Closed, Core, Lines, SpanLimits, Start};
     use crate::level::Level;
     use crate::meta::{Meta, RawId, RawParent};
-    use crate::packed::{Names, Packed};
+    use crate::packed::{packed, Names, Packed};
     use crate::refusal::Refusal;
 
     fn registry(ring: u32) -> (Core, Lines) {
@@ -83,9 +83,9 @@ mod tests {
             target: "app::db",
             level: Level::Warn,
         };
-        let mut packed = Packed::default();
-        packed.pack(&[meta.name, meta.target], fields).expect("there is memory");
-        let made = core.new_span(0, parent, &meta, &packed);
+        let made = packed(&[meta.name, meta.target], fields, |texts| {
+            core.new_span(0, parent, &meta, texts)
+        });
         made.expect("nothing stands against it").expect("there is no layer")
     }
 
@@ -116,8 +116,7 @@ mod tests {
             assert_eq!(core.details(id, &mut told), Ok(Names { name: 4, target: 7 }));
             wanted.pack(&["name", "app::db"], fields).expect("there is memory");
             assert_eq!((told.texts(), told.fields()), (wanted.texts(), wanted.fields()));
-            wanted.pack(&[], &[("later", "")]).expect("there is memory");
-            assert_eq!(core.record(0, id, &wanted), Ok(()));
+            assert_eq!(packed(&[], &[("later", "")], |texts| core.record(0, id, texts)), Ok(()));
             assert_eq!(core.details(id, &mut told), Ok(Names { name: 4, target: 7 }));
             assert_eq!(told.fields().len(), fields.len() + 1);
             assert!(told.texts().ends_with(b"later"));

@@ -39,7 +39,7 @@ impl State {
         worker: u32,
         id: RawId,
     ) -> Result<bool, Refusal> {
-        let closed = self.placed(|_| Ok(What::Other), move |core, _| call(core, worker, id))?;
+        let closed = self.placed(|_| Ok(What::Other), move |core| call(core, worker, id))?;
         let State { core, carried, .. } = self;
         match closed.ids() {
             // (so what a child carried comes before what its parents did)

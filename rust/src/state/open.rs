@@ -50,10 +50,10 @@ impl State {
             Vec::new()
         };
         inside.iter_mut().for_each(|worker| *worker += self.first_worker);
-        let names = self.core.details(id, &mut self.packed);
-        let details = names.and_then(|names| self.origins.details(id, names, &self.packed));
+        let names = self.core.details(id, &mut self.said);
+        let details = names.and_then(|names| self.origins.details(id, names, &self.said));
         // A long text is not kept until the next call.
-        self.packed.give_back();
+        self.said.give_back();
         Ok(Open {
             id,
             found,
