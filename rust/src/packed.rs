@@ -216,8 +216,33 @@ pub(crate) fn copied(text: &str) -> Result<String, Refusal> {
 
 #[cfg(test)]
 mod tests {
-    use super::{Packed, KEPT};
+    use super::{packed, Packed, FEW, KEPT, LONG, SHORT};
     use crate::refusal::Refusal;
+
+    #[test]
+    fn short_and_long_texts_are_packed_alike() {
+        let text = "x".repeat(KEPT * 2);
+        let pairs: Vec<(&str, &str)> = (0..FEW + 2).map(|len| ("k", &text[..len])).collect();
+        for fields in [&pairs[..0], &pairs[..FEW], &pairs[..=FEW], &pairs[..]] {
+            for len in [0, 1, SHORT - 50, SHORT - 1, SHORT, SHORT + 1, KEPT * 2] {
+                let first = ["name", &text[..len]];
+                let mut wanted = Packed::default();
+                wanted.pack(&first, fields).unwrap();
+                let said = packed(&first, fields, |texts| {
+                    Ok((texts.fields.to_vec(), texts.bytes.to_vec()))
+                });
+                assert_eq!(said, Ok((wanted.fields().to_vec(), wanted.texts().to_vec())));
+                // What was long isn't kept where it is very long.
+                let kept = LONG.take();
+                assert!(kept.texts.capacity() <= KEPT);
+                LONG.set(kept);
+            }
+        }
+        assert_eq!(
+            packed(&[], &[], |_| Err::<(), _>(Refusal::BACKLOG)),
+            Err(Refusal::BACKLOG)
+        );
+    }
 
     #[test]
     fn texts_stand_one_after_another() {
