@@ -81,8 +81,8 @@ def page():
             "What the registry promises, sentence by sentence, each beside the clauses that say it. A check proves that "
             "the function meets them; the functions of `under_lock` are what the calls of their names run under the "
             "lock.\n", HOW_TO_READ,
-            "The %d definitions of `specs/` that the clauses cite, %d lines without comments, follow in the order in "
-            "which they are to be read, with %d types of the code. Words of the toolchain's library aren't followed, nor "
+            "The %d definitions of `specs/` that the clauses cite, %d lines without comments, follow in the order to "
+            "read them in, with %d types of the code. Words of the toolchain's library aren't followed, nor "
             "what fields are that nothing reads: %s.\n" % (
                 len(words), lines, len(definitions) - len(words),
                 ", ".join("`%s` (%s)" % (it.name, where(it.path)) for it in unread))]

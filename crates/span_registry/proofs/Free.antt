@@ -31,13 +31,13 @@ module _ {limits : Limits} {rules : List Filter} {forms : List Form} {ring : Opt
   free_seated = record {
     counted = λ id. counted id (find core.world.spans id) refl;
     sized = free.words;
-    opened = free.open_words;
-    vacant = free.other_words;
+    opened = free.word_of_open;
+    vacant = free.free_slots_are_0;
   }
     where
       counted : (id : ℕ) (o : Option Node) → find core.world.spans id ≡ o → handle_count id root.handles ≡ held_in Handle (find core.world.spans id)
-      counted id None is = free.other_sets id is ∙ ap (held_in Handle) (sym is)
-      counted id (Some node) is = free.open_sets id node is ∙ ap (held_in Handle) (sym is)
+      counted id None is = free.no_other_numbers id is ∙ ap (held_in Handle) (sym is)
+      counted id (Some node) is = free.numbers_of_open id node is ∙ ap (held_in Handle) (sym is)
 
   -- a worker's number is below the number of workers
   pub free_worker : {number : ℕ} → number < call_parts → number < core.limits.workers
@@ -64,11 +64,11 @@ module _ {limits : Limits} {rules : List Filter} {forms : List Form} {ring : Opt
     history_is = free.history_is;
     calls_are = free.calls_are;
     handles_are = free.handles_are;
-    open_sets = λ id node is. seated.counted id ∙ ap (held_in Handle) is;
-    other_sets = λ id is. seated.counted id ∙ ap (held_in Handle) is;
+    numbers_of_open = λ id node is. seated.counted id ∙ ap (held_in Handle) is;
+    no_other_numbers = λ id is. seated.counted id ∙ ap (held_in Handle) is;
     words = seated.sized;
-    open_words = seated.opened;
-    other_words = seated.vacant;
+    word_of_open = seated.opened;
+    free_slots_are_0 = seated.vacant;
     handle_parts_fit = free.handle_parts_fit;
     call_parts_are = free.call_parts_are;
   }
@@ -85,11 +85,11 @@ module _ {limits : Limits} {rules : List Filter} {forms : List Form} {ring : Opt
     history_is = told;
     calls_are = free.calls_are ∙ ap (λ (v : CoreView). length v.sent) (sym refused.unchanged);
     handles_are = free.handles_are ∙ ap (λ (v : CoreView). total_handles v.world.spans) (sym refused.unchanged);
-    open_sets = λ id node is. seated.counted id ∙ ap (held_in Handle) is;
-    other_sets = λ id is. seated.counted id ∙ ap (held_in Handle) is;
+    numbers_of_open = λ id node is. seated.counted id ∙ ap (held_in Handle) is;
+    no_other_numbers = λ id is. seated.counted id ∙ ap (held_in Handle) is;
     words = seated.sized;
-    open_words = seated.opened;
-    other_words = seated.vacant;
+    word_of_open = seated.opened;
+    free_slots_are_0 = seated.vacant;
     handle_parts_fit = free.handle_parts_fit;
     call_parts_are = free.call_parts_are ∙ ap (λ (v : CoreView). v.limits.workers) (sym refused.unchanged);
   }
@@ -113,11 +113,11 @@ module _ {limits : Limits} {rules : List Filter} {forms : List Form} {ring : Opt
     history_is = told;
     calls_are = more ∙ ap (λ n. n + 1) free.calls_are ∙ sym counted.calls;
     handles_are = same_total handles _ handles_after _ (handles_given_out request) (handles_given_back request) free.handles_are moved counted.handles;
-    open_sets = λ id node is. seated.counted id ∙ ap (held_in Handle) is;
-    other_sets = λ id is. seated.counted id ∙ ap (held_in Handle) is;
+    numbers_of_open = λ id node is. seated.counted id ∙ ap (held_in Handle) is;
+    no_other_numbers = λ id is. seated.counted id ∙ ap (held_in Handle) is;
     words = seated.sized;
-    open_words = seated.opened;
-    other_words = seated.vacant;
+    word_of_open = seated.opened;
+    free_slots_are_0 = seated.vacant;
     handle_parts_fit = free.handle_parts_fit;
     call_parts_are = free.call_parts_are ∙ ap (λ (l : Limits). l.workers) (sym counted.accepted.limits);
   }

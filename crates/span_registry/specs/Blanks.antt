@@ -13,3 +13,16 @@ pub record BlanksView : Type 0 where
   pub call_parts : ℕ
   pub table : TableId
   pub history : TableId
+
+-- the blanks of a registry: with these limits, of a ledger of handles and one of calls, each with this name and so many
+-- parts, and of this table and this history
+abbrev pub blanks_of : Limits → ℕ → ℕ → ℕ → ℕ → TableId → TableId → BlanksView
+blanks_of limits handles handle_parts calls call_parts table history = record {
+  limits = limits;
+  handles = handles;
+  handle_parts = handle_parts;
+  calls = calls;
+  call_parts = call_parts;
+  table = table;
+  history = history;
+}

@@ -36,18 +36,18 @@ pub record HoldsWhenFree
   pub calls_are : calls ≡ length core.sent
   -- the book of handles is the sum of the handles of all open spans
   pub handles_are : handles ≡ total_handles core.world.spans
-  -- an open span's set of numbers is as large as its handles ..
-  pub open_sets : (id : ℕ) (node : Node) → find core.world.spans id ≡ Some node →
+  -- as many numbers are given out for an open span as it has handles ..
+  pub numbers_of_open : (id : ℕ) (node : Node) → find core.world.spans id ≡ Some node →
       handle_count id root.handles ≡ node.handles
-  -- .. and every other set is empty
-  pub other_sets : (id : ℕ) → find core.world.spans id ≡ None → handle_count id root.handles ≡ 0
+  -- .. and none for an id that isn't open
+  pub no_other_numbers : (id : ℕ) → find core.world.spans id ≡ None → handle_count id root.handles ≡ 0
   -- there is a word for each slot
   pub words : length root.words ≡ core.limits.slots
-  -- a slot's word is the generation plus 1 of the span that is open there ..
-  pub open_words : (id : ℕ) → IsOpen core.world.spans id →
+  -- an open span is in one of the slots, whose word is the span's generation plus 1 ..
+  pub word_of_open : (id : ℕ) → IsOpen core.world.spans id →
       (slot_of id < core.limits.slots) × (slice_index root.words (slot_of id) ≡ generation_of id + 1)
-  -- .. else 0
-  pub other_words : (slot : ℕ) → ((id : ℕ) → IsOpen core.world.spans id → slot_of id ≢ slot) →
+  -- .. and the word of a slot in which no span is open is 0
+  pub free_slots_are_0 : (slot : ℕ) → ((id : ℕ) → IsOpen core.world.spans id → slot_of id ≢ slot) →
       slice_index root.words slot ≡ 0
   -- the ledger of handles has fewer than 2^64 parts, and the ledger of calls one for each worker
   pub handle_parts_fit : handle_parts < 2 ^ 64

@@ -8,6 +8,7 @@ ghost use Rattle.span_registry.specs.Report.{IsWithin};
 ghost use Rattle.span_registry.specs.inside.Called.{IsAsLong, IsOneLonger};
 
 use crate::handle::Handle;
+use crate::laws::what_was_sent_is_legal;
 use crate::setup::Setup;
 use crate::worker::Worker;
 use span_core::Core;
@@ -34,8 +35,7 @@ pub(crate) fn see<H: Ledger, C: Ledger, S: Setup, O: Outlet, A>(
     ensures legal { IsLegal S.rules S.limits.workers core.now.sent core.now.world }
     ensures within { IsWithin S.limits core.now }
 {
-    // (it says that what was sent is legal)
-    core.calls();
+    what_was_sent_is_legal(core);
     show_limits::<S, O, A>(core);
     keeper.next(core.outlet(), &mut worker.front);
 }
@@ -67,7 +67,7 @@ pub(crate) fn count_call<H: Ledger, C: Ledger, S: Setup, O: Outlet, A>(
     ensures legal { IsLegal S.rules S.limits.workers core.now.sent core.now.world }
     ensures within { IsWithin S.limits core.now }
 {
-    core.calls();
+    what_was_sent_is_legal(core);
     show_limits::<S, O, A>(core);
     keeper.next(core.outlet(), &mut worker.front);
     calls.audit(&mut worker.calls);

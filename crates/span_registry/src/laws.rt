@@ -1,10 +1,12 @@
 //! What every registry promises whenever its lock is free, and what every core promises.
 mod promises;
+mod sent;
 
 pub use promises::{
     a_handles_span_is_open, no_span_is_left_where_none_is_held, the_promise,
     two_handles_have_two_numbers, whenever_the_lock_is_free,
 };
+pub(crate) use sent::what_was_sent_is_legal;
 pub use span_core::laws::{
     a_span_is_open_as_long_as_something_keeps_it, accepted_releases_close_what_nothing_holds,
     closes_are_announced_once, counts_and_calls_have_bounds, each_slot_has_one_open_span,

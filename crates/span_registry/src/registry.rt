@@ -1,5 +1,6 @@
 //! The registry: a lock round the core, the seats and the books.
 ghost use Rattle.std.specs.Prelude.{◌≡◌, ◌+◌, ◌-◌, ◌^◌, ◌<◌, ◌≤◌, ℕ, [], vec_len, sum_by, slice_index_or, IfOk, IfErr, OnOk};
+ghost use Rattle.span_registry.specs.Blanks.{blanks_of};
 ghost use Rattle.span_registry.specs.Worker.{IsNew};
 
 mod beside;
@@ -55,15 +56,7 @@ impl<H: Ledger, C: Ledger, S: Setup, O: Outlet + Drop, F: Drop> Registry<H, C, S
     ) -> Result<(Registry<H, C, S, O, Admitters<F>>, Vec<Worker<H, C, S>>), Fault>
         requires sent { O.sent outlet ≡ [] }
         requires setup { (filters.rules ≡ S.rules) × (O.forms outlet ≡ S.forms) × (O.name outlet ≡ S.ring) }
-        requires blanks { blanks ≡ record {
-          limits = S.limits;
-          handles = H.name;
-          handle_parts = H.parts;
-          calls = C.name;
-          call_parts = C.parts;
-          table = S.table;
-          history = S.history;
-        } }
+        requires blanks { blanks ≡ blanks_of S.limits H.name H.parts C.name C.parts S.table S.history }
         ensures count { IfOk result (λ made. (vec_len made.1 ≡ S.limits.workers) × (vec_len made.1 ≡ C.parts)) }
         ensures each { IfOk result (λ made. (i : ℕ) (d : _) → i < S.limits.workers →
             IsNew i (slice_index_or made.1.items i d)) }

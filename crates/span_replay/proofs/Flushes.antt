@@ -1,57 +1,79 @@
 -- The one flush at the end of a run: what stands before it and after it, and the failed calls that are counted.
-use Rattle.std.proofs.Common.{◌≡◌, ℕ, List, [], Bool, Some, None, Result, Ok, Err, IfSome, arith, sym, subst, append-nil, inl, inr}
+use Rattle.std.proofs.Common.{◌≡◌, ℕ, List, [], Some, None, Result, Ok, Err, IfSome, IfErr, IsTrue, false, arith, sym, subst, append-nil, inl, inr}
 use Rattle.std.specs.Io.KnownBytes.{Appends, Keeps}
 use Rattle.std.proofs.KnownBytes.{Appends-kept}
-use Rattle.span_run.specs.Counted.{next_count}
+use Rattle.span_run.specs.Counted.{flushes_of, next_count}
+use Rattle.span_run.specs.declared.counted.Counted.{Counted}
 use Rattle.span_run.specs.Device.{AppendsFront}
 use Rattle.span_replay.specs.ReplayFault.{EndsAsCounted, FailsAsCounted}
 use Rattle.span_replay.specs.declared.run.fault.ReplayFault.{ReplayFault}
 use Rattle.span_replay.specs.declared.run.fault.ReplayFault.TheVariants.{Script, Memory, Read, Write}
 use Rattle.span_run.proofs.Fronts.{Known}
 use Rattle.span_replay.specs.Meaning.{meaning}
-use Rattle.span_replay.specs.Replayed.{Fails, FlushesOnce, IsWrittenWhole, KeepsUnread, Runs}
-use Rattle.span_script.specs.declared.reason.Reason.{Reason}
+use Rattle.span_replay.specs.Replayed.{Fails, FlushesOnce, IsFlushed, IsWrittenWhole, KeepsUnread, Runs}
+use Rattle.span_replay.specs.inside.Ended.{has_end}
 
--- ---- a run that ended well, or at a fault of the script, has written the whole text
+-- ---- a run that came to an end of its own has written the whole text, and no call of a device has failed
 
-pub whole_ok : (hooks : ℕ) (i a b : Known) (left : ℕ) → IfSome i (λ bytes. Runs (meaning hooks bytes) a b (Ok left)) → IsWrittenWhole hooks i a b
-whole_ok hooks None a b left p = tt
-whole_ok hooks (Some bytes) a b left p = p.1
+pub ended_whole : (hooks : ℕ) (i a b : Known) (ended : Result ℕ ReplayFault) → IsTrue (has_end ended) → IfSome i (λ bytes. Runs (meaning hooks bytes) a b ended) → IsWrittenWhole hooks i a b
+ended_whole hooks None a b ended h p = tt
+ended_whole hooks (Some bytes) a b (Ok left) h p = p.1
+ended_whole hooks (Some bytes) a b (Err (Script number reason)) h p = p.1
+ended_whole hooks (Some bytes) a b (Err Memory) h p = cc
+ended_whole hooks (Some bytes) a b (Err Read) h p = cc
+ended_whole hooks (Some bytes) a b (Err Write) h p = cc
 
--- the fault is one of the script
-at_script : (hooks : ℕ) (i a b : Known) (e : ReplayFault) (number : ℕ) (reason : Reason) → e ≡ Script number reason → IfSome i (λ bytes. Fails (meaning hooks bytes) a b e)
-    → IfSome i (λ bytes. Fails (meaning hooks bytes) a b (Script number reason))
-at_script hooks i a b e number reason is p = subst (λ fault. IfSome i (λ bytes. Fails (meaning hooks bytes) a b fault)) is p
+pub none_failed : (reads reads' writes writes' : ℕ) (ended : Result ℕ ReplayFault) → IsTrue (has_end ended) → EndsAsCounted reads reads' writes writes' ended → (reads' ≡ reads) × (writes' ≡ writes)
+none_failed reads reads' writes writes' (Ok left) h p = p
+none_failed reads reads' writes writes' (Err (Script number reason)) h p = p
+none_failed reads reads' writes writes' (Err Memory) h p = cc
+none_failed reads reads' writes writes' (Err Read) h p = cc
+none_failed reads reads' writes writes' (Err Write) h p = cc
 
-text_whole : (hooks : ℕ) (i a b : Known) (number : ℕ) (reason : Reason) → IfSome i (λ bytes. Fails (meaning hooks bytes) a b (Script number reason)) → IsWrittenWhole hooks i a b
-text_whole hooks None a b number reason p = tt
-text_whole hooks (Some bytes) a b number reason p = p.1
+pub ended_counts : (ended : Result ℕ ReplayFault) (reads reads' writes writes' : ℕ) → IsTrue (has_end ended) → reads' ≡ reads → writes' ≡ writes → EndsAsCounted reads reads' writes writes' ended
+ended_counts (Ok left) reads reads' writes writes' h r w = (r, w)
+ended_counts (Err (Script number reason)) reads reads' writes writes' h r w = (r, w)
+ended_counts (Err Memory) reads reads' writes writes' h r w = cc
+ended_counts (Err Read) reads reads' writes writes' h r w = cc
+ended_counts (Err Write) reads reads' writes writes' h r w = cc
 
-pub whole_script : (hooks : ℕ) (i a b : Known) (e : ReplayFault) (number : ℕ) (reason : Reason) → e ≡ Script number reason → IfSome i (λ bytes. Fails (meaning hooks bytes) a b e) → IsWrittenWhole hooks i a b
-whole_script hooks i a b e number reason is p = text_whole hooks i a b number reason (at_script hooks i a b e number reason is p)
+-- no reader has ended it
+pub ended_unread : (a b : Known) (ended : Result ℕ ReplayFault) → IsTrue (has_end ended) → IfErr ended (KeepsUnread a b)
+ended_unread a b (Ok left) h = tt
+ended_unread a b (Err (Script number reason)) h = tt
+ended_unread a b (Err Memory) h = cc
+ended_unread a b (Err Read) h = cc
+ended_unread a b (Err Write) h = cc
+
+-- ---- the flush keeps it
 
 pub whole_kept : (hooks : ℕ) (i a b c : Known) → IsWrittenWhole hooks i a b → Keeps b c → IsWrittenWhole hooks i a c
 whole_kept hooks None a b c p k = tt
 whole_kept hooks (Some bytes) a b c p k = Appends-kept a b c _ p k
 
--- ---- the flush keeps it
+pub ended_kept : (hooks : ℕ) (i a b c : Known) (ended : Result ℕ ReplayFault) → IsTrue (has_end ended) → IfSome i (λ bytes. Runs (meaning hooks bytes) a b ended) → Keeps b c → IfSome i (λ bytes. Runs (meaning hooks bytes) a c ended)
+ended_kept hooks None a b c ended h p k = tt
+ended_kept hooks (Some bytes) a b c (Ok left) h p k = (p.0, Appends-kept a b c _ p.1 k)
+ended_kept hooks (Some bytes) a b c (Err (Script number reason)) h p k = (p.0, Appends-kept a b c _ p.1 k)
+ended_kept hooks (Some bytes) a b c (Err Memory) h p k = cc
+ended_kept hooks (Some bytes) a b c (Err Read) h p k = cc
+ended_kept hooks (Some bytes) a b c (Err Write) h p k = cc
 
-pub ok_kept : (hooks : ℕ) (i a b c : Known) (left : ℕ) → IfSome i (λ bytes. Runs (meaning hooks bytes) a b (Ok left)) → Keeps b c → IfSome i (λ bytes. Runs (meaning hooks bytes) a c (Ok left))
-ok_kept hooks None a b c left p k = tt
-ok_kept hooks (Some bytes) a b c left p k = (p.0, Appends-kept a b c _ p.1 k)
+pub ended_once : {W Whole : Type 0} (ended : Result ℕ ReplayFault) (old new : Counted W) → IsTrue (has_end ended) → IsFlushed Whole old new → FlushesOnce Whole old new ended
+ended_once (Ok left) old new h p = p
+ended_once (Err (Script number reason)) old new h p = p
+ended_once (Err Memory) old new h p = cc
+ended_once (Err Read) old new h p = cc
+ended_once (Err Write) old new h p = cc
 
-script_stands : (hooks : ℕ) (i a b c : Known) (number : ℕ) (reason : Reason) → IfSome i (λ bytes. Fails (meaning hooks bytes) a b (Script number reason)) → Keeps b c
-    → IfSome i (λ bytes. Fails (meaning hooks bytes) a c (Script number reason))
-script_stands hooks None a b c number reason p k = tt
-script_stands hooks (Some bytes) a b c number reason p k = (p.0, Appends-kept a b c _ p.1 k)
+-- ---- a run that ended before is not flushed
 
-pub script_kept : (hooks : ℕ) (i a b c : Known) (e : ReplayFault) (number : ℕ) (reason : Reason) → e ≡ Script number reason → IfSome i (λ bytes. Fails (meaning hooks bytes) a b e) → Keeps b c
-    → IfSome i (λ bytes. Fails (meaning hooks bytes) a c (Script number reason))
-script_kept hooks i a b c e number reason is p k = script_stands hooks i a b c number reason (at_script hooks i a b e number reason is p) k
-
--- no call of a device has failed where the script is at fault
-pub script_counts : (reads reads' writes writes' : ℕ) (e : ReplayFault) (number : ℕ) (reason : Reason) → e ≡ Script number reason → FailsAsCounted reads reads' writes writes' e → (reads' ≡ reads) × (writes' ≡ writes)
-script_counts reads reads' writes writes' e number reason is p = subst (FailsAsCounted reads reads' writes writes') is p
+pub never_flushed : {W : Type 0} (Whole : Type 0) (ended : Result ℕ ReplayFault) (old new : Counted W) → has_end ended ≡ false → flushes_of new ≡ flushes_of old → FlushesOnce Whole old new ended
+never_flushed Whole (Ok left) old new h same = cc
+never_flushed Whole (Err (Script number reason)) old new h same = cc
+never_flushed Whole (Err Memory) old new h same = same
+never_flushed Whole (Err Read) old new h same = same
+never_flushed Whole (Err Write) old new h same = inl same
 
 -- ---- the flush fails
 
@@ -65,8 +87,8 @@ device_fails hooks (Some bytes) a b p = whole_front a b _ p
 pub flush_fails : (hooks : ℕ) (i a b : Known) (e : ReplayFault) → IsWrittenWhole hooks i a b → e ≡ Write → IfSome i (λ bytes. Fails (meaning hooks bytes) a b e)
 flush_fails hooks i a b e p d = subst (λ fault. IfSome i (λ bytes. Fails (meaning hooks bytes) a b fault)) (sym d) (device_fails hooks i a b p)
 
-pub flush_once : {Whole : Type 0} (flushes flushes' : ℕ) (flushed : Bool) (e : ReplayFault) → Whole → flushes' ≡ next_count flushes → e ≡ Write → FlushesOnce Whole flushes flushes' flushed (Err e)
-flush_once {Whole} flushes flushes' flushed e p once d = subst (λ fault. FlushesOnce Whole flushes flushes' flushed (Err fault)) (sym d) (inr (p, once))
+pub flush_once : {W Whole : Type 0} (old new : Counted W) (e : ReplayFault) → Whole → flushes_of new ≡ next_count (flushes_of old) → e ≡ Write → FlushesOnce Whole old new (Err e)
+flush_once {W} {Whole} old new e p once d = subst (λ fault. FlushesOnce Whole old new (Err fault)) (sym d) (inr (p, once))
 
 pub flush_read : (a b : Known) (e : ReplayFault) → e ≡ Write → KeepsUnread a b e
 flush_read a b e d = subst (KeepsUnread a b) (sym d) tt
@@ -91,10 +113,10 @@ ends_read reads reads' writes writes' (Err Write) same p = (same, p.1)
 
 -- ---- what the one flush says of a text, said of what follows from it
 
-pub once_for : {W X : Type 0} → (W → X) → (flushes flushes' : ℕ) (flushed : Bool) (r : Result ℕ ReplayFault) → FlushesOnce W flushes flushes' flushed r → FlushesOnce X flushes flushes' flushed r
-once_for f flushes flushes' flushed (Ok left) p = (f p.0, p.1, p.2)
-once_for f flushes flushes' flushed (Err (Script number reason)) p = (f p.0, p.1, p.2)
-once_for f flushes flushes' flushed (Err Memory) p = p
-once_for f flushes flushes' flushed (Err Read) p = p
-once_for f flushes flushes' flushed (Err Write) (inl p) = inl p
-once_for f flushes flushes' flushed (Err Write) (inr p) = inr (f p.0, p.1)
+pub once_for : {W Text Whole : Type 0} → (Text → Whole) → (old new : Counted W) (r : Result ℕ ReplayFault) → FlushesOnce Text old new r → FlushesOnce Whole old new r
+once_for f old new (Ok left) p = record { whole = f p.whole; once = p.once; last = p.last }
+once_for f old new (Err (Script number reason)) p = record { whole = f p.whole; once = p.once; last = p.last }
+once_for f old new (Err Memory) p = p
+once_for f old new (Err Read) p = p
+once_for f old new (Err Write) (inl p) = inl p
+once_for f old new (Err Write) (inr p) = inr (f p.0, p.1)

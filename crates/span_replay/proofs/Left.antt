@@ -4,13 +4,14 @@
 -- (Exits), and each span that a label names is closed as often as it has handles (ClosedLabels), nothing is held, and a
 -- forest in which nothing is held is empty. Each of these calls is accepted: what it needs is there, and the calls
 -- so far are too few for `CountFull`.
-use Rattle.std.proofs.Common.{◌≡◌, ℕ, ◌+◌, ◌-◌, ◌*◌, ◌^◌, ◌<◌, ◌≤◌, Bool, true, false, if◌then◌else◌, List, [], ◌∷◌, length, Result, Ok, Err, refl, sym, ap, ◌∙◌, inl, inr, arith, Option, Some, None, IfSome}
+use Rattle.std.proofs.Common.{◌≡◌, ℕ, ◌+◌, ◌-◌, ◌*◌, ◌^◌, ◌<◌, ◌≤◌, Bool, true, false, if◌then◌else◌, List, [], ◌∷◌, length, Result, Ok, Err, refl, sym, ap, ◌∙◌, inl, inr, arith, Option, Some, None, IfSome, IfOk}
 use Rattle.std.specs.Prelude.{nat_le, ◌==◌}
 use Rattle.std.proofs.lemmas.Bool.{cases_Bool, leb-true}
 use Rattle.span_core.proofs.Weights.{weight}
 use Rattle.span_replay.specs.State.{State, first_state}
 use Rattle.span_script.specs.Script.{onto_line, script_lines, most_bytes}
 use Rattle.span_replay.specs.Replayed.{Runs}
+use Rattle.span_replay.specs.declared.run.fault.ReplayFault.{ReplayFault}
 use Rattle.span_replay.specs.Meaning.{Turn, Ending, finished, faulty, Transcript, line_turn, turn_then, run, meaning}
 use Rattle.span_script.specs.declared.reason.Reason.{Reason}
 use Rattle.span_script.specs.declared.reason.Reason.TheVariants.{TooLong}
@@ -65,6 +66,7 @@ left_nothing hooks bytes n is = by_case (nat_le (length bytes) most_bytes) refl 
     by_case false fits ends = cc
 
 -- where the bytes that are read are known
-pub nothing_left : (hooks : ℕ) (i a b : Option (List ℕ)) (left : ℕ) → IfSome i (λ bytes. Runs (meaning hooks bytes) a b (Ok left)) → IfSome i (λ bytes. left ≡ 0)
-nothing_left hooks None a b left p = tt
-nothing_left hooks (Some bytes) a b left p = left_nothing hooks bytes left p.0
+pub nothing_left : (hooks : ℕ) (i a b : Option (List ℕ)) (ended : Result ℕ ReplayFault) → IfSome i (λ bytes. Runs (meaning hooks bytes) a b ended) → IfSome i (λ bytes. IfOk ended (λ left. left ≡ 0))
+nothing_left hooks None a b ended p = tt
+nothing_left hooks (Some bytes) a b (Ok left) p = left_nothing hooks bytes left p.0
+nothing_left hooks (Some bytes) a b (Err fault) p = tt

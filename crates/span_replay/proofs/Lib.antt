@@ -1,5 +1,6 @@
 pub mod Written
 pub mod Stages
+pub mod Beginning
 pub mod Bindings
 pub mod Tracked
 pub mod Exits

@@ -13,6 +13,7 @@ use Rattle.span_replay.specs.State.{State, first_state}
 use Rattle.span_replay.proofs.Flushes.{once_for}
 use Rattle.span_replay.specs.declared.run.fault.ReplayFault.{ReplayFault}
 use Rattle.span_run.proofs.Fronts.{Known}
+use Rattle.span_run.specs.declared.counted.Counted.{Counted}
 use Rattle.span_script.specs.Operation.{NewLayer, Operation, set_limits, add_layer, make, on_span, record_fields, tell, find, json_of, operation_of}
 use Rattle.span_script.specs.Reason.{◌>>=◌}
 use Rattle.span_script.specs.Script.{script_lines, most_bytes, is_skipped}
@@ -96,9 +97,9 @@ whole_same : (layers n : ℕ) (i a b : Known) → n ≡ min layers 64 → IsWrit
 whole_same layers n None a b is p = tt
 whole_same layers n (Some bytes) a b is p = subst (λ meant. Appends a b meant.text) (most_same layers n is bytes) p
 
-pub flushed_same : (layers n : ℕ) (i a b : Known) (flushes flushes' : ℕ) (flushed : Bool) (r : Result ℕ ReplayFault) → n ≡ min layers 64
-    → FlushesOnce (IsWrittenWhole n i a b) flushes flushes' flushed r → FlushesOnce (IsWrittenWhole layers i a b) flushes flushes' flushed r
-flushed_same layers n i a b flushes flushes' flushed r is p = once_for (whole_same layers n i a b is) flushes flushes' flushed r p
+pub flushed_same : {W : Type 0} (layers n : ℕ) (i a b : Known) (old new : Counted W) (r : Result ℕ ReplayFault) → n ≡ min layers 64
+    → FlushesOnce (IsWrittenWhole n i a b) old new r → FlushesOnce (IsWrittenWhole layers i a b) old new r
+flushed_same layers n i a b old new r is p = once_for (whole_same layers n i a b is) old new r p
 
 -- ---- the same of what `why` tells
 

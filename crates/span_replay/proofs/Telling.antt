@@ -1,5 +1,5 @@
 -- Why spans are open: from the bytes that are read to those that are written.
-use Rattle.std.proofs.Common.{◌≡◌, ℕ, ◌+◌, ◌<◌, ◌≤◌, Bool, true, List, [], ◌++◌, length, refl, ap, sym, ◌∙◌, subst, Option, Some, None, Result, Ok, Err, IfSome, IfOk, OnOk, IsOk, arith, length-append, append-nil, inl}
+use Rattle.std.proofs.Common.{◌≡◌, ℕ, ◌+◌, ◌<◌, ◌≤◌, true, List, [], ◌++◌, length, refl, ap, sym, ◌∙◌, subst, Option, Some, None, Result, Ok, Err, IfSome, IfErr, IfOk, OnOk, IsOk, IsTrue, arith, length-append, append-nil, inl}
 use Rattle.std.specs.Io.KnownBytes.{Appends, Consumes, IsAtEnd, Keeps}
 use Rattle.std.specs.Prelude.{nat_le}
 use Rattle.std.proofs.KnownBytes.{Appends-kept}
@@ -7,16 +7,18 @@ use Rattle.std.proofs.lemmas.Bool.{lt-leb}
 use Rattle.span_run.proofs.Fronts.{Known}
 use Rattle.span_run.specs.Device.{AppendsFront}
 use Rattle.span_replay.specs.Reading.{ReadFails}
-use Rattle.span_run.specs.Counted.{next_count}
-use Rattle.span_replay.specs.ReplayFault.{EndsAsCounted}
+use Rattle.span_run.specs.Counted.{flushed_of, flushes_of, next_count}
+use Rattle.span_run.specs.declared.counted.Counted.{Counted}
+use Rattle.span_replay.specs.ReplayFault.{EndsAsCounted, FailsAsCounted}
 use Rattle.span_replay.specs.declared.run.fault.ReplayFault.{ReplayFault}
 use Rattle.span_replay.specs.declared.run.fault.ReplayFault.TheVariants.{Script, Memory, Read, Write}
 use Rattle.span_replay.specs.Explained.{IsWholeWhy, first_reached, why_run, why_meaning}
-use Rattle.span_replay.specs.Meaning.{Transcript, faulty}
+use Rattle.span_replay.specs.Meaning.{Ending, Transcript, faulty}
 use Rattle.span_replay.specs.Replayed.{FlushesOnce, Runs}
 use Rattle.span_replay.specs.declared.run.explained.Explained.{Explained}
-use Rattle.span_replay.specs.inside.Reaching.{EndsAs, HasEnd, IsExplained, IsOfReading}
-use Rattle.span_replay.proofs.Flushes.{flush_once, once_for, whole_front}
+use Rattle.span_replay.specs.inside.Reaching.{EndsAs, IsExplained, IsOfReading}
+use Rattle.span_replay.specs.inside.Ended.{has_end}
+use Rattle.span_replay.proofs.Flushes.{ended_counts, ended_once, flush_once, once_for, whole_front}
 use Rattle.span_replay.proofs.Written.{empty_front}
 use Rattle.span_script.specs.Script.{script_lines, most_bytes}
 use Rattle.span_script.specs.declared.reason.Reason.{Reason}
@@ -57,6 +59,34 @@ long_explained hooks about i j fault number reason e is fails none ended = by_by
           ending_is = subst (EndsAs (why_meaning hooks about xs).ending) (sym ended) (ap (λ (t : Transcript). t.ending) meant ∙ ap (λ n. faulty n TooLong) (sym at) ∙ ap (faulty number) (sym why));
         }
 
+-- what was read ends as is meant
+ends_as : (meant : Ending) (ended : Result ℕ ReplayFault) → EndsAs meant ended → IsTrue (has_end ended)
+ends_as meant (Ok left) is = refl
+ends_as meant (Err (Script number reason)) is = refl
+ends_as meant (Err Memory) is = absurd is
+ends_as meant (Err Read) is = absurd is
+ends_as meant (Err Write) is = absurd is
+
+pub explained_ends : (r : Result Explained ReplayFault) (meant : Transcript) → IfOk r (IsExplained meant) → IfOk r (λ e. IsTrue (has_end e.ended))
+explained_ends (Ok e) meant p = ends_as meant.ending e.ended p.ending_is
+explained_ends (Err fault) meant p = tt
+
+where_ok : {P : Type 0} (ended : Result ℕ ReplayFault) → P → OnOk ended P
+where_ok (Ok left) p = p
+where_ok (Err fault) p = tt
+
+pub explained_at_end : {P : Type 0} (r : Result Explained ReplayFault) → P → IfOk r (λ e. OnOk e.ended P)
+explained_at_end (Ok e) p = where_ok e.ended p
+explained_at_end (Err fault) p = tt
+
+pub explained_counts : (r : Result Explained ReplayFault) (reads reads' : ℕ) → reads' ≡ reads → IfErr r (λ fault. fault ≡ Memory) → EndsAsCounted reads reads' 0 0 r
+explained_counts (Ok e) reads reads' same p = (same, refl)
+explained_counts (Err fault) reads reads' same p = subst (FailsAsCounted reads reads' 0 0) (sym p) (same, refl)
+
+pub explained_fails : (r : Result Explained ReplayFault) → IfErr r (λ fault. fault ≡ Memory) → IfErr r IsOfReading
+explained_fails (Ok e) p = tt
+explained_fails (Err fault) p = subst IsOfReading (sym p) tt
+
 -- the script was not read
 pub unread_explained : (hooks : ℕ) (about : Option (List ℕ)) (i a : Known) (fault : ReplayFault) → IsOfReading fault → IfSome i (λ xs. Runs (why_meaning hooks about xs) a a (Err fault))
 unread_explained hooks about None a fault p = tt
@@ -90,12 +120,8 @@ told_unflushed meant e a b c text fault is same p k d =
     device_front meant a c fault d (whole_front a c meant.text (Appends-kept a b c meant.text (subst (Appends a b) (same ∙ is.text_is) p) k))
 
 -- no call of a device has failed
-pub told_counts : (ended : Result ℕ ReplayFault) (f f' f'' : ℕ) → HasEnd ended → f' ≡ f → f'' ≡ f' → EndsAsCounted 0 0 f f'' ended
-told_counts (Ok left) f f' f'' h p q = (refl, q ∙ p)
-told_counts (Err (Script number reason)) f f' f'' h p q = (refl, q ∙ p)
-told_counts (Err Memory) f f' f'' h p q = absurd h
-told_counts (Err Read) f f' f'' h p q = absurd h
-told_counts (Err Write) f f' f'' h p q = absurd h
+pub told_counts : (ended : Result ℕ ReplayFault) (f f' f'' : ℕ) → IsTrue (has_end ended) → f' ≡ f → f'' ≡ f' → EndsAsCounted 0 0 f f'' ended
+told_counts ended f f' f'' h p q = ended_counts ended 0 0 f f'' h refl (q ∙ p)
 
 pub told_ok : (ended : Result ℕ ReplayFault) → OnOk ended (IsOk ended)
 told_ok (Ok left) = refl
@@ -110,40 +136,33 @@ explained_runs (Some xs) a b hooks about e r p q = q (why_meaning hooks about xs
 -- ---- the one flush
 
 -- the script was not read
-pub unread_once : (Whole : Type 0) (flushes : ℕ) (flushed : Bool) (fault : ReplayFault) → IsOfReading fault → FlushesOnce Whole flushes flushes flushed (Err fault)
-unread_once Whole flushes flushed (Script number reason) p = absurd p
-unread_once Whole flushes flushed Memory p = refl
-unread_once Whole flushes flushed Read p = refl
-unread_once Whole flushes flushed Write p = absurd p
+pub unread_once : {W : Type 0} (Whole : Type 0) (writer : Counted W) (fault : ReplayFault) → IsOfReading fault → FlushesOnce Whole writer writer (Err fault)
+unread_once Whole writer (Script number reason) p = absurd p
+unread_once Whole writer Memory p = refl
+unread_once Whole writer Read p = refl
+unread_once Whole writer Write p = absurd p
 
 -- a front of the text was written
-pub front_once : (Whole : Type 0) (flushes flushes' : ℕ) (flushed : Bool) (fault : ReplayFault) → flushes' ≡ flushes → fault ≡ Write → FlushesOnce Whole flushes flushes' flushed (Err fault)
-front_once Whole flushes flushes' flushed fault same d = subst (λ f. FlushesOnce Whole flushes flushes' flushed (Err f)) (sym d) (inl same)
-
-ended_once : {Whole : Type 0} (ended : Result ℕ ReplayFault) (flushes flushes' : ℕ) (flushed : Bool) → HasEnd ended → Whole → flushes' ≡ next_count flushes → flushed ≡ true → FlushesOnce Whole flushes flushes' flushed ended
-ended_once (Ok left) flushes flushes' flushed h p once done = (p, once, done)
-ended_once (Err (Script number reason)) flushes flushes' flushed h p once done = (p, once, done)
-ended_once (Err Memory) flushes flushes' flushed h p once done = absurd h
-ended_once (Err Read) flushes flushes' flushed h p once done = absurd h
-ended_once (Err Write) flushes flushes' flushed h p once done = absurd h
+pub front_once : {W : Type 0} (Whole : Type 0) (old new : Counted W) (fault : ReplayFault) → flushes_of new ≡ flushes_of old → fault ≡ Write → FlushesOnce Whole old new (Err fault)
+front_once Whole old new fault same d = subst (λ f. FlushesOnce Whole old new (Err f)) (sym d) (inl same)
 
 text_kept : (e : Explained) (a b c : Known) (text : List ℕ) → text ≡ e.text.items → Appends a b text → Keeps b c → Appends a c e.text.items
 text_kept e a b c text same p k = Appends-kept a b c e.text.items (subst (Appends a b) same p) k
 
 -- all of it was written and flushed
-pub told_once : (e : Explained) (a b c : Known) (text : List ℕ) (flushes flushes' flushes'' : ℕ) (flushed : Bool) → HasEnd e.ended → text ≡ e.text.items → Appends a b text → Keeps b c → flushes' ≡ flushes → flushes'' ≡ next_count flushes' → flushed ≡ true
-    → FlushesOnce (Appends a c e.text.items) flushes flushes'' flushed e.ended
-told_once e a b c text flushes flushes' flushes'' flushed h is p k same once done = ended_once e.ended flushes flushes'' flushed h (text_kept e a b c text is p k) (once ∙ ap next_count same) done
+pub told_once : {W : Type 0} (e : Explained) (a b c : Known) (text : List ℕ) (old new : Counted W) (flushes : ℕ) → IsTrue (has_end e.ended) → text ≡ e.text.items → Appends a b text → Keeps b c → flushes ≡ flushes_of old → flushes_of new ≡ next_count flushes → flushed_of new ≡ true
+    → FlushesOnce (Appends a c e.text.items) old new e.ended
+told_once e a b c text old new flushes h is p k same once done = ended_once e.ended old new h (record { whole = text_kept e a b c text is p k; once = once ∙ ap next_count same; last = done })
 
 -- all of it was written, and the flush failed
-pub unflushed_once : (e : Explained) (a b c : Known) (text : List ℕ) (flushes flushes' flushes'' : ℕ) (flushed : Bool) (fault : ReplayFault) → text ≡ e.text.items → Appends a b text → Keeps b c → flushes' ≡ flushes → flushes'' ≡ next_count flushes' → fault ≡ Write
-    → FlushesOnce (Appends a c e.text.items) flushes flushes'' flushed (Err fault)
-unflushed_once e a b c text flushes flushes' flushes'' flushed fault is p k same once d = flush_once flushes flushes'' flushed fault (text_kept e a b c text is p k) (once ∙ ap next_count same) d
+pub unflushed_once : {W : Type 0} (e : Explained) (a b c : Known) (text : List ℕ) (old new : Counted W) (flushes : ℕ) (fault : ReplayFault) → text ≡ e.text.items → Appends a b text → Keeps b c → flushes ≡ flushes_of old → flushes_of new ≡ next_count flushes → fault ≡ Write
+    → FlushesOnce (Appends a c e.text.items) old new (Err fault)
+unflushed_once e a b c text old new flushes fault is p k same once d = flush_once old new fault (text_kept e a b c text is p k) (once ∙ ap next_count same) d
 
 whole_why : (i a b : Known) (hooks : ℕ) (about : Option (List ℕ)) (e : Explained) → IfSome i (λ xs. IsExplained (why_meaning hooks about xs) e) → Appends a b e.text.items → IsWholeWhy hooks about i a b
 whole_why None a b hooks about e is p = tt
 whole_why (Some xs) a b hooks about e is p = subst (Appends a b) is.text_is p
 
-pub explained_once : (i a b : Known) (hooks : ℕ) (about : Option (List ℕ)) (e : Explained) (flushes flushes' : ℕ) (flushed : Bool) (r : Result ℕ ReplayFault) → IfSome i (λ xs. IsExplained (why_meaning hooks about xs) e)
-    → FlushesOnce (Appends a b e.text.items) flushes flushes' flushed r → FlushesOnce (IsWholeWhy hooks about i a b) flushes flushes' flushed r
-explained_once i a b hooks about e flushes flushes' flushed r is p = once_for (whole_why i a b hooks about e is) flushes flushes' flushed r p
+pub explained_once : {W : Type 0} (i a b : Known) (hooks : ℕ) (about : Option (List ℕ)) (e : Explained) (old new : Counted W) (r : Result ℕ ReplayFault) → IfSome i (λ xs. IsExplained (why_meaning hooks about xs) e)
+    → FlushesOnce (Appends a b e.text.items) old new r → FlushesOnce (IsWholeWhy hooks about i a b) old new r
+explained_once i a b hooks about e old new r is p = once_for (whole_why i a b hooks about e is) old new r p

@@ -1,7 +1,8 @@
 -- What a run leaves in the writer, and what it answers.
-use Rattle.std.specs.Prelude.{◌≡◌, ℕ, Bool, true, ◌⊎◌, List, Option, Result, Ok, Err, IfSome, MatchResult}
+use Rattle.std.specs.Prelude.{◌≡◌, ℕ, true, ◌⊎◌, List, Option, Result, Ok, Err, IfSome, MatchResult}
 use Rattle.std.specs.Io.KnownBytes.{Appends, Keeps}
-use Rattle.span_run.specs.Counted.{next_count}
+use Rattle.span_run.specs.Counted.{flushed_of, flushes_of, next_count}
+use Rattle.span_run.specs.declared.counted.Counted.{Counted}
 use Rattle.span_run.specs.Device.{AppendsFront}
 use Rattle.span_replay.specs.Meaning.{Transcript, finished, faulty, meaning}
 use Rattle.span_replay.specs.declared.run.fault.ReplayFault.{ReplayFault}
@@ -35,14 +36,18 @@ KeepsUnread old new Write = Unit {0}
 abbrev pub IsWrittenWhole : ℕ → Option (List ℕ) → Option (List ℕ) → Option (List ℕ) → Type 0
 IsWrittenWhole hooks script old new = IfSome script (λ bytes. Appends old new (meaning hooks bytes).text)
 
+-- the whole text was written, and then the writer was flushed by one call, which is the last
+pub record IsFlushed {W : Type 0} (Whole : Type 0) (old new : Counted W) : Type 0 where
+  pub whole : Whole
+  pub once : flushes_of new ≡ next_count (flushes_of old)
+  pub last : flushed_of new ≡ true
+
 -- The one flush. A run flushes its writer by one call, once the whole text is written, and ends with it: well, or by
 -- the fault of the script, or because the flush fails. Where memory is refused or a device fails before, it never does.
--- The numbers are how many flushes there were before and after; the test is whether the writer is flushed at the end.
-abbrev pub FlushesOnce : Type 0 → ℕ → ℕ → Bool → Result ℕ ReplayFault → Type 0
-FlushesOnce Whole flushes flushes' flushed (Ok left) = Whole × (flushes' ≡ next_count flushes) × (flushed ≡ true)
-FlushesOnce Whole flushes flushes' flushed (Err (Script number reason)) =
-    Whole × (flushes' ≡ next_count flushes) × (flushed ≡ true)
-FlushesOnce Whole flushes flushes' flushed (Err Memory) = flushes' ≡ flushes
-FlushesOnce Whole flushes flushes' flushed (Err Read) = flushes' ≡ flushes
-FlushesOnce Whole flushes flushes' flushed (Err Write) =
-    (flushes' ≡ flushes) ⊎ (Whole × (flushes' ≡ next_count flushes))
+abbrev pub FlushesOnce : {W : Type 0} → Type 0 → Counted W → Counted W → Result ℕ ReplayFault → Type 0
+FlushesOnce Whole old new (Ok left) = IsFlushed Whole old new
+FlushesOnce Whole old new (Err (Script number reason)) = IsFlushed Whole old new
+FlushesOnce Whole old new (Err Memory) = flushes_of new ≡ flushes_of old
+FlushesOnce Whole old new (Err Read) = flushes_of new ≡ flushes_of old
+FlushesOnce Whole old new (Err Write) =
+    (flushes_of new ≡ flushes_of old) ⊎ (Whole × (flushes_of new ≡ next_count (flushes_of old)))

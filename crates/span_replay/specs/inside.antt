@@ -8,3 +8,4 @@ pub mod Setup
 pub mod Ended
 pub mod Reaching
 pub mod Lately
+pub mod Writing

@@ -120,10 +120,8 @@ pub(crate) fn asked<'v, V: JsonValue<'v>, M: Metas>(
     if !line.is_object() {
         return Err(Stop::Refused(Reason::NotObject));
     }
-    match op_given(line) {
-        Ok(op) => with_op(alloc, line, workers, stage, op, metas),
-        Err(reason) => Err(Stop::Refused(reason)),
-    }
+    let op = op_given(line)?;
+    with_op(alloc, line, workers, stage, op, metas)
 }
 
 /// What a line with this op asks for.
@@ -247,10 +245,7 @@ fn new_span<'v, V: JsonValue<'v>, M: Metas>(
 ) -> Result<Operation<'v>, Stop>
     ensures { AnswersOrStops operation_seen result (new_of workers (V.json line)) }
 {
-    let head = match read_head(line, Key::Name) {
-        Ok(head) => head,
-        Err(reason) => return Err(Stop::Refused(reason)),
-    };
+    let head = read_head(line, Key::Name)?;
     let parent = match parent(line) {
         Ok(parent) => parent,
         Err(reason) => return Err(Stop::Refused(reason)),
@@ -307,13 +302,12 @@ fn on_span<'v, V: JsonValue<'v>>(
 ) -> Result<Operation<'v>, Stop>
     ensures { AnswersOrStops operation_seen result (on_span_of workers call (V.json line)) }
 {
-    match span(line) {
-        Ok(span) => match worker(line, workers) {
-            Ok(worker) => Ok(Operation::OnSpan { call, span, worker }),
-            Err(reason) => Err(Stop::Refused(reason)),
-        },
-        Err(reason) => Err(Stop::Refused(reason)),
-    }
+    let span = match span(line) {
+        Ok(span) => span,
+        Err(reason) => return Err(Stop::Refused(reason)),
+    };
+    let worker = worker(line, workers)?;
+    Ok(Operation::OnSpan { call, span, worker })
 }
 
 /// The record that a line asks for.
@@ -325,20 +319,17 @@ fn record<'v, V: JsonValue<'v>>(
 ) -> Result<Operation<'v>, Stop>
     ensures { AnswersOrStops operation_seen result (record_of workers (V.json line)) }
 {
-    match span(line) {
-        Ok(span) => match fields(alloc, line) {
-            Ok(fields) => match worker(line, workers) {
-                Ok(worker) => Ok(Operation::Record {
-                    span,
-                    fields,
-                    worker,
-                }),
-                Err(reason) => Err(Stop::Refused(reason)),
-            },
-            Err(stop) => Err(stop),
-        },
-        Err(reason) => Err(Stop::Refused(reason)),
-    }
+    let span = match span(line) {
+        Ok(span) => span,
+        Err(reason) => return Err(Stop::Refused(reason)),
+    };
+    let fields = fields(alloc, line)?;
+    let worker = worker(line, workers)?;
+    Ok(Operation::Record {
+        span,
+        fields,
+        worker,
+    })
 }
 
 /// The event that a line asks for, whose name is `event`.

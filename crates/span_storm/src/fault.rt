@@ -1,6 +1,7 @@
 //! Why a storm ends early.
 ghost use Rattle.std.specs.Prelude.{◌≡◌};
 ghost use Rattle.span_run.specs.Status.{failed_status};
+ghost use Rattle.span_storm.specs.declared.fault.StormFault.TheVariants.{Refused};
 
 use span_id::Fault;
 use span_run::FAILED_STATUS;
@@ -18,6 +19,14 @@ pub enum StormFault {
     /// The party of this number, counted from 0, was held by the gate.
     #[error("worker {0} was held")]
     Held(u32),
+}
+
+impl From<Fault> for StormFault {
+    ghost from_gives = { λ fault stopped. stopped ≡ Refused fault };
+
+    fn from(fault: Fault) -> StormFault {
+        StormFault::Refused(fault)
+    }
 }
 
 impl StormFault {

@@ -82,9 +82,7 @@ fn write_rows<W: Write>(rows: &[Row], output: &mut Counted<W>) -> Result<(), Wri
     ensures flushes { flushes_of output.new ≡ flushes_of output.old }
 {
     for row in rows {
-        if let Err(fault) = write_line(row.label, row.number, output) {
-            return Err(fault);
-        }
+        write_line(row.label, row.number, output)?;
     }
     Ok(())
 }

@@ -7,13 +7,15 @@ ghost use Rattle.span_core.specs.World.{World};
 ghost use Rattle.span_core.specs.Parent.{parent_found};
 ghost use Rattle.span_storm.specs.Storm.{IsPlaceOfClose, IsSpanOfRound, app_meta, wants_jobs};
 ghost use Rattle.span_history.specs.Own.{own};
-ghost use Rattle.span_storm.specs.inside.Back.{ComesBack, HasRounds, IsAt, IsCallOf, IsWorkersStop};
+ghost use Rattle.span_storm.specs.inside.Back.{ComesBack, HasRounds, IsAt, IsCallOf, IsWorkersStop, MayMake};
 
 use crate::fault::StormFault;
 use crate::gate::Gate;
 use crate::metas::Metas;
 use span_id::Meta;
-use span_registry::{DroppableHandle, Handle, ParentOf, Registry, Ring, Setup, Share, Worker};
+use span_registry::{
+    DroppableHandle, Handle, ParentOf, RefusedClose, Registry, Ring, Setup, Share, Worker,
+};
 use std::sync::Wait;
 use std::sync::ledger::Ledger;
 
@@ -52,8 +54,7 @@ fn make_rounds<H: Ledger, C: Ledger, S: Setup, G: Gate, R: Wait>(
     requires wanted { wants_jobs S.rules ≡ true }
     requires spare { 3 ≤ worker.old.spare }
     requires place { worker.old.accepted % 9 ≡ 0 }
-    requires rounds { HasRounds worker.old }
-    requires low { worker.old.accepted + 9 * rounds < 2 ^ 64 }
+    requires rounds { MayMake (9 * rounds) worker.old }
     ensures number { worker.new.number ≡ worker.old.number }
     ensures accepted { OnOk result (worker.new.accepted ≡ worker.old.accepted + 9 * rounds) }
     ensures spare { OnOk result (worker.new.spare ≡ worker.old.spare) }
@@ -78,8 +79,7 @@ fn round<H: Ledger, C: Ledger, S: Setup, G: Gate, R: Wait>(
     requires wanted { wants_jobs S.rules ≡ true }
     requires spare { 3 ≤ worker.old.spare }
     requires place { worker.old.accepted % 9 ≡ 0 }
-    requires rounds { HasRounds worker.old }
-    requires low { worker.old.accepted + 9 < 2 ^ 64 }
+    requires rounds { MayMake 9 worker.old }
     ensures number { worker.new.number ≡ worker.old.number }
     ensures accepted { OnOk result (worker.new.accepted ≡ worker.old.accepted + 9) }
     ensures spare { OnOk result (worker.new.spare ≡ worker.old.spare) }
@@ -103,8 +103,7 @@ fn with_job<H: Ledger, C: Ledger, S: Setup, G: Gate, R: Wait>(
     requires wanted { wants_jobs S.rules ≡ true }
     requires spare { 2 ≤ worker.old.spare }
     requires place { worker.old.accepted % 9 ≡ 1 }
-    requires rounds { HasRounds worker.old }
-    requires low { worker.old.accepted + 8 < 2 ^ 64 }
+    requires rounds { MayMake 8 worker.old }
     ensures number { worker.new.number ≡ worker.old.number }
     ensures accepted { OnOk result (worker.new.accepted ≡ worker.old.accepted + 8) }
     ensures spare { OnOk result (worker.new.spare ≡ worker.old.spare + 1) }
@@ -129,8 +128,7 @@ fn with_clone<H: Ledger, C: Ledger, S: Setup, G: Gate, R: Wait>(
     requires wanted { wants_jobs S.rules ≡ true }
     requires spare { 2 ≤ worker.old.spare }
     requires place { worker.old.accepted % 9 ≡ 1 }
-    requires rounds { HasRounds worker.old }
-    requires low { worker.old.accepted + 7 < 2 ^ 64 }
+    requires rounds { MayMake 7 worker.old }
     ensures number { worker.new.number ≡ worker.old.number }
     ensures accepted { OnOk result (worker.new.accepted ≡ worker.old.accepted + 7) }
     ensures spare { OnOk result (worker.new.spare ≡ worker.old.spare) }
@@ -155,8 +153,7 @@ fn inside<H: Ledger, C: Ledger, S: Setup, G: Gate, R: Wait>(
     requires wanted { wants_jobs S.rules ≡ true }
     requires spare { 1 ≤ worker.old.spare }
     requires place { worker.old.accepted % 9 ≡ 2 }
-    requires rounds { HasRounds worker.old }
-    requires low { worker.old.accepted + 5 < 2 ^ 64 }
+    requires rounds { MayMake 5 worker.old }
     ensures number { worker.new.number ≡ worker.old.number }
     ensures accepted { OnOk result (worker.new.accepted ≡ worker.old.accepted + 5) }
     ensures spare { OnOk result (worker.new.spare ≡ worker.old.spare) }
@@ -201,19 +198,17 @@ fn open<H: Ledger, C: Ledger, S: Setup, G: Gate, R: Wait>(
     requires span { (world : World)
         → IsSpanOfRound (worker.old.accepted % 9) (plain_meta meta.now) (parent_found world worker.old.number parent) }
     requires spare { 0 < worker.old.spare }
-    requires rounds { HasRounds worker.old }
-    requires low { worker.old.accepted + 1 < 2 ^ 64 }
+    requires rounds { MayMake 1 worker.old }
     ensures worker { OnOk result (worker.new ≡ after_call worker.old (worker.old.spare - 1) worker.new.seen) }
     ensures rounds { OnOk result (HasRounds worker.new) }
     ensures unchanged { OnErr result (worker.new ≡ record worker.old { seen = worker.new.seen }) }
     ensures stopped { IfErr result (IsWorkersStop S.limits S.rules (G.holds gate.now) (IsAt worker.new)) }
 {
     ask(gate, worker)?;
-    match registry.new_span(rt, worker, meta, &[], parent) {
-        Ok(Some(handle)) => Ok(DroppableHandle { handle }),
-        Ok(None) => unreachable!(),
-        Err(fault) => Err(StormFault::Refused(fault)),
-    }
+    let Some(handle) = registry.new_span(rt, worker, meta, &[], parent)? else {
+        unreachable!()
+    };
+    Ok(DroppableHandle { handle })
 }
 
 // Makes one more handle of a span.
@@ -226,18 +221,15 @@ fn clone_handle<H: Ledger, C: Ledger, S: Setup, G: Gate, R: Wait>(
 ) -> Result<DroppableHandle<H, C, S>, StormFault>
     requires spare { 0 < worker.old.spare }
     requires place { worker.old.accepted % 9 ≡ 1 }
-    requires rounds { HasRounds worker.old }
-    requires low { worker.old.accepted + 1 < 2 ^ 64 }
+    requires rounds { MayMake 1 worker.old }
     ensures worker { OnOk result (worker.new ≡ after_call worker.old (worker.old.spare - 1) worker.new.seen) }
     ensures rounds { OnOk result (HasRounds worker.new) }
     ensures unchanged { OnErr result (worker.new ≡ record worker.old { seen = worker.new.seen }) }
     ensures stopped { IfErr result (IsWorkersStop S.limits S.rules (G.holds gate.now) (IsAt worker.new)) }
 {
     ask(gate, worker)?;
-    match registry.clone_span(rt, worker, handle) {
-        Ok(handle) => Ok(DroppableHandle { handle }),
-        Err(fault) => Err(StormFault::Refused(fault)),
-    }
+    let handle = registry.clone_span(rt, worker, handle)?;
+    Ok(DroppableHandle { handle })
 }
 
 // Enters the span of a handle.
@@ -249,18 +241,15 @@ fn enter<H: Ledger, C: Ledger, S: Setup, G: Gate, R: Wait>(
     handle: &mut Handle<H, C, S>,
 ) -> Result<(), StormFault>
     requires place { worker.old.accepted % 9 ≡ 2 }
-    requires rounds { HasRounds worker.old }
-    requires low { worker.old.accepted + 1 < 2 ^ 64 }
+    requires rounds { MayMake 1 worker.old }
     ensures worker { OnOk result (worker.new ≡ after_call worker.old worker.old.spare worker.new.seen) }
     ensures rounds { OnOk result (HasRounds worker.new) }
     ensures unchanged { OnErr result (worker.new ≡ record worker.old { seen = worker.new.seen }) }
     ensures stopped { IfErr result (IsWorkersStop S.limits S.rules (G.holds gate.now) (IsAt worker.new)) }
 {
     ask(gate, worker)?;
-    match registry.enter(rt, worker, handle) {
-        Ok(_first) => Ok(()),
-        Err(fault) => Err(StormFault::Refused(fault)),
-    }
+    registry.enter(rt, worker, handle)?;
+    Ok(())
 }
 
 // Tells the event of a round.
@@ -273,18 +262,15 @@ fn tell<H: Ledger, C: Ledger, S: Setup, G: Gate, R: Wait>(
 ) -> Result<(), StormFault>
     requires meta { plain_meta meta.now ≡ app_meta (codes "event") }
     requires place { worker.old.accepted % 9 ≡ 3 }
-    requires rounds { HasRounds worker.old }
-    requires low { worker.old.accepted + 1 < 2 ^ 64 }
+    requires rounds { MayMake 1 worker.old }
     ensures worker { OnOk result (worker.new ≡ after_call worker.old worker.old.spare worker.new.seen) }
     ensures rounds { OnOk result (HasRounds worker.new) }
     ensures unchanged { OnErr result (worker.new ≡ record worker.old { seen = worker.new.seen }) }
     ensures stopped { IfErr result (IsWorkersStop S.limits S.rules (G.holds gate.now) (IsAt worker.new)) }
 {
     ask(gate, worker)?;
-    match registry.event(rt, worker, meta, "tick", &[]) {
-        Ok(()) => Ok(()),
-        Err(fault) => Err(StormFault::Refused(fault)),
-    }
+    registry.event(rt, worker, meta, "tick", &[])?;
+    Ok(())
 }
 
 // Leaves the span of a handle.
@@ -296,18 +282,15 @@ fn exit<H: Ledger, C: Ledger, S: Setup, G: Gate, R: Wait>(
     handle: &Handle<H, C, S>,
 ) -> Result<(), StormFault>
     requires place { worker.old.accepted % 9 ≡ 6 }
-    requires rounds { HasRounds worker.old }
-    requires low { worker.old.accepted + 1 < 2 ^ 64 }
+    requires rounds { MayMake 1 worker.old }
     ensures worker { OnOk result (worker.new ≡ after_call worker.old worker.old.spare worker.new.seen) }
     ensures rounds { OnOk result (HasRounds worker.new) }
     ensures unchanged { OnErr result (worker.new ≡ record worker.old { seen = worker.new.seen }) }
     ensures stopped { IfErr result (IsWorkersStop S.limits S.rules (G.holds gate.now) (IsAt worker.new)) }
 {
     ask(gate, worker)?;
-    match registry.exit(rt, worker, handle.id()) {
-        Ok(_closed) => Ok(()),
-        Err(fault) => Err(StormFault::Refused(fault)),
-    }
+    registry.exit(rt, worker, handle.id())?;
+    Ok(())
 }
 
 // Gives a handle back.
@@ -319,8 +302,7 @@ fn close<H: Ledger, C: Ledger, S: Setup, G: Gate, R: Wait>(
     held: DroppableHandle<H, C, S>,
 ) -> Result<(), StormFault>
     requires place { IsPlaceOfClose (worker.old.accepted % 9) }
-    requires rounds { HasRounds worker.old }
-    requires low { worker.old.accepted + 1 < 2 ^ 64 }
+    requires rounds { MayMake 1 worker.old }
     ensures worker { OnOk result (worker.new ≡ after_call worker.old (worker.old.spare + 1) worker.new.seen) }
     ensures rounds { OnOk result (HasRounds worker.new) }
     ensures unchanged { OnErr result (worker.new ≡ record worker.old { seen = worker.new.seen }) }
@@ -329,7 +311,7 @@ fn close<H: Ledger, C: Ledger, S: Setup, G: Gate, R: Wait>(
     ask(gate, worker)?;
     match registry.try_close(rt, worker, held.into_handle()) {
         Ok(_closed) => Ok(()),
-        Err((handle, fault)) => {
+        Err(RefusedClose { handle, fault }) => {
             drop(handle.into_share());
             Err(StormFault::Refused(fault))
         }

@@ -2,6 +2,7 @@
 ghost use Rattle.std.specs.Prelude.{◌≡◌, ◌*◌, ◌<◌, ◌≤◌, [], Some, true, IfOk, IfErr};
 ghost use Rattle.span_layers.specs.Layers.{filters_in, forms_in};
 ghost use Rattle.span_outlet.specs.Ring.{places_of};
+ghost use Rattle.span_registry.specs.Blanks.{blanks_of};
 ghost use Rattle.span_storm.specs.Storm.{IsStormEnd, IsStormFault, storm_limits, wants_jobs};
 ghost use Rattle.span_storm.specs.inside.Back.{HasNumbers};
 
@@ -128,15 +129,7 @@ fn run<
     requires wanted { wants_jobs S.rules ≡ true }
     requires ring { (ring.sent ≡ []) × (Some drain.name ≡ S.ring) }
     requires places { places_of drain.name ≡ S.limits.ring }
-    requires blanks { blanks ≡ record {
-      limits = S.limits;
-      handles = H.name;
-      handle_parts = H.parts;
-      calls = C.name;
-      call_parts = C.parts;
-      table = S.table;
-      history = S.history;
-    } }
+    requires blanks { blanks ≡ blanks_of S.limits H.name H.parts C.name C.parts S.table S.history }
     ensures numbers { IfOk result (λ report. HasNumbers S.limits.workers rounds report) }
     ensures ended { IfOk result (λ report. IsStormEnd S.limits rounds S.rules drain.forms report) }
     ensures faults { IfErr result (IsStormFault S.limits rounds S.rules (G.holds gate.now)) }

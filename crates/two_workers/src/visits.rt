@@ -1,11 +1,12 @@
 //! What the threads do with the registry.
 ghost use Rattle.std.specs.Prelude.{◌≡◌, ◌+◌, ◌≤◌, ◌∷◌, [], None, IfOk, vec_len};
+ghost use Rattle.span_registry.specs.Blanks.{blanks_of};
 ghost use Rattle.two_workers.specs.Visit.{IsBack};
 
 use span_id::{Fault, Meta};
 use span_layers::{Admitters, ByForm, ByRule, Filters, Formatters};
 use span_registry::{
-    Blanks, Handle, Kept, Outlet, ParentOf, Registry, Report, Setup, Share, Worker,
+    Blanks, Handle, Kept, Outlet, ParentOf, RefusedClose, Registry, Report, Setup, Share, Worker,
 };
 use std::alloc::Global;
 use std::snapshot::Snapshot;
@@ -47,15 +48,7 @@ pub fn visits<
     requires sent { outlet.sent ≡ [] }
     requires setup { (filters.rules ≡ S.rules) × (outlet.forms ≡ S.forms) × (None ≡ S.ring) }
     requires workers { S.limits.workers ≡ 3 }
-    requires blanks { blanks ≡ record {
-      limits = S.limits;
-      handles = H.name;
-      handle_parts = H.parts;
-      calls = C.name;
-      call_parts = C.parts;
-      table = S.table;
-      history = S.history;
-    } }
+    requires blanks { blanks ≡ blanks_of S.limits H.name H.parts C.name C.parts S.table S.history }
 {
     let (registry, workers) = SpanRegistry::<H, C, S>::new(alloc, filters, outlet, blanks)?;
     let (own, first, second) = three(workers);
@@ -224,6 +217,6 @@ fn give_back<H: Ledger, C: Ledger, S: Setup, R: Wait>(
     let mut worker = worker;
     match registry.try_close(rt, &mut worker, handle) {
         Ok(_) => worker.leave(),
-        Err((handle, _)) => worker.leave().join(handle.into_share()),
+        Err(RefusedClose { handle, fault: _ }) => worker.leave().join(handle.into_share()),
     }
 }

@@ -5,7 +5,7 @@ use crate::dice::Dice;
 use crate::held::Held;
 use crate::texts::MESSAGES;
 use span_id::Fault;
-use span_registry::{ParentOf, Registry, Ring, Setup, Worker};
+use span_registry::{ParentOf, RefusedClose, Registry, Ring, Setup, Worker};
 use std::alloc::Global;
 use std::sync::Wait;
 use std::sync::ledger::Ledger;
@@ -121,7 +121,7 @@ impl<H: Ledger, C: Ledger, S: Setup> Caller<H, C, S> {
     ) -> Result<(), Fault> {
         match registry.try_close(rt, &mut self.worker, held.into_handle()) {
             Ok(_closed) => Ok(()),
-            Err((handle, fault)) => {
+            Err(RefusedClose { handle, fault }) => {
                 drop(handle.into_share());
                 Err(fault)
             }

@@ -19,6 +19,7 @@ ghost use Rattle.span_registry.specs.Report.{AreCounts};
 ghost use mathlib.Core.List.{IsPrefix};
 
 use crate::handle::take_seat;
+use crate::laws::what_was_sent_is_legal;
 use crate::locked::Locked;
 use crate::setup::Setup;
 use crate::with_seats;
@@ -63,7 +64,7 @@ pub fn whenever_the_lock_is_free<H: Ledger, C: Ledger, S: Setup, O: Outlet, A>(
     ensures counts { (id : ℕ) → reference_count locked.now.world.spans id ≤ S.limits.max_count }
     ensures fits { length locked.now.sent < 2 ^ 64 }
 {
-    locked.core.calls();
+    what_was_sent_is_legal(&locked.core);
     counts_and_calls_have_bounds(&locked.core);
 }
 

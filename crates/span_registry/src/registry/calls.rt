@@ -20,6 +20,7 @@ ghost use Rattle.span_registry.specs.Happened.{Happened, closed_by_close};
 
 use crate::found::Found;
 use crate::handle::Handle;
+use crate::refused_close::RefusedClose;
 use crate::registry::Registry;
 use crate::setup::Setup;
 use crate::under_lock;
@@ -225,7 +226,7 @@ impl<H: Ledger, C: Ledger, S: Setup, O: Outlet, A> Registry<H, C, S, O, A> {
         rt: &R,
         worker: &mut Worker<H, C, S>,
         handle: Handle<H, C, S>,
-    ) -> Result<bool, (Handle<H, C, S>, Fault)>
+    ) -> Result<bool, RefusedClose<H, C, S>>
         ensures seen { IsPrefix worker.old.seen worker.new.seen }
         ensures own { MatchResult result (λ _. HasOneMore worker.old worker.new) (λ _. HasNoMore worker.old worker.new) }
         ensures happened { IfOk result (λ closed. Happened S.limits S.rules worker.old worker.new (λ old new.
@@ -234,13 +235,13 @@ impl<H: Ledger, C: Ledger, S: Setup, O: Outlet, A> Registry<H, C, S, O, A> {
         ensures released { IfOk result (λ closed. Happened S.limits S.rules worker.old worker.new (λ old new.
             ClosesWhatNothingHolds old (try_close worker.old.number handle.id) new
             × (IsTrue closed ↔ (find new.world.spans handle.id ≡ None)))) }
-        ensures was_refused { IfErr result (λ e. Happened S.limits S.rules worker.old worker.new (λ old new.
-            IsRefused old (try_close worker.old.number handle.id) e.1 new)) }
+        ensures was_refused { IfErr result (λ refused. Happened S.limits S.rules worker.old worker.new (λ old new.
+            IsRefused old (try_close worker.old.number handle.id) refused.fault new)) }
         ensures worker { OnOk result (worker.new ≡ after_call worker.old (worker.old.spare + 1) worker.new.seen) }
         ensures unchanged { OnErr result (worker.new ≡ record worker.old { seen = worker.new.seen }) }
-        ensures never_unknown { IfErr result (λ e. e.1 ≢ Unknown) }
-        ensures back { IfErr result (λ e. e.0.id ≡ handle.id) }
-        ensures no_names { IfErr result (λ e. e.1 ≢ BadName) }
+        ensures never_unknown { IfErr result (λ refused. refused.fault ≢ Unknown) }
+        ensures back { IfErr result (λ refused. refused.handle.id ≡ handle.id) }
+        ensures no_names { IfErr result (λ refused. refused.fault ≢ BadName) }
     {
         under_lock::try_close(&mut *self.locked.lock(rt), worker, handle)
     }

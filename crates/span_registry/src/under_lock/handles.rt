@@ -11,6 +11,7 @@ ghost use Rattle.span_registry.specs.Happened.{Happened, closed_by_close};
 
 use crate::books::{count_call, make_handle, see, take_back};
 use crate::locked::Locked;
+use crate::refused_close::RefusedClose;
 use crate::setup::Setup;
 use crate::with_seats;
 use crate::worker::Worker;
@@ -79,14 +80,14 @@ pub fn try_close<H: Ledger, C: Ledger, S: Setup, O: Outlet, A>(
     locked: &mut Locked<H, C, S, O, A>,
     worker: &mut Worker<H, C, S>,
     handle: crate::Handle<H, C, S>,
-) -> Result<bool, (crate::Handle<H, C, S>, Fault)>
+) -> Result<bool, RefusedClose<H, C, S>>
     ensures seen { IsPrefix worker.old.seen worker.new.seen }
     ensures own { MatchResult result (λ _. HasOneMore worker.old worker.new) (λ _. HasNoMore worker.old worker.new) }
     ensures happened { IfOk result (λ closed. Happened S.limits S.rules worker.old worker.new (λ old new.
         IsAccepted old (try_close worker.old.number handle.id) (released (closed_by_close old.world handle.id)) new
         × (closed ≡ nat_lt 0 (length (closed_by_close old.world handle.id))))) }
-    ensures was_refused { IfErr result (λ e. Happened S.limits S.rules worker.old worker.new (λ old new.
-        IsRefused old (try_close worker.old.number handle.id) e.1 new)) }
+    ensures was_refused { IfErr result (λ refused. Happened S.limits S.rules worker.old worker.new (λ old new.
+        IsRefused old (try_close worker.old.number handle.id) refused.fault new)) }
     ensures step { OnOk result (IsAccepted locked.old (try_close worker.old.number handle.id)
         (released (closed_by_close locked.old.world handle.id)) locked.new) }
     ensures closed { IfOk result (λ closed. closed ≡ nat_lt 0 (length (closed_by_close locked.old.world handle.id))) }
@@ -96,10 +97,10 @@ pub fn try_close<H: Ledger, C: Ledger, S: Setup, O: Outlet, A>(
         ClosesWhatNothingHolds old (try_close worker.old.number handle.id) new
         × (IsTrue closed ↔ (find new.world.spans handle.id ≡ None)))) }
     ensures worker { OnOk result (worker.new ≡ after_call worker.old (worker.old.spare + 1) locked.new.sent) }
-    ensures refused { IfErr result (λ e.
-        IsRefused locked.old (try_close worker.old.number handle.id) e.1 locked.new) }
-    ensures never_unknown { IfErr result (λ e. e.1 ≢ Unknown) }
-    ensures back { IfErr result (λ e. e.0.id ≡ handle.id) }
+    ensures refused { IfErr result (λ refused.
+        IsRefused locked.old (try_close worker.old.number handle.id) refused.fault locked.new) }
+    ensures never_unknown { IfErr result (λ refused. refused.fault ≢ Unknown) }
+    ensures back { IfErr result (λ refused. refused.handle.id ≡ handle.id) }
     ensures unchanged { OnErr result (worker.new ≡ record worker.old { seen = worker.new.seen }) }
 {
     let crate::Handle {
@@ -129,7 +130,7 @@ pub fn try_close<H: Ledger, C: Ledger, S: Setup, O: Outlet, A>(
                 unit,
                 no_calls,
             };
-            return Err((handle, fault));
+            return Err(RefusedClose { handle, fault });
         }
     };
     count_call(calls, keeper, core, worker);

@@ -7,6 +7,7 @@ ghost use Rattle.span_registry.specs.inside.Seated.{AreSeated};
 ghost use Rattle.span_registry.specs.inside.Called.{MayBeCounted, IsRefusedWhereHeld};
 
 use crate::handle::{Handle, take_seat};
+use crate::laws::what_was_sent_is_legal;
 use crate::setup::Setup;
 use span_core::Core;
 use span_core::laws::each_slot_has_one_open_span;
@@ -31,9 +32,9 @@ pub(crate) fn enter<H: Ledger, C: Ledger, S: Setup, O: Outlet, A>(
         (λ fault. IsRefusedWhereHeld core.old (enter worker handle.old.id) fault core.new) }
 {
     root.join(take_seat(&mut handle.seat));
-    core.calls();
+    what_was_sent_is_legal(core);
     let done = core.enter(worker, handle.id);
-    core.calls();
+    what_was_sent_is_legal(core);
     handle.seat = Some(root.split());
     done
 }
@@ -53,9 +54,9 @@ pub(crate) fn exit<T: TableName, O: Outlet, A>(
     ensures closed { IfOk result (λ closed. closed ≡ nat_lt 0 (length (closed_by_exit core.old.world worker id))) }
     ensures refused { IfErr result (λ fault. IsRefused core.old (exit worker id) fault core.new) }
 {
-    core.calls();
+    what_was_sent_is_legal(core);
     each_slot_has_one_open_span(core);
     let closed = core.exit_with(worker, id, root, RootSeat::mark_closed)?;
-    core.calls();
+    what_was_sent_is_legal(core);
     Ok(closed)
 }

@@ -11,6 +11,7 @@ ghost use Rattle.span_registry.specs.inside.Seated.{AreSeated};
 ghost use Rattle.span_registry.specs.inside.Called.{MayBeCounted, IsRefusedWhereHeld};
 
 use crate::handle::take_seat;
+use crate::laws::what_was_sent_is_legal;
 use crate::setup::Setup;
 use span_core::Core;
 use span_core::laws::each_slot_has_one_open_span;
@@ -37,14 +38,11 @@ pub(crate) fn clone_span<H: Ledger, C: Ledger, S: Setup, O: Outlet, A>(
         (λ fault. IsRefusedWhereHeld core.old (clone_span worker handle.old.id) fault core.new) }
 {
     root.join(take_seat(&mut handle.seat));
-    core.calls();
+    what_was_sent_is_legal(core);
     let made = core.clone_span(worker, handle.id);
-    core.calls();
+    what_was_sent_is_legal(core);
     handle.seat = Some(root.split());
-    match made {
-        Ok(()) => {}
-        Err(fault) => return Err(fault),
-    }
+    made?;
     Ok(root.split())
 }
 
@@ -66,9 +64,9 @@ pub(crate) fn record<H: Ledger, C: Ledger, S: Setup, O: Outlet, A>(
         fault core.new) }
 {
     root.join(take_seat(&mut handle.seat));
-    core.calls();
+    what_was_sent_is_legal(core);
     let done = core.record(worker, handle.id, fields);
-    core.calls();
+    what_was_sent_is_legal(core);
     handle.seat = Some(root.split());
     done
 }
@@ -92,11 +90,11 @@ pub(crate) fn try_close<T: TableName, O: Outlet, A>(
         (λ e. IsRefusedWhereHeld core.old (try_close worker id) e.1 core.new × (e.0.id ≡ id)) }
 {
     root.join(seat);
-    core.calls();
+    what_was_sent_is_legal(core);
     each_slot_has_one_open_span(core);
     match core.try_close_with(worker, id, root, RootSeat::mark_closed) {
         Ok(closed) => {
-            core.calls();
+            what_was_sent_is_legal(core);
             Ok(closed)
         }
         Err(fault) => Err((root.split(), fault)),
@@ -133,6 +131,5 @@ pub(crate) fn show_two<T: TableName, O: Outlet, A>(
     ensures ids { (result.0.id ≡ first.id) × (result.1.id ≡ second.id) }
     ensures numbers { first.number ≢ second.number }
 {
-    core.calls();
     two_handles_have_two_numbers(root, first, second)
 }

@@ -10,6 +10,7 @@ ghost use Rattle.span_core.specs.Core.{IsRefused, IsNotWanted};
 ghost use Rattle.span_registry.specs.inside.Seated.{AreSeated};
 ghost use Rattle.span_registry.specs.inside.Called.{MayBeCounted};
 
+use crate::laws::what_was_sent_is_legal;
 use span_core::Core;
 use span_core::laws::each_slot_has_one_open_span;
 use span_id::{Fault, Field, Id, Meta};
@@ -44,14 +45,12 @@ pub(crate) fn new_span<T: TableName, O: Outlet, A: Admit>(
         (new_span worker (plain_meta meta.now) (plain_fields fields.now) (parent_found core.old.world worker parent))
         fault core.new) }
 {
-    core.calls();
+    what_was_sent_is_legal(core);
     each_slot_has_one_open_span(core);
-    let id = match core.new_span(worker, meta, fields, parent) {
-        Ok(Some(id)) => id,
-        Ok(None) => return Ok(None),
-        Err(fault) => return Err(fault),
+    let Some(id) = core.new_span(worker, meta, fields, parent)? else {
+        return Ok(None);
     };
-    core.calls();
+    what_was_sent_is_legal(core);
     each_slot_has_one_open_span(core);
     root.mark_open(id);
     let seat = root.split();
@@ -76,8 +75,8 @@ pub(crate) fn event<T: TableName, O: Outlet, A: Admit>(
     ensures refused { IfErr result (λ fault. IsRefused core.old
         (event worker (plain_meta meta.now) message.now (plain_fields fields.now) parent) fault core.new) }
 {
-    core.calls();
+    what_was_sent_is_legal(core);
     let done = core.event_in(worker, meta, message, fields, parent);
-    core.calls();
+    what_was_sent_is_legal(core);
     done
 }

@@ -1,5 +1,5 @@
 -- How far a script has run, before its first call and after: no public clause cites it.
-use Rattle.std.specs.Prelude.{◌≡◌, ℕ}
+use Rattle.std.specs.Prelude.{◌≡◌, ℕ, Option, Some, None}
 use Rattle.span_replay.specs.State.{State, first_state}
 use Rattle.span_replay.specs.inside.Running.{IsWritten, state_at}
 use Rattle.span_replay.specs.declared.run.script.Script.{Script}
@@ -32,3 +32,9 @@ abbrev pub HasHooks : {A F V B : _} → ℕ → Progress (Setup A F) (Script V B
 HasHooks hooks (Opening setup) = hooks_in setup ≡ hooks
 HasHooks hooks (Running script) = Unit {0}
 HasHooks hooks Lost = Unit {0}
+
+-- what stood before the first call was taken out, or calls were made already
+abbrev pub TakesOpening : {S R : Type 0} → Progress S R → Progress S R → Option S → Type 0
+TakesOpening (Opening setup) new taken = taken ≡ Some setup
+TakesOpening (Running script) new taken = (taken ≡ None) × (new ≡ Running script)
+TakesOpening Lost new taken = taken ≡ None

@@ -91,14 +91,6 @@ pub record IsExplained (meant : Transcript) (explained : Explained) : Type 0 whe
   pub text_is : explained.text.items ≡ meant.text
   pub ending_is : EndsAs meant.ending explained.ended
 
--- a script ends well, or at a fault of its own
-abbrev pub HasEnd : Result ℕ ReplayFault → Type 0
-HasEnd (Ok left) = Unit {0}
-HasEnd (Err (Script number reason)) = Unit {0}
-HasEnd (Err Memory) = ⊥
-HasEnd (Err Read) = ⊥
-HasEnd (Err Write) = ⊥
-
 -- a script was not read for want of memory, or because the reader failed
 abbrev pub IsOfReading : ReplayFault → Type 0
 IsOfReading (Script number reason) = ⊥

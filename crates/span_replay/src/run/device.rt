@@ -6,6 +6,7 @@ ghost use Rattle.span_replay.specs.Reading.{ReadFails};
 ghost use Rattle.span_run.specs.Counted.{inner_of, calls_of, failed_of, flushes_of, flushed_of, next_count};
 ghost use Rattle.span_run.specs.Device.{AppendsFront};
 ghost use Rattle.span_script.specs.Script.{most_bytes};
+ghost use Rattle.span_replay.specs.inside.Writing.{OnlyWrites};
 
 use crate::run::fault::ReplayFault;
 use span_run::Counted;
@@ -52,8 +53,7 @@ pub fn send<W: Write>(output: &mut Counted<W>, text: &[u8]) -> Result<(), Replay
     ensures front { OnErr result
         (AppendsFront (W.contents (inner_of output.old)) (W.contents (inner_of output.new)) text.now) }
     ensures device { IfErr result (λ fault. fault ≡ ReplayFault.Write) }
-    ensures counts { EndsAsCounted 0 0 (failed_of output.old) (failed_of output.new) result }
-    ensures flushes { flushes_of output.new ≡ flushes_of output.old }
+    ensures calls { OnlyWrites output.old output.new result }
 {
     span_run::write_text(output, text).map_err(|_| ReplayFault::Write)
 }

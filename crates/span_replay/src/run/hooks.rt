@@ -1,7 +1,7 @@
 //! The hooks that the layers of a run call.
 ghost use Rattle.std.specs.Prelude.{◌≡◌, ◌+◌, ◌^◌, ◌<◌, ◌≤◌, IfOk, IfErr, IfSome, OnOk, vec_len};
 ghost use Rattle.std.specs.Io.KnownBytes.{IsAtEnd};
-ghost use Rattle.span_run.specs.Counted.{inner_of, calls_of, failed_of, flushes_of, flushed_of};
+ghost use Rattle.span_run.specs.Counted.{inner_of, calls_of, failed_of};
 ghost use Rattle.span_replay.specs.Replayed.{FlushesOnce, IsReplayed, IsWrittenWhole, KeepsUnread};
 ghost use Rattle.span_replay.specs.ReplayFault.{EndsAsCounted};
 
@@ -29,7 +29,7 @@ pub fn replay_with_layers<R: Read, W: Write>(
     ensures flushed { FlushesOnce
         (IsWrittenWhole layers (R.remaining (inner_of input.old))
         (W.contents (inner_of output.old)) (W.contents (inner_of output.new)))
-        (flushes_of output.old) (flushes_of output.new) (flushed_of output.new) result }
+        output.old output.new result }
     ensures left { IfSome (R.remaining (inner_of input.old)) (λ bytes. IfOk result (λ left. left ≡ 0)) }
     ensures counts { EndsAsCounted
         (failed_of input.old) (failed_of input.new) (failed_of output.old) (failed_of output.new) result }

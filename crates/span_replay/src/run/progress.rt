@@ -4,10 +4,10 @@ ghost use Rattle.std.specs.Prelude.{IfOk};
 ghost use Rattle.span_json.specs.Seen.{view};
 ghost use Rattle.span_replay.specs.Meaning.{last_part, line_turn, value_turn};
 ghost use Rattle.span_replay.specs.Replayed.{Runs};
-ghost use Rattle.span_replay.specs.ReplayFault.{EndsAsCounted};
 ghost use Rattle.span_replay.specs.inside.Progress.{HasHooks, IsRunning, MayGoOn, state_of};
 ghost use Rattle.span_replay.specs.inside.Running.{IsWritten, state_at};
-ghost use Rattle.span_run.specs.Counted.{inner_of, failed_of, flushes_of};
+ghost use Rattle.span_replay.specs.inside.Writing.{OnlyWrites};
+ghost use Rattle.span_run.specs.Counted.{inner_of};
 ghost use Rattle.span_script.specs.Operation.{running};
 ghost use Rattle.span_script.specs.Reason.{StopsFor};
 ghost use Rattle.span_script.specs.Script.{is_skipped};
@@ -34,6 +34,32 @@ pub enum Progress<S, R> {
     Running(R),
     /// Memory for the registry was refused.
     Lost,
+}
+
+impl<S: Drop, R: Drop> Progress<S, R> {
+    ghost use Rattle.span_replay.specs.inside.Progress.{TakesOpening};
+    ghost use Rattle.span_replay.specs.declared.run.progress.Progress.TheVariants.{Running};
+
+    /// Takes out what stands before the first call, unless calls are made already.
+    fn take_opening(&mut self) -> Option<S>
+        ensures { TakesOpening self.old self.new result }
+    {
+        match mem::replace(self, Progress::Lost) {
+            Progress::Opening(opening) => Some(opening),
+            Progress::Running(running) => {
+                *self = Progress::Running(running);
+                None
+            }
+            Progress::Lost => None,
+        }
+    }
+
+    /// Calls are made on this from now on.
+    fn run_on(&mut self, running: R)
+        ensures { self.new ≡ Running running }
+    {
+        *self = Progress::Running(running);
+    }
 }
 
 /// Runs a line that isn't skipped. The text is its notes and its answer.
@@ -87,17 +113,12 @@ where
     ensures running { OnOk result (IsRunning progress.new) }
     ensures state { OnOk result (state_of progress.new ≡ record (state_of progress.old) { stage = running }) }
 {
-    match mem::replace(progress, Progress::Lost) {
-        Progress::Opening(setup) => {
-            *progress = Progress::Running(open(alloc, setup)?);
-            Ok(())
-        }
-        Progress::Running(script) => {
-            *progress = Progress::Running(script);
-            Ok(())
-        }
-        Progress::Lost => unreachable!(),
-    }
+    let Some(setup) = progress.take_opening() else {
+        return Ok(());
+    };
+    let script = open(alloc, setup)?;
+    progress.run_on(script);
+    Ok(())
 }
 
 /// The tidying at the end of a script, and the last line: how many spans are left open, which is the answer.
@@ -113,8 +134,7 @@ where
     requires { MayGoOn progress.old }
     ensures runs { Runs (last_part (state_of progress.old))
         (W.contents (inner_of output.old)) (W.contents (inner_of output.new)) result }
-    ensures counts { EndsAsCounted 0 0 (failed_of output.old) (failed_of output.new) result }
-    ensures flushes { flushes_of output.new ≡ flushes_of output.old }
+    ensures calls { OnlyWrites output.old output.new result }
 {
     let Ok(()) = begin(progress, alloc) else {
         return Err(ReplayFault::Memory);

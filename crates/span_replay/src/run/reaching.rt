@@ -171,10 +171,8 @@ fn run_operation<V: Say, A: Admit>(
     text.clear();
     reaching.script.run(alloc, operation, text)?;
     let made = other_id(before, named_by(&reaching.script.labels, label));
-    match note_line(&mut reaching.lines, number, made) {
-        Ok(()) => Ok(()),
-        Err(_) => Err(Stop::Memory),
-    }
+    note_line(&mut reaching.lines, number, made)?;
+    Ok(())
 }
 
 /// The label that an operation binds where it makes a span.

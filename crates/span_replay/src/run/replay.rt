@@ -1,14 +1,16 @@
 //! Running a whole script: reading it, its lines, the tidying and the last line, and writing out.
 ghost use Rattle.std.specs.Prelude.{◌≡◌, ◌+◌, ◌≤◌, ℕ, IfOk, IfErr, IfSome, OnOk, length, vec_len};
 ghost use Rattle.std.specs.Io.KnownBytes.{IsAtEnd};
-ghost use Rattle.span_run.specs.Counted.{inner_of, calls_of, failed_of, flushes_of, flushed_of};
+ghost use Rattle.span_run.specs.Counted.{inner_of, calls_of, failed_of, flushes_of};
 ghost use Rattle.span_replay.specs.Meaning.{last_part, run};
 ghost use Rattle.span_replay.specs.Replayed.{Fails, FlushesOnce, IsReplayed, IsWrittenWhole, KeepsUnread, Runs};
 ghost use Rattle.span_replay.specs.ReplayFault.{EndsAsCounted};
 ghost use Rattle.span_script.specs.Script.{script_lines, most_bytes};
 ghost use Rattle.span_replay.specs.State.{first_state};
+ghost use Rattle.span_replay.specs.inside.Ended.{has_end};
 ghost use Rattle.span_replay.specs.inside.Progress.{HasHooks, MayGoOn, state_of};
 ghost use Rattle.span_replay.specs.inside.Turns.{Sent};
+ghost use Rattle.span_replay.specs.inside.Writing.{OnlyWrites};
 
 use crate::run::device::{flush, read_script, send};
 use crate::run::fault::{ReplayFault, at_line};
@@ -49,25 +51,25 @@ where
     ensures flushed { FlushesOnce
         (IsWrittenWhole (vec_len hooks) (R.remaining (inner_of input.old))
         (W.contents (inner_of output.old)) (W.contents (inner_of output.new)))
-        (flushes_of output.old) (flushes_of output.new) (flushed_of output.new) result }
+        output.old output.new result }
     ensures left { IfSome (R.remaining (inner_of input.old)) (λ bytes. IfOk result (λ left. left ≡ 0)) }
     ensures counts { EndsAsCounted
         (failed_of input.old) (failed_of input.new) (failed_of output.old) (failed_of output.new) result }
     ensures reads { calls_of input.new ≤ calls_of input.old + 16777217 }
 {
-    match read_and_run(alloc, input, output, hooks, remains) {
-        Ok(left) => match flush(output) {
-            Ok(()) => Ok(left),
-            Err(fault) => Err(fault),
-        },
-        Err(ReplayFault::Script(number, reason)) => match flush(output) {
-            Ok(()) => Err(ReplayFault::Script(number, reason)),
-            Err(fault) => Err(fault),
-        },
-        Err(ReplayFault::Memory) => Err(ReplayFault::Memory),
-        Err(ReplayFault::Read) => Err(ReplayFault::Read),
-        Err(ReplayFault::Write) => Err(ReplayFault::Write),
+    let ended = read_and_run(alloc, input, output, hooks, remains);
+    if !has_end(&ended) {
+        return ended;
     }
+    flush(output)?;
+    ended
+}
+
+/// Whether a run came to an end of its own: well, or at a fault of the script.
+fn has_end(ended: &Result<u64, ReplayFault>) -> bool
+    ensures { result ≡ has_end ended.now }
+{
+    matches!(ended, Ok(_) | Err(ReplayFault::Script(_, _)))
 }
 
 /// Reads a script to its end and runs it.
@@ -109,17 +111,35 @@ where
     requires { length script.now ≤ most_bytes }
     ensures runs { Runs (run (vec_len hooks) 1 first_state (script_lines script.now))
         (W.contents (inner_of output.old)) (W.contents (inner_of output.new)) result }
-    ensures counts { EndsAsCounted 0 0 (failed_of output.old) (failed_of output.new) result }
-    ensures flushes { flushes_of output.new ≡ flushes_of output.old }
+    ensures calls { OnlyWrites output.old output.new result }
 {
     let mut progress = Progress::Opening(Setup::new(alloc, hooks));
     let mut text = Vec::new(alloc);
-    let ended = match run_lines(alloc, script, &mut progress, &mut text, output) {
-        Ok(()) => end(&mut progress, alloc, &mut text, output),
-        Err(fault) => Err(fault),
-    };
+    let ended = run_all(alloc, script, &mut progress, &mut text, output);
     let_go(progress, remains, ended.is_ok());
     ended
+}
+
+/// Runs the lines of a script, and then tidies.
+fn run_all<A: Drop, F: Drop, W: Write>(
+    alloc: Global,
+    script: &[u8],
+    progress: &mut Progress<Setup<A, F>, Script<Formatters<F>, Admitters<A>>>,
+    text: &mut Vec<u8>,
+    output: &mut Counted<W>,
+) -> Result<u64, ReplayFault>
+where
+    Admitters<A>: Admit,
+    Formatters<F>: Say,
+    requires fits { length script.now ≤ most_bytes }
+    requires ready { MayGoOn progress.old }
+    ensures runs { (hooks : ℕ) → HasHooks hooks progress.old →
+        Runs (run hooks 1 (state_of progress.old) (script_lines script.now))
+        (W.contents (inner_of output.old)) (W.contents (inner_of output.new)) result }
+    ensures calls { OnlyWrites output.old output.new result }
+{
+    run_lines(alloc, script, progress, text, output)?;
+    end(progress, alloc, text, output)
 }
 
 /// Runs the lines of a script, and writes the text of each.
@@ -142,8 +162,7 @@ where
     ensures err { IfErr result (λ fault. (hooks : ℕ) → HasHooks hooks progress.old →
         Fails (run hooks 1 (state_of progress.old) (script_lines script.now))
         (W.contents (inner_of output.old)) (W.contents (inner_of output.new)) fault) }
-    ensures counts { EndsAsCounted 0 0 (failed_of output.old) (failed_of output.new) result }
-    ensures flushes { flushes_of output.new ≡ flushes_of output.old }
+    ensures calls { OnlyWrites output.old output.new result }
 {
     let mut scratch = Scratch::new(alloc);
     let mut metas = LineMetas::none(alloc);
@@ -160,9 +179,7 @@ where
         if let Err(stop) = step(progress, alloc, line, &mut scratch, &mut metas, text) {
             return Err(at_line(number, stop));
         }
-        if let Err(fault) = send(output, text.as_slice()) {
-            return Err(fault);
-        }
+        send(output, text.as_slice())?;
         number += 1;
     }
     Ok(())

@@ -180,10 +180,8 @@ impl<V: Say, A: Admit> Script<V, A> {
         let worker = worker_number(new.worker, self.workers);
         let named = self.labels.get(new.label);
         let is_bound = named.is_some();
-        match self.place(new, worker, named) {
-            Ok(parent) => self.make_under(alloc, new, worker, parent, is_bound, text),
-            Err(reason) => Err(Stop::Refused(reason)),
-        }
+        let parent = self.place(new, worker, named)?;
+        self.make_under(alloc, new, worker, parent, is_bound, text)
     }
 
     // The parent of a new span of this worker, whose label may name no span that has handles. It names this one.
@@ -224,10 +222,8 @@ impl<V: Say, A: Admit> Script<V, A> {
         ensures workers { self.new.workers ≡ self.old.workers }
     {
         let answer = calls::new_span(&mut self.core, new, worker, parent)?;
-        match self.give_label(alloc, new.label, is_bound, &answer) {
-            Ok(()) => self.answer(answer, text),
-            Err(_) => Err(Stop::Memory),
-        }
+        self.give_label(alloc, new.label, is_bound, &answer)?;
+        self.answer(answer, text)
     }
 
     // Makes a worker's call on a span.
@@ -246,10 +242,7 @@ impl<V: Say, A: Admit> Script<V, A> {
         ensures written { OnOk result (IsWritten self.new) }
         ensures workers { self.new.workers ≡ self.old.workers }
     {
-        let id = match id_of(&self.labels, span) {
-            Ok(id) => id,
-            Err(reason) => return Err(Stop::Refused(reason)),
-        };
+        let id = id_of(&self.labels, span)?;
         let worker = worker_number(worker, self.workers);
         let answer = calls::call(&mut self.core, call, worker, id)?;
         self.answer(answer, text)
@@ -271,10 +264,7 @@ impl<V: Say, A: Admit> Script<V, A> {
         ensures written { OnOk result (IsWritten self.new) }
         ensures workers { self.new.workers ≡ self.old.workers }
     {
-        let id = match id_of(&self.labels, span) {
-            Ok(id) => id,
-            Err(reason) => return Err(Stop::Refused(reason)),
-        };
+        let id = id_of(&self.labels, span)?;
         let worker = worker_number(worker, self.workers);
         let answer = calls::record(&mut self.core, worker, id, fields)?;
         self.answer(answer, text)
@@ -301,16 +291,12 @@ impl<V: Say, A: Admit> Script<V, A> {
             RunsAs (turn_of hooks (state_at self.now stage) (look_up (key_seen span.now))) (state_at self.now stage)
             text.old.items (state_at self.now stage) text.new.items result }
     {
-        match id_of(&self.labels, span) {
-            Ok(id) => match self.core.find(id) {
-                Some(span) => match write_found(text, &found(span)) {
-                    Ok(()) => Ok(()),
-                    Err(_) => Err(Stop::Memory),
-                },
-                None => write_answer(text, Answer::Refused(Fault::Unknown)),
-            },
-            Err(reason) => Err(Stop::Refused(reason)),
-        }
+        let id = id_of(&self.labels, span)?;
+        let Some(span) = self.core.find(id) else {
+            return write_answer(text, Answer::Refused(Fault::Unknown));
+        };
+        write_found(text, &found(span))?;
+        Ok(())
     }
 
     // Binds the label of a span, where it was made. It may be bound already.

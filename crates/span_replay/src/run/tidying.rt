@@ -3,14 +3,14 @@ ghost use Rattle.std.specs.Prelude.{◌≡◌, ◌^◌, ◌<◌, ℕ, map, IfOk,
 ghost use Rattle.std.specs.List.{range_with_len};
 ghost use Rattle.std.specs.Io.KnownBytes.{Appends};
 ghost use Rattle.span_replay.specs.Answer.{left_text};
-ghost use Rattle.span_run.specs.Counted.{inner_of, failed_of, flushes_of};
+ghost use Rattle.span_run.specs.Counted.{inner_of};
 ghost use Rattle.span_replay.specs.Meaning.{last_part};
 ghost use Rattle.span_script.specs.Operation.{Stage};
 ghost use Rattle.span_replay.specs.Replayed.{Runs};
 ghost use Rattle.span_replay.specs.Requests.{request_of_call};
-ghost use Rattle.span_replay.specs.ReplayFault.{EndsAsCounted};
 ghost use Rattle.span_replay.specs.inside.Running.{IsWritten, core_in, labels_in, state_at};
 ghost use Rattle.span_replay.specs.inside.Turns.{TextFails, AreMade};
+ghost use Rattle.span_replay.specs.inside.Writing.{OnlyWrites};
 ghost use Rattle.span_replay.specs.Written.{call_written, calls_written, closes, each_written, exits};
 ghost use Rattle.span_replay.specs.declared.run.fault.ReplayFault.TheVariants.{Memory};
 
@@ -56,8 +56,7 @@ pub fn tidy<V: Say, A: Admit, W: Write>(
     requires written { IsWritten script.old }
     ensures runs { (stage : Stage) → Runs (last_part (state_at script.old stage))
         (W.contents (inner_of output.old)) (W.contents (inner_of output.new)) result }
-    ensures counts { EndsAsCounted 0 0 (failed_of output.old) (failed_of output.new) result }
-    ensures flushes { flushes_of output.new ≡ flushes_of output.old }
+    ensures calls { OnlyWrites output.old output.new result }
 {
     let labels = mem::replace(&mut script.labels, Labels::new(alloc));
     let ended = leave_and_close(alloc, script, &labels, text, output);
@@ -77,15 +76,10 @@ fn leave_and_close<V: Say, A: Admit, W: Write>(
     ensures runs { (stage : Stage) →
         Runs (last_part (record { core = core_in script.old; labels = labels.now; stage = stage }))
         (W.contents (inner_of output.old)) (W.contents (inner_of output.new)) result }
-    ensures counts { EndsAsCounted 0 0 (failed_of output.old) (failed_of output.new) result }
-    ensures flushes { flushes_of output.new ≡ flushes_of output.old }
+    ensures calls { OnlyWrites output.old output.new result }
 {
-    if let Err(fault) = leave_all(alloc, script, text, output) {
-        return Err(fault);
-    }
-    if let Err(fault) = close_all(alloc, script, labels, text, output) {
-        return Err(fault);
-    }
+    leave_all(alloc, script, text, output)?;
+    close_all(alloc, script, labels, text, output)?;
     finish(script.open_spans(), text, output)
 }
 
@@ -106,13 +100,10 @@ fn leave_all<V: Say, A: Admit, W: Write>(
     ensures err { IfErr result (TextFails
         (each_written exits (core_in script.old) (range_with_len 0 script.old.workers)).text
         (W.contents (inner_of output.old)) (W.contents (inner_of output.new))) }
-    ensures counts { EndsAsCounted 0 0 (failed_of output.old) (failed_of output.new) result }
-    ensures flushes { flushes_of output.new ≡ flushes_of output.old }
+    ensures calls { OnlyWrites output.old output.new result }
 {
     for worker in 0..script.workers {
-        if let Err(fault) = leave(alloc, worker, script, text, output) {
-            return Err(fault);
-        }
+        leave(alloc, worker, script, text, output)?;
     }
     Ok(())
 }
@@ -136,8 +127,7 @@ fn leave<V: Say, A: Admit, W: Write>(
     ensures err { IfErr result (TextFails
         (calls_written (core_in script.old) (exits (core_in script.old) worker)).text
         (W.contents (inner_of output.old)) (W.contents (inner_of output.new))) }
-    ensures counts { EndsAsCounted 0 0 (failed_of output.old) (failed_of output.new) result }
-    ensures flushes { flushes_of output.new ≡ flushes_of output.old }
+    ensures calls { OnlyWrites output.old output.new result }
 {
     match script.entered(alloc, worker) {
         Ok(ids) => call_all(SpanCall::Exit, worker, &ids, script, text, output),
@@ -161,13 +151,10 @@ fn close_all<V: Say, A: Admit, W: Write>(
     ensures err { IfErr result (TextFails
         (each_written closes (core_in script.old) (map (λ entry. entry.1) labels.now)).text
         (W.contents (inner_of output.old)) (W.contents (inner_of output.new))) }
-    ensures counts { EndsAsCounted 0 0 (failed_of output.old) (failed_of output.new) result }
-    ensures flushes { flushes_of output.new ≡ flushes_of output.old }
+    ensures calls { OnlyWrites output.old output.new result }
 {
     for id in labels.ids() {
-        if let Err(fault) = close(alloc, *id, script, text, output) {
-            return Err(fault);
-        }
+        close(alloc, *id, script, text, output)?;
     }
     Ok(())
 }
@@ -190,8 +177,7 @@ fn close<V: Say, A: Admit, W: Write>(
     ensures err { IfErr result (TextFails
         (calls_written (core_in script.old) (closes (core_in script.old) id)).text
         (W.contents (inner_of output.old)) (W.contents (inner_of output.new))) }
-    ensures counts { EndsAsCounted 0 0 (failed_of output.old) (failed_of output.new) result }
-    ensures flushes { flushes_of output.new ≡ flushes_of output.old }
+    ensures calls { OnlyWrites output.old output.new result }
 {
     match vec![in alloc; id; script.handles(id) as usize] {
         Ok(ids) => call_all(SpanCall::Close, 0, &ids, script, text, output),
@@ -219,13 +205,10 @@ fn call_all<V: Say, A: Admit, W: Write>(
     ensures err { IfErr result (TextFails
         (calls_written (core_in script.old) (map (request_of_call call worker) ids.now)).text
         (W.contents (inner_of output.old)) (W.contents (inner_of output.new))) }
-    ensures counts { EndsAsCounted 0 0 (failed_of output.old) (failed_of output.new) result }
-    ensures flushes { flushes_of output.new ≡ flushes_of output.old }
+    ensures calls { OnlyWrites output.old output.new result }
 {
     for id in ids {
-        if let Err(fault) = call_one(call, worker, *id, script, text, output) {
-            return Err(fault);
-        }
+        call_one(call, worker, *id, script, text, output)?;
     }
     Ok(())
 }
@@ -250,8 +233,7 @@ fn call_one<V: Say, A: Admit, W: Write>(
     ensures err { IfErr result (TextFails
         (call_written (core_in script.old) (request_of_call call worker id)).text
         (W.contents (inner_of output.old)) (W.contents (inner_of output.new))) }
-    ensures counts { EndsAsCounted 0 0 (failed_of output.old) (failed_of output.new) result }
-    ensures flushes { flushes_of output.new ≡ flushes_of output.old }
+    ensures calls { OnlyWrites output.old output.new result }
 {
     text.clear();
     match script.call(call, worker, id, text) {
@@ -270,8 +252,7 @@ fn finish<W: Write>(
         × Appends (W.contents (inner_of output.old)) (W.contents (inner_of output.new)) (left_text left)) }
     ensures err { IfErr result (TextFails (left_text left)
         (W.contents (inner_of output.old)) (W.contents (inner_of output.new))) }
-    ensures counts { EndsAsCounted 0 0 (failed_of output.old) (failed_of output.new) result }
-    ensures flushes { flushes_of output.new ≡ flushes_of output.old }
+    ensures calls { OnlyWrites output.old output.new result }
 {
     text.clear();
     if write_left(text, left).is_err() {

@@ -1,14 +1,15 @@
 //! Running a whole script with nothing written but why spans are open where its lines end.
 ghost use Rattle.std.specs.Prelude.{◌≡◌, ◌+◌, ◌^◌, ◌<◌, ◌≤◌, ℕ, [], false, length, option_copied};
-ghost use Rattle.std.specs.Prelude.{IfOk, IfErr, IfSome, IfNone, IsOk, OnOk};
+ghost use Rattle.std.specs.Prelude.{IfOk, IfErr, IfSome, IfNone, IsOk, IsTrue, OnOk};
 ghost use Rattle.std.specs.Io.KnownBytes.{Appends, IsAtEnd};
 ghost use Rattle.span_json.specs.Seen.{view};
-ghost use Rattle.span_run.specs.Counted.{inner_of, calls_of, failed_of, flushes_of, flushed_of};
+ghost use Rattle.span_run.specs.Counted.{inner_of, calls_of, failed_of};
 ghost use Rattle.span_replay.specs.ReplayFault.{EndsAsCounted};
 ghost use Rattle.span_replay.specs.Explained.{IsWholeWhy, first_reached, label_by, label_in, why_meaning, why_run};
 ghost use Rattle.span_replay.specs.Meaning.{Transcript, line_turn, value_turn};
 ghost use Rattle.span_replay.specs.Replayed.{FlushesOnce, KeepsUnread, Runs};
-ghost use Rattle.span_replay.specs.inside.Reaching.{HasEnd, IsExplained, IsOfReading, SetsTo};
+ghost use Rattle.span_replay.specs.inside.Ended.{has_end};
+ghost use Rattle.span_replay.specs.inside.Reaching.{IsExplained, IsOfReading, SetsTo};
 ghost use Rattle.span_replay.specs.inside.Reaching.{reached_at, resumed_why, set_up_at};
 ghost use Rattle.span_replay.specs.inside.Running.{IsWritten};
 ghost use Rattle.span_replay.specs.inside.Setup.{hooks_in, setup_state};
@@ -53,7 +54,7 @@ pub fn why_with_layers<R: Read, W: Write>(
     ensures flushed { FlushesOnce
         (IsWholeWhy layers (option_copied about.entry) (R.remaining (inner_of input.old))
         (W.contents (inner_of output.old)) (W.contents (inner_of output.new)))
-        (flushes_of output.old) (flushes_of output.new) (flushed_of output.new) result }
+        output.old output.new result }
     ensures counts { EndsAsCounted
         (failed_of input.old) (failed_of input.new) (failed_of output.old) (failed_of output.new) result }
     ensures reads { calls_of input.new ≤ calls_of input.old + 16777217 }
@@ -64,22 +65,18 @@ pub fn why_with_layers<R: Read, W: Write>(
 
 /// Writes a text, flushes, and ends as was found.
 fn tell<W: Write>(explained: Explained, output: &mut Counted<W>) -> Result<u64, ReplayFault>
-    requires ends { HasEnd explained.ended }
+    requires ends { IsTrue (has_end explained.ended) }
     ensures runs { (meant : Transcript) → IsExplained meant explained →
         Runs meant (W.contents (inner_of output.old)) (W.contents (inner_of output.new)) result }
     ensures ok { OnOk result (IsOk explained.ended) }
     ensures flushed { FlushesOnce
         (Appends (W.contents (inner_of output.old)) (W.contents (inner_of output.new)) explained.text.items)
-        (flushes_of output.old) (flushes_of output.new) (flushed_of output.new) result }
+        output.old output.new result }
     ensures counts { EndsAsCounted 0 0 (failed_of output.old) (failed_of output.new) result }
 {
-    match send(output, explained.text.as_slice()) {
-        Ok(()) => match flush(output) {
-            Ok(()) => explained.ended,
-            Err(fault) => Err(fault),
-        },
-        Err(fault) => Err(fault),
-    }
+    send(output, explained.text.as_slice())?;
+    flush(output)?;
+    explained.ended
 }
 
 /// Reads a script to its end and runs its lines. The errors are `Memory` and `Read`.
@@ -91,7 +88,7 @@ fn explain_input<R: Read>(
 ) -> Result<Explained, ReplayFault>
     ensures explained { IfOk result (λ explained. IfSome (R.remaining (inner_of input.old)) (λ bytes.
         IsExplained (why_meaning layers (option_copied about.entry) bytes) explained)) }
-    ensures ends { IfOk result (λ explained. HasEnd explained.ended) }
+    ensures ends { IfOk result (λ explained. IsTrue (has_end explained.ended)) }
     ensures whole { IfOk result (λ explained. OnOk explained.ended (IsAtEnd (R.remaining (inner_of input.new)))) }
     ensures err { IfErr result IsOfReading }
     ensures counts { EndsAsCounted (failed_of input.old) (failed_of input.new) 0 0 result }

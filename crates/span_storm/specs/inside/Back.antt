@@ -27,6 +27,10 @@ HasOwn calls front =
 abbrev pub HasRounds : WorkerView → Type 0
 HasRounds worker = AreOfRounds worker.number (own worker.number worker.seen)
 
+-- the same, and so many more calls can be counted
+abbrev pub MayMake : ℕ → WorkerView → Type 0
+MayMake more worker = HasRounds worker × (worker.accepted + more < 2 ^ 64)
+
 -- the party is this worker, after as many calls as it made
 abbrev pub IsAt : WorkerView → ℕ → ℕ → Type 0
 IsAt worker party calls = (party ≡ worker.number) × (calls ≡ worker.accepted)

@@ -1,5 +1,6 @@
 //! The registry of a quiet program, with its worker and the reader of its lines, and the requests.
 ghost use Rattle.std.specs.Prelude.{◌≡◌, [], Some};
+ghost use Rattle.span_registry.specs.Blanks.{blanks_of};
 
 use crate::calls::parts::{PLACES, Parts};
 use crate::calls::quiet::caller::Caller;
@@ -49,15 +50,7 @@ fn run<H: Ledger, C: Ledger, S: Setup, V: Say + Drop, R: Wait>(
     requires workers { S.limits.workers ≡ 1 }
     requires setup { (filters.rules ≡ S.rules) × ([] ≡ S.forms) × (Some ring.name ≡ S.ring) }
     requires ring { ring.sent ≡ [] }
-    requires blanks { blanks ≡ record {
-      limits = S.limits;
-      handles = H.name;
-      handle_parts = H.parts;
-      calls = C.name;
-      call_parts = C.parts;
-      table = S.table;
-      history = S.history;
-    } }
+    requires blanks { blanks ≡ blanks_of S.limits H.name H.parts C.name C.parts S.table S.history }
 {
     let (registry, mut workers) = Registry::<H, C, S, Ring>::new(alloc, filters, ring, blanks)?;
     let Some(worker) = workers.pop() else {

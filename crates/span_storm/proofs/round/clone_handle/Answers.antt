@@ -1,11 +1,14 @@
 use Rattle.std.proofs.Common.{refl, ap}
+use Rattle.std.proofs.lemmas.Result.{err_from_is_err_and}
 use Rattle.span_outlet.specs.Request.{clone_span}
 use Rattle.span_registry.specs.Worker.{WorkerView}
 use Rattle.span_storm.proofs.Refusing.{is_sent, one_more_made, refused_call}
 use Rattle.span_storm.proofs.round.clone_handle.Goals as goal
 
-pub returns-in-Err-clause-stopped : goal.returns-in-Err-clause-stopped
-returns-in-Err-clause-stopped g c = refused_call _ _ _ _ (λ core. clone_span c.args.worker.now.number c.args.handle.now.id) c.in-Err.fault c.in_ok-ask.ensures.own c.requires.rounds c.in-Err.ensures.unchanged (λ core. (refl, c.requires.place)) (c.in-Err.ensures.was_refused c.requires.spare)
+pub returns-in_err-handle-clause-stopped : goal.returns-in_err-handle-clause-stopped
+returns-in_err-handle-clause-stopped g c =
+    let handed_on = err_from_is_err_and c.from_residual-in_err-handle.result c.from_residual-in_err-handle.ensures.1 in
+    rw (handed_on.1, handed_on.2) (refused_call _ _ _ _ (λ core. clone_span c.args.worker.now.number c.args.handle.now.id) _ c.in_ok-ask.ensures.own c.requires.rounds.0 c.in_err-handle.ensures.unchanged (λ core. (refl, c.requires.place)) (c.in_err-handle.ensures.was_refused c.requires.spare))
 
-pub returns-in-Ok-clause-rounds : goal.returns-in-Ok-clause-rounds
-returns-in-Ok-clause-rounds g c = one_more_made _ _ _ _ _ c.in_ok-ask.ensures.own c.requires.rounds c.in-Ok.ensures.happened (ap (λ (worker : WorkerView). worker.number) c.in-Ok.ensures.worker) (λ old new is. is_sent _ _ old new _ _ (refl, c.requires.place) is)
+pub returns-clause-rounds : goal.returns-clause-rounds
+returns-clause-rounds g c = one_more_made _ _ _ _ _ c.in_ok-ask.ensures.own c.requires.rounds.0 c.in_ok-handle.ensures.happened (ap (λ (worker : WorkerView). worker.number) c.in_ok-handle.ensures.worker) (λ old new is. is_sent _ _ old new _ _ (refl, c.requires.place) is)

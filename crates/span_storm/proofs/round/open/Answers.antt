@@ -1,4 +1,5 @@
 use Rattle.std.proofs.Common.{rules, refl, ap}
+use Rattle.std.proofs.lemmas.Result.{err_from_is_err_and}
 use Rattle.span_core.specs.Core.{CoreView}
 use Rattle.span_core.specs.Parent.{parent_found}
 use Rattle.span_id.specs.Meta.{plain_meta}
@@ -7,11 +8,13 @@ use Rattle.span_registry.specs.Worker.{WorkerView}
 use Rattle.span_storm.proofs.Refusing.{is_sent, one_more_made, refused_call}
 use Rattle.span_storm.proofs.round.open.Goals as goal
 
-pub returns-in-Err-clause-stopped : goal.returns-in-Err-clause-stopped
-returns-in-Err-clause-stopped g c = refused_call _ _ _ _ (λ (core : CoreView). new_span c.args.worker.now.number (plain_meta c.args.meta.now) _ (parent_found core.world c.args.worker.now.number c.args.parent)) c.in-Err.fault c.in_ok-ask.ensures.own c.requires.rounds c.in-Err.ensures.unchanged (λ core. (refl, search rules, c.requires.span core.world)) (c.in-Err.ensures.was_refused c.requires.spare)
+pub returns-in_err-handle-clause-stopped : goal.returns-in_err-handle-clause-stopped
+returns-in_err-handle-clause-stopped g c =
+    let handed_on = err_from_is_err_and c.from_residual-in_err-handle.result c.from_residual-in_err-handle.ensures.1 in
+    rw (handed_on.1, handed_on.2) (refused_call _ _ _ _ (λ (core : CoreView). new_span c.args.worker.now.number (plain_meta c.args.meta.now) _ (parent_found core.world c.args.worker.now.number c.args.parent)) _ c.in_ok-ask.ensures.own c.requires.rounds.0 c.in_err-handle.ensures.unchanged (λ core. (refl, search rules, c.requires.span core.world)) (c.in_err-handle.ensures.was_refused c.requires.spare))
 
-pub returns-in-Ok-Some-clause-rounds : goal.returns-in-Ok-Some-clause-rounds
-returns-in-Ok-Some-clause-rounds g c =
-    let happened = rw c.in-Ok-Some.field-0-is at c.in-Ok-Some.ensures.happened in
-    let worker = rw c.in-Ok-Some.field-0-is at c.in-Ok-Some.ensures.worker in
-    one_more_made _ _ _ _ _ c.in_ok-ask.ensures.own c.requires.rounds happened (ap (λ (worker : WorkerView). worker.number) worker) (λ old new is. is_sent _ _ old new _ _ (refl, search rules, c.requires.span old.world) is.0)
+pub returns-clause-rounds : goal.returns-clause-rounds
+returns-clause-rounds g c =
+    let happened = rw c.in-Some.is at c.in_ok-handle.ensures.happened in
+    let worker = rw c.in-Some.is at c.in_ok-handle.ensures.worker in
+    one_more_made _ _ _ _ _ c.in_ok-ask.ensures.own c.requires.rounds.0 happened (ap (λ (worker : WorkerView). worker.number) worker) (λ old new is. is_sent _ _ old new _ _ (refl, search rules, c.requires.span old.world) is.0)

@@ -5,7 +5,10 @@ use Rattle.span_storm.proofs.Refusing.{none_made}
 use Rattle.span_storm.proofs.round.work.Goals as goal
 
 pub make_rounds-requires-clause-rounds : goal.make_rounds-requires-clause-rounds
-make_rounds-requires-clause-rounds g c = none_made c.args.worker (sym c.accepted-none.ensures.own ∙ (c.accepted-none.ensures.value ∙ c.requires.new))
+make_rounds-requires-clause-rounds g c = (
+  none_made c.args.worker (sym c.accepted-none.ensures.own ∙ (c.accepted-none.ensures.value ∙ c.requires.new)),
+  omega (arith, c.requires.new, c.ranges.rounds),
+)
 
 pub returns-in_err-make_rounds-clause-stopped : goal.returns-in_err-make_rounds-clause-stopped
 returns-in_err-make_rounds-clause-stopped g c =

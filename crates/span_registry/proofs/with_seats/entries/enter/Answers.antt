@@ -1,4 +1,3 @@
-use Rattle.std.proofs.Common.{◌<◌, ◌^◌, length, rules}
 use Rattle.span_outlet.specs.Request.{enter, entered}
 use Rattle.span_core.proofs.Deciding.{handle_from}
 use Rattle.span_registry.proofs.Seats.{span_is_held, seated_back, seated_entered, seated_done, done_of, joined_opens, shown_is}
@@ -15,5 +14,4 @@ returns-clause-seated g c =
 pub returns-clause-done : goal.returns-clause-done
 returns-clause-done g c =
     let known = handle_from c.args.core.now.world.spans c.handle.inside.id (span_is_held c.args.core.now c.args.root.now c.join.new.self c.take_seat.result c.handle.inside.id c.requires.seated c.join.ensures.in_set (shown_is c.take_seat.ensures c.handle.invariant.0) c.join.ensures.root) in
-    let fits : length c.enter-done.new.self.sent < 2 ^ 64 = search rules in
-    rw (← c.handle.view_is) (done_of c.enter-done.result c.args.core.now c.enter-done.new.self (enter c.args.worker c.handle.inside.id) entered known c.calls.ensures.legal c.calls-2.ensures.legal fits c.enter-done.ensures.accepted c.enter-done.ensures.refused)
+    rw (← c.handle.view_is) (done_of c.enter-done.result c.args.core.now c.enter-done.new.self (enter c.args.worker c.handle.inside.id) entered known c.what_was_sent_is_legal.ensures.legal c.what_was_sent_is_legal-2.ensures.legal c.what_was_sent_is_legal-2.ensures.fits c.enter-done.ensures.accepted c.enter-done.ensures.refused)

@@ -1,4 +1,3 @@
-use Rattle.std.proofs.Common.{◌<◌, ◌^◌, length, rules}
 use Rattle.span_id.specs.Meta.{plain_fields}
 use Rattle.span_outlet.specs.Request.{record_fields, recorded}
 use Rattle.span_core.proofs.Deciding.{handle_from}
@@ -16,5 +15,4 @@ returns-clause-seated g c =
 pub returns-clause-done : goal.returns-clause-done
 returns-clause-done g c =
     let known = handle_from c.args.core.now.world.spans c.handle.inside.id (span_is_held c.args.core.now c.args.root.now c.join.new.self c.take_seat.result c.handle.inside.id c.requires.seated c.join.ensures.in_set (shown_is c.take_seat.ensures c.handle.invariant.0) c.join.ensures.root) in
-    let fits : length c.record-done.new.self.sent < 2 ^ 64 = search rules in
-    rw (← c.handle.view_is) (done_of c.record-done.result c.args.core.now c.record-done.new.self (record_fields c.args.worker c.handle.inside.id (plain_fields c.args.fields.now)) (λ _. recorded) known c.calls.ensures.legal c.calls-2.ensures.legal fits c.record-done.ensures.accepted c.record-done.ensures.refused)
+    rw (← c.handle.view_is) (done_of c.record-done.result c.args.core.now c.record-done.new.self (record_fields c.args.worker c.handle.inside.id (plain_fields c.args.fields.now)) (λ _. recorded) known c.what_was_sent_is_legal.ensures.legal c.what_was_sent_is_legal-2.ensures.legal c.what_was_sent_is_legal-2.ensures.fits c.record-done.ensures.accepted c.record-done.ensures.refused)

@@ -1,4 +1,4 @@
-use Rattle.std.proofs.Common.{◌<◌, ◌^◌, ap, ◌∙◌, length, rules}
+use Rattle.std.proofs.Common.{ap, ◌∙◌}
 use Rattle.span_core.proofs.Deciding.{handle_from}
 use Rattle.span_seats.specs.RootView.{with_number}
 use Rattle.span_registry.proofs.Bridge.{sound_of}
@@ -10,13 +10,13 @@ pub try_close_with-requires-clause-may : goal.try_close_with-requires-clause-may
 try_close_with-requires-clause-may g c due lent list lent_is list_is =
     let l = c.each_slot_has_one_open_span.ensures in
     rw (lent_is, list_is)
-    (released_may_close c.args.core.now c.args.root.now c.join.new.self c.args.seat c.args.id c.requires.seated c.join.ensures.in_set c.requires.shown c.join.ensures.root c.calls.ensures.legal (sound_of _ l.one_slot l.in_layout))
+    (released_may_close c.args.core.now c.args.root.now c.join.new.self c.args.seat c.args.id c.requires.seated c.join.ensures.in_set c.requires.shown c.join.ensures.root c.what_was_sent_is_legal.ensures.legal (sound_of _ l.one_slot l.in_layout))
 
 pub returns-in-Ok-clause-seated : goal.returns-in-Ok-clause-seated
 returns-in-Ok-clause-seated g c =
     let l = c.each_slot_has_one_open_span.ensures in
     let shown = c.in-Ok.ensures.shown in
-    seated_released c.args.core.now c.args.root.now c.join.new.self c.args.seat c.args.id c.requires.seated c.join.ensures.in_set c.requires.shown c.join.ensures.root c.calls.ensures.legal (sound_of _ l.one_slot l.in_layout)
+    seated_released c.args.core.now c.args.root.now c.join.new.self c.args.seat c.args.id c.requires.seated c.join.ensures.in_set c.requires.shown c.join.ensures.root c.what_was_sent_is_legal.ensures.legal (sound_of _ l.one_slot l.in_layout)
     c.try_close_with.new.self c.args.worker c.in-Ok.ensures.accepted c.try_close_with.new.state
     (shown_handles _ _ c.join.new.self c.try_close_with.new.state shown.lent_is shown.left_is shown.called.0)
     (shown_words _ _ c.join.new.self c.try_close_with.new.state _ _ shown.lent_is shown.left_is shown.list_is shown.called.1.1)
@@ -27,8 +27,7 @@ returns-in-Err-clause-seated g c =
 
 pub returns-in-Ok-clause-done : goal.returns-in-Ok-clause-done
 returns-in-Ok-clause-done g c =
-    let fits : length c.try_close_with.new.self.sent < 2 ^ 64 = search rules in
-    (counted_of _ _ _ _ c.calls.ensures.legal c.calls-in-Ok.ensures.legal fits c.in-Ok.ensures.accepted, c.in-Ok.ensures.closed)
+    (counted_of _ _ _ _ c.what_was_sent_is_legal.ensures.legal c.what_was_sent_is_legal-in-Ok.ensures.legal c.what_was_sent_is_legal-in-Ok.ensures.fits c.in-Ok.ensures.accepted, c.in-Ok.ensures.closed)
 
 pub split-requires : goal.split-requires
 split-requires g c = joined_opens c.args.root.now c.try_close_with.new.state _ _ (c.in-Err.ensures.not_shown ∙ c.join.ensures.root) c.join.ensures.is_open

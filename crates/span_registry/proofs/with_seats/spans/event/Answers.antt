@@ -1,4 +1,3 @@
-use Rattle.std.proofs.Common.{◌<◌, ◌^◌, length, rules}
 use Rattle.std.proofs.lemmas.Result.{IfOk-weaker}
 use Rattle.span_outlet.specs.Request.{told}
 use Rattle.span_registry.proofs.Seats.{seated_done, seated_told}
@@ -11,5 +10,4 @@ returns-clause-seated g c =
 
 pub returns-clause-accepted : goal.returns-clause-accepted
 returns-clause-accepted g c =
-    let fits : length c.event_in-done.new.self.sent < 2 ^ 64 = search rules in
-    IfOk-weaker c.event_in-done.result _ _ (λ _ accepted. counted_of _ _ _ _ c.calls.ensures.legal c.calls-2.ensures.legal fits accepted) c.event_in-done.ensures.accepted
+    IfOk-weaker c.event_in-done.result _ _ (λ _ accepted. counted_of _ _ _ _ c.what_was_sent_is_legal.ensures.legal c.what_was_sent_is_legal-2.ensures.legal c.what_was_sent_is_legal-2.ensures.fits accepted) c.event_in-done.ensures.accepted

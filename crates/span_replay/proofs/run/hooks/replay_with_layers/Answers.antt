@@ -6,4 +6,4 @@ pub returns-in-Ok-clause-replayed : goal.returns-in-Ok-clause-replayed
 returns-in-Ok-clause-replayed g c = replayed_same _ _ _ _ _ _ (c.in-Ok.ensures ∙ c.min.ensures) c.replay.ensures.replayed
 
 pub returns-in-Ok-clause-flushed : goal.returns-in-Ok-clause-flushed
-returns-in-Ok-clause-flushed g c = flushed_same _ _ _ _ _ _ _ _ _ (c.in-Ok.ensures ∙ c.min.ensures) c.replay.ensures.flushed
+returns-in-Ok-clause-flushed g c = flushed_same _ _ _ _ _ _ _ _ (c.in-Ok.ensures ∙ c.min.ensures) c.replay.ensures.flushed

@@ -14,7 +14,7 @@ returns-in_err-script-clause-unread g c =
     rw (p.1, p.2) (unread_kept _ _)
 
 pub returns-clause-unread : goal.returns-clause-unread
-returns-clause-unread g c = read_kept _ _ _ _ _ c.run_script.ensures.counts
+returns-clause-unread g c = read_kept _ _ _ _ _ c.run_script.ensures.calls.0
 
 pub returns-clause-counts : goal.returns-clause-counts
-returns-clause-counts g c = ends_read _ _ _ _ _ c.in_ok-script.ensures.counts.0 c.run_script.ensures.counts
+returns-clause-counts g c = ends_read _ _ _ _ _ c.in_ok-script.ensures.counts.0 c.run_script.ensures.calls.0

@@ -1,91 +1,68 @@
-use Rattle.std.proofs.Common.{ap, ◌∙◌}
+use Rattle.std.proofs.Common.{ap, sym, ◌∙◌}
+use Rattle.std.proofs.lemmas.Result.{err_from_is_err_and}
 use Rattle.span_run.specs.Counted.{next_count}
-use Rattle.span_replay.proofs.Flushes.{flush_counts, flush_fails, flush_once, flush_read, ok_kept, script_counts, script_kept, whole_kept, whole_ok, whole_script}
+use Rattle.span_replay.proofs.Flushes.{ended_counts, ended_kept, ended_once, ended_unread, ended_whole, flush_counts, flush_fails, flush_once, flush_read, never_flushed, none_failed, whole_kept}
 use Rattle.span_replay.proofs.Left.{nothing_left}
 use Rattle.span_replay.proofs.Written.{none_told}
 use Rattle.span_replay.proofs.run.replay.replay.Goals as goal
 
--- ---- a run that ended well
-
-pub returns-in-Ok-flush-clause-replayed : goal.returns-in-Ok-flush-clause-replayed
-returns-in-Ok-flush-clause-replayed g c = ok_kept _ _ _ _ _ _ c.in-Ok.ensures.replayed c.in-Ok-flush.ensures.keeps
-
-pub returns-in-Ok-flush-clause-left : goal.returns-in-Ok-flush-clause-left
-returns-in-Ok-flush-clause-left g c = nothing_left _ _ _ _ _ c.in-Ok.ensures.replayed
-
-pub returns-in-Ok-flush-clause-flushed : goal.returns-in-Ok-flush-clause-flushed
-returns-in-Ok-flush-clause-flushed g c = (
-  whole_kept _ _ _ _ _ (whole_ok _ _ _ _ _ c.in-Ok.ensures.replayed) c.in-Ok-flush.ensures.keeps,
-  c.in-Ok-flush.ensures.once ∙ ap next_count c.in-Ok.ensures.flushes,
-  c.in-Ok-flush.ensures.flushed,
-)
-
-pub returns-in-Ok-flush-clause-counts : goal.returns-in-Ok-flush-clause-counts
-returns-in-Ok-flush-clause-counts g c = (c.in-Ok.ensures.counts.0, c.in-Ok-flush.ensures.counts.1 ∙ c.in-Ok.ensures.counts.1)
-
-pub returns-in-Err-clause-replayed : goal.returns-in-Err-clause-replayed
-returns-in-Err-clause-replayed g c = flush_fails _ _ _ _ _ (whole_kept _ _ _ _ _ (whole_ok _ _ _ _ _ c.in-Ok.ensures.replayed) c.in-Err.ensures.keeps) c.in-Err.ensures.device
-
-pub returns-in-Err-clause-left : goal.returns-in-Err-clause-left
-returns-in-Err-clause-left g c = none_told _
-
-pub returns-in-Err-clause-flushed : goal.returns-in-Err-clause-flushed
-returns-in-Err-clause-flushed g c =
-    flush_once _ _ _ _ (whole_kept _ _ _ _ _ (whole_ok _ _ _ _ _ c.in-Ok.ensures.replayed) c.in-Err.ensures.keeps) (c.in-Err.ensures.once ∙ ap next_count c.in-Ok.ensures.flushes) c.in-Err.ensures.device
-
-pub returns-in-Err-clause-unread : goal.returns-in-Err-clause-unread
-returns-in-Err-clause-unread g c = flush_read _ _ _ c.in-Err.ensures.device
-
-pub returns-in-Err-clause-counts : goal.returns-in-Err-clause-counts
-returns-in-Err-clause-counts g c = flush_counts _ _ _ _ _ _ c.in-Ok.ensures.counts.0 c.in-Ok.ensures.counts.1 c.in-Err.ensures.counts c.in-Err.ensures.device
-
--- ---- a run that ended at a fault of the script
-
-pub returns-in-Ok-flush-2-clause-replayed : goal.returns-in-Ok-flush-2-clause-replayed
-returns-in-Ok-flush-2-clause-replayed g c = script_kept _ _ _ _ _ _ _ _ c.in-Err-Script.field-0-is c.in-Err-Script.ensures.replayed c.in-Ok-flush-2.ensures.keeps
-
-pub returns-in-Ok-flush-2-clause-left : goal.returns-in-Ok-flush-2-clause-left
-returns-in-Ok-flush-2-clause-left g c = none_told _
-
-pub returns-in-Ok-flush-2-clause-flushed : goal.returns-in-Ok-flush-2-clause-flushed
-returns-in-Ok-flush-2-clause-flushed g c = (
-  whole_kept _ _ _ _ _ (whole_script _ _ _ _ _ _ _ c.in-Err-Script.field-0-is c.in-Err-Script.ensures.replayed) c.in-Ok-flush-2.ensures.keeps,
-  c.in-Ok-flush-2.ensures.once ∙ ap next_count c.in-Err-Script.ensures.flushes,
-  c.in-Ok-flush-2.ensures.flushed,
-)
-
-pub returns-in-Ok-flush-2-clause-counts : goal.returns-in-Ok-flush-2-clause-counts
-returns-in-Ok-flush-2-clause-counts g c =
-    let none = script_counts _ _ _ _ _ _ _ c.in-Err-Script.field-0-is c.in-Err-Script.ensures.counts in
-    (none.0, c.in-Ok-flush-2.ensures.counts.1 ∙ none.1)
-
-pub returns-in-Err-flush-clause-replayed : goal.returns-in-Err-flush-clause-replayed
-returns-in-Err-flush-clause-replayed g c =
-    flush_fails _ _ _ _ _ (whole_kept _ _ _ _ _ (whole_script _ _ _ _ _ _ _ c.in-Err-Script.field-0-is c.in-Err-Script.ensures.replayed) c.in-Err-flush.ensures.keeps) c.in-Err-flush.ensures.device
-
-pub returns-in-Err-flush-clause-left : goal.returns-in-Err-flush-clause-left
-returns-in-Err-flush-clause-left g c = none_told _
-
-pub returns-in-Err-flush-clause-flushed : goal.returns-in-Err-flush-clause-flushed
-returns-in-Err-flush-clause-flushed g c =
-    flush_once _ _ _ _ (whole_kept _ _ _ _ _ (whole_script _ _ _ _ _ _ _ c.in-Err-Script.field-0-is c.in-Err-Script.ensures.replayed) c.in-Err-flush.ensures.keeps) (c.in-Err-flush.ensures.once ∙ ap next_count c.in-Err-Script.ensures.flushes)
-    c.in-Err-flush.ensures.device
-
-pub returns-in-Err-flush-clause-unread : goal.returns-in-Err-flush-clause-unread
-returns-in-Err-flush-clause-unread g c = flush_read _ _ _ c.in-Err-flush.ensures.device
-
-pub returns-in-Err-flush-clause-counts : goal.returns-in-Err-flush-clause-counts
-returns-in-Err-flush-clause-counts g c =
-    let none = script_counts _ _ _ _ _ _ _ c.in-Err-Script.field-0-is c.in-Err-Script.ensures.counts in
-    flush_counts _ _ _ _ _ _ none.0 none.1 c.in-Err-flush.ensures.counts c.in-Err-flush.ensures.device
-
 -- ---- a run that ended before
 
-pub returns-in-Err-Memory-clause-left : goal.returns-in-Err-Memory-clause-left
-returns-in-Err-Memory-clause-left g c = none_told _
+pub returns-then-not-has_end-clause-left : goal.returns-then-not-has_end-clause-left
+returns-then-not-has_end-clause-left g c = nothing_left _ _ _ _ _ c.read_and_run-ended.ensures.replayed
 
-pub returns-in-Err-Read-clause-left : goal.returns-in-Err-Read-clause-left
-returns-in-Err-Read-clause-left g c = none_told _
+pub returns-then-not-has_end-clause-flushed : goal.returns-then-not-has_end-clause-flushed
+returns-then-not-has_end-clause-flushed g c = never_flushed _ _ _ _ (sym c.has_end.ensures ∙ c.if-not-has_end.true) c.read_and_run-ended.ensures.flushes
 
-pub returns-in-Err-Write-clause-left : goal.returns-in-Err-Write-clause-left
-returns-in-Err-Write-clause-left g c = none_told _
+-- ---- a run that came to an end of its own
+
+pub returns-clause-replayed : goal.returns-clause-replayed
+returns-clause-replayed g c = ended_kept _ _ _ _ _ _ (sym c.has_end.ensures ∙ c.if-not-has_end.false) c.read_and_run-ended.ensures.replayed c.in_ok-flush.ensures.keeps
+
+pub returns-clause-left : goal.returns-clause-left
+returns-clause-left g c = nothing_left _ _ _ _ _ c.read_and_run-ended.ensures.replayed
+
+pub returns-clause-unread : goal.returns-clause-unread
+returns-clause-unread g c = ended_unread _ _ _ (sym c.has_end.ensures ∙ c.if-not-has_end.false)
+
+pub returns-clause-flushed : goal.returns-clause-flushed
+returns-clause-flushed g c =
+    ended_once _ _ _ (sym c.has_end.ensures ∙ c.if-not-has_end.false) (record {
+      whole = whole_kept _ _ _ _ _ (ended_whole _ _ _ _ _ (sym c.has_end.ensures ∙ c.if-not-has_end.false) c.read_and_run-ended.ensures.replayed) c.in_ok-flush.ensures.keeps;
+      once = c.in_ok-flush.ensures.once ∙ ap next_count c.read_and_run-ended.ensures.flushes;
+      last = c.in_ok-flush.ensures.flushed;
+    })
+
+pub returns-clause-counts : goal.returns-clause-counts
+returns-clause-counts g c =
+    let none = none_failed _ _ _ _ _ (sym c.has_end.ensures ∙ c.if-not-has_end.false) c.read_and_run-ended.ensures.counts in
+    ended_counts _ _ _ _ _ (sym c.has_end.ensures ∙ c.if-not-has_end.false) none.0 (c.in_ok-flush.ensures.counts.1 ∙ none.1)
+
+-- ---- the flush failed
+
+pub returns-in_err-flush-clause-replayed : goal.returns-in_err-flush-clause-replayed
+returns-in_err-flush-clause-replayed g c =
+    let p = err_from_is_err_and c.from_residual.result c.from_residual.ensures.1 in
+    rw (p.1, p.2) (flush_fails _ _ _ _ _ (whole_kept _ _ _ _ _ (ended_whole _ _ _ _ _ (sym c.has_end.ensures ∙ c.if-not-has_end.false) c.read_and_run-ended.ensures.replayed) c.in_err-flush.ensures.keeps) c.in_err-flush.ensures.device)
+
+pub returns-in_err-flush-clause-left : goal.returns-in_err-flush-clause-left
+returns-in_err-flush-clause-left g c =
+    let p = err_from_is_err_and c.from_residual.result c.from_residual.ensures.1 in
+    rw p.1 (none_told _)
+
+pub returns-in_err-flush-clause-flushed : goal.returns-in_err-flush-clause-flushed
+returns-in_err-flush-clause-flushed g c =
+    let p = err_from_is_err_and c.from_residual.result c.from_residual.ensures.1 in
+    rw (p.1, p.2) (flush_once _ _ _ (whole_kept _ _ _ _ _ (ended_whole _ _ _ _ _ (sym c.has_end.ensures ∙ c.if-not-has_end.false) c.read_and_run-ended.ensures.replayed) c.in_err-flush.ensures.keeps)
+    (c.in_err-flush.ensures.once ∙ ap next_count c.read_and_run-ended.ensures.flushes) c.in_err-flush.ensures.device)
+
+pub returns-in_err-flush-clause-unread : goal.returns-in_err-flush-clause-unread
+returns-in_err-flush-clause-unread g c =
+    let p = err_from_is_err_and c.from_residual.result c.from_residual.ensures.1 in
+    rw (p.1, p.2) (flush_read _ _ _ c.in_err-flush.ensures.device)
+
+pub returns-in_err-flush-clause-counts : goal.returns-in_err-flush-clause-counts
+returns-in_err-flush-clause-counts g c =
+    let p = err_from_is_err_and c.from_residual.result c.from_residual.ensures.1 in
+    let none = none_failed _ _ _ _ _ (sym c.has_end.ensures ∙ c.if-not-has_end.false) c.read_and_run-ended.ensures.counts in
+    rw (p.1, p.2) (flush_counts _ _ _ _ _ _ none.0 none.1 c.in_err-flush.ensures.counts c.in_err-flush.ensures.device)

@@ -1,4 +1,5 @@
 use Rattle.std.proofs.Common.{rules, arith, refl, sym, ◌∙◌, drop_of_length-le}
+use Rattle.std.proofs.lemmas.Result.{err_from_is_err_and}
 use Rattle.span_replay.proofs.LineTurns.{skipped_line, stop_fails, turn_begun, turn_written}
 use Rattle.span_replay.proofs.Written.{sent_none, loop_more, loop_fails, loop_ends}
 use Rattle.span_replay.proofs.Flushes.{fails_from}
@@ -34,11 +35,11 @@ loop-lines-preserved g c =
     let shorter = c.cut_line.ensures.shorter in
     record {
       sent = λ hooks has. loop_more hooks _ _ _ _ _ _ _ _ c.cut_line.result.0.now c.cut_line.result.1.now (before.sent hooks has) c.cut_line.ensures.line
-          (turn_written _ _ _ _ _ _ _ refl (c.in_default.ensures.turned hooks (before.hooks hooks has)) c.as_slice.ensures.value c.in_default-send.ensures.ok);
+          (turn_written _ _ _ _ _ _ _ refl (c.in_default.ensures.turned hooks (before.hooks hooks has)) c.as_slice.ensures.value c.in_ok-send.ensures.ok);
       ready = c.in_default.ensures.ready;
       hooks = λ hooks has. c.in_default.ensures.hooks hooks (before.hooks hooks has);
-      failed = c.in_default-send.ensures.counts.1 ∙ before.failed;
-      flushes = c.in_default-send.ensures.flushes ∙ before.flushes;
+      failed = c.in_ok-send.ensures.calls.0.1 ∙ before.failed;
+      flushes = c.in_ok-send.ensures.calls.1 ∙ before.flushes;
       place = let place = before.place in omega (arith, place, shorter);
     }
 
@@ -55,14 +56,14 @@ returns-in-Err-clause-err g c = λ hooks has.
 
 -- ---- the writer ended it
 
-pub returns-in-Err-send-clause-err : goal.returns-in-Err-send-clause-err
-returns-in-Err-send-clause-err g c = λ hooks has.
+pub returns-in_err-send-clause-err : goal.returns-in_err-send-clause-err
+returns-in_err-send-clause-err g c =
+    let p = err_from_is_err_and c.from_residual.result c.from_residual.ensures.1 in
     let before = c.loop-lines.invariant in
-    loop_fails hooks _ _ _ _ _ _ _ c.cut_line.result.0.now c.cut_line.result.1.now _ (before.sent hooks has) c.cut_line.ensures.line
-    (turn_begun _ _ _ _ _ _ _ _ _ refl (c.in_default.ensures.turned hooks (before.hooks hooks has)) c.as_slice.ensures.value c.in-Err-send.ensures.device c.in-Err-send.ensures.front)
+    rw (p.1, p.2) (λ hooks has. loop_fails hooks _ _ _ _ _ _ _ c.cut_line.result.0.now c.cut_line.result.1.now _ (before.sent hooks has) c.cut_line.ensures.line
+    (turn_begun _ _ _ _ _ _ _ _ _ refl (c.in_default.ensures.turned hooks (before.hooks hooks has)) c.as_slice.ensures.value c.in_err-send.ensures.device c.in_err-send.ensures.front))
 
-pub returns-in-Err-send-clause-counts : goal.returns-in-Err-send-clause-counts
-returns-in-Err-send-clause-counts g c = fails_from _ _ _ _ c.loop-lines.invariant.failed c.in-Err-send.ensures.counts
-
-pub returns-in-Err-send-clause-flushes : goal.returns-in-Err-send-clause-flushes
-returns-in-Err-send-clause-flushes g c = c.in-Err-send.ensures.flushes ∙ c.loop-lines.invariant.flushes
+pub returns-in_err-send-clause-calls : goal.returns-in_err-send-clause-calls
+returns-in_err-send-clause-calls g c =
+    let p = err_from_is_err_and c.from_residual.result c.from_residual.ensures.1 in
+    rw (p.1, p.2) (fails_from _ _ _ _ c.loop-lines.invariant.failed c.in_err-send.ensures.calls.0, c.in_err-send.ensures.calls.1 ∙ c.loop-lines.invariant.flushes)

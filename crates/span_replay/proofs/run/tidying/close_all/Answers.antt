@@ -1,4 +1,5 @@
 use Rattle.std.proofs.Common.{◌≡◌, ◌∙◌, ℕ, List, refl, sym, subst}
+use Rattle.std.proofs.lemmas.Result.{err_from_is_err_and}
 use Rattle.span_core.specs.Core.{CoreView}
 use Rattle.span_replay.specs.inside.Turns.{ArePartlyMade}
 use Rattle.span_replay.specs.Written.{closes, each_written}
@@ -19,23 +20,24 @@ loop-id-init g c = record {
   flushes = refl;
 }
 
-pub returns-in-Err-clause-err : goal.returns-in-Err-clause-err
-returns-in-Err-clause-err g c = each_fails closes _ _ _ _ _ _ _ _ _ c.loop-id.invariant.made c.in-Some.ensures.steps c.in-Err.ensures.err
+pub returns-in_err-close-clause-err : goal.returns-in_err-close-clause-err
+returns-in_err-close-clause-err g c =
+    let p = err_from_is_err_and c.from_residual.result c.from_residual.ensures.1 in
+    rw (p.1, p.2) (each_fails closes _ _ _ _ _ _ _ _ _ c.loop-id.invariant.made c.in-Some.ensures.steps c.in_err-close.ensures.err)
 
 pub loop-id-preserved : goal.loop-id-preserved
 loop-id-preserved g c = record {
-  made = each_made closes _ _ _ _ _ _ _ _ _ c.loop-id.invariant.made c.in-Some.ensures.steps c.in_default.ensures.made;
-  written = c.in_default.ensures.written;
-  workers = c.in_default.ensures.workers ∙ c.loop-id.invariant.workers;
-  failed = c.in_default.ensures.counts.1 ∙ c.loop-id.invariant.failed;
-  flushes = c.in_default.ensures.flushes ∙ c.loop-id.invariant.flushes;
+  made = each_made closes _ _ _ _ _ _ _ _ _ c.loop-id.invariant.made c.in-Some.ensures.steps c.in_ok-close.ensures.made;
+  written = c.in_ok-close.ensures.written;
+  workers = c.in_ok-close.ensures.workers ∙ c.loop-id.invariant.workers;
+  failed = c.in_ok-close.ensures.calls.0.1 ∙ c.loop-id.invariant.failed;
+  flushes = c.in_ok-close.ensures.calls.1 ∙ c.loop-id.invariant.flushes;
 }
 
 pub returns-clause-made : goal.returns-clause-made
 returns-clause-made g c = each_ends closes _ _ _ _ _ c.loop-id.invariant.made c.in-None.ensures.steps.0
 
-pub returns-in-Err-clause-counts : goal.returns-in-Err-clause-counts
-returns-in-Err-clause-counts g c = fails_from _ _ _ _ c.loop-id.invariant.failed c.in-Err.ensures.counts
-
-pub returns-in-Err-clause-flushes : goal.returns-in-Err-clause-flushes
-returns-in-Err-clause-flushes g c = c.in-Err.ensures.flushes ∙ c.loop-id.invariant.flushes
+pub returns-in_err-close-clause-calls : goal.returns-in_err-close-clause-calls
+returns-in_err-close-clause-calls g c =
+    let p = err_from_is_err_and c.from_residual.result c.from_residual.ensures.1 in
+    rw (p.1, p.2) (fails_from _ _ _ _ c.loop-id.invariant.failed c.in_err-close.ensures.calls.0, c.in_err-close.ensures.calls.1 ∙ c.loop-id.invariant.flushes)

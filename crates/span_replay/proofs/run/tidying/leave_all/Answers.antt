@@ -1,4 +1,5 @@
 use Rattle.std.proofs.Common.{◌≡◌, ◌-◌, ◌∙◌, ℕ, refl, arith}
+use Rattle.std.proofs.lemmas.Result.{err_from_is_err_and}
 use Rattle.std.specs.List.{range_with_len}
 use Rattle.span_core.specs.Core.{CoreView}
 use Rattle.span_replay.specs.inside.Turns.{ArePartlyMade}
@@ -21,24 +22,25 @@ loop-worker-init g c = record {
   flushes = refl;
 }
 
-pub returns-in-Err-clause-err : goal.returns-in-Err-clause-err
-returns-in-Err-clause-err g c = each_fails exits _ _ _ _ _ _ _ _ _ c.loop-worker.invariant.made (one_worker _ _ c.loop-worker-test.true) c.in-Err.ensures.err
+pub returns-in_err-leave-clause-err : goal.returns-in_err-leave-clause-err
+returns-in_err-leave-clause-err g c =
+    let p = err_from_is_err_and c.from_residual.result c.from_residual.ensures.1 in
+    rw (p.1, p.2) (each_fails exits _ _ _ _ _ _ _ _ _ c.loop-worker.invariant.made (one_worker _ _ c.loop-worker-test.true) c.in_err-leave.ensures.err)
 
 pub loop-worker-preserved : goal.loop-worker-preserved
 loop-worker-preserved g c = record {
-  made = each_made exits _ _ _ _ _ _ _ _ _ c.loop-worker.invariant.made (one_worker _ _ c.loop-worker-test.true) c.in_default.ensures.made;
-  written = c.in_default.ensures.written;
-  labels = c.in_default.ensures.labels ∙ c.loop-worker.invariant.labels;
-  workers = c.in_default.ensures.workers ∙ c.loop-worker.invariant.workers;
-  failed = c.in_default.ensures.counts.1 ∙ c.loop-worker.invariant.failed;
-  flushes = c.in_default.ensures.flushes ∙ c.loop-worker.invariant.flushes;
+  made = each_made exits _ _ _ _ _ _ _ _ _ c.loop-worker.invariant.made (one_worker _ _ c.loop-worker-test.true) c.in_ok-leave.ensures.made;
+  written = c.in_ok-leave.ensures.written;
+  labels = c.in_ok-leave.ensures.labels ∙ c.loop-worker.invariant.labels;
+  workers = c.in_ok-leave.ensures.workers ∙ c.loop-worker.invariant.workers;
+  failed = c.in_ok-leave.ensures.calls.0.1 ∙ c.loop-worker.invariant.failed;
+  flushes = c.in_ok-leave.ensures.calls.1 ∙ c.loop-worker.invariant.flushes;
 }
 
 pub returns-clause-made : goal.returns-clause-made
 returns-clause-made g c = each_ends exits _ _ _ _ _ c.loop-worker.invariant.made (no_worker _ _ c.loop-worker-test.false)
 
-pub returns-in-Err-clause-counts : goal.returns-in-Err-clause-counts
-returns-in-Err-clause-counts g c = fails_from _ _ _ _ c.loop-worker.invariant.failed c.in-Err.ensures.counts
-
-pub returns-in-Err-clause-flushes : goal.returns-in-Err-clause-flushes
-returns-in-Err-clause-flushes g c = c.in-Err.ensures.flushes ∙ c.loop-worker.invariant.flushes
+pub returns-in_err-leave-clause-calls : goal.returns-in_err-leave-clause-calls
+returns-in_err-leave-clause-calls g c =
+    let p = err_from_is_err_and c.from_residual.result c.from_residual.ensures.1 in
+    rw (p.1, p.2) (fails_from _ _ _ _ c.loop-worker.invariant.failed c.in_err-leave.ensures.calls.0, c.in_err-leave.ensures.calls.1 ∙ c.loop-worker.invariant.flushes)

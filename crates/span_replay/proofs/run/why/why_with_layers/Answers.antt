@@ -19,7 +19,7 @@ pub returns-clause-unread : goal.returns-clause-unread
 returns-clause-unread g c = read_kept _ _ _ _ _ c.tell.ensures.counts
 
 pub returns-clause-flushed : goal.returns-clause-flushed
-returns-clause-flushed g c = explained_once _ _ _ _ _ _ _ _ _ _ c.in_ok-explained.ensures.explained c.tell.ensures.flushed
+returns-clause-flushed g c = explained_once _ _ _ _ _ _ _ _ _ c.in_ok-explained.ensures.explained c.tell.ensures.flushed
 
 pub returns-in_err-explained-clause-unread : goal.returns-in_err-explained-clause-unread
 returns-in_err-explained-clause-unread g c =
@@ -29,4 +29,4 @@ returns-in_err-explained-clause-unread g c =
 pub returns-in_err-explained-clause-flushed : goal.returns-in_err-explained-clause-flushed
 returns-in_err-explained-clause-flushed g c =
     let p = err_from_is_err_and c.from_residual.result c.from_residual.ensures.1 in
-    rw (p.1, p.2) (unread_once _ _ _ _ c.in_err-explained.ensures.err)
+    rw (p.1, p.2) (unread_once _ _ _ c.in_err-explained.ensures.err)

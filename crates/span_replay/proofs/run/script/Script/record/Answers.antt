@@ -12,8 +12,8 @@ answer-requires g c = made_enough _ _ _ _ _ c.in_ok-answer.ensures.made c.requir
 pub returns-clause-turn : goal.returns-clause-turn
 returns-clause-turn g c = λ hooks stage.
     turn_made _ _ _ _ _ _ _ _ _ _
-    (ap (λ found. found >>= λ id. Ok (call_turn (record { core = c.args.self.now.core; labels = c.args.self.now.labels; stage = stage }) (record_fields c.args.worker id c.args.fields.now))) c.in-Ok.ensures)
-    (made_by (λ worker. record_fields worker c.in-Ok.id c.args.fields.now) _ _ _ _ _ c.worker_number-worker.ensures c.in_ok-answer.ensures.made)
+    (ap (λ found. found >>= λ id. Ok (call_turn (record { core = c.args.self.now.core; labels = c.args.self.now.labels; stage = stage }) (record_fields c.args.worker id c.args.fields.now))) c.in_ok-id.ensures)
+    (made_by (λ worker. record_fields worker c.in_ok-id.id c.args.fields.now) _ _ _ _ _ c.worker_number-worker.ensures c.in_ok-answer.ensures.made)
     c.requires.written.lines
     (λ i. record { core = c.answer.ensures.core i; labels = c.answer.ensures.labels i; stage = stage })
     c.answer.ensures.text c.answer.ensures.memory
@@ -24,9 +24,11 @@ returns-clause-written g c =
 
 pub returns-in_err-answer-clause-turn : goal.returns-in_err-answer-clause-turn
 returns-in_err-answer-clause-turn g c =
-    let p = err_from_is_err_and c.from_residual.result c.from_residual.ensures.1 in
+    let p = err_from_is_err_and c.from_residual-in_err-answer.result c.from_residual-in_err-answer.ensures.1 in
     rw (p.1, p.2) (λ hooks stage. stops _ _ _ _ _ _ c.in_err-answer.ensures.memory)
 
-pub returns-in-Err-clause-turn : goal.returns-in-Err-clause-turn
-returns-in-Err-clause-turn g c = λ hooks stage.
-    (ap (λ found. found >>= λ id. Ok (call_turn (record { core = c.args.self.now.core; labels = c.args.self.now.labels; stage = stage }) (record_fields c.args.worker id c.args.fields.now))) c.in-Err.ensures, refl, refl)
+pub returns-in_err-id-clause-turn : goal.returns-in_err-id-clause-turn
+returns-in_err-id-clause-turn g c =
+    let p = err_from_is_err_and c.from_residual.result c.from_residual.ensures.1 in
+    rw (p.1, p.2) (λ hooks stage.
+    (ap (λ found. found >>= λ id. Ok (call_turn (record { core = c.args.self.now.core; labels = c.args.self.now.labels; stage = stage }) (record_fields c.args.worker id c.args.fields.now))) c.in_err-id.ensures, refl, refl))

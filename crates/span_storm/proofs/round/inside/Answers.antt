@@ -1,2 +1,0 @@
-use Rattle.std.proofs.Common.{ap, arith}
-use Rattle.span_registry.specs.Worker.{WorkerView}
